@@ -1,0 +1,4 @@
+pub mod Eras
+pub mod Rounding
+pub mod Ticks
+pub mod Windows

@@ -1,0 +1,58 @@
+-- The floor and the ceiling of a ratio.
+use Rattle.std.proofs.Common.{◌≡◌, ℕ, ◌+◌, ◌-◌, ◌*◌, ◌/◌, ◌%◌, ◌<◌, ◌≤◌, min, add_comm, sym, ap, ◌∙◌, ⊎_elim, arith}
+use Rattle.std.proofs.Math.Nat.{add-mul-div_right, div-mul-le_self, mul-le-mul_right}
+use Rattle.std.proofs.lemmas.Bool.{cases_lt}
+use Rattle.std.proofs.lemmas.Grind.{div_ceil_times}
+use Rattle.std.proofs.lemmas.Nat.{div-add-mod', mod_below, le-div, div_below, div-mul-add}
+use Rattle.era_unfold.specs.Ratio.{IsFloor, IsCeiling, floor_of, ceiling_of}
+
+pub IsFloor-floor_of : (n d : ℕ) → 0 < d → IsFloor n d (floor_of n d)
+unfolding floor_of
+IsFloor-floor_of n d h = record {
+  not_above = div-mul-le_self n d;
+  greatest = λ m le. le-div m n d h le;
+}
+
+-- the least number that is not below, for a quotient and its remainder
+not_below : (n d q r : ℕ) → q * d + r ≡ n + (d - 1) → r < d → n ≤ q * d
+not_below n d q r e h = omega arith
+
+pub IsCeiling-ceiling_of : (n d : ℕ) → 0 < d → IsCeiling n d (ceiling_of n d)
+unfolding ceiling_of
+IsCeiling-ceiling_of n d h = record {
+  not_below = not_below n d _ _ (div-add-mod' (n + (d - 1)) d) (mod_below (n + (d - 1)) d h);
+  least = λ m le.
+      let past : n + (d - 1) < (m + 1) * d = omega arith in
+      let below : (n + (d - 1)) / d < m + 1 = div_below (n + (d - 1)) d (m + 1) h past in
+      omega arith;
+}
+
+-- whole units come out of a ratio
+pub div-whole_and_part : (a b d t : ℕ) → 0 < d → (a * d + b) * t / d ≡ a * t + b * t / d
+div-whole_and_part a b d t h =
+    let parts : (a * d + b) * t ≡ b * t + a * t * d = omega arith in
+    ap (λ x. x / d) parts ∙ add-mul-div_right (b * t) (a * t) h ∙ add_comm (b * t / d) (a * t)
+
+pub div-whole_and_part_up : (a b d t : ℕ) → 0 < d → ((a * d + b) * t + (d - 1)) / d ≡ a * t + (b * t + (d - 1)) / d
+div-whole_and_part_up a b d t h =
+    let parts : (a * d + b) * t + (d - 1) ≡ b * t + (d - 1) + a * t * d = omega arith in
+    ap (λ x. x / d) parts ∙ add-mul-div_right (b * t + (d - 1)) (a * t) h ∙ add_comm ((b * t + (d - 1)) / d) (a * t)
+
+-- a quotient that is rounded up by its remainder
+pub div_ceil-is : (n d : ℕ) → 0 < d → n / d + min 1 (n % d) ≡ (n + (d - 1)) / d
+div_ceil-is n d h =
+    let bounds = div_ceil_times n d h in
+    let q : ℕ = n / d + min 1 (n % d) in
+    let rest : n + (d - 1) - q * d < d = omega (arith, bounds.0, bounds.1) in
+    let parts : n + (d - 1) ≡ q * d + (n + (d - 1) - q * d) = omega (arith, bounds.0, bounds.1) in
+    sym (ap (λ x. x / d) parts ∙ div-mul-add q d (n + (d - 1) - q * d) rest)
+
+-- an order of products by one number
+pub lt_of_products : (a b d : ℕ) → a * d < b * d → a < b
+lt_of_products a b d h = ⊎_elim (λ l. l) (λ l. absurd (omega (arith, mul-le-mul_right d l))) (cases_lt a b)
+
+pub le_of_products : (a b d : ℕ) → 0 < d → a * d ≤ b * d → a ≤ b
+le_of_products a b d some h =
+    let next : a * d < (b + 1) * d = omega arith in
+    let below : a < b + 1 = lt_of_products a (b + 1) d next in
+    omega arith

@@ -1,0 +1,5 @@
+use Rattle.era_unfold.proofs.Eras.{IsUnfolded-unfolded}
+use Rattle.era_unfold.proofs.laws.every_stamp_is_unfolded.Goals as goal
+
+pub returns : goal.returns
+returns c = IsUnfolded-unfolded

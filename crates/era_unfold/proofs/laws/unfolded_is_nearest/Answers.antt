@@ -1,0 +1,5 @@
+use Rattle.era_unfold.proofs.Eras.{unfolded-nearest}
+use Rattle.era_unfold.proofs.laws.unfolded_is_nearest.Goals as goal
+
+pub returns : goal.returns
+returns c = unfolded-nearest

@@ -1,0 +1,4 @@
+pub mod Nanoseconds
+pub mod Ratio
+pub mod Stamp
+pub mod Window

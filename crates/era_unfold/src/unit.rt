@@ -1,0 +1,26 @@
+// The unit of a capture's sub-second field.
+
+ghost use Rattle.std.specs.Prelude.{◌≡◌};
+
+/// The unit that the sub-second field of a capture's records counts.
+#[derive(Clone, Copy, Debug, PartialEq, Eq)]
+pub enum Unit {
+    /// Microseconds, a million to the second.
+    Micro,
+    /// Nanoseconds, a thousand million to the second.
+    Nano,
+}
+
+impl Unit {
+    ghost use Rattle.era_unfold.specs.Window.{per_second};
+
+    /// How many of the unit make one second: 1,000,000 or 1,000,000,000.
+    pub const fn per_second(self) -> u32
+        ensures { result ≡ per_second self }
+    {
+        match self {
+            Unit::Micro => 1_000_000,
+            Unit::Nano => 1_000_000_000,
+        }
+    }
+}

@@ -1,0 +1,5 @@
+use Rattle.frame_reader.proofs.Cutting.{more_padding}
+use Rattle.frame_reader.proofs.laws.padding_is_ignored.Goals as goal
+
+pub returns : goal.returns
+returns c = more_padding

@@ -1,0 +1,5 @@
+use Rattle.frame_reader.proofs.Giving.{skipped_exactly}
+use Rattle.frame_reader.proofs.laws.refused_where_skipped.Goals as goal
+
+pub returns : goal.returns
+returns c = skipped_exactly

@@ -1,0 +1,5 @@
+pub mod FractionLemmas
+pub mod IntervalLemmas
+pub mod HullLemmas
+pub mod WalkLemmas
+pub mod OrderLemmas

@@ -1,0 +1,9 @@
+use Rattle.std.proofs.Common.{rules}
+use Rattle.arrayvec.proofs.ArrayVecLemmas.{items-with_items}
+use Rattle.intersection.proofs.OrderLemmas.{in_order}
+use Rattle.intersection.proofs.ends.sorted_ends.Goals as goal
+
+pub returns-clause-order : goal.returns-clause-order
+returns-clause-order c =
+    rw (items-with_items c.loop-interval.ends c.sort_unstable.new.self (search rules))
+    (in_order c.sort_unstable.new.self c.sort_unstable.ensures.sorted)

@@ -1,0 +1,5 @@
+use Rattle.intersection.proofs.HullLemmas.{free_of_order}
+use Rattle.intersection.proofs.laws.hull_is_free_of_order.Goals as goal
+
+pub returns : goal.returns
+returns c = free_of_order

@@ -1,0 +1,40 @@
+-- The ends of intervals, their order, and where a walk along them stops. Only the code's own contracts speak of these.
+use Rattle.std.specs.Prelude.{◌≡◌, ℕ, ◌+◌, ℤ, ◌<ℤ◌, ◌≤ℤ◌, int_le, Bool, true, false, cond, nat_le, List, [], ◌∷◌, flat_map, Option, Some, None, AllPairs}
+use Rattle.intersection.specs.declared.kinds.Interval.{Interval}
+use Rattle.intersection.specs.declared.ends.End.{End}
+use Rattle.intersection.specs.declared.ends.Side.{Side}
+use Rattle.intersection.specs.declared.ends.Side.TheVariants.{Low, High}
+
+-- both ends of an interval that has a point, and else none
+abbrev pub ends_of_interval : Interval → List End
+ends_of_interval interval =
+    cond (int_le interval.lo interval.hi) (record { at = interval.lo; side = Low } ∷ record { at = interval.hi; side = High } ∷ []) []
+
+abbrev pub ends_of : List Interval → List End
+ends_of list = flat_map ends_of_interval list
+
+-- a low end may stand before any end that isn't below it, and a high end only before a low one that is above it
+abbrev pub MayPrecede : End → End → Type 0
+MayPrecede first second = (first.at ≤ℤ second.at) × (first.side ≡ High → second.side ≡ Low → first.at <ℤ second.at)
+
+-- each end may precede those after it
+abbrev pub IsInOrder : List End → Type 0
+IsInOrder ends = AllPairs MayPrecede ends
+
+abbrev pub is_low : Side → Bool
+is_low Low = true
+is_low High = false
+
+-- whether a walk that enters intervals at this side enters one at this end
+abbrev pub enters : Side → End → Bool
+enters Low end = is_low end.side
+enters High end = cond (is_low end.side) false true
+
+-- Where a walk stops: at the first end by which `needed` more intervals were entered than left. Before these ends it
+-- entered and left so many.
+abbrev pub first_reached : Side → ℕ → ℕ → ℕ → List End → Option ℤ
+first_reached entrance needed entered left [] = None
+first_reached entrance needed entered left (end ∷ ends) =
+    cond (enters entrance end)
+    (cond (nat_le (left + needed) (entered + 1)) (Some end.at) (first_reached entrance needed (entered + 1) left ends))
+    (first_reached entrance needed entered (left + 1) ends)

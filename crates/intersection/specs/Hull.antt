@@ -1,0 +1,46 @@
+-- The hull of a list of intervals of which some may be wrong (RFC 5905, section 11.2.1: correctness intervals of servers,
+-- some of them false tickers).
+--
+-- If at most f intervals of the list are wrong, then the true value is a point that at most f of them leave out. Such a
+-- point is admissible. The hull is the least range with every admissible point: it speaks of all whole points, and not of
+-- the ends of the intervals.
+use Rattle.std.specs.Prelude.{ℕ, ◌<◌, ◌≤◌, ℤ, ◌≤ℤ◌, List, length, count_by, ⊤}
+use Rattle.intersection.specs.Interval.{leaves_out}
+use Rattle.intersection.specs.declared.kinds.Interval.{Interval}
+use Rattle.intersection.specs.declared.kinds.Hull.{Hull}
+use Rattle.intersection.specs.declared.kinds.Hull.TheVariants.{Unbounded, Empty, Bounded}
+
+-- how many intervals leave a point out
+abbrev pub count_leaving_out : List Interval → ℤ → ℕ
+count_leaving_out list point = count_by (λ interval. leaves_out interval point) list
+
+-- at most f intervals leave the point out
+abbrev pub IsAdmissible : List Interval → ℕ → ℤ → Type 0
+IsAdmissible list f point = count_leaving_out list point ≤ f
+
+-- an admissible point with none below it
+abbrev pub IsLeastAdmissible : List Interval → ℕ → ℤ → Type 0
+IsLeastAdmissible list f lo = IsAdmissible list f lo × ((point : ℤ) → IsAdmissible list f point → lo ≤ℤ point)
+
+-- an admissible point with none above it
+abbrev pub IsGreatestAdmissible : List Interval → ℕ → ℤ → Type 0
+IsGreatestAdmissible list f hi = IsAdmissible list f hi × ((point : ℤ) → IsAdmissible list f point → point ≤ℤ hi)
+
+-- Unbounded where every interval may be wrong; else Empty where no point is admissible; else from the least admissible
+-- point to the greatest
+abbrev pub IsHull : List Interval → ℕ → Hull → Type 0
+IsHull list f Unbounded = length list ≤ f
+IsHull list f Empty = (f < length list) × ((point : ℤ) → ¬ (IsAdmissible list f point))
+IsHull list f (Bounded lo hi) = (f < length list) × IsLeastAdmissible list f lo × IsGreatestAdmissible list f hi
+
+-- the point lies in the hull
+abbrev pub HullHolds : Hull → ℤ → Type 0
+HullHolds Unbounded point = ⊤
+HullHolds Empty point = ⊥
+HullHolds (Bounded lo hi) point = (lo ≤ℤ point) × (point ≤ℤ hi)
+
+-- where the hull is bounded, this holds of its ends
+abbrev pub IfBounded : Hull → (ℤ → ℤ → Type 0) → Type 0
+IfBounded Unbounded P = ⊤
+IfBounded Empty P = ⊤
+IfBounded (Bounded lo hi) P = P lo hi

@@ -1,0 +1,4 @@
+pub mod Interval
+pub mod Fraction
+pub mod Hull
+pub mod Ends

@@ -1,0 +1,6 @@
+pub mod Text
+pub mod Line
+pub mod Reports
+pub mod Listing
+pub mod Fault
+pub mod Progress

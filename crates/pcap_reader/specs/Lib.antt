@@ -1,0 +1,5 @@
+pub mod Fault
+pub mod Field
+pub mod Capture
+pub mod Source
+pub mod Feed

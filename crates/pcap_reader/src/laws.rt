@@ -1,0 +1,1 @@
+//! Laws of captures, proved once and for all.

@@ -1,0 +1,90 @@
+//! A capture whose bytes lie in memory.
+
+ghost use Rattle.std.specs.Prelude.{◌≡◌, ◌+◌, ◌^◌, ◌<◌, ◌≤◌, [], length, Some, IfOk, IfErr, false, Ok, Err};
+ghost use Rattle.pcap_reader.specs.Source.{coming_from, capture_of, Coming};
+
+use crate::fault::CaptureFault;
+use crate::format::{Format, RecordHead};
+use crate::reading::{FILE_HEADER, RECORD_HEADER, first_record, header};
+use crate::source::RecordSource;
+
+/// The records of a capture that lies whole in memory. It takes no memory of its own.
+#[derive(Debug, Drop)]
+pub struct Whole<'a> {
+    format: Format,
+    place: u64,
+    given: u32,
+    failed: bool,
+    rest: &'a [u8],
+    lent: &'a [u8],
+    ghost in_file: { place + length rest.now < 2 ^ 64 },
+}
+
+impl<'a> Whole<'a> {
+    /// The source of the records of these bytes, the whole of a file.
+    ///
+    /// It answers `TornHeader`, `Magic`, `Version` or `Link`, the first that applies, where the bytes begin with no
+    /// lawful header, and nothing else.
+    pub fn begin(bytes: &'a [u8]) -> Result<Whole<'a>, CaptureFault>
+        ensures told { IfOk result (λ source. (c : Coming) × (capture_of bytes.now ≡ Ok c) × (⟦<Whole<'a> as RecordSource>⟧.coming source ≡ Some c)) }
+        ensures first { IfOk result (λ source. ⟦<Whole<'a> as RecordSource>⟧.given source ≡ 0) }
+        ensures unfailed { IfOk result (λ source. ⟦<Whole<'a> as RecordSource>⟧.has_failed source ≡ false) }
+        ensures lent { IfOk result (λ source. ⟦<Whole<'a> as RecordSource>⟧.lent source ≡ []) }
+        ensures no_device { IfOk result (λ source. ⟦<Whole<'a> as RecordSource>⟧.fault_count source ≡ 0) }
+        ensures err { IfErr result (λ fault. capture_of bytes.now ≡ Err fault) }
+    {
+        let format = header(bytes)?;
+        let (_, rest) = bytes.split_at(FILE_HEADER);
+        Ok(Whole {
+            format,
+            place: FILE_HEADER as u64,
+            given: 0,
+            failed: false,
+            rest,
+            lent: &[],
+        })
+    }
+}
+
+impl RecordSource for Whole<'_> {
+    ghost coming = { λ s. Some (coming_from s.format s.given s.place s.rest.now) };
+
+    ghost given = { λ s. s.given };
+
+    ghost has_failed = { λ s. s.failed };
+
+    ghost lent = { λ s. s.lent.now };
+
+    ghost fault_count = { λ _. 0 };
+
+    fn next_record(&mut self) -> Result<Option<RecordHead>, CaptureFault> {
+        self.lent = &[];
+        if self.failed {
+            return Err(CaptureFault::Failed);
+        }
+        if self.rest.is_empty() {
+            return Ok(None);
+        }
+        match first_record(self.format, self.given, self.place, self.rest) {
+            Ok((head, lent, rest)) => {
+                self.place += RECORD_HEADER as u64 + u64::from(head.captured);
+                self.given += 1;
+                self.lent = lent;
+                self.rest = rest;
+                Ok(Some(head))
+            }
+            Err(fault) => {
+                self.failed = true;
+                Err(fault)
+            }
+        }
+    }
+
+    fn bytes(&self) -> &[u8] {
+        self.lent
+    }
+
+    fn faults(&self) -> u64 {
+        0
+    }
+}
