@@ -1,7 +1,7 @@
 -- What a sink that tells its bytes holds after several pushes.
 use Rattle.std.proofs.Common.{◌≡◌, ◌∙◌, ◌++◌, ℕ, List, [], Option, Some, None, sym, subst, append_assoc}
 use Rattle.std.proofs.lemmas.List.{append-nil}
-use Rattle.std.specs.Io.KnownBytes.{Appends, Keeps}
+use Rattle.std.specs.Io.KnownBytes.{Appends, Consumes, Keeps}
 
 -- bytes, and then more bytes
 pub appends_more : (a b c : Option (List ℕ)) (xs ys : List ℕ) → Appends a b xs → Appends b c ys → Appends a c (xs ++ ys)
@@ -25,3 +25,10 @@ appends_nothing (Some old) = sym (append-nil old)
 -- the same bytes under another name
 pub appends_same : (a b : Option (List ℕ)) (xs ys : List ℕ) → xs ≡ ys → Appends a b xs → Appends a b ys
 appends_same a b xs ys e p = subst (λ (zs : List ℕ). Appends a b zs) e p
+
+-- what a feed gave, and then what it gave next
+pub consumes_more : (a b c : Option (List ℕ)) (xs ys : List ℕ) → Consumes a b xs → Consumes b c ys → Consumes a c (xs ++ ys)
+consumes_more None b c xs ys p q = tt
+consumes_more (Some old) None c xs ys p q = absurd p
+consumes_more (Some old) (Some bs) None xs ys p q = absurd q
+consumes_more (Some old) (Some bs) (Some cs) xs ys p q = rw (p, q) (simp append_assoc)

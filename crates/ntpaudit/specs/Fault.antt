@@ -1,4 +1,4 @@
--- Numbers of the faults of a run.
+-- How the answers of a run are told: the faults' numbers, the exit status, and a line for each fault.
 use Rattle.std.specs.Prelude.{ℕ, List, [], ◌++◌, codes, Result, Ok, Err}
 use Rattle.std.specs.Fmt.{decimal}
 use Rattle.pcap_reader.specs.Fault.{number_of as capture_number}

@@ -4,3 +4,4 @@ pub mod Reports
 pub mod Listing
 pub mod Fault
 pub mod Progress
+pub mod Input

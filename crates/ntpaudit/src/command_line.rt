@@ -55,7 +55,10 @@ pub(crate) fn read_command_line(rt: &HostRuntime) -> Result<Request, AllocError>
         }
         Err(_) => return Err(AllocError),
     };
-    let words: Vec<String> = arguments.collect(alloc)?;
+    let mut words = Vec::new(alloc);
+    for word in arguments {
+        words.push(word)?;
+    }
     let matches = match command(alloc)?.try_get_matches_from(words.as_slice()) {
         Ok(matches) => matches,
         Err(error) => return request_of(alloc, &error),

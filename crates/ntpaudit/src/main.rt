@@ -10,6 +10,7 @@ ghost use Rattle.std.specs.Prelude.{◌-◌, ◌^◌, ◌<◌};
 mod command_line;
 mod draft;
 mod fault;
+mod input;
 mod line;
 mod list;
 mod report;
@@ -20,6 +21,7 @@ mod write_sink;
 
 use crate::command_line::{Request, read_command_line};
 pub use fault::{Input, Outcome, RunFault};
+pub use input::read_input;
 pub use list::run_list;
 use pcap_reader::{Feed, ReadFeed};
 pub use report::{fault_line, status};
@@ -87,3 +89,10 @@ fn main(rt: HostRuntime) -> ExitCode {
     };
     ExitCode::from(code)
 }
+
+#[cfg(test)]
+mod device_tests;
+#[cfg(test)]
+mod input_tests;
+#[cfg(test)]
+mod tests;

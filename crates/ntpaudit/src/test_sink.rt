@@ -13,20 +13,20 @@ pub struct TestSink {
     room: usize,
     most: usize,
     pushes: u64,
-    fails_at: u64,
+    fails_at: Option<u64>,
     finish_fails: bool,
     faults: u64,
 }
 
 impl TestSink {
     /// A sink with room for so many bytes, that takes at most `most` of them at each push, or one where `most` is 0.
-    /// Its push number `fails_at` fails, counted from 1, and none where that is 0; `finish_fails` says whether
-    /// `finish` fails. Only want of memory is an error.
+    /// The push with the number `fails_at` fails, the first being number 1, and no other does for that;
+    /// `finish_fails` says whether `finish` fails. Only want of memory is an error.
     pub fn new(
         alloc: Global,
         room: usize,
         most: usize,
-        fails_at: u64,
+        fails_at: Option<u64>,
         finish_fails: bool,
     ) -> Result<TestSink, AllocError>
         ensures contents { IfOk result (λ sink. ⟦<TestSink as Sink>⟧.contents sink ≡ Some []) }
@@ -61,7 +61,10 @@ impl Sink for TestSink {
         let n = bytes.len().min(self.most.max(1));
         let (front, _) = bytes.split_at(n);
         let full = self.room < n || self.room - n < self.bytes.len();
-        if self.pushes == self.fails_at || full || self.bytes.extend_from_slice(front).is_err() {
+        if self.fails_at == Some(self.pushes)
+            || full
+            || self.bytes.extend_from_slice(front).is_err()
+        {
             self.faults += 1;
             return Err(SinkFault);
         }

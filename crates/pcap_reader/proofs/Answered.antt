@@ -25,6 +25,6 @@ not_failed e h same = cc
 -- it isn't the answer after a fault
 pub record_fault_failed : (e : CaptureFault) (b : Bool) → IsRecordFault e → b ≡ false → IsErrOf {T = Option RecordHead} (Err e) Failed ↔ IsTrue b
 record_fault_failed e b h unfailed = (
-    λ same. let e_is : e ≡ Failed = cc in absurd (not_failed e h e_is),
-    λ yes. let wrong : true ≡ false = sym yes ∙ unfailed in cc,
+  λ same. let e_is : e ≡ Failed = cc in absurd (not_failed e h e_is),
+  λ yes. let wrong : true ≡ false = sym yes ∙ unfailed in cc,
 )

@@ -11,13 +11,14 @@ use Rattle.pcap_reader.specs.Source.{Coming, coming_from, header_of, capture_of,
 use Rattle.pcap_reader.proofs.Coming.{capture_of_begun}
 use Rattle.pcap_reader.proofs.Front.{header_front}
 
--- nothing is held, so that all that was told is the feed's
-pub Keeps-none_held : (a b : Option (List ℕ)) (buffer : List ℕ) (start end : ℕ) → end ≡ 0 → Keeps (prepend_known (slice_range buffer start end) a) b → Keeps a b
-Keeps-none_held None b buffer start end none keeps = tt
-Keeps-none_held (Some x) None buffer start end none keeps = absurd keeps
-Keeps-none_held (Some x) (Some y) buffer start end none keeps =
+-- Nothing was held before, so that all that was told is the feed's.
+pub Keeps-first : (all a : Option (List ℕ)) (buffer held held' : List ℕ) (start end : ℕ) → end ≡ 0 → Keeps (prepend_known (slice_range buffer start end) all) (prepend_known held a) → held' ≡ held →
+    Keeps all (prepend_known held' a)
+Keeps-first None a buffer held held' start end none keeps same = tt
+Keeps-first (Some x) None buffer held held' start end none keeps same = absurd keeps
+Keeps-first (Some x) (Some y) buffer held held' start end none keeps same =
     let empty : end - start ≡ 0 = omega arith in
-    keeps ∙ ap (λ k. take k (drop start buffer) ++ x) empty
+    ap (λ l. l ++ y) same ∙ keeps ∙ ap (λ k. take k (drop start buffer) ++ x) empty
 
 none_some : (x : List ℕ) → ◌≡◌ {A = Option (List ℕ)} None (Some x) → ⊥
 none_some x h = cc

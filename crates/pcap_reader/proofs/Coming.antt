@@ -1,10 +1,10 @@
 -- What is to come, a step at a time.
-use Rattle.std.proofs.Common.{◌≡◌, ◌≢◌, ◌+◌, ◌-◌, ◌<◌, ◌≤◌, ℕ, zero, suc, List, [], ◌∷◌, length, drop, Option, Some, None, Ok, Err, take, refl, sym, ◌∙◌, ap, arith, add-one}
+use Rattle.std.proofs.Common.{◌≡◌, ◌+◌, ◌-◌, ◌<◌, ◌≤◌, ℕ, zero, suc, List, [], ◌∷◌, length, drop, Option, Some, None, Ok, Err, take, refl, sym, ◌∙◌, ap, arith}
 use Rattle.pcap_reader.specs.declared.format.Format.{Format}
 use Rattle.pcap_reader.specs.declared.fault.CaptureFault.{CaptureFault}
 use Rattle.pcap_reader.specs.declared.fault.CaptureFault.TheVariants.{TooMany, Read, Failed}
 use Rattle.pcap_reader.specs.declared.format.RecordHead.{RecordHead}
-use Rattle.pcap_reader.specs.Capture.{Record, most_records}
+use Rattle.pcap_reader.specs.Capture.{most_records}
 use Rattle.pcap_reader.specs.Source.{Coming, coming_within, coming_from, whole_end, broken_end, then_coming, record_at, fault_at, captured_in, head_at, header_of, capture_of, IsNext}
 use Rattle.pcap_reader.proofs.FaultAt.{fault_at_most}
 

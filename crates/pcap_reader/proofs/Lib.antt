@@ -1,8 +1,14 @@
 pub mod Answered
+pub mod Begun
+pub mod Captures
 pub mod Coming
 pub mod FaultAt
-pub mod Begun
 pub mod Front
+pub mod Headers
 pub mod Known
+pub mod Parts
 pub mod Ranges
+pub mod Records
+pub mod Spelling
 pub mod Told
+pub mod WholeFiles

@@ -1,10 +1,9 @@
 -- What is still to come of a capture: the records that its bytes begin with, and then a whole end or a fault.
-use Rattle.std.specs.Prelude.{◌≡◌, ◌+◌, ◌-◌, ◌<◌, ◌==◌, ℕ, zero, suc, List, [], ◌∷◌, length, take, drop, Option, Some, None, Result, Ok, Err, Bool, nat_lt, nat_le, if◌then◌else◌}
+use Rattle.std.specs.Prelude.{◌≡◌, ◌+◌, ◌-◌, ◌==◌, ℕ, zero, suc, List, [], ◌∷◌, length, take, drop, Option, Some, None, Result, Ok, Err, nat_lt, nat_le, if◌then◌else◌}
 use Rattle.era_unfold.specs.Window.{per_second}
-use Rattle.era_unfold.specs.declared.unit.Unit.{Unit as TimeUnit}
 use Rattle.era_unfold.specs.declared.unit.Unit.TheVariants.{Micro, Nano}
 use Rattle.pcap_reader.specs.declared.fault.CaptureFault.{CaptureFault}
-use Rattle.pcap_reader.specs.declared.fault.CaptureFault.TheVariants.{TornHeader, Magic, Version, Link, TornRecord, TooLong, BadFraction, TooMany, Read, Failed, Memory}
+use Rattle.pcap_reader.specs.declared.fault.CaptureFault.TheVariants.{TornHeader, Magic, Version, Link, TornRecord, TooLong, BadFraction, TooMany, Read, Failed}
 use Rattle.pcap_reader.specs.declared.format.Endian.{Endian}
 use Rattle.pcap_reader.specs.declared.format.Endian.TheVariants.{Big, Little}
 use Rattle.pcap_reader.specs.declared.format.Format.{Format}
@@ -88,7 +87,7 @@ coming_within (suc left) format number place (byte ∷ bytes) =
     elim (fault_at format number place (byte ∷ bytes)) [
       | Some fault ↦ broken_end fault
       | None ↦ then_coming (record_at format number place (byte ∷ bytes))
-        (coming_within left format (number + 1) (place + (16 + captured_in format.order (byte ∷ bytes))) (drop (16 + captured_in format.order (byte ∷ bytes)) (byte ∷ bytes)))
+          (coming_within left format (number + 1) (place + (16 + captured_in format.order (byte ∷ bytes))) (drop (16 + captured_in format.order (byte ∷ bytes)) (byte ∷ bytes)))
     ]
 
 unfoldable pub coming_from : Format → ℕ → ℕ → List ℕ → Coming
@@ -108,8 +107,8 @@ abbrev pub version_and_link : Format → List ℕ → Result Format CaptureFault
 version_and_link format bytes =
     if number_in format.order 2 (drop 4 bytes) == 2
     then (if number_in format.order 2 (drop 6 bytes) == 4
-      then (if number_in format.order 4 (drop 20 bytes) == 1 then Ok format else Err Link)
-      else Err Version)
+    then (if number_in format.order 4 (drop 20 bytes) == 1 then Ok format else Err Link)
+    else Err Version)
     else Err Version
 
 -- the format of a capture that begins with these bytes, or the fault of its header

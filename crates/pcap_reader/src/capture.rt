@@ -18,8 +18,8 @@ use std::alloc::Global;
 
 /// The records of a capture, read from a feed through one buffer.
 ///
-/// The buffer is made by `begin`; no later call takes memory, and `bytes` lends a part of it, with no copy. The feed
-/// is asked for 1,048,640,000,025 bytes at most: a header, 4,000,000 of the longest records, and one byte more.
+/// The buffer is made by `begin`; no later call takes memory, and `bytes` lends a part of it, with no copy. Of a feed
+/// that never ends 1,048,640,000,025 bytes are pulled at most: a header, 4,000,000 of the longest records, and one more.
 #[derive(Drop)]
 pub struct Capture<F> {
     input: Buffered<F>,

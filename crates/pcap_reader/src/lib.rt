@@ -27,6 +27,8 @@ pub use test_feed::{Cut, TestFeed};
 pub use whole::Whole;
 
 #[cfg(test)]
+mod feed_tests;
+#[cfg(test)]
 mod stream_tests;
 #[cfg(test)]
 mod tests;

@@ -24,6 +24,7 @@ pub(crate) const MOST_CAPTURED: u32 = 262_144;
 pub(crate) const MOST_RECORDS: u32 = 4_000_000;
 
 const MICRO_MAGIC: u32 = 0xa1b2_c3d4;
+
 const NANO_MAGIC: u32 = 0xa1b2_3c4d;
 
 fn u16_in(order: Endian, bytes: &[u8]) -> u16

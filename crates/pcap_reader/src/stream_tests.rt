@@ -2,7 +2,6 @@
 
 use super::*;
 use std::alloc::Global;
-use std::io::{self, Read};
 use std::process::Abort;
 use std::test::Fail;
 
@@ -253,37 +252,6 @@ fn longest_record(rt: HostRuntime) -> Result<(), Fail> {
     Ok(())
 }
 
-/// How many bytes each pull of a feed of five bytes gives.
-#[test]
-fn test_feeds(rt: HostRuntime) {
-    for (cut, failing, answers) in [
-        (Cut::Fixed(2), None, [Ok(2), Ok(2), Ok(1), Ok(0)]),
-        (Cut::Fixed(0), None, [Ok(1), Ok(1), Ok(1), Ok(1)]),
-        (Cut::Growing, None, [Ok(1), Ok(2), Ok(2), Ok(0)]),
-        (Cut::Growing, Some(2), [Ok(1), Err(FeedFault), Ok(3), Ok(1)]),
-        (
-            Cut::Fixed(9),
-            Some(1),
-            [Err(FeedFault), Ok(4), Ok(1), Ok(0)],
-        ),
-    ] {
-        let mut feed = TestFeed::new(b"pulls", cut, failing);
-        let mut pulled: usize = 0;
-        for answer in answers {
-            let mut into = [0; 4];
-            assert!(rt; feed.faults() < u64::MAX);
-            let given = feed.pull(&mut into);
-            assert_eq!(rt; given, answer, "{cut:?}");
-            let count = given.unwrap_or(0);
-            assert_eq!(rt;
-                into.get(..count),
-                b"pulls".get(pulled..pulled.saturating_add(count))
-            );
-            pulled = pulled.saturating_add(count);
-        }
-    }
-}
-
 /// `begin` makes its buffer before the first byte is read. To be run with each allocation refused in turn: where it's
 /// the buffer's, the first pull, which fails, is still to come.
 #[test]
@@ -397,49 +365,15 @@ fn most_records(rt: HostRuntime) {
     }
 }
 
-/// A reader that is interrupted with every second read, and fails at the end.
-#[derive(Drop)]
-struct Shaky<'a> {
-    rest: &'a [u8],
-    interrupts: bool,
-    reads_after_end: u32,
-}
-
-impl Read for Shaky<'_> {
-    fn read(&mut self, buf: &mut [u8]) -> io::Result<usize> {
-        self.interrupts = !self.interrupts;
-        if self.interrupts {
-            return Err(io::Error::from(io::ErrorKind::Interrupted));
-        }
-        if self.rest.is_empty() {
-            self.reads_after_end = self.reads_after_end.saturating_add(1);
-            return Err(io::Error::from(io::ErrorKind::Other));
-        }
-        self.rest.read(buf)
-    }
-}
-
+/// A capture over a reader, and the feed that comes back.
 #[test]
-fn readers(rt: HostRuntime) {
-    let mut whole = ReadFeed::new(V1.as_slice());
-    let mut into = [0; 300];
-    assert_eq!(rt; whole.pull(&mut into), Ok(236));
-    assert_eq!(rt; &into[..236], V1.as_slice());
-    assert!(rt; whole.faults() < u64::MAX);
-    assert_eq!(rt; whole.pull(&mut into), Ok(0));
-    assert!(rt; whole.into_reader().is_empty());
-
-    let feed = ReadFeed::new(Shaky {
-        rest: &V1,
-        interrupts: false,
-        reads_after_end: 0,
-    });
-    let Ok(mut source) = Capture::begin(rt.alloc(), feed) else {
+fn over_a_reader(rt: HostRuntime) {
+    let Ok(mut source) = Capture::begin(rt.alloc(), ReadFeed::new(V1.as_slice())) else {
         panic!(rt; "no capture");
     };
     let given = given_by(&rt, &mut source, &V1);
     assert_eq!(rt; given.records, 2);
-    assert_eq!(rt; given.fault, Some(CaptureFault::Read));
-    assert_eq!(rt; source.faults(), 1);
-    assert_eq!(rt; source.into_feed().into_reader().reads_after_end, 1);
+    assert_eq!(rt; given.fault, None);
+    stays_ended(&rt, &mut source, given.fault);
+    assert!(rt; source.into_feed().into_reader().is_empty());
 }

@@ -3,9 +3,8 @@ use Rattle.std.specs.Global.{Vec}
 use Rattle.std.specs.Io.KnownBytes.{Keeps, prepend_known}
 use Rattle.std.proofs.lemmas.Result.{err_from_is_err_and}
 use Rattle.pcap_reader.specs.declared.format.Format.{Format}
-use Rattle.pcap_reader.proofs.Begun.{Keeps-none_held, header_refused, header_begun, header_fault_counts, header_fault_read}
+use Rattle.pcap_reader.proofs.Begun.{Keeps-first, header_refused, header_begun, header_fault_counts, header_fault_read}
 use Rattle.pcap_reader.proofs.Front.{header_fault}
-use Rattle.pcap_reader.proofs.Known.{Keeps-same}
 use Rattle.pcap_reader.proofs.Ranges.{range_rest}
 use Rattle.pcap_reader.proofs.capture.read_header.Goals as goal
 
@@ -21,8 +20,8 @@ returns-in_err-format-clause-header g c =
     let s = c.args.input.now in
     let i = c.hold.new.self in
     let held = c.held.result.now in
-    let keeps = Keeps-same (g.F.Feed.remaining s.feed) (g.F.Feed.remaining i.feed) (slice_range i.buffer.items i.start i.end) held
-    (Keeps-none_held (g.F.Feed.remaining s.feed) _ s.buffer.items s.start s.end c.requires.none_held c.in-Ok.ensures.bytes) c.held.ensures.value in
+    let keeps = Keeps-first (g.F.Feed.remaining s.feed) (g.F.Feed.remaining i.feed) s.buffer.items (slice_range i.buffer.items i.start i.end) held s.start s.end
+    c.requires.none_held c.in-Ok.ensures.bytes c.held.ensures.value in
     let end =
     λ (short : length held < 24).
     let less : i.end - i.start < 24 = omega (arith, c.held.ensures.len) in
@@ -42,8 +41,8 @@ returns-clause-told g c =
     let i = c.hold.new.self in
     let k = c.consume.new.self in
     let held = c.held.result.now in
-    let keeps = Keeps-same (g.F.Feed.remaining s.feed) (g.F.Feed.remaining i.feed) (slice_range i.buffer.items i.start i.end) held
-    (Keeps-none_held (g.F.Feed.remaining s.feed) _ s.buffer.items s.start s.end c.requires.none_held c.in-Ok.ensures.bytes) c.held.ensures.value in
+    let keeps = Keeps-first (g.F.Feed.remaining s.feed) (g.F.Feed.remaining i.feed) s.buffer.items (slice_range i.buffer.items i.start i.end) held s.start s.end
+    c.requires.none_held c.in-Ok.ensures.bytes c.held.ensures.value in
     let keeps' = subst (λ f. Keeps (g.F.Feed.remaining s.feed) (prepend_known held (g.F.Feed.remaining f))) (sym c.consume.ensures.feed) keeps in
     let items : k.buffer.items ≡ i.buffer.items = ap (λ (b : Vec ℕ). b.items) c.consume.ensures.buffer in
     let long : 24 ≤ length held = omega (arith, c.in_ok-format.ensures.long) in

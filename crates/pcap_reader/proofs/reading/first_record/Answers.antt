@@ -1,4 +1,4 @@
-use Rattle.std.proofs.Common.{◌≡◌, ◌∙◌, ap, drop, drop-drop}
+use Rattle.std.proofs.Common.{◌∙◌, ap, drop, drop-drop}
 use Rattle.pcap_reader.proofs.reading.first_record.Goals as goal
 
 pub returns-clause-rest : goal.returns-clause-rest

@@ -1,4 +1,4 @@
-use Rattle.std.proofs.Common.{◌≡◌, ◌+◌, ◌<◌, ◌∙◌, ap, Some, refl, sym, arith, length}
+use Rattle.std.proofs.Common.{◌≡◌, ◌+◌, ◌<◌, ◌∙◌, ap, Some, sym, arith, length}
 use Rattle.std.proofs.lemmas.Bool.{eqb-true, eqb-false}
 use Rattle.pcap_reader.specs.declared.format.RecordHead.{RecordHead}
 use Rattle.pcap_reader.specs.Source.{coming_from}
@@ -14,11 +14,10 @@ returns-then-is_empty-clause-told c =
 
 pub returns-in-Ok-clause-told : goal.returns-in-Ok-clause-told
 returns-in-Ok-clause-told c =
-    let long : 0 < length c.args.self.now.rest.now = omega (arith, c.in-Ok.ensures.whole) in
-    (
+    let long : 0 < length c.args.self.now.rest.now = omega (arith, c.in-Ok.ensures.whole) in (
       coming_from c.args.self.now.format (c.args.self.now.given + 1) (c.args.self.now.place + (16 + c.in-Ok.head.captured)) c.in-Ok.rest.now,
       coming_from_read c.args.self.now.format c.args.self.now.given c.args.self.now.place c.args.self.now.rest.now c.in-Ok.head c.in-Ok.lent.now c.in-Ok.rest.now
-        long c.in-Ok.ensures.stands c.in-Ok.ensures.head c.in-Ok.ensures.lent c.in-Ok.ensures.rest,
+          long c.in-Ok.ensures.stands c.in-Ok.ensures.head c.in-Ok.ensures.lent c.in-Ok.ensures.rest,
       ap (λ n. Some (coming_from c.args.self.now.format (c.args.self.now.given + 1) (c.args.self.now.place + (16 + n)) c.in-Ok.rest.now)) c.from.ensures,
     )
 

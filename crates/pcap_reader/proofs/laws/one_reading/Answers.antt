@@ -1,0 +1,5 @@
+use Rattle.pcap_reader.proofs.WholeFiles.{one_capture}
+use Rattle.pcap_reader.proofs.laws.one_reading.Goals as goal
+
+pub returns : goal.returns
+returns c = one_capture
