@@ -1,0 +1,4 @@
+pub mod Fault
+pub mod Intake
+pub mod Pace
+pub mod Double
