@@ -1,4 +1,4 @@
-pub mod Eras
+pub mod StampLemmas
 pub mod Rounding
-pub mod Ticks
-pub mod Windows
+pub mod NanosecondsLemmas
+pub mod WindowLemmas

@@ -1,10 +1,11 @@
 -- The floor and the ceiling of a ratio.
-use Rattle.std.proofs.Common.{◌≡◌, ℕ, ◌+◌, ◌-◌, ◌*◌, ◌/◌, ◌%◌, ◌<◌, ◌≤◌, min, add_comm, sym, ap, ◌∙◌, ⊎_elim, arith}
+use Rattle.std.proofs.Common.{◌≡◌, ℕ, suc, ℤ, pos, negsuc, ◌*ℤ◌, ◌≤ℤ◌, ◌+◌, ◌-◌, ◌*◌, ◌/◌, ◌%◌, ◌<◌, ◌≤◌, min, add_comm, sym, ap, ◌∙◌, ⊎_elim, arith}
 use Rattle.std.proofs.Math.Nat.{add-mul-div_right, div-mul-le_self, mul-le-mul_right}
 use Rattle.std.proofs.lemmas.Bool.{cases_lt}
 use Rattle.std.proofs.lemmas.Grind.{div_ceil_times}
 use Rattle.std.proofs.lemmas.Nat.{div-add-mod', mod_below, le-div, div_below, div-mul-add}
-use Rattle.era_unfold.specs.Ratio.{IsFloor, IsCeiling, floor_of, ceiling_of}
+use Rattle.std.proofs.lemmas.Int.{ints}
+use Rattle.era_unfold.specs.Ratio.{IsFloor, IsCeiling, IsSignedFloor, IsSignedCeiling, floor_of, ceiling_of}
 
 pub IsFloor-floor_of : (n d : ℕ) → 0 < d → IsFloor n d (floor_of n d)
 unfolding floor_of
@@ -26,6 +27,23 @@ IsCeiling-ceiling_of n d h = record {
       let below : (n + (d - 1)) / d < m + 1 = div_below (n + (d - 1)) d (m + 1) h past in
       omega arith;
 }
+
+-- whole numbers below zero are no nearer
+greatest_of_all : (n d q : ℕ) → IsFloor n d q → (whole : ℤ) → (whole *ℤ pos d) ≤ℤ pos n → whole ≤ℤ pos q
+greatest_of_all n d q is (pos m) h = let most = is.greatest m (omega (arith, ints)) in omega (arith, ints)
+greatest_of_all n d q is (negsuc m) h = omega (arith, ints)
+
+least_of_all : (n d q : ℕ) → 0 < d → IsCeiling n d q → (whole : ℤ) → pos n ≤ℤ (whole *ℤ pos d) → pos q ≤ℤ whole
+least_of_all n d q some is (pos m) h = let least = is.least m (omega (arith, ints)) in omega (arith, ints)
+least_of_all n d q some is (negsuc m) h =
+    let one : 1 ≤ suc m = omega arith in
+    absurd (omega (arith, ints, mul-le-mul_right d one))
+
+pub IsSignedFloor-IsFloor : (n d q : ℕ) → IsFloor n d q → IsSignedFloor (pos q) (pos n) d
+IsSignedFloor-IsFloor n d q is = (omega (arith, ints, is.not_above), greatest_of_all n d q is)
+
+pub IsSignedCeiling-IsCeiling : (n d q : ℕ) → 0 < d → IsCeiling n d q → IsSignedCeiling (pos q) (pos n) d
+IsSignedCeiling-IsCeiling n d q some is = (omega (arith, ints, is.not_below), least_of_all n d q some is)
 
 -- whole units come out of a ratio
 pub div-whole_and_part : (a b d t : ℕ) → 0 < d → (a * d + b) * t / d ≡ a * t + b * t / d

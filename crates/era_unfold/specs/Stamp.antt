@@ -1,9 +1,10 @@
 -- The moment that a 64-bit NTP timestamp stands for (RFC 5905, section 6).
 --
--- A timestamp has 32 bits of seconds and 32 bits of fraction. It counts ticks of 2^-32 second from the beginning of an
--- era of 2^64 ticks, which is about 136 years, and doesn't say which era. Era 0 began at 1900-01-01T00:00:00Z, and
--- 1970-01-01T00:00:00Z is its second 2208988800. So a timestamp stands for one tick in each era, and a moment near it
--- chooses among them: the one that lies less than half an era away, or half an era before it.
+-- A timestamp has 32 bits of seconds and 32 bits of fraction. It counts ticks of 2^-32 second from
+-- the beginning of an era of 2^64 ticks, which is about 136 years, and doesn't say which era. Era 0
+-- began at 1900-01-01T00:00:00Z, and 1970-01-01T00:00:00Z is its second 2208988800. So a timestamp
+-- stands for one tick in each era, and a moment near it chooses among them: the one that lies less
+-- than half an era away, or half an era before it.
 --
 -- That is said here by a congruence and a range. No era has a number.
 use Rattle.std.specs.Prelude.{◌≡◌, ℕ, ◌*◌, ◌^◌, ℤ, pos, ◌+ℤ◌, ◌-ℤ◌, ◌*ℤ◌, ◌≤ℤ◌, ◌<ℤ◌}

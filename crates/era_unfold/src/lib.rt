@@ -1,18 +1,18 @@
 //! Moments in whole ticks of 2^-32 second, counted from 1970-01-01T00:00:00Z.
 //!
-//! - `low` and `high` give the window of a capture's record, rounded outwards, so that it holds the moment that was
-//!   recorded.
-//! - `unfold` gives the one moment near another that a 64-bit NTP timestamp stands for, whatever its era.
+//! - `low` and `high` give the window of a capture's record, rounded outwards, so that it holds the
+//!   moment that was recorded.
+//! - `unfold` gives the one moment near another that a 64-bit NTP timestamp stands for, whatever
+//!   its era.
 //! - `ns_down` and `ns_up` round nanoseconds to ticks.
 //!
-//! Each is exact by its contract, takes no memory and refuses nothing. `laws` has what holds of the definitions.
+//! Each is exact by its contract, takes no memory and refuses nothing. `laws` has what holds of the
+//! definitions.
 #![tactic(auto)]
 
 pub mod laws;
 mod nanoseconds;
 mod stamp;
-#[cfg(test)]
-mod tests;
 mod unit;
 mod window;
 

@@ -3,14 +3,14 @@
 ghost use Rattle.std.specs.Prelude.{◌≡◌, ◌^◌, pos, ◌<ℤ◌};
 ghost use Rattle.era_unfold.specs.Nanoseconds.{ticks_down, ticks_up};
 
-const NANOSECONDS_PER_SECOND: u128 = 1_000_000_000;
+use crate::unit::NANOSECONDS_PER_SECOND;
 
 /// `n` nanoseconds in ticks of 2^-32 second, rounded down.
 pub fn ns_down(n: u64) -> i128
     ensures ticks { result ≡ pos (ticks_down n) }
     ensures in_range { result <ℤ pos (2 ^ 67) }
 {
-    (((n as u128) << 32) / NANOSECONDS_PER_SECOND) as i128
+    (((n as u128) << 32) / NANOSECONDS_PER_SECOND as u128) as i128
 }
 
 /// `n` nanoseconds in ticks of 2^-32 second, rounded up.
@@ -18,5 +18,5 @@ pub fn ns_up(n: u64) -> i128
     ensures ticks { result ≡ pos (ticks_up n) }
     ensures in_range { result <ℤ pos (2 ^ 67) }
 {
-    ((n as u128) << 32).div_ceil(NANOSECONDS_PER_SECOND) as i128
+    ((n as u128) << 32).div_ceil(NANOSECONDS_PER_SECOND as u128) as i128
 }

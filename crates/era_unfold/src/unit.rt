@@ -2,6 +2,12 @@
 
 ghost use Rattle.std.specs.Prelude.{◌≡◌};
 
+/// How many microseconds one second has.
+pub const MICROSECONDS_PER_SECOND: u32 = 1_000_000;
+
+/// How many nanoseconds one second has.
+pub const NANOSECONDS_PER_SECOND: u32 = 1_000_000_000;
+
 /// The unit that the sub-second field of a capture's records counts.
 #[derive(Clone, Copy, Debug, PartialEq, Eq)]
 pub enum Unit {
@@ -19,8 +25,8 @@ impl Unit {
         ensures { result ≡ per_second self }
     {
         match self {
-            Unit::Micro => 1_000_000,
-            Unit::Nano => 1_000_000_000,
+            Unit::Micro => MICROSECONDS_PER_SECOND,
+            Unit::Nano => NANOSECONDS_PER_SECOND,
         }
     }
 }

@@ -3,10 +3,11 @@
 ghost use Rattle.std.specs.Prelude.{◌≡◌, ◌+◌, ◌-◌, ◌*◌, ◌/◌, ◌^◌, ◌<◌, ◌≤◌, pos, ◌≤ℤ◌, ◌<ℤ◌};
 ghost use Rattle.era_unfold.specs.Window.{per_second, window_low, window_high, ticks_per_second};
 
-use crate::unit::Unit;
+use crate::unit::{MICROSECONDS_PER_SECOND, NANOSECONDS_PER_SECOND, Unit};
 
-/// The first tick of the window of a record captured at `sec` seconds and `sub` units: the greatest whole tick that
-/// is not after that moment. Ticks of 2^-32 second, counted from 1970-01-01T00:00:00Z. `sub` is less than a second.
+/// The first tick of the window of a record captured at `sec` seconds and `sub` units: the greatest
+/// whole tick that is not after that moment. Ticks of 2^-32 second, counted from
+/// 1970-01-01T00:00:00Z. `sub` is less than a second.
 pub fn low(sec: u32, sub: u32, unit: Unit) -> i128
     requires { sub < per_second unit }
     ensures window { result ≡ pos (window_low unit sec sub) }
@@ -17,8 +18,9 @@ pub fn low(sec: u32, sub: u32, unit: Unit) -> i128
     (whole_seconds(sec) + ticks_down(sub, unit)) as i128
 }
 
-/// The last tick of the window of a record captured at `sec` seconds and `sub` units: the least whole tick that is not
-/// before the next unit begins. Ticks of 2^-32 second, counted from 1970-01-01T00:00:00Z. `sub` is less than a second.
+/// The last tick of the window of a record captured at `sec` seconds and `sub` units: the least
+/// whole tick that is not before the next unit begins. Ticks of 2^-32 second, counted from
+/// 1970-01-01T00:00:00Z. `sub` is less than a second.
 pub fn high(sec: u32, sub: u32, unit: Unit) -> i128
     requires { sub < per_second unit }
     ensures window { result ≡ pos (window_high unit sec sub) }
@@ -37,7 +39,8 @@ fn whole_seconds(sec: u32) -> u64
     (sec as u64) << 32
 }
 
-// The ticks of a part of a second, rounded down. Each unit has its own division, so that the divisor is a constant.
+// The ticks of a part of a second, rounded down. Each unit has its own division, so that the
+// divisor is a constant.
 fn ticks_down(sub: u32, unit: Unit) -> u64
     requires { sub < per_second unit }
     ensures value { result ≡ sub * ticks_per_second / per_second unit }
@@ -45,8 +48,8 @@ fn ticks_down(sub: u32, unit: Unit) -> u64
 {
     let scaled = (sub as u64) << 32;
     match unit {
-        Unit::Micro => scaled / 1_000_000,
-        Unit::Nano => scaled / 1_000_000_000,
+        Unit::Micro => scaled / MICROSECONDS_PER_SECOND as u64,
+        Unit::Nano => scaled / NANOSECONDS_PER_SECOND as u64,
     }
 }
 
@@ -58,7 +61,7 @@ fn ticks_up(sub: u32, unit: Unit) -> u64
 {
     let scaled = (sub as u64) << 32;
     match unit {
-        Unit::Micro => scaled.div_ceil(1_000_000),
-        Unit::Nano => scaled.div_ceil(1_000_000_000),
+        Unit::Micro => scaled.div_ceil(MICROSECONDS_PER_SECOND as u64),
+        Unit::Nano => scaled.div_ceil(NANOSECONDS_PER_SECOND as u64),
     }
 }

@@ -1,6 +1,6 @@
-pub mod Words
-pub mod Passing
-pub mod Parting
-pub mod Joining
-pub mod Giving
-pub mod Cutting
+pub mod WordLemmas
+pub mod HeaderTests
+pub mod Soundness
+pub mod Completeness
+pub mod Exactness
+pub mod Truncation

@@ -1,8 +1,9 @@
 -- Ethernet II frames that carry UDP over IPv4.
 --
--- The first half says what a frame with a datagram is, as a list of parts that are joined: RFC 768 for
--- UDP, RFC 791 section 3.1 for IPv4, RFC 894 for its type on Ethernet, and IEEE 802.1Q for the tag.
--- The second half says what any frame gives: its fields by their places, or the first reason to skip it.
+-- The first half says what a frame with a datagram is, as a list of parts that are joined: RFC 768
+-- for UDP, RFC 791 section 3.1 for IPv4, RFC 894 for its type on Ethernet, and IEEE 802.1Q for the
+-- tag. The second half says what any frame gives: its fields by their places, or the first reason
+-- to skip it.
 use Rattle.std.specs.Prelude.{◌≡◌, ℕ, ◌+◌, ◌-◌, ◌*◌, ◌/◌, ◌%◌, ◌^◌, ◌<◌, List, [], ◌∷◌, ◌++◌, length, drop, Option, Some, None, Result, Ok, Err, nat_lt, ◌==◌, not, if◌then◌else◌, slice_index, slice_range}
 use Rattle.std.specs.List.{All}
 use Rattle.std.specs.Option.{option_or}
@@ -21,7 +22,13 @@ pub record Fields : Type 0 where
 
 -- a `Datagram` without where its payload lies in memory
 abbrev pub fields_of : Datagram → Fields
-fields_of d = record { source = d.source; destination = d.destination; source_port = d.source_port; destination_port = d.destination_port; payload = d.payload.now }
+fields_of d = record {
+  source = d.source;
+  destination = d.destination;
+  source_port = d.source_port;
+  destination_port = d.destination_port;
+  payload = d.payload.now;
+}
 
 -- ---- a frame with a datagram
 
@@ -39,22 +46,23 @@ pub record Parts : Type 0 where
   pub header_checksum : ℕ
   pub options : List ℕ
   pub udp_checksum : ℕ
-  -- the rest of the IPv4 packet behind the UDP datagram, and the rest of the frame behind the packet
+  -- the rest of the IPv4 packet after the UDP datagram, and the rest of the frame after the packet
   pub rest : List ℕ
   pub padding : List ℕ
 
--- a UDP datagram is its ports, its length with the eight bytes of this header, its checksum, and the payload
+-- a UDP datagram is its ports, its length with the eight bytes of this header, its checksum, and
+-- the payload
 abbrev pub udp_bytes : Parts → Fields → List ℕ
 udp_bytes p d =
-    big_bytes 2 d.source_port ++ big_bytes 2 d.destination_port ++ big_bytes 2 (8 + length d.payload) ++ big_bytes 2 p.udp_checksum
-    ++ d.payload
+    big_bytes 2 d.source_port ++ big_bytes 2 d.destination_port
+    ++ big_bytes 2 (8 + length d.payload) ++ big_bytes 2 p.udp_checksum ++ d.payload
 
 -- the length of an IPv4 packet counts its header and all that it carries
 abbrev pub total_length_of : Parts → Fields → ℕ
 total_length_of p d = 4 * p.header_words + (8 + length d.payload + length p.rest)
 
--- An IPv4 packet: version 4 and the header length share a byte; more-fragments and the fragment offset are
--- zero; protocol 17 is UDP.
+-- An IPv4 packet: version 4 and the header length share a byte; more-fragments and the fragment
+-- offset are zero; protocol 17 is UDP.
 abbrev pub ipv4_bytes : Parts → Fields → List ℕ
 ipv4_bytes p d =
     ((4 * 16 + p.header_words) ∷ p.type_of_service ∷ []) ++ big_bytes 2 (total_length_of p d)
@@ -69,7 +77,9 @@ tag_bytes (Some control) = (0x81 ∷ 0x00 ∷ []) ++ big_bytes 2 control
 
 -- the frame: 0x0800 is the type of IPv4
 abbrev pub frame_bytes : Parts → Fields → List ℕ
-frame_bytes p d = p.ethernet_addresses ++ (tag_bytes p.tag ++ ((0x08 ∷ 0x00 ∷ []) ++ (ipv4_bytes p d ++ p.padding)))
+frame_bytes p d =
+    p.ethernet_addresses
+    ++ (tag_bytes p.tag ++ ((0x08 ∷ 0x00 ∷ []) ++ (ipv4_bytes p d ++ p.padding)))
 
 -- each part has the size that its place in the headers allows
 pub record Fit (p : Parts) (d : Fields) : Type 0 where
@@ -99,7 +109,7 @@ IsBytes bytes = All (λ b. b < 256) bytes
 unfoldable pub word : List ℕ → ℕ → ℕ
 word bytes place = big_number 2 (drop place bytes)
 
--- where the Ethernet header ends: behind the type, which a tag moves by four bytes
+-- where the Ethernet header ends: after the type, which a tag moves by four bytes
 abbrev pub header_end : List ℕ → ℕ
 header_end frame = if word frame 12 == 0x8100 then 18 else 14
 
@@ -130,11 +140,11 @@ packet_skip packet =
     if nat_lt 0 (word packet 6 % 2 ^ 14) then Some Fragment else
     if slice_index packet 9 == 17 then None else Some OtherProtocol
 
--- what stands behind the IPv4 header, up to the total length
+-- what stands after the IPv4 header, up to the total length
 unfoldable pub segment_of : List ℕ → List ℕ
 segment_of packet = slice_range packet (header_length packet) (word packet 2)
 
--- the reason to skip what stands behind the IPv4 header: the UDP length has to lie within it
+-- the reason to skip what stands after the IPv4 header: the UDP length has to lie within it
 unfoldable pub segment_skip : List ℕ → Option Skip
 segment_skip segment =
     if nat_lt (length segment) 8 then Some UdpLength else
@@ -143,7 +153,9 @@ segment_skip segment =
 
 -- the first reason to skip a frame, as its headers are read from the outside in
 unfoldable pub skip_of : List ℕ → Option Skip
-skip_of frame = option_or (link_skip frame) (option_or (packet_skip (packet_of frame)) (segment_skip (segment_of (packet_of frame))))
+skip_of frame =
+    option_or (link_skip frame)
+    (option_or (packet_skip (packet_of frame)) (segment_skip (segment_of (packet_of frame))))
 
 -- the fields by their places
 unfoldable pub fields_at : List ℕ → List ℕ → Fields
@@ -161,4 +173,5 @@ unless_skipped (Some s) d = Err s
 
 -- what a frame gives
 unfoldable pub datagram_of : List ℕ → Result Fields Skip
-datagram_of frame = unless_skipped (skip_of frame) (fields_at (packet_of frame) (segment_of (packet_of frame)))
+datagram_of frame =
+    unless_skipped (skip_of frame) (fields_at (packet_of frame) (segment_of (packet_of frame)))

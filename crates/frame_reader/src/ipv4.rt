@@ -11,11 +11,12 @@ const FRAGMENT: u16 = 0x3fff;
 // The protocol number of UDP.
 const UDP: u8 = 17;
 
-/// What stands behind the header up to the total length, where that is an unfragmented UDP datagram.
+/// What stands after the header up to the total length, where that is an unfragmented UDP datagram.
 #[tactic(auto, unfolding(crate::specs::Frame::packet_skip, crate::specs::Frame::segment_of))]
 pub fn segment(packet: &[u8]) -> Result<&[u8], Skip>
     ensures { MatchResult result
-        (λ s. (packet_skip packet.now ≡ None) × (s.now ≡ segment_of packet.now) × (20 ≤ length packet.now))
+        (λ s. (packet_skip packet.now ≡ None) × (s.now ≡ segment_of packet.now)
+        × (20 ≤ length packet.now))
         (λ s. packet_skip packet.now ≡ Some s) }
 {
     if packet.len() < 20 {

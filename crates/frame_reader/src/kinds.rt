@@ -11,6 +11,6 @@ pub struct Datagram<'a> {
     pub source_port: u16,
     /// The UDP port that it is for.
     pub destination_port: u16,
-    /// The bytes behind the UDP header, up to the end that the UDP length gives.
+    /// The bytes after the UDP header, up to the end that the UDP length gives.
     pub payload: &'a [u8],
 }

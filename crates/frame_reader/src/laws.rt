@@ -12,14 +12,16 @@ pub fn given_where_held()
         (datagram_of frame ≡ Ok d) ↔ HoldsDatagram frame d }
 {}
 
-/// A frame gives no datagram exactly where it has a reason to be skipped, and then gives that reason.
+/// A frame gives no datagram exactly where it has a reason to be skipped, and then gives that
+/// reason.
 pub fn refused_where_skipped()
     ensures { (frame : List ℕ) (s : Skip) → (datagram_of frame ≡ Err s) ↔ (skip_of frame ≡ Some s) }
 {}
 
 /// A frame holds one datagram at most.
 pub fn holds_one_at_most()
-    ensures { (frame : List ℕ) (d e : Fields) → HoldsDatagram frame d → HoldsDatagram frame e → d ≡ e }
+    ensures { (frame : List ℕ) (d e : Fields) → HoldsDatagram frame d → HoldsDatagram frame e
+        → d ≡ e }
 {}
 
 /// A frame has a reason to be skipped exactly where it holds no datagram.
@@ -28,9 +30,10 @@ pub fn skipped_where_none_is_held()
         IsSome (skip_of frame) ↔ ((d : Fields) → ¬ HoldsDatagram frame d) }
 {}
 
-/// Bytes behind what a frame holds are padding, and change nothing.
+/// Bytes after what a frame holds are padding, and change nothing.
 pub fn padding_is_ignored()
-    ensures { (frame more : List ℕ) (d : Fields) → HoldsDatagram frame d → HoldsDatagram (frame ++ more) d }
+    ensures { (frame more : List ℕ) (d : Fields) → HoldsDatagram frame d
+        → HoldsDatagram (frame ++ more) d }
 {}
 
 /// A frame with a datagram that is cut anywhere before its padding is short.

@@ -17,6 +17,3 @@ mod skip;
 
 pub use frame::datagram;
 pub use skip::Skip;
-
-#[cfg(test)]
-mod tests;

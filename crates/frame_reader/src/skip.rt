@@ -5,9 +5,10 @@ ghost use Rattle.std.specs.Prelude.{◌≡◌};
 /// Why a frame holds no datagram: the first reason that applies, as the layers are read.
 #[derive(Clone, Copy, Debug, PartialEq, Eq)]
 pub enum Skip {
-    /// The frame ends within the Ethernet header, the shortest IPv4 header or the IPv4 total length.
+    /// The frame ends within the Ethernet header, the shortest IPv4 header or the IPv4 total
+    /// length.
     Short,
-    /// The type behind at most one 802.1Q tag is not IPv4 (0x0800).
+    /// The type after at most one 802.1Q tag is not IPv4 (0x0800).
     OtherType,
     /// The version is not 4, the header length is below 5 words, or the total length is below it
     /// (RFC 791, section 3.1).
@@ -17,7 +18,7 @@ pub enum Skip {
     Fragment,
     /// The protocol is not UDP (17).
     OtherProtocol,
-    /// Fewer than 8 bytes stand behind the IPv4 header, or the UDP length is below 8 or reaches
+    /// Fewer than 8 bytes stand after the IPv4 header, or the UDP length is below 8 or reaches
     /// beyond the total length (RFC 768).
     UdpLength,
 }

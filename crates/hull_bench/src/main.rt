@@ -1,8 +1,9 @@
-//! Works out many hulls, so that their time can be measured from outside: `hull_bench WAY LENGTH ROUNDS`.
+//! Works out many hulls, so that their time can be measured from outside: `hull_bench WAY LENGTH
+//! ROUNDS`.
 //!
-//! WAY is `walk`, the crate's own, `plain`, which counts for each end the intervals that leave it out, or `none`, which
-//! makes the lists alone. It prints a sum over the answers, so that no work can be left out. With other arguments
-//! it does nothing.
+//! WAY is `walk`, the crate's own, `plain`, which counts for each end the intervals that leave it
+//! out, or `none`, which makes the lists alone. It prints a sum over the answers, so that no work
+//! can be left out. With other arguments it does nothing.
 #![tactic(auto)]
 
 use arrayvec::ArrayVec;
@@ -47,7 +48,8 @@ fn count_leaving_out(list: &ArrayVec<Interval, 32>, point: i128) -> usize {
         .count()
 }
 
-/// The hull by the plain way: of all ends those that at most `f` intervals leave out, the least and the greatest.
+/// The hull by the plain way: of all ends those that at most `f` intervals leave out, the least and
+/// the greatest.
 fn plain_hull(list: &ArrayVec<Interval, 32>, f: u8) -> Hull {
     if list.len() <= usize::from(f) {
         return Hull::Unbounded;

@@ -2,12 +2,14 @@
 use Rattle.std.proofs.Common.{◌≡◌, ℕ, ◌<◌, ◌≤◌, ℤ, ◌↔◌, List, length, IsPermutation, refl, arith}
 use Rattle.std.proofs.lemmas.Int.{ints}
 use Rattle.std.proofs.lemmas.List.Sorted.{sum_by-IsPermutation, length_permutation, IsPermutation-sym}
-use Rattle.intersection.specs.Hull.{count_leaving_out, IsAdmissible, IsLeastAdmissible, IsGreatestAdmissible, IsHull, HullHolds, IfBounded}
+use Rattle.intersection.specs.Hull.{count_leaving_out, IsAdmissible, IsLeastAdmissible, IsGreatestAdmissible, IsHull, HullHolds, IfBounded, DescribesHull, hull_of}
+use Rattle.intersection.proofs.EndPointLemmas.{IsHull-hull_of}
 use Rattle.intersection.specs.declared.kinds.Interval.{Interval}
 use Rattle.intersection.specs.declared.kinds.Hull.{Hull}
 use Rattle.intersection.specs.declared.kinds.Hull.TheVariants.{Unbounded, Empty, Bounded}
 
-pub one_answer : (list : List Interval) (f : ℕ) (first second : Hull) → IsHull list f first → IsHull list f second → first ≡ second
+pub one_answer : (list : List Interval) (f : ℕ) (first second : Hull) → IsHull list f first → IsHull list f second
+    → first ≡ second
 one_answer list f Unbounded Unbounded h k = refl
 one_answer list f Unbounded Empty h k = absurd (omega arith)
 one_answer list f Unbounded (Bounded lo hi) h k = absurd (omega arith)
@@ -25,7 +27,8 @@ one_answer list f (Bounded lo hi) (Bounded lo' hi') h k =
     let same_hi : hi ≡ hi' = omega (arith, ints) in
     cc
 
-pub nested : (list : List Interval) (f g : ℕ) (wide narrow : Hull) (point : ℤ) → g ≤ f → IsHull list f wide → IsHull list g narrow → HullHolds narrow point → HullHolds wide point
+pub nested : (list : List Interval) (f g : ℕ) (wide narrow : Hull) (point : ℤ) → g ≤ f → IsHull list f wide
+    → IsHull list g narrow → HullHolds narrow point → HullHolds wide point
 nested list f g Unbounded narrow point le w n h = tt
 nested list f g Empty Unbounded point le w n h = omega arith
 nested list f g Empty Empty point le w n h = h
@@ -38,13 +41,16 @@ nested list f g (Bounded lo hi) (Bounded lo' hi') point le w n h =
     (omega (arith, ints), omega (arith, ints))
 
 -- as many intervals leave a point out in whatever order they stand
-pub count-permutation : (list other : List Interval) (point : ℤ) → IsPermutation list other → count_leaving_out other point ≡ count_leaving_out list point
+pub count-permutation : (list other : List Interval) (point : ℤ) → IsPermutation list other
+    → count_leaving_out other point ≡ count_leaving_out list point
 count-permutation list other point moved = sum_by-IsPermutation _ list other moved
 
-pub admissible_moves : (list other : List Interval) (f : ℕ) (point : ℤ) → IsPermutation list other → IsAdmissible list f point → IsAdmissible other f point
+pub admissible_moves : (list other : List Interval) (f : ℕ) (point : ℤ) → IsPermutation list other
+    → IsAdmissible list f point → IsAdmissible other f point
 admissible_moves list other f point moved h = let same = count-permutation list other point moved in omega arith
 
-pub free_of_order : (list other : List Interval) (f : ℕ) (hull : Hull) → IsPermutation list other → IsHull list f hull → IsHull other f hull
+pub free_of_order : (list other : List Interval) (f : ℕ) (hull : Hull) → IsPermutation list other → IsHull list f hull
+    → IsHull other f hull
 free_of_order list other f Unbounded moved h = let same = length_permutation list other moved in omega arith
 free_of_order list other f Empty moved h =
     let same = length_permutation list other moved in
@@ -54,27 +60,49 @@ free_of_order list other f (Bounded lo hi) moved h =
     let same = length_permutation list other moved in
     let back = IsPermutation-sym list other moved in (
       omega arith,
-      (admissible_moves list other f lo moved h.1.0, λ point k. h.1.1 point (admissible_moves other list f point back k)),
-      (admissible_moves list other f hi moved h.2.0, λ point k. h.2.1 point (admissible_moves other list f point back k)),
+      (
+        admissible_moves list other f lo moved h.1.0,
+        λ point k. h.1.1 point
+            (admissible_moves other list f point back k),
+      ),
+      (
+        admissible_moves list other f hi moved h.2.0,
+        λ point k. h.2.1 point
+            (admissible_moves other list f point back k),
+      ),
     )
 
 -- ---- a hull, by its cases
-pub unbounded_exactly : (list : List Interval) (f : ℕ) (hull : Hull) → IsHull list f hull → (hull ≡ Unbounded) ↔ (length list ≤ f)
+pub unbounded_exactly : (list : List Interval) (f : ℕ) (hull : Hull) → IsHull list f hull → (hull ≡ Unbounded)
+    ↔ (length list ≤ f)
 unbounded_exactly list f Unbounded h = (λ e. h, λ le. refl)
 unbounded_exactly list f Empty h = (λ e. absurd cc, λ le. absurd (omega arith))
 unbounded_exactly list f (Bounded lo hi) h = (λ e. absurd cc, λ le. absurd (omega arith))
 
-pub empty_exactly : (list : List Interval) (f : ℕ) (hull : Hull) → IsHull list f hull → (hull ≡ Empty) ↔ ((f < length list) × ((point : ℤ) → ¬ (IsAdmissible list f point)))
+pub empty_exactly : (list : List Interval) (f : ℕ) (hull : Hull) → IsHull list f hull → (hull ≡ Empty)
+    ↔ ((f < length list) × ((point : ℤ) → ¬ (IsAdmissible list f point)))
 empty_exactly list f Unbounded h = (λ e. absurd cc, λ k. absurd (omega arith))
 empty_exactly list f Empty h = (λ e. h, λ k. refl)
 empty_exactly list f (Bounded lo hi) h = (λ e. absurd cc, λ k. absurd (k.1 lo h.1.0))
 
-pub bounded_ends : (list : List Interval) (f : ℕ) (hull : Hull) → IsHull list f hull → IfBounded hull (λ lo hi. IsLeastAdmissible list f lo × IsGreatestAdmissible list f hi)
+pub bounded_ends : (list : List Interval) (f : ℕ) (hull : Hull) → IsHull list f hull
+    → IfBounded hull (λ lo hi. IsLeastAdmissible list f lo × IsGreatestAdmissible list f hi)
 bounded_ends list f Unbounded h = tt
 bounded_ends list f Empty h = tt
 bounded_ends list f (Bounded lo hi) h = (h.1, h.2)
 
-pub every_point : (list : List Interval) (f : ℕ) (hull : Hull) → IsHull list f hull → (point : ℤ) → IsAdmissible list f point → HullHolds hull point
+pub every_point : (list : List Interval) (f : ℕ) (hull : Hull) → IsHull list f hull → (point : ℤ)
+    → IsAdmissible list f point → HullHolds hull point
 every_point list f Unbounded h point few = tt
 every_point list f Empty h point few = h.1 point few
 every_point list f (Bounded lo hi) h point few = (h.1.1 point few, h.2.1 point few)
+
+pub described : (list : List Interval) (f : ℕ) (hull : Hull) → IsHull list f hull → DescribesHull list f hull
+described list f hull h = record {
+  hull = h;
+  unbounded = unbounded_exactly list f hull h;
+  empty = empty_exactly list f hull h;
+  ends = bounded_ends list f hull h;
+  every_admissible_point = every_point list f hull h;
+  value = one_answer list f hull (hull_of list f) h (IsHull-hull_of list f);
+}

@@ -1,5 +1,7 @@
 pub mod FractionLemmas
 pub mod IntervalLemmas
+pub mod EndPointLemmas
 pub mod HullLemmas
-pub mod WalkLemmas
-pub mod OrderLemmas
+pub mod MarzulloLemmas
+pub mod MarzulloSoundness
+pub mod EndsLemmas

@@ -1,5 +1,5 @@
--- The ends of intervals, their order, and where a walk along them stops. Only the code's own contracts speak of these.
-use Rattle.std.specs.Prelude.{◌≡◌, ℕ, ◌+◌, ℤ, ◌<ℤ◌, ◌≤ℤ◌, int_le, Bool, true, false, cond, nat_le, List, [], ◌∷◌, flat_map, Option, Some, None, AllPairs}
+-- The ends of intervals, and their order. Only the code's own contracts speak of these.
+use Rattle.std.specs.Prelude.{◌≡◌, ◌<ℤ◌, ◌≤ℤ◌, int_le, Bool, true, false, cond, List, [], ◌∷◌, flat_map, AllPairs}
 use Rattle.intersection.specs.declared.kinds.Interval.{Interval}
 use Rattle.intersection.specs.declared.ends.End.{End}
 use Rattle.intersection.specs.declared.ends.Side.{Side}
@@ -8,14 +8,18 @@ use Rattle.intersection.specs.declared.ends.Side.TheVariants.{Low, High}
 -- both ends of an interval that has a point, and else none
 abbrev pub ends_of_interval : Interval → List End
 ends_of_interval interval =
-    cond (int_le interval.lo interval.hi) (record { at = interval.lo; side = Low } ∷ record { at = interval.hi; side = High } ∷ []) []
+    cond (int_le interval.lo interval.hi)
+    (record { at = interval.lo; side = Low } ∷ record { at = interval.hi; side = High } ∷ [])
+    []
 
 abbrev pub ends_of : List Interval → List End
 ends_of list = flat_map ends_of_interval list
 
--- a low end may stand before any end that isn't below it, and a high end only before a low one that is above it
+-- a low end may stand before any end that isn't below it, and a high end only before a low one that
+-- is above it
 abbrev pub MayPrecede : End → End → Type 0
-MayPrecede first second = (first.at ≤ℤ second.at) × (first.side ≡ High → second.side ≡ Low → first.at <ℤ second.at)
+MayPrecede first second =
+    (first.at ≤ℤ second.at) × (first.side ≡ High → second.side ≡ Low → first.at <ℤ second.at)
 
 -- each end may precede those after it
 abbrev pub IsInOrder : List End → Type 0
@@ -29,12 +33,3 @@ is_low High = false
 abbrev pub enters : Side → End → Bool
 enters Low end = is_low end.side
 enters High end = cond (is_low end.side) false true
-
--- Where a walk stops: at the first end by which `needed` more intervals were entered than left. Before these ends it
--- entered and left so many.
-abbrev pub first_reached : Side → ℕ → ℕ → ℕ → List End → Option ℤ
-first_reached entrance needed entered left [] = None
-first_reached entrance needed entered left (end ∷ ends) =
-    cond (enters entrance end)
-    (cond (nat_le (left + needed) (entered + 1)) (Some end.at) (first_reached entrance needed (entered + 1) left ends))
-    (first_reached entrance needed entered (left + 1) ends)

@@ -1,8 +1,9 @@
 -- Fractions against whole ends.
 --
--- A clock's error needn't be a whole number of ticks. Here it is e/n, a whole number over a positive one, and the
--- definitions multiply by n in place of dividing.
+-- A clock's error needn't be a whole number of ticks. Here it is e/n, a whole number over a
+-- positive one, and the definitions multiply by n in place of dividing.
 use Rattle.std.specs.Prelude.{ℕ, ◌≤◌, ℤ, pos, ◌*ℤ◌, ◌<ℤ◌, ◌≤ℤ◌, ◌⊎◌, Bool, int_lt, ◌||◌, List, count_by, ⊤}
+pub use Rattle.era_unfold.specs.Ratio.{IsSignedFloor as IsFloor, IsSignedCeiling as IsCeiling}
 use Rattle.intersection.specs.declared.kinds.Interval.{Interval}
 use Rattle.intersection.specs.declared.kinds.Hull.{Hull}
 use Rattle.intersection.specs.declared.kinds.Hull.TheVariants.{Unbounded, Empty, Bounded}
@@ -17,19 +18,12 @@ LeavesFractionOut interval e n = (e <ℤ (interval.lo *ℤ pos n)) ⊎ ((interva
 
 -- the same as a test, for counting
 abbrev pub leaves_fraction_out : Interval → ℤ → ℕ → Bool
-leaves_fraction_out interval e n = int_lt e (interval.lo *ℤ pos n) || int_lt (interval.hi *ℤ pos n) e
+leaves_fraction_out interval e n =
+    int_lt e (interval.lo *ℤ pos n) || int_lt (interval.hi *ℤ pos n) e
 
 -- at most f intervals leave e/n out
 abbrev pub IsAdmissibleFraction : List Interval → ℕ → ℤ → ℕ → Type 0
 IsAdmissibleFraction list f e n = count_by (λ interval. leaves_fraction_out interval e n) list ≤ f
-
--- the floor of e/n: the greatest whole number that is not above it
-abbrev pub IsFloor : ℤ → ℤ → ℕ → Type 0
-IsFloor floor e n = ((floor *ℤ pos n) ≤ℤ e) × ((whole : ℤ) → (whole *ℤ pos n) ≤ℤ e → whole ≤ℤ floor)
-
--- the ceiling of e/n: the least whole number that is not below it
-abbrev pub IsCeiling : ℤ → ℤ → ℕ → Type 0
-IsCeiling ceiling e n = (e ≤ℤ (ceiling *ℤ pos n)) × ((whole : ℤ) → e ≤ℤ (whole *ℤ pos n) → ceiling ≤ℤ whole)
 
 -- e/n lies in the hull
 abbrev pub HullHoldsFraction : Hull → ℤ → ℕ → Type 0

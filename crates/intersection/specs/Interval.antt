@@ -1,7 +1,7 @@
 -- Closed intervals of whole points, and which points they leave out.
 --
--- An interval bounds a number from below and from above, and both ends belong to it. One whose low end is above its high
--- end has no point, and leaves every point out.
+-- An interval bounds a number from below and from above, and both ends belong to it. One whose low
+-- end is above its high end has no point, and leaves every point out.
 use Rattle.std.specs.Prelude.{ℤ, ◌<ℤ◌, ◌⊎◌, Bool, int_lt, ◌||◌}
 use Rattle.intersection.specs.declared.kinds.Interval.{Interval}
 

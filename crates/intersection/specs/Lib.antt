@@ -2,3 +2,4 @@ pub mod Interval
 pub mod Fraction
 pub mod Hull
 pub mod Ends
+pub mod Marzullo

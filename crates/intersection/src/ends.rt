@@ -5,7 +5,8 @@ ghost use Rattle.intersection.specs.Ends.{ends_of, IsInOrder};
 use crate::kinds::Interval;
 use arrayvec::ArrayVec;
 
-/// Which end of an interval it is. At one point low ends come first, since a closed interval holds both its ends.
+/// Which end of an interval it is. At one point low ends come first, since a closed interval holds
+/// both its ends.
 #[derive(Clone, Copy, Debug, Default, PartialEq, Eq, PartialOrd, Ord)]
 pub enum Side {
     #[default]

@@ -1,6 +1,7 @@
 //! The types that this crate speaks of.
 
-/// A closed interval of whole points, with both its ends: in ticks of 2^-32 s where it bounds a clock's error.
+/// A closed interval of whole points, with both its ends: in ticks of 2^-32 s where it bounds a
+/// clock's error.
 ///
 /// An interval with `lo` above `hi` has no point.
 #[derive(Clone, Copy, Debug, Default, PartialEq, Eq)]

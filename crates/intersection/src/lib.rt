@@ -1,20 +1,17 @@
 //! What a list of closed intervals has in common when a few of them may be wrong.
 //!
-//! Servers answer with correctness intervals, and up to `f` of the servers may be false tickers (RFC 5905, section 11.2.1).
-//! A point is admissible where at most `f` intervals leave it out, and [`hull`] is the least range that holds every
-//! admissible point. [`hull_walk`] says also how many ends of intervals were looked at, and [`meet`] narrows two intervals
-//! to one. Nothing here allocates.
+//! Servers answer with correctness intervals, and up to `f` of the servers may be false tickers
+//! (RFC 5905, section 11.2.1). A point is admissible where at most `f` intervals leave it out, and
+//! [`hull`] is the least range that holds every admissible point. [`hull_walk`] says also how many
+//! ends of intervals were looked at, and [`meet`] narrows two intervals to one. Nothing here
+//! allocates.
 #![tactic(auto)]
 
 mod ends;
-mod finding;
+mod interval;
 pub mod kinds;
 pub mod laws;
-mod narrowing;
-mod walking;
+mod marzullo;
 
-pub use finding::{hull, hull_walk};
-pub use narrowing::meet;
-
-#[cfg(test)]
-mod tests;
+pub use interval::meet;
+pub use marzullo::{hull, hull_walk};

@@ -1,9 +1,10 @@
 use Rattle.std.proofs.Common.{arith}
 use Rattle.std.proofs.lemmas.Int.{ints}
-use Rattle.era_unfold.proofs.Eras.{StandsFor-era_behind, unfolded-from_IsUnfolded}
+use Rattle.era_unfold.proofs.StampLemmas.{StandsFor-era_earlier, unfolded-from_IsUnfolded}
 use Rattle.era_unfold.proofs.stamp.unfold.Goals as goal
 
-pub returns-then-ahead-lt-HALF_ERA-clause-congruent_and_near : goal.returns-then-ahead-lt-HALF_ERA-clause-congruent_and_near
+pub returns-then-ahead-lt-HALF_ERA-clause-congruent_and_near :
+    goal.returns-then-ahead-lt-HALF_ERA-clause-congruent_and_near
 returns-then-ahead-lt-HALF_ERA-clause-congruent_and_near c = record {
   stands_for = record { eras = c.ticks_ahead-ahead.ensures.eras; ticks_since_1900 = omega (arith, ints) };
   not_before = omega (arith, ints);
@@ -14,11 +15,12 @@ pub returns-then-ahead-lt-HALF_ERA-clause-value : goal.returns-then-ahead-lt-HAL
 returns-then-ahead-lt-HALF_ERA-clause-value c =
     unfolded-from_IsUnfolded c.args.stamp c.args.near _ (returns-then-ahead-lt-HALF_ERA-clause-congruent_and_near c)
 
-pub returns-else-ahead-lt-HALF_ERA-clause-congruent_and_near : goal.returns-else-ahead-lt-HALF_ERA-clause-congruent_and_near
+pub returns-else-ahead-lt-HALF_ERA-clause-congruent_and_near :
+    goal.returns-else-ahead-lt-HALF_ERA-clause-congruent_and_near
 returns-else-ahead-lt-HALF_ERA-clause-congruent_and_near c =
-    let behind = StandsFor-era_behind c.args.stamp _ c.ticks_ahead-ahead.ensures in
+    let earlier = StandsFor-era_earlier c.args.stamp _ c.ticks_ahead-ahead.ensures in
     record {
-      stands_for = record { eras = behind.eras; ticks_since_1900 = omega (arith, ints, behind.ticks_since_1900) };
+      stands_for = record { eras = earlier.eras; ticks_since_1900 = omega (arith, ints, earlier.ticks_since_1900) };
       not_before = omega (arith, ints);
       before = omega (arith, ints);
     }

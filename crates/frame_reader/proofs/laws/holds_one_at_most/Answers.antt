@@ -1,4 +1,4 @@
-use Rattle.frame_reader.proofs.Giving.{one_datagram}
+use Rattle.frame_reader.proofs.Exactness.{one_datagram}
 use Rattle.frame_reader.proofs.laws.holds_one_at_most.Goals as goal
 
 pub returns : goal.returns

@@ -1,4 +1,4 @@
-use Rattle.frame_reader.proofs.Cutting.{more_padding}
+use Rattle.frame_reader.proofs.Truncation.{more_padding}
 use Rattle.frame_reader.proofs.laws.padding_is_ignored.Goals as goal
 
 pub returns : goal.returns

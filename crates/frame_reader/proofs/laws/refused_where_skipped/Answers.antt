@@ -1,4 +1,4 @@
-use Rattle.frame_reader.proofs.Giving.{skipped_exactly}
+use Rattle.frame_reader.proofs.Exactness.{skipped_exactly}
 use Rattle.frame_reader.proofs.laws.refused_where_skipped.Goals as goal
 
 pub returns : goal.returns

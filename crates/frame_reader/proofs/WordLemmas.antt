@@ -1,0 +1,64 @@
+-- Bytes, and the numbers that two of them stand for.
+use Rattle.std.proofs.Common.{◌≡◌, ℕ, ◌+◌, ◌*◌, ◌/◌, ◌%◌, ◌^◌, ◌<◌, ◌≤◌, List, ◌∷◌, ◌++◌, length, get_or, take, drop, refl, ap, arith, inl, inr}
+use Rattle.std.proofs.lemmas.Bool.{cases_lt}
+use Rattle.std.proofs.lemmas.List.{get_or-drop, get_or-take, get_or_past, get_or_default, drop_more, length-take}
+use Rattle.std.proofs.Math.Seq.{drop-append-add}
+use Rattle.byteorder.specs.Endian.{big_bytes, big_number}
+use Rattle.frame_reader.specs.Frame.{word, IsBytes}
+
+-- each place reads as a byte, and as 0 past the end
+abbrev pub ReadsBytes : List ℕ → Type 0
+ReadsBytes xs = (i : ℕ) → get_or xs i 0 < 256
+
+pub ReadsBytes-from_all : (xs : List ℕ) → IsBytes xs → ReadsBytes xs
+ReadsBytes-from_all xs all i = elim (cases_lt i (length xs)) [
+  | inl inside ↦ all i 0 inside
+  | inr past ↦ rw (get_or_past xs i 0 past) (omega arith)
+]
+
+pub IsBytes-from_reads : (xs : List ℕ) → ReadsBytes xs → IsBytes xs
+IsBytes-from_reads xs bytes k d inside = rw (get_or_default xs k d 0 inside) (bytes k)
+
+pub ReadsBytes-drop : (n : ℕ) (xs : List ℕ) → ReadsBytes xs → ReadsBytes (drop n xs)
+ReadsBytes-drop n xs all i = rw get_or-drop (all (n + i))
+
+pub ReadsBytes-take : (n : ℕ) (xs : List ℕ) → ReadsBytes xs → ReadsBytes (take n xs)
+ReadsBytes-take n xs all i =
+    elim (cases_lt i n) [
+      | inl inside ↦ rw (get_or-take n xs i 0 inside) (all i)
+      | inr past ↦ rw (get_or_past (take n xs) i 0 (omega (arith, length-take n xs))) (omega arith)
+    ]
+
+-- a word by its two bytes
+pub word_is : (xs : List ℕ) (i : ℕ) → word xs i ≡ 256 * get_or xs i 0 + get_or xs (i + 1) 0
+unfolding word
+word_is xs i =
+    let first : get_or (drop i xs) 0 0 ≡ get_or xs (i + 0) 0 = get_or-drop i xs 0 0 in
+    let second : get_or (drop i xs) 1 0 ≡ get_or xs (i + 1) 0 = get_or-drop i xs 1 0 in
+    let here : i + 0 ≡ i = omega arith in
+    let first' = rw here at first in
+    omega (arith, first', second)
+
+pub word_fits : (xs : List ℕ) (i : ℕ) → ReadsBytes xs → word xs i < 2 ^ 16
+word_fits xs i bytes = omega (arith, word_is xs i, bytes i, bytes (i + 1))
+
+-- two bytes are those of the word that they stand for
+pub drop-word : (xs : List ℕ) (i j : ℕ) → ReadsBytes xs → j ≡ i + 2 → j ≤ length xs
+    → drop i xs ≡ big_bytes 2 (word xs i) ++ drop j xs
+drop-word xs i j bytes at long =
+    let one : drop i xs ≡ get_or xs i 0 ∷ drop (i + 1) xs = drop_more xs i 0 (omega arith) in
+    let two : drop (i + 1) xs ≡ get_or xs (i + 1) 0 ∷ drop (i + 1 + 1) xs = drop_more xs (i + 1) 0 (omega arith) in
+    let high : word xs i / 256 % 256 ≡ get_or xs i 0 = omega (arith, word_is xs i, bytes i, bytes (i + 1)) in
+    let low : word xs i % 256 ≡ get_or xs (i + 1) 0 = omega (arith, word_is xs i, bytes i, bytes (i + 1)) in
+    let end : i + 1 + 1 ≡ j = omega arith in
+    rw (one, two, end, high, low) refl
+
+-- the word after a list of known length
+pub word-append : (xs ys : List ℕ) (n i : ℕ) → length xs ≡ n → word (xs ++ ys) (n + i) ≡ word ys i
+unfolding word
+word-append xs ys n i len = rw (← len) (ap (λ (t : List ℕ). big_number 2 t) (drop-append-add xs ys i))
+
+-- the two bytes of a number are read as that number
+pub word-big_bytes : (n : ℕ) (ys : List ℕ) → n < 2 ^ 16 → word (big_bytes 2 n ++ ys) 0 ≡ n
+unfolding word
+word-big_bytes n ys fits = omega arith
