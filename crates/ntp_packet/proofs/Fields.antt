@@ -12,7 +12,13 @@ use Rattle.ntp_packet.specs.Header.{AreBytes, field}
 
 -- each byte, and the 0 past the last, is below 256
 pub slice_index-lt : (bytes : List ℕ) → AreBytes bytes → (k : ℕ) → slice_index bytes k < 256
-slice_index-lt bytes h k = elim (cases_lt k (length bytes)) [ inl below ↦ h k 0 below | inr past ↦ omega (arith, get_or_past bytes k 0 past) ]
+slice_index-lt bytes h k = elim (cases_lt k (length bytes)) [
+  | inl below ↦ h k 0 below
+  | inr past ↦ omega (
+    arith,
+    get_or_past bytes k 0 past,
+  )
+]
 
 pub field-lt : (first width : ℕ) (bytes : List ℕ) → AreBytes bytes → field first width bytes < 256 ^ width
 unfolding field
@@ -27,5 +33,6 @@ twos_complement-least byte = grind (arith, nat_tests, ints)
 pub twos_complement-greatest : (byte : ℕ) → byte < 256 → twos_complement 1 byte ≤ℤ pos 127
 twos_complement-greatest byte h = grind (arith, nat_tests, ints)
 
-pub twos_complement-same : (byte : ℕ) → (twos_complement 1 byte ≡ pos byte) ⊎ (twos_complement 1 byte +ℤ pos 256 ≡ pos byte)
+pub twos_complement-same : (byte : ℕ) → (twos_complement 1 byte ≡ pos byte)
+    ⊎ (twos_complement 1 byte +ℤ pos 256 ≡ pos byte)
 twos_complement-same byte = grind (arith, nat_tests, ints)

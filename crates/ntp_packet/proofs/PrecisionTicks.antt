@@ -10,7 +10,8 @@ use Rattle.ntp_packet.specs.Header.{precision_ticks_of}
 pow-next : (a b : ℕ) → a ≡ suc b → 2 ^ a ≡ 2 * 2 ^ b
 pow-next a b e = rw e (omega (arith, pow-suc 2 b))
 
-pub precision_ticks_of-suc : (precision : ℤ) → negsuc 31 ≤ℤ precision → precision_ticks_of (precision +ℤ pos 1) ≡ 2 * precision_ticks_of precision
+pub precision_ticks_of-suc : (precision : ℤ) → negsuc 31 ≤ℤ precision →
+    precision_ticks_of (precision +ℤ pos 1) ≡ 2 * precision_ticks_of precision
 precision_ticks_of-suc (pos p) h = pow-next (32 + (p + 1)) (32 + p) (omega arith)
 precision_ticks_of-suc (negsuc zero) h = refl
 precision_ticks_of-suc (negsuc (suc n)) h =
@@ -27,9 +28,11 @@ precision_ticks_of-greatest (negsuc n) h = let k : 31 - n ≤ 48 = omega arith i
 
 -- a root distance, by its parts
 pub distance-least : (delay dispersion : ℕ) (precision : ℤ) →
-    IfSome (if int_lt (pos 16) precision then None else Some (pos (delay * 32768 + dispersion * 65536 + precision_ticks_of precision))) (λ ticks. pos 1 ≤ℤ ticks)
+    IfSome (if int_lt (pos 16) precision then None else Some (pos
+    (delay * 32768 + dispersion * 65536 + precision_ticks_of precision))) (λ ticks. pos 1 ≤ℤ ticks)
 distance-least delay dispersion precision = grind (arith, ints, precision_ticks_of-least precision)
 
 pub distance-greatest : (delay dispersion : ℕ) (precision : ℤ) → delay < 2 ^ 32 → dispersion < 2 ^ 32 →
-    IfSome (if int_lt (pos 16) precision then None else Some (pos (delay * 32768 + dispersion * 65536 + precision_ticks_of precision))) (λ ticks. ticks <ℤ pos (2 ^ 70))
+    IfSome (if int_lt (pos 16) precision then None else Some (pos
+    (delay * 32768 + dispersion * 65536 + precision_ticks_of precision))) (λ ticks. ticks <ℤ pos (2 ^ 70))
 distance-greatest delay dispersion precision d e = grind (arith, ints, precision_ticks_of-greatest precision)

@@ -1,10 +1,10 @@
 -- The NTP packet header (RFC 5905, section 7.3).
 --
--- A packet begins with a header of 48 bytes. What follows them, extension fields and keys, is no part of it.
--- Each field is the number in fixed bytes of the header, the highest byte first:
+-- A packet begins with a header of 48 bytes. What follows them, extension fields and keys, is no
+-- part of it. Each field is the number in fixed bytes of the header, the highest byte first:
 --
 --     first byte   bytes   field
---              0       1   leap indicator (2 bits), version (3 bits), mode (3 bits), from the highest bit on
+--              0       1   leap indicator (2 bits), version (3), mode (3), the highest bits first
 --              1       1   stratum
 --              2       1   poll, signed, the log2 of seconds
 --              3       1   precision, signed, the log2 of seconds
@@ -16,8 +16,8 @@
 --             32       8   receive timestamp
 --             40       8   transmit timestamp
 --
--- The short format counts units of 2^-16 s, and a timestamp units of 2^-32 s (RFC 5905, section 6). A tick is
--- 2^-32 s. Root delay and root dispersion are read as unsigned.
+-- The short format counts units of 2^-16 s, and a timestamp units of 2^-32 s (RFC 5905, section 6).
+-- A tick is 2^-32 s. Root delay and root dispersion are read as unsigned.
 use Rattle.std.specs.Prelude.{ℕ, ◌+◌, ◌-◌, ◌*◌, ◌/◌, ◌%◌, ◌^◌, ℤ, pos, negsuc, int_lt, ◌<◌, List, take, slice_index, slice_range, All, Option, Some, None, if◌then◌else◌}
 use Rattle.byteorder.specs.Endian.{big_number, twos_complement}
 
@@ -80,16 +80,17 @@ receive_of bytes = field 32 8 bytes
 abbrev pub transmit_of : List ℕ → ℕ
 transmit_of bytes = field 40 8 bytes
 
--- A precision p in ticks: 2^(32 + p), and one tick where p is -32 or less. Below 0 p is -(n + 1), so 32 + p is
--- 31 - n, which stops at 0.
+-- A precision p in ticks: 2^(32 + p), and one tick where p is -32 or less. Below 0 p is -(n + 1),
+-- so 32 + p is 31 - n, which stops at 0.
 abbrev pub precision_ticks_of : ℤ → ℕ
 precision_ticks_of (pos p) = 2 ^ (32 + p)
 precision_ticks_of (negsuc n) = 2 ^ (31 - n)
 
--- The root distance in ticks: half the root delay and the root dispersion (RFC 5905, section 11.2), and the
--- precision. A unit of the short format is 65536 ticks, and half of one is 32768. With a precision above 16, which
--- is 18 hours, there is none.
+-- The root distance in ticks: half the root delay and the root dispersion (RFC 5905, section 11.2),
+-- and the precision. A unit of the short format is 65536 ticks, and half of one is 32768. With a
+-- precision above 16, which is 18 hours, there is none.
 unfoldable pub root_distance_of : List ℕ → Option ℤ
 root_distance_of bytes =
     if int_lt (pos 16) (precision_of bytes) then None
-    else Some (pos (root_delay_of bytes * 32768 + root_dispersion_of bytes * 65536 + precision_ticks_of (precision_of bytes)))
+    else Some (pos (root_delay_of bytes * 32768 + root_dispersion_of bytes * 65536
+    + precision_ticks_of (precision_of bytes)))

@@ -8,9 +8,9 @@ const UNIT_TICKS: u64 = 65536;
 
 #[tactic(auto, unfolding(crate::specs::Header::root_distance_of))]
 impl NtpView<'_> {
-    /// The root distance that the sender announces, in ticks of 2^-32 s: half its root delay, its root dispersion and
-    /// its precision, which counts as one tick from -32 downwards (after RFC 5905, section 11.2). `None` comes for a
-    /// precision above 16 and no other.
+    /// The root distance that the sender announces, in ticks of 2^-32 s: half its root delay, its
+    /// root dispersion and its precision, which counts as one tick from -32 downwards (after RFC
+    /// 5905, section 11.2). `None` comes for a precision above 16 and no other.
     pub fn root_distance(&self) -> Option<i128>
         ensures distance { result ≡ root_distance_of self.now }
         ensures none { IsNone result ↔ (pos 16 <ℤ precision_of self.now) }

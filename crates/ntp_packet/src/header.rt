@@ -7,8 +7,8 @@ use std::marker::Model;
 /// How many bytes a header has.
 const HEADER_BYTES: usize = 48;
 
-/// The header of an NTP packet, read where it stands in a payload (RFC 5905, section 7.3; its formats of time are
-/// those of section 6). In clauses it is the list of its 48 bytes.
+/// The header of an NTP packet, read where it stands in a payload (RFC 5905, section 7.3; its
+/// formats of time are those of section 6). In clauses it is the list of its 48 bytes.
 #[derive(Debug, Drop)]
 pub struct NtpView<'a> {
     bytes: &'a [u8],
@@ -24,10 +24,10 @@ impl<'a> Model for NtpView<'a> {
     ghost invariant = { λ header. length header.bytes.now ≡ 48 };
 }
 
-/// The header at the start of an NTP packet, the payload of a UDP datagram. What follows its 48 bytes is ignored.
-/// `None` comes for a payload of fewer than 48 bytes and no other.
+/// The header at the start of an NTP packet, the payload of a UDP datagram. What follows its 48
+/// bytes is ignored. `None` comes for a payload of fewer than 48 bytes and no other.
 pub fn view(payload: &[u8]) -> Option<NtpView<'_>>
-    ensures short { IsNone result ↔ (length payload.now < 48) }
+    ensures none { IsNone result ↔ (length payload.now < 48) }
     ensures header { IfSome result (λ header. header ≡ header_of payload.now) }
 {
     let bytes = payload.get(..HEADER_BYTES)?;
@@ -36,7 +36,8 @@ pub fn view(payload: &[u8]) -> Option<NtpView<'_>>
 
 #[tactic(auto, unfolding(crate::specs::Header::field, crate::specs::Header::signed_field, crate::specs::Header::leap_of, crate::specs::Header::version_of, crate::specs::Header::mode_of, crate::specs::Header::reference_id_of))]
 impl NtpView<'_> {
-    /// The leap indicator, 0 to 3. 1 and 2 warn of a leap second, and 3 says that the clock is unsynchronized.
+    /// The leap indicator, 0 to 3. 1 and 2 warn of a leap second, and 3 says that the clock is
+    /// unsynchronized.
     pub fn leap(&self) -> u8
         ensures { result ≡ leap_of self.now }
     {
@@ -57,8 +58,8 @@ impl NtpView<'_> {
         self.bytes[0] & 7
     }
 
-    /// The stratum: 1 is a primary server, 2 to 15 a secondary one, 0 unspecified or a kiss code, 16
-    /// unsynchronized, and the rest reserved.
+    /// The stratum: 1 is a primary server, 2 to 15 a secondary one, 0 unspecified or a kiss code,
+    /// 16 unsynchronized, and the rest reserved.
     pub fn stratum(&self) -> u8
         ensures { result ≡ stratum_of self.now }
     {

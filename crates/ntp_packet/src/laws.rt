@@ -1,9 +1,11 @@
-//! What follows from the definitions of the fields, in the words of the subject. Each law is a function with no
-//! parameters, whose contract ranges over all lists of bytes.
+//! What follows from the definitions of the fields, in the words of the subject. Each law is a
+//! function with no parameters, whose contract ranges over all lists of bytes.
 ghost use Rattle.std.specs.Prelude.{◌≡◌, ℕ, ◌+◌, ◌*◌, ◌^◌, ◌<◌, ◌⊎◌, ℤ, pos, negsuc, ◌+ℤ◌, ◌≤ℤ◌, ◌<ℤ◌, List, slice_index, IfSome};
+ghost use Rattle.ntp_packet.specs.Packet.{packet_of};
 ghost use Rattle.ntp_packet.specs.Header.{AreBytes, field, signed_field, leap_of, version_of, mode_of, precision_ticks_of, root_distance_of};
 
-/// Leap indicator, version and mode make up the first byte, and each keeps to its two or three bits.
+/// Leap indicator, version and mode make up the first byte, and each keeps to its two or three
+/// bits.
 pub fn first_byte_parts()
     ensures rebuilt { (bytes : List ℕ) →
         64 * leap_of bytes + 8 * version_of bytes + mode_of bytes ≡ slice_index bytes 0 }
@@ -21,13 +23,15 @@ pub fn field_range()
 /// A signed field lies from -128 to 127, and is its byte or 256 less.
 pub fn signed_field_range()
     ensures least { (first : ℕ) (bytes : List ℕ) → negsuc 127 ≤ℤ signed_field first bytes }
-    ensures greatest { (first : ℕ) (bytes : List ℕ) → AreBytes bytes → signed_field first bytes ≤ℤ pos 127 }
+    ensures greatest { (first : ℕ) (bytes : List ℕ) → AreBytes bytes →
+        signed_field first bytes ≤ℤ pos 127 }
     ensures same_byte { (first : ℕ) (bytes : List ℕ) →
         (signed_field first bytes ≡ pos (field first 1 bytes))
         ⊎ (signed_field first bytes +ℤ pos 256 ≡ pos (field first 1 bytes)) }
 {}
 
-/// A precision of 0 is one second, each step above -32 doubles it, and at -32 and below it counts as one tick.
+/// A precision of 0 is one second, each step above -32 doubles it, and at -32 and below it counts
+/// as one tick.
 pub fn precision_doubles()
     ensures second { precision_ticks_of (pos 0) ≡ 2 ^ 32 }
     ensures doubles { (precision : ℤ) → negsuc 31 ≤ℤ precision →
@@ -41,4 +45,10 @@ pub fn root_distance_range()
         IfSome (root_distance_of bytes) (λ ticks. pos 1 ≤ℤ ticks) }
     ensures greatest { (bytes : List ℕ) → AreBytes bytes →
         IfSome (root_distance_of bytes) (λ ticks. ticks <ℤ pos (2 ^ 70)) }
+{}
+
+/// The header of a frame's packet is made of bytes of the frame.
+pub fn packet_header_is_bytes()
+    ensures { (frame : List ℕ) → AreBytes frame →
+        IfSome (packet_of frame) (λ packet. AreBytes packet.header) }
 {}
