@@ -7,7 +7,8 @@ use Rattle.pcap_reader.specs.Broken.{IsBytes}
 use Rattle.pcap_reader.specs.Field.{number_in, spelled}
 
 -- the bytes of a number have that number in them
-pub number_in-spelled : (order : Endian) (n x : ℕ) (rest : List ℕ) → x < 256 ^ n → number_in order n (spelled order n x ++ rest) ≡ x
+pub number_in-spelled : (order : Endian) (n x : ℕ) (rest : List ℕ) → x < 256 ^ n →
+    number_in order n (spelled order n x ++ rest) ≡ x
 number_in-spelled Big n x rest h = big_number-reads_back n x rest h
 number_in-spelled Little n x rest h = little_number-reads_back n x rest h
 
@@ -27,16 +28,20 @@ digit_1_of_2 x a b ha hb h = omega arith
 digit_0_of_2 : (x a b : ℕ) → a < 256 → b < 256 → x ≡ a * 256 + b → x % 256 ≡ b
 digit_0_of_2 x a b ha hb h = omega arith
 
-digit_3 : (x a b c d : ℕ) → a < 256 → b < 256 → c < 256 → d < 256 → x ≡ a * 16777216 + b * 65536 + c * 256 + d → x / 16777216 % 256 ≡ a
+digit_3 : (x a b c d : ℕ) → a < 256 → b < 256 → c < 256 → d < 256 → x ≡ a * 16777216 + b * 65536 + c * 256 + d →
+    x / 16777216 % 256 ≡ a
 digit_3 x a b c d ha hb hc hd h = omega arith
 
-digit_2 : (x a b c d : ℕ) → a < 256 → b < 256 → c < 256 → d < 256 → x ≡ a * 16777216 + b * 65536 + c * 256 + d → x / 65536 % 256 ≡ b
+digit_2 : (x a b c d : ℕ) → a < 256 → b < 256 → c < 256 → d < 256 → x ≡ a * 16777216 + b * 65536 + c * 256 + d →
+    x / 65536 % 256 ≡ b
 digit_2 x a b c d ha hb hc hd h = omega arith
 
-digit_1 : (x a b c d : ℕ) → a < 256 → b < 256 → c < 256 → d < 256 → x ≡ a * 16777216 + b * 65536 + c * 256 + d → x / 256 % 256 ≡ c
+digit_1 : (x a b c d : ℕ) → a < 256 → b < 256 → c < 256 → d < 256 → x ≡ a * 16777216 + b * 65536 + c * 256 + d →
+    x / 256 % 256 ≡ c
 digit_1 x a b c d ha hb hc hd h = omega arith
 
-digit_0 : (x a b c d : ℕ) → a < 256 → b < 256 → c < 256 → d < 256 → x ≡ a * 16777216 + b * 65536 + c * 256 + d → x % 256 ≡ d
+digit_0 : (x a b c d : ℕ) → a < 256 → b < 256 → c < 256 → d < 256 → x ≡ a * 16777216 + b * 65536 + c * 256 + d →
+    x % 256 ≡ d
 digit_0 x a b c d ha hb hc hd h = omega arith
 
 big_2 : (x a b : ℕ) → a < 256 → b < 256 → x ≡ a * 256 + b → spelled Big 2 x ≡ a ∷ b ∷ []
@@ -45,26 +50,43 @@ big_2 x a b ha hb h = rw (digit_1_of_2 x a b ha hb h, digit_0_of_2 x a b ha hb h
 little_2 : (x a b : ℕ) → a < 256 → b < 256 → x ≡ b * 256 + a → spelled Little 2 x ≡ a ∷ b ∷ []
 little_2 x a b ha hb h = rw (digit_1_of_2 x b a hb ha h, digit_0_of_2 x b a hb ha h) refl
 
-big_4 : (x a b c d : ℕ) → a < 256 → b < 256 → c < 256 → d < 256 → x ≡ a * 16777216 + b * 65536 + c * 256 + d → spelled Big 4 x ≡ a ∷ b ∷ c ∷ d ∷ []
+big_4 : (x a b c d : ℕ) → a < 256 → b < 256 → c < 256 → d < 256 → x ≡ a * 16777216 + b * 65536 + c * 256 + d →
+    spelled Big 4 x ≡ a ∷ b ∷ c ∷ d ∷ []
 big_4 x a b c d ha hb hc hd h =
-    rw (digit_3 x a b c d ha hb hc hd h, digit_2 x a b c d ha hb hc hd h, digit_1 x a b c d ha hb hc hd h, digit_0 x a b c d ha hb hc hd h) refl
+    rw (
+      digit_3 x a b c d ha hb hc hd h,
+      digit_2 x a b c d ha hb hc hd h,
+      digit_1 x a b c d ha hb hc hd h,
+      digit_0 x a b c d ha hb hc hd h,
+    ) refl
 
-little_4 : (x a b c d : ℕ) → a < 256 → b < 256 → c < 256 → d < 256 → x ≡ d * 16777216 + c * 65536 + b * 256 + a → spelled Little 4 x ≡ a ∷ b ∷ c ∷ d ∷ []
+little_4 : (x a b c d : ℕ) → a < 256 → b < 256 → c < 256 → d < 256 → x ≡ d * 16777216 + c * 65536 + b * 256 + a →
+    spelled Little 4 x ≡ a ∷ b ∷ c ∷ d ∷ []
 little_4 x a b c d ha hb hc hd h =
-    rw (digit_3 x d c b a hd hc hb ha h, digit_2 x d c b a hd hc hb ha h, digit_1 x d c b a hd hc hb ha h, digit_0 x d c b a hd hc hb ha h) refl
+    rw (
+      digit_3 x d c b a hd hc hb ha h,
+      digit_2 x d c b a hd hc hb ha h,
+      digit_1 x d c b a hd hc hb ha h,
+      digit_0 x d c b a hd hc hb ha h,
+    ) refl
 
 -- two bytes are those of the number in them
-pub spelled-number_in_2 : (order : Endian) (bytes : List ℕ) → IsBytes bytes → 2 ≤ length bytes → spelled order 2 (number_in order 2 bytes) ≡ take 2 bytes
+pub spelled-number_in_2 : (order : Endian) (bytes : List ℕ) → IsBytes bytes → 2 ≤ length bytes →
+    spelled order 2 (number_in order 2 bytes) ≡ take 2 bytes
 spelled-number_in_2 order [] h long = absurd (omega arith)
 spelled-number_in_2 order (a ∷ []) h long = absurd (omega arith)
 spelled-number_in_2 Big (a ∷ b ∷ rest) h long = big_2 (number_in Big 2 (a ∷ b ∷ rest)) a b (h 0) (h 1) (omega arith)
-spelled-number_in_2 Little (a ∷ b ∷ rest) h long = little_2 (number_in Little 2 (a ∷ b ∷ rest)) a b (h 0) (h 1) (omega arith)
+spelled-number_in_2 Little (a ∷ b ∷ rest) h long = little_2 (number_in Little 2 (a ∷ b ∷ rest)) a b (h 0) (h 1)
+    (omega arith)
 
 -- four bytes are those of the number in them
-pub spelled-number_in_4 : (order : Endian) (bytes : List ℕ) → IsBytes bytes → 4 ≤ length bytes → spelled order 4 (number_in order 4 bytes) ≡ take 4 bytes
+pub spelled-number_in_4 : (order : Endian) (bytes : List ℕ) → IsBytes bytes → 4 ≤ length bytes →
+    spelled order 4 (number_in order 4 bytes) ≡ take 4 bytes
 spelled-number_in_4 order [] h long = absurd (omega arith)
 spelled-number_in_4 order (a ∷ []) h long = absurd (omega arith)
 spelled-number_in_4 order (a ∷ b ∷ []) h long = absurd (omega arith)
 spelled-number_in_4 order (a ∷ b ∷ c ∷ []) h long = absurd (omega arith)
-spelled-number_in_4 Big (a ∷ b ∷ c ∷ d ∷ rest) h long = big_4 (number_in Big 4 (a ∷ b ∷ c ∷ d ∷ rest)) a b c d (h 0) (h 1) (h 2) (h 3) (omega arith)
-spelled-number_in_4 Little (a ∷ b ∷ c ∷ d ∷ rest) h long = little_4 (number_in Little 4 (a ∷ b ∷ c ∷ d ∷ rest)) a b c d (h 0) (h 1) (h 2) (h 3) (omega arith)
+spelled-number_in_4 Big (a ∷ b ∷ c ∷ d ∷ rest) h long = big_4 (number_in Big 4 (a ∷ b ∷ c ∷ d ∷ rest)) a b c d (h 0)
+    (h 1) (h 2) (h 3) (omega arith)
+spelled-number_in_4 Little (a ∷ b ∷ c ∷ d ∷ rest) h long =
+    little_4 (number_in Little 4 (a ∷ b ∷ c ∷ d ∷ rest)) a b c d (h 0) (h 1) (h 2) (h 3) (omega arith)

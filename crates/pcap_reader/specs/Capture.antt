@@ -1,6 +1,7 @@
--- A classic capture, as the manual of libpcap's savefiles describes it (pcap-savefile(5)): the bytes are one
--- header of 24 bytes and then the records, nothing between them and nothing after. Everything here is a relation
--- on whole lists of bytes; nothing says in which order they are read.
+-- A classic capture, as the manual of libpcap's savefiles describes it (pcap-savefile(5)): the
+-- bytes are one header of 24 bytes and then the records, nothing between them and nothing after.
+-- Everything here is a relation on whole lists of bytes; nothing says in which order they are
+-- read.
 use Rattle.std.specs.Prelude.{◌≡◌, ◌<◌, ◌≤◌, ◌+◌, ◌^◌, ℕ, List, [], ◌∷◌, ◌++◌, length}
 use Rattle.std.specs.List.{flat_map}
 use Rattle.era_unfold.specs.Window.{per_second}
@@ -21,18 +22,22 @@ abbrev pub magic_of : TimeUnit → ℕ
 magic_of Micro = 0xa1b2c3d4
 magic_of Nano = 0xa1b23c4d
 
--- a header of version 2.4 and of link type 1, Ethernet: eight bytes are ignored, and the snapshot length isn't checked
+-- a header of version 2.4 and of link type 1, Ethernet: eight bytes are ignored, and the snapshot
+-- length isn't checked
 pub record IsHeader (format : Format) (bytes : List ℕ) : Type 0 where
   pub ignored : List ℕ
   pub snapshot : List ℕ
   pub ignored_length : length ignored ≡ 8
   pub snapshot_length : length snapshot ≡ 4
-  pub joined : bytes ≡ spelled format.order 4 (magic_of format.unit) ++ spelled format.order 2 2 ++ spelled format.order 2 4 ++ ignored ++ snapshot ++ spelled format.order 4 1
+  pub joined : bytes ≡ spelled format.order 4 (magic_of format.unit) ++ spelled format.order 2 2
+      ++ spelled format.order 2 4 ++ ignored ++ snapshot ++ spelled format.order 4 1
 
--- a record's bytes in the file: seconds, part of the second, captured length, original length, and what was captured
+-- a record's bytes in the file: seconds, part of the second, captured length, original length,
+-- and what was captured
 abbrev pub record_spelling : Endian → Record → List ℕ
 record_spelling order r =
-    spelled order 4 r.head.sec ++ spelled order 4 r.head.sub ++ spelled order 4 r.head.captured ++ spelled order 4 r.head.original ++ r.bytes
+    spelled order 4 r.head.sec ++ spelled order 4 r.head.sub ++ spelled order 4 r.head.captured
+    ++ spelled order 4 r.head.original ++ r.bytes
 
 abbrev pub spelling : Endian → List Record → List ℕ
 spelling order records = flat_map (record_spelling order) records
@@ -60,10 +65,12 @@ pub record IsRecordAt (unit : TimeUnit) (number place : ℕ) (r : Record) : Type
   pub unit_is : r.head.unit ≡ unit
   pub whole : length r.bytes ≡ r.head.captured
 
--- records, the first with this number and at this place, each later one right after the one before
+-- records, the first with this number and at this place, each later one right after the one
+-- before
 abbrev pub AreRecordsFrom : TimeUnit → ℕ → ℕ → List Record → Type 0
 AreRecordsFrom unit number place [] = Unit {0}
-AreRecordsFrom unit number place (r ∷ rs) = IsRecordAt unit number place r × AreRecordsFrom unit (number + 1) (place + (16 + length r.bytes)) rs
+AreRecordsFrom unit number place (r ∷ rs) = IsRecordAt unit number place r
+    × AreRecordsFrom unit (number + 1) (place + (16 + length r.bytes)) rs
 
 -- The bytes spell these records in this format. (No record has a number of 4,000,000 or more.)
 pub record IsCapture (bytes : List ℕ) (format : Format) (records : List Record) : Type 0 where

@@ -1,4 +1,4 @@
--- The numbers of the faults of a capture.
+-- The faults of a capture: their numbers, and which of them a call may answer.
 use Rattle.std.specs.Prelude.{ℕ}
 use Rattle.pcap_reader.specs.declared.fault.CaptureFault.{CaptureFault}
 use Rattle.pcap_reader.specs.declared.fault.CaptureFault.TheVariants.{TornHeader, Magic, Version, Link, TornRecord, TooLong, BadFraction, TooMany, Read, Memory, Failed}
@@ -17,7 +17,15 @@ number_of Read = 9
 number_of Memory = 10
 number_of Failed = 11
 
--- a fault that stands at a record of the bytes
+-- a fault that stands in the header of the file
+abbrev pub IsHeaderFault : CaptureFault → Type 0
+IsHeaderFault TornHeader = Unit {0}
+IsHeaderFault Magic = Unit {0}
+IsHeaderFault Version = Unit {0}
+IsHeaderFault Link = Unit {0}
+IsHeaderFault _ = ⊥
+
+-- a fault that stands at a record
 abbrev pub IsRecordFault : CaptureFault → Type 0
 IsRecordFault (TornRecord place) = Unit {0}
 IsRecordFault (TooLong place) = Unit {0}

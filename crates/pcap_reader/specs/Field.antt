@@ -1,4 +1,5 @@
--- The numbers in a capture's headers. Their byte order is the writer's, and a parameter of every definition.
+-- The numbers in a capture's headers. Their byte order is the writer's, and a parameter of every
+-- definition.
 use Rattle.std.specs.Prelude.{ℕ, List}
 use Rattle.byteorder.specs.Endian.{big_number, little_number, big_bytes, little_bytes}
 use Rattle.pcap_reader.specs.declared.format.Endian.{Endian}

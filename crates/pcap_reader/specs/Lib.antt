@@ -1,6 +1,11 @@
 pub mod Fault
 pub mod Field
 pub mod Capture
+pub mod Header
+pub mod Limit
+pub mod Remaining
+pub mod Refusal
 pub mod Source
+pub mod Prefix
 pub mod Broken
-pub mod Feed
+pub mod Buffered

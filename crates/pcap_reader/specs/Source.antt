@@ -1,146 +1,72 @@
--- What is still to come of a capture: the records that its bytes begin with, and then a whole end or a fault.
-use Rattle.std.specs.Prelude.{◌≡◌, ◌+◌, ◌-◌, ◌==◌, ℕ, zero, suc, List, [], ◌∷◌, length, take, drop, Option, Some, None, Result, Ok, Err, nat_lt, nat_le, if◌then◌else◌}
-use Rattle.era_unfold.specs.Window.{per_second}
-use Rattle.era_unfold.specs.declared.unit.Unit.TheVariants.{Micro, Nano}
+-- A source of records, as the crates above see it: its state, and what a call does to it.
+use Rattle.std.specs.Prelude.{◌≡◌, ◌+◌, ◌<◌, ◌≤◌, ◌↔◌, ℕ, List, [], ◌∷◌, length, Option, Some, None, Result, Ok, Err, Bool, true, false, IsTrue, IfOk, IfErr, IfSome, IsErrOf, is_err}
+use Rattle.std.specs.Io.KnownBytes.{Consumes}
+use Rattle.byte_stream.specs.Fault.{CountsFault}
 use Rattle.pcap_reader.specs.declared.fault.CaptureFault.{CaptureFault}
-use Rattle.pcap_reader.specs.declared.fault.CaptureFault.TheVariants.{TornHeader, Magic, Version, Link, TornRecord, TooLong, BadFraction, TooMany, Read, Failed}
-use Rattle.pcap_reader.specs.declared.format.Endian.{Endian}
-use Rattle.pcap_reader.specs.declared.format.Endian.TheVariants.{Big, Little}
-use Rattle.pcap_reader.specs.declared.format.Format.{Format}
+use Rattle.pcap_reader.specs.declared.fault.CaptureFault.TheVariants.{TornRecord, TooMany, Read, Failed}
 use Rattle.pcap_reader.specs.declared.format.RecordHead.{RecordHead}
-use Rattle.pcap_reader.specs.Field.{number_in}
-use Rattle.pcap_reader.specs.Capture.{Record, magic_of, most_captured, most_records}
+use Rattle.pcap_reader.specs.Capture.{IsLawfulHead}
+use Rattle.pcap_reader.specs.Fault.{MayAnswer}
+use Rattle.pcap_reader.specs.Limit.{most_taken}
+use Rattle.pcap_reader.specs.Remaining.{Coming, whole_end, broken_end, then_coming, capture_of}
 
--- records still to be given, and the fault after them: None where the end is whole
-pub record Coming : Type 0 where
-  pub records : List Record
-  pub fault : Option CaptureFault
+-- The bytes of a feed that a source hasn't taken, where they are known, and how many of them it
+-- takes at most from here on.
+pub record Supply : Type 0 where
+  pub unread : Option (List ℕ)
+  pub most : ℕ
 
--- nothing more, and no fault
-abbrev pub whole_end : Coming
-whole_end = record { records = []; fault = None }
+-- Bytes were taken from the front of what was unread, and no more than might be.
+pub record TakesFrom (before after : Supply) : Type 0 where
+  pub taken : List ℕ
+  pub consumed : Consumes before.unread after.unread taken
+  pub at_most : length taken + after.most ≤ before.most
 
--- nothing more but this fault
-abbrev pub broken_end : CaptureFault → Coming
-broken_end fault = record { records = []; fault = Some fault }
+-- a feed of which a whole capture may be taken
+abbrev pub whole_supply : Option (List ℕ) → Supply
+whole_supply unread = record { unread = unread; most = most_taken }
 
--- one record, and then the rest
-abbrev pub then_coming : Record → Coming → Coming
-then_coming r c = record { records = r ∷ c.records; fault = c.fault }
+-- What a source shows: the records still to be given, and then an end, whole or a fault, where
+-- the bytes are known; how many records were given; whether a fault was answered; the bytes of
+-- the record given last, none at other times; how often the device has failed; what its feed
+-- still has; how many bytes were taken of it and are held for later calls.
+pub record SourceState : Type 0 where
+  pub remaining : Option Coming
+  pub given : ℕ
+  pub has_failed : Bool
+  pub lent : List ℕ
+  pub fault_count : ℕ
+  pub supply : Supply
+  pub held : ℕ
 
--- the fields of a record's header
-abbrev pub sec_in : Endian → List ℕ → ℕ
-sec_in order bytes = number_in order 4 bytes
+-- nothing was given, and no fault answered
+pub record IsFresh (s : SourceState) : Type 0 where
+  pub none_given : s.given ≡ 0
+  pub unfailed : s.has_failed ≡ false
+  pub none_lent : s.lent ≡ []
 
-abbrev pub sub_in : Endian → List ℕ → ℕ
-sub_in order bytes = number_in order 4 (drop 4 bytes)
+-- All of the capture that these bytes are is still to come.
+abbrev pub AllRemains : List ℕ → Option Coming → Type 0
+AllRemains bytes remaining = (c : Coming) × (capture_of bytes ≡ Ok c) × (remaining ≡ Some c)
 
-abbrev pub captured_in : Endian → List ℕ → ℕ
-captured_in order bytes = number_in order 4 (drop 8 bytes)
-
-abbrev pub original_in : Endian → List ℕ → ℕ
-original_in order bytes = number_in order 4 (drop 12 bytes)
-
--- what the sixteen bytes at the front say, as the header of the record with this number at this place
-abbrev pub head_at : Format → ℕ → ℕ → List ℕ → RecordHead
-head_at format number place bytes =
-    record {
-      place = place;
-      number = number;
-      sec = sec_in format.order bytes;
-      sub = sub_in format.order bytes;
-      unit = format.unit;
-      captured = captured_in format.order bytes;
-      original = original_in format.order bytes;
-    }
-
--- the fault of sixteen bytes or more, as a record's header: the length before the fraction
-abbrev pub head_fault : Format → ℕ → List ℕ → Option CaptureFault
-head_fault format place bytes =
-    if nat_lt most_captured (captured_in format.order bytes) then Some (TooLong place)
-    else (if nat_le (per_second format.unit) (sub_in format.order bytes) then Some (BadFraction place) else None)
-
--- the first fault at a place where at least one byte stands: None where a record stands there
-unfoldable pub fault_at : Format → ℕ → ℕ → List ℕ → Option CaptureFault
-fault_at format number place bytes =
-    if nat_le most_records number then Some TooMany
-    else (if nat_lt (length bytes) 16 then Some (TornRecord place)
-    else (elim (head_fault format place bytes) [
-      | Some fault ↦ Some fault
-      | None ↦ (if nat_lt (length bytes) (16 + captured_in format.order bytes) then Some (TornRecord place) else None)
-    ]))
-
--- the record at the front
-abbrev pub record_at : Format → ℕ → ℕ → List ℕ → Record
-record_at format number place bytes =
-    record {
-      head = head_at format number place bytes;
-      bytes = take (captured_in format.order bytes) (drop 16 bytes);
-    }
-
--- What is still to come of these bytes, at this place of the file, where so many records stand before it. The
--- first argument counts the records that may still come: it's what the recursion goes by.
-unfoldable pub coming_within : ℕ → Format → ℕ → ℕ → List ℕ → Coming
-coming_within left format number place [] = whole_end
-coming_within zero format number place (byte ∷ bytes) = broken_end TooMany
-coming_within (suc left) format number place (byte ∷ bytes) =
-    elim (fault_at format number place (byte ∷ bytes)) [
-      | Some fault ↦ broken_end fault
-      | None ↦ then_coming (record_at format number place (byte ∷ bytes))
-          (coming_within left format (number + 1) (place + (16 + captured_in format.order (byte ∷ bytes))) (drop (16 + captured_in format.order (byte ∷ bytes)) (byte ∷ bytes)))
-    ]
-
-unfoldable pub coming_from : Format → ℕ → ℕ → List ℕ → Coming
-coming_from format number place bytes = coming_within (most_records - number) format number place bytes
-
--- the format that the first four bytes tell, in one byte order or the other
-abbrev pub format_of : List ℕ → Option Format
-format_of bytes =
-    if number_in Big 4 bytes == magic_of Micro then Some (record { order = Big; unit = Micro })
-    else (if number_in Big 4 bytes == magic_of Nano then Some (record { order = Big; unit = Nano })
-    else (if number_in Little 4 bytes == magic_of Micro then Some (record { order = Little; unit = Micro })
-    else (if number_in Little 4 bytes == magic_of Nano then Some (record { order = Little; unit = Nano })
-    else None)))
-
--- version 2.4 and link type 1, or the first fault
-abbrev pub version_and_link : Format → List ℕ → Result Format CaptureFault
-version_and_link format bytes =
-    if number_in format.order 2 (drop 4 bytes) == 2
-    then (if number_in format.order 2 (drop 6 bytes) == 4
-    then (if number_in format.order 4 (drop 20 bytes) == 1 then Ok format else Err Link)
-    else Err Version)
-    else Err Version
-
--- the format of a capture that begins with these bytes, or the fault of its header
-unfoldable pub header_of : List ℕ → Result Format CaptureFault
-header_of bytes =
-    if nat_lt (length bytes) 24 then Err TornHeader
-    else (elim (format_of bytes) [ None ↦ Err Magic | Some format ↦ version_and_link format bytes ])
-
--- what is to come of the whole bytes of a file, or the fault of its header
-abbrev pub capture_of : List ℕ → Result Coming CaptureFault
-capture_of bytes =
-    elim (header_of bytes) [
-      | Ok format ↦ Ok (coming_from format 0 24 (drop 24 bytes))
-      | Err fault ↦ Err fault
-    ]
-
--- What an answer of a source says of what was still to come, with the bytes lent: a record is the first on the
--- list, None comes at a whole end, and a fault is the one at the list's end. A device's fault and the answer
--- after a fault say nothing of it.
-abbrev pub IsNext : Coming → Result (Option RecordHead) CaptureFault → Option Coming → List ℕ → Type 0
+-- What an answer says of what was still to come, with the bytes lent: a record is the first on
+-- the list, None comes at a whole end, and a fault is the one at the list's end. A device's fault
+-- and the answer after a fault say nothing of it.
+abbrev pub IsNext : Coming → Result (Option RecordHead) CaptureFault → Option Coming → List ℕ →
+    Type 0
 IsNext coming (Ok (Some head)) after lent =
-    (rest : Coming) × (coming ≡ then_coming (record { head = head; bytes = lent }) rest) × (after ≡ Some rest)
+    (rest : Coming) × (coming ≡ then_coming (record { head = head; bytes = lent }) rest)
+    × (after ≡ Some rest)
 IsNext coming (Ok None) after lent = (coming ≡ whole_end) × (after ≡ Some whole_end)
 IsNext coming (Err Read) after lent = Unit {0}
 IsNext coming (Err Failed) after lent = Unit {0}
 IsNext coming (Err fault) after lent = coming ≡ broken_end fault
 
 -- A record has as its number how many were given before, and no other answer gives one.
-abbrev pub Counts : Result (Option RecordHead) CaptureFault → ℕ → ℕ → Type 0
-Counts (Ok (Some head)) before after = (head.number ≡ before) × (after ≡ before + 1)
-Counts (Ok None) before after = after ≡ before
-Counts (Err fault) before after = after ≡ before
+abbrev pub Numbers : Result (Option RecordHead) CaptureFault → ℕ → ℕ → Type 0
+Numbers (Ok (Some head)) before after = (head.number ≡ before) × (after ≡ before + 1)
+Numbers (Ok None) before after = after ≡ before
+Numbers (Err fault) before after = after ≡ before
 
 -- The bytes lent are those of the record given, and none where there is none.
 abbrev pub Lends : Result (Option RecordHead) CaptureFault → List ℕ → Type 0
@@ -148,7 +74,50 @@ Lends (Ok (Some head)) lent = length lent ≡ head.captured
 Lends (Ok None) lent = lent ≡ []
 Lends (Err fault) lent = lent ≡ []
 
--- The device failed once more where its fault was answered, and else not.
-abbrev pub CountsFaults : {X : Type 0} → Result X CaptureFault → ℕ → ℕ → Type 0
-CountsFaults (Err Read) before after = after ≡ before + 1
-CountsFaults _ before after = after ≡ before
+-- how many bytes show this fault of a record; one more than there are where only the end does
+abbrev pub shown_by : CaptureFault → ℕ → ℕ
+shown_by TooMany held = 1
+shown_by (TornRecord place) held = held + 1
+shown_by _ held = 16
+
+-- So many bytes at the front of what is still to come don't show the next answer: they are fewer
+-- than the next record has, or than show its fault. Only the end shows that a record is torn.
+abbrev pub IsUndecided : Coming → ℕ → Type 0
+IsUndecided coming held = elim coming.records [
+  | [] ↦ (elim coming.fault [
+    | None ↦ held ≡ 0
+    | Some fault ↦ held < shown_by fault held
+  ])
+  | r ∷ rs ↦ held < 16 + r.head.captured
+]
+
+-- The device's fault comes only where the bytes taken before it don't show the answer.
+abbrev pub IsReadInTime : Result (Option RecordHead) CaptureFault → Coming → ℕ → Type 0
+IsReadInTime (Err Read) coming held = IsUndecided coming held
+IsReadInTime _ coming held = Unit {0}
+
+-- whether the fault is the device's
+abbrev pub is_read : CaptureFault → Bool
+is_read Read = true
+is_read _ = false
+
+-- whether the answer is that the device failed
+abbrev pub read_failed : {X : Type 0} → Result X CaptureFault → Bool
+read_failed (Ok x) = false
+read_failed (Err fault) = is_read fault
+
+-- One call of next_record. A record is lawful. `Read` comes exactly where the device failed in
+-- this call, before the answer was shown by the bytes taken, and `Failed` exactly where a fault
+-- was answered before; after a fault each answer is one.
+pub record IsStep (old : SourceState) (result : Result (Option RecordHead) CaptureFault)
+    (new : SourceState) : Type 0 where
+  pub lawful : IfOk result (λ next. IfSome next IsLawfulHead)
+  pub numbers : Numbers result old.given new.given
+  pub lends : Lends result new.lent
+  pub next_is : IfSome old.remaining (λ coming. IsNext coming result new.remaining new.lent)
+  pub may_answer : IfErr result MayAnswer
+  pub in_time : IfSome old.remaining (λ coming. IsReadInTime result coming new.held)
+  pub counts_fault : CountsFault (read_failed result) old.fault_count new.fault_count
+  pub failed_iff : IsErrOf result Failed ↔ IsTrue old.has_failed
+  pub stays_failed : new.has_failed ≡ is_err result
+  pub takes : TakesFrom old.supply new.supply

@@ -1,25 +1,30 @@
 //! A capture that is read from a feed.
 
-ghost use Rattle.std.specs.Prelude.{◌≡◌, ◌+◌, ◌-◌, ◌*◌, ◌^◌, ◌<◌, ◌≤◌, ℕ, List, [], ◌++◌, length, drop, slice_range, Some, None, Ok, IfOk, IfErr, IfSome, OnOk, false};
+ghost use Rattle.std.specs.Prelude.{◌≡◌, ◌≢◌, ◌+◌, ◌-◌, ◌*◌, ◌^◌, ◌<◌, ◌≤◌, drop, Some, Ok, Err, IfOk, IfErr, IfSome, OnOk, false, is_err};
 ghost use Rattle.std.specs.Option.{option_map};
-ghost use Rattle.std.specs.Io.KnownBytes.{prepend_known};
-ghost use Rattle.pcap_reader.specs.Capture.{IsLawfulHead, most_records};
-ghost use Rattle.pcap_reader.specs.Fault.{IsRecordFault};
-ghost use Rattle.pcap_reader.specs.Feed.{CountsRefusal, MayRefuse, IsRefusal, IsFirstFault, IsReadFault};
-ghost use Rattle.pcap_reader.specs.Source.{coming_from, capture_of, Coming, fault_at, head_at, head_fault, header_of, IsNext, Counts, Lends, CountsFaults};
+ghost use Rattle.byte_stream.specs.Fault.{CountsFault};
+ghost use Rattle.byte_stream.specs.Intake.{TakesAtMost};
+ghost use Rattle.pcap_reader.specs.Buffered.{still_has, last_bytes, supply_of};
+ghost use Rattle.pcap_reader.specs.Capture.{most_captured, most_records};
+ghost use Rattle.pcap_reader.specs.Header.{header_of};
+ghost use Rattle.pcap_reader.specs.Refusal.{IsRefusal, most_refused};
+ghost use Rattle.pcap_reader.specs.Remaining.{coming_from};
+ghost use Rattle.pcap_reader.specs.Source.{IsFresh, AllRemains, TakesFrom, IsStep, whole_supply, is_read, read_failed};
 
 use crate::buffered::Buffered;
 use crate::fault::CaptureFault;
-use crate::feed::Feed;
 use crate::format::{Format, RecordHead};
-use crate::reading::{FILE_HEADER, MOST_RECORDS, RECORD_HEADER, head, header};
+use crate::header::{FILE_HEADER, header};
+use crate::record::{check_whole, first_head, head_size, record_size};
 use crate::source::RecordSource;
+use byte_stream::Feed;
 use std::alloc::Global;
 
 /// The records of a capture, read from a feed through one buffer.
 ///
-/// The buffer is made by `begin`; no later call takes memory, and `bytes` lends a part of it, with no copy. Of a feed
-/// that never ends 1,048,640,000,025 bytes are pulled at most: a header, 4,000,000 of the longest records, and one more.
+/// The buffer is made by `begin`; no later call takes memory, and `bytes` lends a part of it,
+/// with no copy. Of a feed that never ends 1,048,640,000,025 bytes are taken at most: a header,
+/// 4,000,000 of the longest records, and one more.
 #[derive(Drop)]
 pub struct Capture<F> {
     input: Buffered<F>,
@@ -28,32 +33,40 @@ pub struct Capture<F> {
     failed: bool,
     /// How many bytes are lent. They are those consumed last.
     lent: usize,
-    ghost few: { given ≤ 4000000 },
-    ghost placed: { input.place ≤ 24 + 262160 * given },
+    ghost few: { given ≤ most_records },
+    ghost placed: { input.place ≤ 24 + (16 + most_captured) * given },
     ghost lent_before: { lent ≤ input.start },
 }
 
 impl<F: Feed> Capture<F> {
     /// The source of the records that the feed's bytes spell.
     ///
-    /// Its one buffer is made before the first byte is read: `Memory` comes where there is no memory for it, and then
-    /// the feed is as it was. `Read` comes exactly where the feed failed, and else `TornHeader`, `Magic`, `Version` or
-    /// `Link`, the first that applies, where the bytes begin with no lawful header. A refusal hands the feed back.
+    /// Its one buffer is made before the first byte is taken: `Memory` comes where there is no
+    /// memory for it, and then the feed is as it was. `Read` comes exactly where the feed failed,
+    /// and else `TornHeader`, `Magic`, `Version` or `Link`, the first that applies, where the
+    /// bytes begin with no lawful header. Nothing is taken after a header that is there. A
+    /// refusal hands the feed back.
     pub fn begin(alloc: Global, feed: F) -> Result<Capture<F>, (F, CaptureFault)>
         requires { F.fault_count feed < 2 ^ 64 - 1 }
 
-        // Where the bytes are told, they are those of a capture.
-        ensures told { IfOk result (λ source. IfSome (F.remaining feed) (λ bytes. (c : Coming) × (capture_of bytes ≡ Ok c) × (⟦<Capture<F> as RecordSource>⟧.coming source ≡ Some c))) }
-        ensures first { IfOk result (λ source. ⟦<Capture<F> as RecordSource>⟧.given source ≡ 0) }
-        ensures unfailed { IfOk result (λ source. ⟦<Capture<F> as RecordSource>⟧.has_failed source ≡ false) }
-        ensures lent { IfOk result (λ source. ⟦<Capture<F> as RecordSource>⟧.lent source ≡ []) }
-        ensures no_fault { IfOk result (λ source. ⟦<Capture<F> as RecordSource>⟧.fault_count source ≡ F.fault_count feed) }
+        // Where the bytes are known, they are those of a capture.
+        ensures fresh { IfOk result (λ source.
+            IsFresh (⟦<Capture<F> as RecordSource>⟧.state source)) }
+        ensures known { IfOk result (λ source. IfSome (F.remaining feed) (λ bytes.
+            AllRemains bytes (⟦<Capture<F> as RecordSource>⟧.state source).remaining)) }
+        ensures unfailed { IfOk result (λ source.
+            (⟦<Capture<F> as RecordSource>⟧.state source).fault_count ≡ F.fault_count feed) }
+        ensures takes { IfOk result (λ source. TakesFrom (whole_supply (F.remaining feed))
+            (⟦<Capture<F> as RecordSource>⟧.state source).supply) }
 
         // Which faults come, and what they leave.
-        ensures refusals { IfErr result (λ refused. MayRefuse refused.1) }
-        ensures header { IfErr result (λ refused. IfSome (F.remaining feed) (λ bytes. IsRefusal bytes refused.1)) }
-        ensures read { IfErr result (λ refused. CountsRefusal refused.1 (F.fault_count feed) (F.fault_count refused.0)) }
-        ensures memory { IfErr result (λ refused. refused.1 ≡ CaptureFault.Memory → refused.0 ≡ feed) }
+        ensures refusal { IfErr result (λ refused. IsRefusal (F.remaining feed) refused.1) }
+        ensures counts_fault { IfErr result (λ refused.
+            CountsFault (is_read refused.1) (F.fault_count feed) (F.fault_count refused.0)) }
+        ensures at_most { IfErr result (λ refused.
+            TakesAtMost (most_refused refused.1) (F.remaining feed) (F.remaining refused.0)) }
+        ensures memory { IfErr result (λ refused.
+            refused.1 ≡ CaptureFault.Memory → refused.0 ≡ feed) }
     {
         let mut input = match Buffered::new(alloc, feed) {
             Ok(input) => input,
@@ -71,26 +84,26 @@ impl<F: Feed> Capture<F> {
         }
     }
 
-    /// The feed, at the byte behind those that were pulled.
+    /// The feed, at the byte after those that were taken.
     pub fn into_feed(self) -> F
-        ensures { F.fault_count result ≡ ⟦<Capture<F> as RecordSource>⟧.fault_count self }
+        ensures known { F.remaining result
+            ≡ (⟦<Capture<F> as RecordSource>⟧.state self).supply.unread }
+        ensures unfailed { F.fault_count result
+            ≡ (⟦<Capture<F> as RecordSource>⟧.state self).fault_count }
     {
         self.input.into_feed()
     }
 
-    /// The next record, of a source that hasn't failed and lends nothing.
+    /// The next record, of a source that hasn't failed.
     fn read_record(&mut self) -> Result<Option<RecordHead>, CaptureFault>
-        requires lends_none { self.old.lent ≡ 0 }
+        requires unfailed { self.old.failed ≡ false }
         requires faults { F.fault_count self.old.input.feed < 2 ^ 64 - 1 }
-        ensures lawful { IfOk result (λ next. IfSome next IsLawfulHead) }
-        ensures counts { Counts result self.old.given self.new.given }
-        ensures lends { Lends result (⟦<Capture<F> as RecordSource>⟧.lent self.new) }
-        ensures told { IfSome (⟦<Capture<F> as RecordSource>⟧.coming self.old) (λ c. IsNext c result (⟦<Capture<F> as RecordSource>⟧.coming self.new) (⟦<Capture<F> as RecordSource>⟧.lent self.new)) }
-        ensures faults { IfErr result IsFirstFault }
-        ensures read { CountsFaults result (F.fault_count self.old.input.feed) (F.fault_count self.new.input.feed) }
+        ensures { IsStep (⟦<Capture<F> as RecordSource>⟧.state self.old) result
+            (record (⟦<Capture<F> as RecordSource>⟧.state self.new) { has_failed = is_err result }) }
     {
+        self.lent = 0;
         let (format, given, place) = (self.format, self.given, self.input.place);
-        let Ok(()) = self.input.hold(header_size(given)) else {
+        let Ok(()) = self.input.hold(head_size(given)) else {
             return Err(CaptureFault::Read);
         };
         let held = self.input.held();
@@ -98,13 +111,11 @@ impl<F: Feed> Capture<F> {
             return Ok(None);
         }
         let head = first_head(format, given, place, held)?;
-        let size = RECORD_HEADER + head.captured as usize;
+        let size = record_size(&head);
         let Ok(()) = self.input.hold(size) else {
             return Err(CaptureFault::Read);
         };
-        if self.input.held().len() < size {
-            return Err(CaptureFault::TornRecord(place));
-        }
+        check_whole(&head, self.input.held().len())?;
         self.input.consume(size);
         self.given += 1;
         self.lent = head.captured as usize;
@@ -113,19 +124,21 @@ impl<F: Feed> Capture<F> {
 }
 
 impl<F: Feed> RecordSource for Capture<F> {
-    ghost coming = { λ s. option_map (coming_from s.format s.given s.input.place) (prepend_known (slice_range s.input.buffer.items s.input.start s.input.end) (F.remaining s.input.feed)) };
-
-    ghost given = { λ s. s.given };
-
-    ghost has_failed = { λ s. s.failed };
-
-    ghost lent = { λ s. slice_range s.input.buffer.items (s.input.start - s.lent) s.input.start };
-
-    ghost fault_count = { λ s. F.fault_count s.input.feed };
+    ghost state = { λ s.
+        record {
+          remaining = option_map (coming_from s.format s.given s.input.place)
+              (still_has F.remaining s.input);
+          given = s.given;
+          has_failed = s.failed;
+          lent = last_bytes s.input s.lent;
+          fault_count = F.fault_count s.input.feed;
+          supply = supply_of F.remaining s.input;
+          held = s.input.end - s.input.start;
+        } };
 
     fn next_record(&mut self) -> Result<Option<RecordHead>, CaptureFault> {
-        self.lent = 0;
         if self.failed {
+            self.lent = 0;
             return Err(CaptureFault::Failed);
         }
         let next = self.read_record();
@@ -135,6 +148,14 @@ impl<F: Feed> RecordSource for Capture<F> {
 
     fn bytes(&self) -> &[u8] {
         self.input.consumed(self.lent)
+    }
+
+    fn is_ready(&self) -> bool {
+        let held = self.input.held();
+        self.failed
+            || first_head(self.format, self.given, self.input.place, held).is_ok_and(
+                |head| record_size(&head) <= held.len(),
+            )
     }
 
     fn faults(&self) -> u64 {
@@ -147,12 +168,16 @@ fn read_header<F: Feed>(input: &mut Buffered<F>) -> Result<Format, CaptureFault>
     requires none_held { input.old.end ≡ 0 }
     requires none_consumed { input.old.place ≡ 0 }
     requires faults { F.fault_count input.old.feed < 2 ^ 64 - 1 }
-    ensures told { IfOk result (λ format. IfSome (F.remaining input.old.feed) (λ bytes. (header_of bytes ≡ Ok format)
-        × (prepend_known (slice_range input.new.buffer.items input.new.start input.new.end) (F.remaining input.new.feed) ≡ Some (drop 24 bytes)))) }
+    ensures known { IfOk result (λ format. IfSome (F.remaining input.old.feed) (λ bytes.
+        (header_of bytes ≡ Ok format) × (still_has F.remaining input.new ≡ Some (drop 24 bytes)))) }
     ensures place { OnOk result (input.new.place ≡ 24) }
-    ensures faults { IfErr result IsReadFault }
-    ensures header { IfErr result (λ fault. IfSome (F.remaining input.old.feed) (λ bytes. IsRefusal bytes fault)) }
-    ensures read { CountsFaults result (F.fault_count input.old.feed) (F.fault_count input.new.feed) }
+    ensures takes { TakesFrom (supply_of F.remaining input.old) (supply_of F.remaining input.new) }
+    ensures counts_fault { CountsFault (read_failed result) (F.fault_count input.old.feed)
+        (F.fault_count input.new.feed) }
+    ensures refusal { IfErr result (IsRefusal (F.remaining input.old.feed)) }
+    ensures not_memory { IfErr result (λ fault. fault ≢ CaptureFault.Memory) }
+    ensures at_most { IfErr result (λ fault. TakesAtMost (most_refused fault)
+        (F.remaining input.old.feed) (F.remaining input.new.feed)) }
 {
     let Ok(()) = input.hold(FILE_HEADER) else {
         return Err(CaptureFault::Read);
@@ -160,44 +185,4 @@ fn read_header<F: Feed>(input: &mut Buffered<F>) -> Result<Format, CaptureFault>
     let format = header(input.held())?;
     input.consume(FILE_HEADER);
     Ok(format)
-}
-
-/// How many bytes show the next record's header, or that there may be none: one, behind the last record.
-fn header_size(given: u32) -> usize
-    ensures some { 1 ≤ result }
-    ensures most { result ≤ 16 }
-    ensures last { 4000000 ≤ given → result ≡ 1 }
-    ensures header { given < 4000000 → result ≡ 16 }
-{
-    if given < MOST_RECORDS {
-        RECORD_HEADER
-    } else {
-        1
-    }
-}
-
-/// The header of the record at the front, or the fault that its header shows.
-fn first_head(
-    format: Format,
-    number: u32,
-    place: u64,
-    bytes: &[u8],
-) -> Result<RecordHead, CaptureFault>
-    ensures few { OnOk result (number < most_records) }
-    ensures long { OnOk result (16 ≤ length bytes.now) }
-    ensures lawful { IfOk result IsLawfulHead }
-    ensures number { IfOk result (λ head. head.number ≡ number) }
-    ensures head { IfOk result (λ head. (rest : List ℕ) → (head_fault format place (bytes.now ++ rest) ≡ None)
-        × (head ≡ head_at format number place (bytes.now ++ rest))) }
-    ensures record_fault { IfErr result IsRecordFault }
-    ensures fault { IfErr result (λ fault. (rest : List ℕ) → (number < most_records → length bytes.now < 16 → rest ≡ [])
-        → fault_at format number place (bytes.now ++ rest) ≡ Some fault) }
-{
-    if number >= MOST_RECORDS {
-        return Err(CaptureFault::TooMany);
-    }
-    if bytes.len() < RECORD_HEADER {
-        return Err(CaptureFault::TornRecord(place));
-    }
-    head(format, number, place, bytes)
 }

@@ -35,8 +35,8 @@ pub enum CaptureFault {
     /// The device failed.
     #[error("the device failed")]
     Read,
-    /// Want of memory.
-    #[error("want of memory")]
+    /// Out of memory.
+    #[error("out of memory")]
     Memory,
     /// An earlier call answered a fault.
     #[error("a fault was answered before")]

@@ -1,12 +1,12 @@
-//! Laws of captures: what is read of bytes is what they spell. A law is a function that does nothing: its contract
-//! is the law, for every list of bytes.
+//! Laws of captures: what is read of bytes is what they spell. A law is a function that does
+//! nothing: its contract is the law, for every list of bytes.
 
 ghost use Rattle.std.specs.Prelude.{◌≡◌, ◌↔◌, ◌++◌, ◌⊎◌, ℕ, List, Some, None, Ok, Err};
 ghost use Rattle.pcap_reader.specs.declared.fault.CaptureFault.{CaptureFault};
 ghost use Rattle.pcap_reader.specs.declared.format.Format.{Format};
 ghost use Rattle.pcap_reader.specs.Broken.{IsBytes, IsBrokenAfter, HasHeaderFault, HasFault};
 ghost use Rattle.pcap_reader.specs.Capture.{Record, IsHeader, IsCapture};
-ghost use Rattle.pcap_reader.specs.Source.{capture_of};
+ghost use Rattle.pcap_reader.specs.Remaining.{capture_of};
 
 /// A capture is read as its records, and then a whole end.
 pub fn capture_is_read()
@@ -29,19 +29,21 @@ pub fn one_reading()
         (format ≡ other_format) × (records ≡ others) }
 {}
 
-/// Records are read, and then a fault, exactly where the bytes begin with these records and with no longer list,
-/// something is left, and the fault is the first that applies to it.
+/// Records are read, and then a fault, exactly where the bytes begin with these records and with
+/// no longer list, something is left, and the fault is the first that applies to it.
 pub fn fault_is_the_first()
     ensures { (bytes : List ℕ) (records : List Record) (fault : CaptureFault) → IsBytes bytes →
         (capture_of bytes ≡ Ok (record { records = records; fault = Some fault }))
         ↔ IsBrokenAfter bytes records fault }
 {}
 
-/// A file is refused exactly for the first fault of its header, and then begins with no lawful header.
+/// A file is refused exactly for the first fault of its header, and then begins with no lawful
+/// header.
 pub fn header_fault()
     ensures first { (bytes : List ℕ) (fault : CaptureFault) → IsBytes bytes →
         (capture_of bytes ≡ Err fault) ↔ HasHeaderFault bytes fault }
-    ensures no_header { (bytes : List ℕ) (fault : CaptureFault) (format : Format) (header rest : List ℕ) →
+    ensures no_header { (bytes : List ℕ) (fault : CaptureFault) (format : Format)
+        (header rest : List ℕ) →
         capture_of bytes ≡ Err fault → IsHeader format header → ¬ (bytes ≡ header ++ rest) }
 {}
 
@@ -50,7 +52,8 @@ pub fn capture_or_one_fault()
     ensures either { (bytes : List ℕ) → IsBytes bytes →
         ((format : Format) × ((records : List Record) × IsCapture bytes format records))
         ⊎ ((fault : CaptureFault) × HasFault bytes fault) }
-    ensures not_both { (bytes : List ℕ) (format : Format) (records : List Record) (fault : CaptureFault) →
+    ensures not_both { (bytes : List ℕ) (format : Format) (records : List Record)
+        (fault : CaptureFault) →
         IsBytes bytes → IsCapture bytes format records → ¬ HasFault bytes fault }
     ensures one { (bytes : List ℕ) (fault other : CaptureFault) → IsBytes bytes →
         HasFault bytes fault → HasFault bytes other → fault ≡ other }

@@ -1,11 +1,13 @@
 //! A capture whose bytes lie in memory.
 
-ghost use Rattle.std.specs.Prelude.{◌≡◌, ◌+◌, ◌^◌, ◌<◌, ◌≤◌, [], length, Some, IfOk, IfErr, false, Ok, Err};
-ghost use Rattle.pcap_reader.specs.Source.{coming_from, capture_of, Coming};
+ghost use Rattle.std.specs.Prelude.{◌≡◌, ◌+◌, ◌^◌, ◌<◌, [], length, Some, IfOk, IfErr, Err};
+ghost use Rattle.pcap_reader.specs.Remaining.{coming_from, capture_of};
+ghost use Rattle.pcap_reader.specs.Source.{IsFresh, AllRemains};
 
 use crate::fault::CaptureFault;
 use crate::format::{Format, RecordHead};
-use crate::reading::{FILE_HEADER, RECORD_HEADER, first_record, header};
+use crate::header::{FILE_HEADER, header};
+use crate::record::{RECORD_HEADER, first_record};
 use crate::source::RecordSource;
 
 /// The records of a capture that lies whole in memory. It takes no memory of its own.
@@ -23,15 +25,16 @@ pub struct Whole<'a> {
 impl<'a> Whole<'a> {
     /// The source of the records of these bytes, the whole of a file.
     ///
-    /// It answers `TornHeader`, `Magic`, `Version` or `Link`, the first that applies, where the bytes begin with no
-    /// lawful header, and nothing else.
+    /// It answers `TornHeader`, `Magic`, `Version` or `Link`, the first that applies, where the
+    /// bytes begin with no lawful header, and nothing else.
     pub fn begin(bytes: &'a [u8]) -> Result<Whole<'a>, CaptureFault>
-        ensures told { IfOk result (λ source. (c : Coming) × (capture_of bytes.now ≡ Ok c) × (⟦<Whole<'a> as RecordSource>⟧.coming source ≡ Some c)) }
-        ensures first { IfOk result (λ source. ⟦<Whole<'a> as RecordSource>⟧.given source ≡ 0) }
-        ensures unfailed { IfOk result (λ source. ⟦<Whole<'a> as RecordSource>⟧.has_failed source ≡ false) }
-        ensures lent { IfOk result (λ source. ⟦<Whole<'a> as RecordSource>⟧.lent source ≡ []) }
-        ensures no_device { IfOk result (λ source. ⟦<Whole<'a> as RecordSource>⟧.fault_count source ≡ 0) }
-        ensures err { IfErr result (λ fault. capture_of bytes.now ≡ Err fault) }
+        ensures fresh { IfOk result (λ source.
+            IsFresh (⟦<Whole<'a> as RecordSource>⟧.state source)) }
+        ensures known { IfOk result (λ source.
+            AllRemains bytes.now (⟦<Whole<'a> as RecordSource>⟧.state source).remaining) }
+        ensures no_device { IfOk result (λ source.
+            (⟦<Whole<'a> as RecordSource>⟧.state source).fault_count ≡ 0) }
+        ensures refusal { IfErr result (λ fault. capture_of bytes.now ≡ Err fault) }
     {
         let format = header(bytes)?;
         let (_, rest) = bytes.split_at(FILE_HEADER);
@@ -47,15 +50,16 @@ impl<'a> Whole<'a> {
 }
 
 impl RecordSource for Whole<'_> {
-    ghost coming = { λ s. Some (coming_from s.format s.given s.place s.rest.now) };
-
-    ghost given = { λ s. s.given };
-
-    ghost has_failed = { λ s. s.failed };
-
-    ghost lent = { λ s. s.lent.now };
-
-    ghost fault_count = { λ _. 0 };
+    ghost state = { λ s.
+        record {
+          remaining = Some (coming_from s.format s.given s.place s.rest.now);
+          given = s.given;
+          has_failed = s.failed;
+          lent = s.lent.now;
+          fault_count = 0;
+          supply = record { unread = Some []; most = 0 };
+          held = 0;
+        } };
 
     fn next_record(&mut self) -> Result<Option<RecordHead>, CaptureFault> {
         self.lent = &[];
@@ -82,6 +86,10 @@ impl RecordSource for Whole<'_> {
 
     fn bytes(&self) -> &[u8] {
         self.lent
+    }
+
+    fn is_ready(&self) -> bool {
+        true
     }
 
     fn faults(&self) -> u64 {

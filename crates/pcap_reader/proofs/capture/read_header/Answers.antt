@@ -1,51 +1,69 @@
-use Rattle.std.proofs.Common.{◌≡◌, ◌+◌, ◌-◌, ◌<◌, ◌≤◌, ℕ, ◌∙◌, ap, sym, subst, length, drop, slice_range, arith}
-use Rattle.std.specs.Global.{Vec}
-use Rattle.std.specs.Io.KnownBytes.{Keeps, prepend_known}
+use Rattle.std.proofs.Common.{◌-◌, ◌<◌, ◌≤◌, ◌∙◌, ap, sym, subst, length, arith, length-append}
 use Rattle.std.proofs.lemmas.Result.{err_from_is_err_and}
-use Rattle.pcap_reader.specs.declared.format.Format.{Format}
-use Rattle.pcap_reader.proofs.Begun.{Keeps-first, header_refused, header_begun, header_fault_counts, header_fault_read}
-use Rattle.pcap_reader.proofs.Front.{header_fault}
-use Rattle.pcap_reader.proofs.Ranges.{range_rest}
+use Rattle.std.specs.Io.KnownBytes.{Keeps, prepend_known}
+use Rattle.pcap_reader.specs.Buffered.{held_bytes}
+use Rattle.pcap_reader.specs.Header.{header_of}
+use Rattle.pcap_reader.specs.Limit.{buffer_size}
+use Rattle.pcap_reader.proofs.Beginning.{held-none, Keeps-first, header_refused, header_begun, header_fault_counts, header_fault_most, not_memory}
+use Rattle.pcap_reader.proofs.Intake.{refilled, length-held}
+use Rattle.pcap_reader.proofs.Prefix.{header_fault}
 use Rattle.pcap_reader.proofs.capture.read_header.Goals as goal
 
-pub returns-in_err-format-clause-faults : goal.returns-in_err-format-clause-faults
-returns-in_err-format-clause-faults g c =
+pub returns-in_err-format-clause-counts_fault : goal.returns-in_err-format-clause-counts_fault
+returns-in_err-format-clause-counts_fault g c =
     let p = err_from_is_err_and c.from_residual.result c.from_residual.ensures.1 in
     let e = c.in_err-format.field-0.0 in
-    rw (p.1, p.2) (header_fault_read e (header_fault c.held.result.now e (sym c.in_err-format.ensures.value)))
+    let fault = header_fault c.held.result.now e (sym c.in_err-format.ensures.value) in
+    rw (p.1, p.2) (header_fault_counts e _ _ fault c.in-Ok.ensures.counts_fault)
 
-pub returns-in_err-format-clause-header : goal.returns-in_err-format-clause-header
-returns-in_err-format-clause-header g c =
+pub returns-in_err-format-clause-refusal : goal.returns-in_err-format-clause-refusal
+returns-in_err-format-clause-refusal g c =
     let p = err_from_is_err_and c.from_residual.result c.from_residual.ensures.1 in
     let s = c.args.input.now in
     let i = c.hold.new.self in
-    let held = c.held.result.now in
-    let keeps = Keeps-first (g.F.Feed.remaining s.feed) (g.F.Feed.remaining i.feed) s.buffer.items (slice_range i.buffer.items i.start i.end) held s.start s.end
-    c.requires.none_held c.in-Ok.ensures.bytes c.held.ensures.value in
+    let rem = g.F.Feed.remaining in
+    let h = c.in-Ok.ensures in
+    let keeps = Keeps-first (rem s.feed) (rem i.feed) (held_bytes s) (held_bytes i) (held-none s c.requires.none_held)
+    (refilled rem s i h.pulls) in
     let end =
-    λ (short : length held < 24).
-    let less : i.end - i.start < 24 = omega (arith, c.held.ensures.len) in
-    c.in-Ok.ensures.enough less
+    λ (short : length (held_bytes i) < 24).
+    let less : i.end - i.start < 24 = omega (arith, length-held i) in
+    h.enough less
     in
-    rw (p.1, p.2) (header_refused (g.F.Feed.remaining s.feed) (g.F.Feed.remaining i.feed) held c.in_err-format.field-0.0 keeps end c.in_err-format.ensures.value)
+    let value = ap header_of (sym c.held.ensures.value) ∙ sym c.in_err-format.ensures.value in
+    rw (p.1, p.2) (header_refused (rem s.feed) (rem i.feed) (held_bytes i) c.in_err-format.field-0.0 keeps end value)
 
-pub returns-in_err-format-clause-read : goal.returns-in_err-format-clause-read
-returns-in_err-format-clause-read g c =
+pub returns-in_err-format-clause-not_memory : goal.returns-in_err-format-clause-not_memory
+returns-in_err-format-clause-not_memory g c =
     let p = err_from_is_err_and c.from_residual.result c.from_residual.ensures.1 in
     let e = c.in_err-format.field-0.0 in
-    rw (p.1, p.2) (header_fault_counts Format e _ _ (header_fault c.held.result.now e (sym c.in_err-format.ensures.value)) c.in-Ok.ensures.counted)
+    rw (p.1, p.2) (not_memory e (header_fault c.held.result.now e (sym c.in_err-format.ensures.value)))
 
-pub returns-clause-told : goal.returns-clause-told
-returns-clause-told g c =
+pub returns-in_err-format-clause-at_most : goal.returns-in_err-format-clause-at_most
+returns-in_err-format-clause-at_most g c =
+    let p = err_from_is_err_and c.from_residual.result c.from_residual.ensures.1 in
+    let s = c.args.input.now in
+    let i = c.hold.new.self in
+    let e = c.in_err-format.field-0.0 in
+    let pulls = c.in-Ok.ensures.pulls in
+    let fault = header_fault c.held.result.now e (sym c.in_err-format.ensures.value) in
+    let size = ap length pulls.joined ∙ length-append (held_bytes s) pulls.pulled in
+    let room : i.end ≤ buffer_size = omega (arith, i.in_bounds, i.roomy) in
+    let most : length pulls.pulled ≤ buffer_size = omega (arith, length-held i) in
+    rw (p.1, p.2) (header_fault_most e _ _ fault (pulls.pulled, pulls.consumed, most))
+
+pub returns-clause-known : goal.returns-clause-known
+returns-clause-known g c =
     let s = c.args.input.now in
     let i = c.hold.new.self in
     let k = c.consume.new.self in
-    let held = c.held.result.now in
-    let keeps = Keeps-first (g.F.Feed.remaining s.feed) (g.F.Feed.remaining i.feed) s.buffer.items (slice_range i.buffer.items i.start i.end) held s.start s.end
-    c.requires.none_held c.in-Ok.ensures.bytes c.held.ensures.value in
-    let keeps' = subst (λ f. Keeps (g.F.Feed.remaining s.feed) (prepend_known held (g.F.Feed.remaining f))) (sym c.consume.ensures.feed) keeps in
-    let items : k.buffer.items ≡ i.buffer.items = ap (λ (b : Vec ℕ). b.items) c.consume.ensures.buffer in
-    let long : 24 ≤ length held = omega (arith, c.in_ok-format.ensures.long) in
-    let fits : i.start + 24 ≤ i.end = omega (arith, c.held.ensures.len) in
-    let rest = range_rest i.buffer.items k.buffer.items i.start k.start i.end k.end 24 items c.consume.ensures.start c.consume.ensures.end fits ∙ ap (drop 24) (sym c.held.ensures.value) in
-    header_begun (g.F.Feed.remaining s.feed) (g.F.Feed.remaining k.feed) held _ c.in_ok-format.format keeps' long c.in_ok-format.ensures.value rest
+    let rem = g.F.Feed.remaining in
+    let keeps = Keeps-first (rem s.feed) (rem i.feed) (held_bytes s) (held_bytes i) (held-none s c.requires.none_held)
+    (refilled rem s i c.in-Ok.ensures.pulls) in
+    let keeps' = subst (λ f. Keeps (rem s.feed) (prepend_known (held_bytes i) (rem f)))
+    (sym c.consume.ensures.feed) keeps in
+    let long : 24 ≤ length (held_bytes i) = omega (arith, c.in_ok-format.ensures.long, ap length c.held.ensures.value)
+    in
+    let value = ap header_of (sym c.held.ensures.value) ∙ sym c.in_ok-format.ensures.value in
+    header_begun (rem s.feed) (rem k.feed) (held_bytes i) (held_bytes k) c.in_ok-format.format keeps' long value
+    c.consume.ensures.rest

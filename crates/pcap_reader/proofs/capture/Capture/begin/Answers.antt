@@ -1,7 +1,18 @@
-use Rattle.std.proofs.Common.{ap}
-use Rattle.pcap_reader.proofs.Begun.{begun}
+use Rattle.std.proofs.Common.{subst, IfSome}
+use Rattle.std.specs.Option.{option_map}
+use Rattle.pcap_reader.specs.Buffered.{still_has}
+use Rattle.pcap_reader.specs.Remaining.{coming_from}
+use Rattle.pcap_reader.specs.Source.{AllRemains}
+use Rattle.pcap_reader.proofs.Beginning.{begun}
 use Rattle.pcap_reader.proofs.capture.Capture.begin.Goals as goal
 
-pub returns-in-Ok-read_header-clause-told : goal.returns-in-Ok-read_header-clause-told
-returns-in-Ok-read_header-clause-told g c =
-    begun _ _ _ c.in-Ok-read_header.format c.read_header.new.input.place (ap g.F.Feed.remaining c.in-Ok.ensures.feed) c.in-Ok-read_header.ensures.told c.in-Ok-read_header.ensures.place
+pub returns-in-Ok-read_header-clause-known : goal.returns-in-Ok-read_header-clause-known
+returns-in-Ok-read_header-clause-known g c =
+    let rem = g.F.Feed.remaining in
+    let r = c.in-Ok-read_header in
+    let input = c.read_header.new.input in
+    let known = begun (rem c.in-Ok.input.feed) (still_has rem input) r.format input.place r.ensures.place
+    r.ensures.known in
+    subst (λ f. IfSome (rem f) (λ bytes. AllRemains bytes (option_map (coming_from r.format 0 input.place)
+    (still_has rem input))))
+    c.in-Ok.ensures.feed known

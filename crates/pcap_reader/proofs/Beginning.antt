@@ -1,0 +1,90 @@
+-- What the header at the front of a feed's bytes tells of all of them.
+use Rattle.std.proofs.Common.{◌≡◌, ◌-◌, ◌<◌, ◌≤◌, ℕ, List, [], ◌++◌, length, take, drop, Option, Some, None, Ok, Err, IfSome, refl, sym, ap, ◌∙◌, arith}
+use Rattle.std.specs.Option.{option_map}
+use Rattle.std.specs.Io.KnownBytes.{Keeps, IsAtEnd, prepend_known}
+use Rattle.std.proofs.lemmas.List.{drop-append-le}
+use Rattle.byte_stream.specs.Fault.{CountsFault}
+use Rattle.byte_stream.specs.Intake.{TakesAtMost}
+use Rattle.pcap_reader.specs.declared.buffered.Buffered.{Buffered}
+use Rattle.pcap_reader.specs.declared.format.Format.{Format}
+use Rattle.pcap_reader.specs.declared.fault.CaptureFault.{CaptureFault}
+use Rattle.pcap_reader.specs.declared.fault.CaptureFault.TheVariants.{Read, Memory}
+use Rattle.pcap_reader.specs.Buffered.{held_bytes}
+use Rattle.pcap_reader.specs.Fault.{IsHeaderFault}
+use Rattle.pcap_reader.specs.Header.{header_of}
+use Rattle.pcap_reader.specs.Limit.{buffer_size}
+use Rattle.pcap_reader.specs.Refusal.{IsRefusal, most_refused}
+use Rattle.pcap_reader.specs.Remaining.{coming_from, capture_of}
+use Rattle.pcap_reader.specs.Source.{AllRemains, is_read}
+use Rattle.pcap_reader.proofs.Remaining.{capture_of_begun}
+use Rattle.pcap_reader.proofs.Prefix.{header_front, header_fault}
+
+-- at first nothing is held
+pub held-none : {F : Type 0} (b : Buffered F) → b.end ≡ 0 → held_bytes b ≡ []
+held-none b none =
+    let empty : b.end - b.start ≡ 0 = omega arith in
+    ap (λ n. take n (drop b.start b.buffer.items)) empty
+
+pub Keeps-first : (all a : Option (List ℕ)) (held held' : List ℕ) → held ≡ [] →
+    Keeps (prepend_known held all) (prepend_known held' a) → Keeps all (prepend_known held' a)
+Keeps-first None a held held' none keeps = tt
+Keeps-first (Some x) None held held' none keeps = absurd keeps
+Keeps-first (Some x) (Some y) held held' none keeps = keeps ∙ ap (λ l. l ++ x) none
+
+capture_refused : (bytes : List ℕ) (e : CaptureFault) → header_of bytes ≡ Err e → capture_of bytes ≡ Err e
+capture_refused bytes e h = rw (capture_of, h) refl
+
+refusal_is : (all : Option (List ℕ)) (e : CaptureFault) → IsHeaderFault e →
+    IfSome all (λ bytes. capture_of bytes ≡ Err e) →
+    IsRefusal all e
+refusal_is all Read h k = tt
+refusal_is all Memory h k = tt
+refusal_is all e h k = (h, k)
+
+-- the header has a fault
+pub header_refused : (all a : Option (List ℕ)) (held : List ℕ) (e : CaptureFault) → Keeps all (prepend_known held a) →
+    (length held < 24 → IsAtEnd a) → header_of held ≡ Err e → IsRefusal all e
+header_refused None a held e keeps end h = refusal_is None e (header_fault held e h) tt
+header_refused (Some x) None held e keeps end h = absurd keeps
+header_refused (Some x) (Some y) held e keeps end h =
+    let refused = capture_refused x e (ap header_of (sym keeps) ∙ header_front held y end ∙ h) in
+    refusal_is (Some x) e (header_fault held e h) refused
+
+-- the header is lawful, and was taken
+pub header_begun : (all a : Option (List ℕ)) (held rest : List ℕ) (f : Format) → Keeps all (prepend_known held a) →
+    24 ≤ length held → header_of held ≡ Ok f → rest ≡ drop 24 held →
+    IfSome all (λ bytes. (header_of bytes ≡ Ok f) × (prepend_known rest a ≡ Some (drop 24 bytes)))
+header_begun None a held rest f keeps long h rest_is = tt
+header_begun (Some x) None held rest f keeps long h rest_is = absurd keeps
+header_begun (Some x) (Some y) held rest f keeps long h rest_is =
+    let short : length held < 24 → y ≡ [] = λ few. absurd (omega arith) in (
+      ap header_of (sym keeps) ∙ header_front held y short ∙ h,
+      ap Some (ap (λ l. l ++ y) rest_is ∙ sym (drop-append-le 24 held y long) ∙ ap (drop 24) keeps),
+    )
+
+-- what a file that begins so gives
+pub begun : (all known : Option (List ℕ)) (f : Format) (p : ℕ) → p ≡ 24 →
+    IfSome all (λ bytes. (header_of bytes ≡ Ok f) × (known ≡ Some (drop 24 bytes))) →
+    IfSome all (λ bytes. AllRemains bytes (option_map (coming_from f 0 p) known))
+begun None known f p place h = tt
+begun (Some x) known f p place h = (
+  coming_from f 0 24 (drop 24 x),
+  capture_of_begun x f h.0,
+  ap (option_map (coming_from f 0 p)) h.1 ∙ ap (λ q. Some (coming_from f 0 q (drop 24 x))) place,
+)
+
+-- a header's fault is no failure of the device, and not that memory ran out
+pub header_fault_counts : (e : CaptureFault) (n m : ℕ) → IsHeaderFault e → m ≡ n → CountsFault (is_read e) n m
+header_fault_counts Read n m h same = absurd h
+header_fault_counts e n m h same = same
+
+pub not_memory : (e : CaptureFault) → IsHeaderFault e → e ≡ Memory → ⊥
+not_memory Memory h same = h
+not_memory e h same = cc
+
+-- one buffer was taken for it at most
+pub header_fault_most : (e : CaptureFault) (a b : Option (List ℕ)) → IsHeaderFault e → TakesAtMost buffer_size a b →
+    TakesAtMost (most_refused e) a b
+header_fault_most Read a b h takes = absurd h
+header_fault_most Memory a b h takes = absurd h
+header_fault_most e a b h takes = takes

@@ -1,0 +1,71 @@
+-- Bytes that were pulled from a feed, after those that were held.
+use Rattle.std.proofs.Common.{◌≡◌, ◌+◌, ◌-◌, ◌≤◌, ℕ, List, Result, [], ◌++◌, length, Option, Some, None, sym, ap, ◌∙◌, arith, append_assoc, append-nil, length-append, take, drop, length-take, length-drop}
+use Rattle.std.proofs.KnownBytes.{Consumes-nil, Consumes-trans, Keeps-trans}
+use Rattle.std.specs.Io.KnownBytes.{Consumes, Keeps, prepend_known}
+use Rattle.byte_stream.specs.declared.feed.FeedFault.{FeedFault}
+use Rattle.pcap_reader.specs.declared.buffered.Buffered.{Buffered}
+use Rattle.pcap_reader.specs.Buffered.{Pulls, Refills, held_bytes, last_bytes, still_has, supply_of}
+use Rattle.pcap_reader.specs.Limit.{most_taken}
+use Rattle.pcap_reader.specs.Source.{TakesFrom}
+
+pub Pulls-none : {F : Type 0} (remaining : F → Option (List ℕ)) (a : F) (held held' : List ℕ) → held' ≡ held →
+    Pulls remaining a a held held'
+Pulls-none remaining a held held' same =
+    record { pulled = []; consumed = Consumes-nil (remaining a); joined = same ∙ sym (append-nil held) }
+
+-- one pull more
+pub Pulls-more : {F : Type 0} (remaining : F → Option (List ℕ)) (a b c : F) (held held' held'' part : List ℕ) →
+    Pulls remaining a b held held' → Consumes (remaining b) (remaining c) part → held'' ≡ held' ++ part →
+    Pulls remaining a c held held''
+Pulls-more remaining a b c held held' held'' part p consumed joined =
+    record {
+      pulled = p.pulled ++ part;
+      consumed = Consumes-trans (remaining a) (remaining b) (remaining c) p.pulled part p.consumed consumed;
+      joined = joined ∙ ap (λ l. l ++ part) p.joined ∙ append_assoc held p.pulled part;
+    }
+
+keeps : (a b : Option (List ℕ)) (pulled held held' : List ℕ) → Consumes a b pulled → held' ≡ held ++ pulled →
+    Keeps (prepend_known held a) (prepend_known held' b)
+keeps None b pulled held held' consumed joined = tt
+keeps (Some x) None pulled held held' consumed joined = absurd consumed
+keeps (Some x) (Some y) pulled held held' consumed joined =
+    ap (λ l. l ++ y) joined ∙ append_assoc held pulled y ∙ ap (λ l. held ++ l) (sym consumed)
+
+-- what is still to come stays known, over one refill and over two
+pub refilled : {F : Type 0} (remaining : F → Option (List ℕ)) (a b : Buffered F) →
+    Pulls remaining a.feed b.feed (held_bytes a) (held_bytes b) → Keeps (still_has remaining a) (still_has remaining b)
+refilled remaining a b p =
+    keeps (remaining a.feed) (remaining b.feed) p.pulled (held_bytes a) (held_bytes b) p.consumed p.joined
+
+pub refilled_twice : {F : Type 0} (remaining : F → Option (List ℕ)) (a b c : Buffered F) →
+    Pulls remaining a.feed b.feed (held_bytes a) (held_bytes b) →
+    Pulls remaining b.feed c.feed (held_bytes b) (held_bytes c) → Keeps (still_has remaining a) (still_has remaining c)
+refilled_twice remaining a b c p q =
+    Keeps-trans (still_has remaining a) (still_has remaining b) (still_has remaining c)
+    (refilled remaining a b p) (refilled remaining b c q)
+
+-- so many bytes are held
+pub length-held : {F : Type 0} (b : Buffered F) → length (held_bytes b) ≡ b.end - b.start
+length-held b =
+    let bounds : b.end ≤ length b.buffer.items = omega (arith, b.in_bounds, b.buffer.ok.0) in
+    simp (length-take, length-drop) (omega arith)
+
+-- what was pulled was taken of what might be
+pub Refills-takes : {F : Type 0} (remaining : F → Option (List ℕ)) (fault_count : F → ℕ) (wanted : ℕ)
+    (old : Buffered F)
+    (result : Result (Unit {0}) FeedFault) (new : Buffered F) → Refills remaining fault_count wanted old result new →
+    TakesFrom (supply_of remaining old) (supply_of remaining new)
+Refills-takes remaining fault_count wanted old result new h =
+    let size : length (held_bytes new) ≡ length (held_bytes old) + length h.pulls.pulled =
+    ap length h.pulls.joined ∙ length-append (held_bytes old) h.pulls.pulled in
+    let before = length-held old in
+    let after = length-held new in
+    let place = h.place in
+    let limit : new.place + (new.end - new.start) ≤ most_taken = new.in_limit in
+    record { taken = h.pulls.pulled; consumed = h.pulls.consumed; at_most = omega arith }
+
+-- no bytes are the last 0 that were consumed
+pub last-none : {F : Type 0} (b : Buffered F) → last_bytes b 0 ≡ []
+last-none b =
+    let none : b.start - (b.start - 0) ≡ 0 = omega arith in
+    ap (λ n. take n (drop (b.start - 0) b.buffer.items)) none

@@ -1,0 +1,154 @@
+-- What the bytes at the front say, whatever follows them.
+use Rattle.std.proofs.Common.{◌≡◌, ◌+◌, ◌*◌, ◌^◌, ◌<◌, ◌≤◌, ℕ, zero, suc, List, [], ◌++◌, length, drop, Option, Some, None, Result, Ok, Err, Bool, true, false, refl, sym, ap, ap₂, subst, ◌∙◌, arith, length-append, append-nil, length-drop, ⊎_elim}
+use Rattle.std.specs.Prelude.{◌==◌, if◌then◌else◌}
+use Rattle.std.proofs.lemmas.List.{drop-append-le, get_or_append_left}
+use Rattle.std.proofs.lemmas.Bool.{lt-ltb, le-ltb, cases_lt}
+use Rattle.byteorder.specs.Endian.{big_from, little_from}
+use Rattle.pcap_reader.specs.declared.fault.CaptureFault.{CaptureFault}
+use Rattle.pcap_reader.specs.declared.fault.CaptureFault.TheVariants.{TornHeader, Magic, Version, Link, TornRecord}
+use Rattle.pcap_reader.specs.declared.format.Endian.{Endian}
+use Rattle.pcap_reader.specs.declared.format.Endian.TheVariants.{Big, Little}
+use Rattle.pcap_reader.specs.declared.format.Format.{Format}
+use Rattle.pcap_reader.specs.Fault.{IsHeaderFault}
+use Rattle.pcap_reader.specs.Field.{number_in}
+use Rattle.pcap_reader.specs.declared.format.RecordHead.{RecordHead}
+use Rattle.pcap_reader.specs.Capture.{most_records}
+use Rattle.pcap_reader.specs.Prefix.{ShowsHead, ShowsFault}
+use Rattle.pcap_reader.proofs.RecordFault.{fault_at_none, fault_at_torn}
+use Rattle.pcap_reader.specs.Header.{format_of, version_and_link, header_of}
+use Rattle.pcap_reader.specs.Remaining.{head_at, fault_at, captured_in, sub_in, head_fault}
+
+big_front : (i n : ℕ) (xs ys : List ℕ) → i + n ≤ length xs → big_from i n (xs ++ ys) ≡ big_from i n xs
+big_front i zero xs ys long = refl
+big_front i (suc n) xs ys long =
+    let here : i < length xs = omega arith in
+    let rest : suc i + n ≤ length xs = omega arith in
+    ap₂ (λ a b. a * 256 ^ n + b) (get_or_append_left xs ys 0 i here) (big_front (suc i) n xs ys rest)
+
+little_front : (i n : ℕ) (xs ys : List ℕ) → i + n ≤ length xs → little_from i n (xs ++ ys) ≡ little_from i n xs
+little_front i zero xs ys long = refl
+little_front i (suc n) xs ys long =
+    let here : i < length xs = omega arith in
+    let rest : suc i + n ≤ length xs = omega arith in
+    ap₂ (λ a b. a + 256 * b) (get_or_append_left xs ys 0 i here) (little_front (suc i) n xs ys rest)
+
+number_front : (order : Endian) (width : ℕ) (xs ys : List ℕ) → width ≤ length xs → number_in order width (xs ++ ys)
+    ≡ number_in order width xs
+number_front Big width xs ys long = big_front 0 width xs ys (omega arith)
+number_front Little width xs ys long = little_front 0 width xs ys (omega arith)
+
+-- the number at a place within the front
+pub number_within : (order : Endian) (width k : ℕ) (xs ys : List ℕ) → k + width ≤ length xs →
+    number_in order width (drop k (xs ++ ys)) ≡ number_in order width (drop k xs)
+number_within order width k xs ys long =
+    let starts : k ≤ length xs = omega arith in
+    let fits : width ≤ length (drop k xs) = simp length-drop (omega arith) in
+    ap (number_in order width) (drop-append-le k xs ys starts) ∙ number_front order width (drop k xs) ys fits
+
+-- the fault of a record's header, whatever follows it
+pub head_fault_front : (f : Format) (p : ℕ) (xs ys : List ℕ) → 16 ≤ length xs → head_fault f p (xs ++ ys)
+    ≡ head_fault f p xs
+head_fault_front f p xs ys long =
+    let captured : captured_in f.order (xs ++ ys) ≡ captured_in f.order xs = number_within f.order 4 8 xs ys
+    (omega arith) in
+    let sub : sub_in f.order (xs ++ ys) ≡ sub_in f.order xs = number_within f.order 4 4 xs ys (omega arith) in
+    simp (captured, sub)
+
+-- what a header of 24 bytes settles once its format is known
+abbrev settled : Option Format → List ℕ → Result Format CaptureFault
+settled format bytes = elim format [ None ↦ Err Magic | Some format ↦ version_and_link format bytes ]
+
+header_long : (bytes : List ℕ) → 24 ≤ length bytes → header_of bytes ≡ settled (format_of bytes) bytes
+unfolding header_of
+header_long bytes long = rw (le-ltb (length bytes) 24 long) refl
+
+version_front : (f : Format) (xs ys : List ℕ) → 24 ≤ length xs → version_and_link f (xs ++ ys) ≡ version_and_link f xs
+version_front f xs ys long =
+    let major : number_in f.order 2 (drop 4 (xs ++ ys)) ≡ number_in f.order 2 (drop 4 xs) =
+    number_within f.order 2 4 xs ys (omega arith) in
+    let minor : number_in f.order 2 (drop 6 (xs ++ ys)) ≡ number_in f.order 2 (drop 6 xs) =
+    number_within f.order 2 6 xs ys (omega arith) in
+    let link : number_in f.order 4 (drop 20 (xs ++ ys)) ≡ number_in f.order 4 (drop 20 xs) =
+    number_within f.order 4 20 xs ys (omega arith) in
+    simp (major, minor, link)
+
+settled_front : (o : Option Format) (xs ys : List ℕ) → 24 ≤ length xs → settled o (xs ++ ys) ≡ settled o xs
+settled_front None xs ys long = refl
+settled_front (Some f) xs ys long = version_front f xs ys long
+
+format_front : (xs ys : List ℕ) → 24 ≤ length xs → format_of (xs ++ ys) ≡ format_of xs
+format_front xs ys long =
+    let big : number_in Big 4 (xs ++ ys) ≡ number_in Big 4 xs = number_front Big 4 xs ys (omega arith) in
+    let little : number_in Little 4 (xs ++ ys) ≡ number_in Little 4 xs = number_front Little 4 xs ys (omega arith) in
+    simp (big, little)
+
+-- the fault or the format of a file's header, whatever follows it
+pub header_front : (xs ys : List ℕ) → (length xs < 24 → ys ≡ []) → header_of (xs ++ ys) ≡ header_of xs
+header_front xs ys short =
+    ⊎_elim
+    (λ h. ap header_of (ap (λ l. xs ++ l) (short h) ∙ append-nil xs))
+    (λ h.
+    let more : 24 ≤ length (xs ++ ys) = omega (arith, length-append xs ys) in
+    header_long (xs ++ ys) more ∙ ap (λ o. settled o (xs ++ ys)) (format_front xs ys h)
+    ∙ settled_front (format_of xs) xs ys h ∙ sym (header_long xs h))
+    (cases_lt (length xs) 24)
+
+ok_err : (f : Format) (e : CaptureFault) → Ok f ≡ Err e → ⊥
+ok_err f e h = cc
+
+version_faults : (major minor link : Bool) (f : Format) (e : CaptureFault) →
+    (if major then (if minor then (if link then Ok f else Err Link) else Err Version) else Err Version) ≡ Err e →
+    IsHeaderFault e
+version_faults false minor link f e h = let same : Version ≡ e = cc in subst IsHeaderFault same tt
+version_faults true false link f e h = let same : Version ≡ e = cc in subst IsHeaderFault same tt
+version_faults true true false f e h = let same : Link ≡ e = cc in subst IsHeaderFault same tt
+version_faults true true true f e h = absurd (ok_err f e h)
+
+version_fault : (f : Format) (bytes : List ℕ) (e : CaptureFault) → version_and_link f bytes ≡ Err e → IsHeaderFault e
+version_fault f bytes e h = version_faults (number_in f.order 2 (drop 4 bytes) == 2)
+    (number_in f.order 2 (drop 6 bytes) == 4) (number_in f.order 4 (drop 20 bytes) == 1) f e h
+
+settled_fault : (o : Option Format) (bytes : List ℕ) (e : CaptureFault) → settled o bytes ≡ Err e → IsHeaderFault e
+settled_fault None bytes e h = let same : Magic ≡ e = cc in subst IsHeaderFault same tt
+settled_fault (Some f) bytes e h = version_fault f bytes e h
+
+header_short : (bytes : List ℕ) → length bytes < 24 → header_of bytes ≡ Err TornHeader
+unfolding header_of
+header_short bytes short = rw (lt-ltb (length bytes) 24 short) refl
+
+-- a header's fault is one of four
+pub header_fault : (bytes : List ℕ) (e : CaptureFault) → header_of bytes ≡ Err e → IsHeaderFault e
+header_fault bytes e h =
+    ⊎_elim
+    (λ short. let same : TornHeader ≡ e = cc (header_short bytes short) in subst IsHeaderFault same tt)
+    (λ long. settled_fault (format_of bytes) bytes e (sym (header_long bytes long) ∙ h))
+    (cases_lt (length bytes) 24)
+
+-- what is shown of bytes whatever follows them holds of the bytes themselves
+pub head_shown : (f : Format) (n p : ℕ) (bytes : List ℕ) (head : RecordHead) → ShowsHead f n p bytes head →
+    (head_fault f p bytes ≡ None) × (head ≡ head_at f n p bytes)
+head_shown f n p bytes head shows =
+    let whole : bytes ++ [] ≡ bytes = append-nil bytes in
+    (ap (head_fault f p) (sym whole) ∙ (shows []).0, (shows []).1 ∙ ap (head_at f n p) whole)
+
+pub fault_shown : (f : Format) (n p : ℕ) (bytes : List ℕ) (e : CaptureFault) → ShowsFault f n p bytes e →
+    fault_at f n p bytes ≡ Some e
+fault_shown f n p bytes e shows = ap (fault_at f n p) (sym (append-nil bytes)) ∙ shows [] (λ few short. refl)
+
+-- a record's header, and all the bytes that follow it: a record stands there, or it's cut off
+module _ (f : Format) (n p : ℕ) (bytes : List ℕ) (head : RecordHead) where
+  pub record_whole : n < most_records → 16 ≤ length bytes → (head_fault f p bytes ≡ None)
+      × (head ≡ head_at f n p bytes) →
+      16 + head.captured ≤ length bytes → fault_at f n p bytes ≡ None
+  record_whole few long head_is whole =
+      let captured : head.captured ≡ captured_in f.order bytes = ap (λ (h : RecordHead). h.captured) head_is.1 in
+      let whole' : 16 + captured_in f.order bytes ≤ length bytes = omega arith in
+      fault_at_none f n p bytes few long head_is.0 whole'
+
+  pub record_torn : n < most_records → 16 ≤ length bytes → (head_fault f p bytes ≡ None)
+      × (head ≡ head_at f n p bytes) →
+      length bytes < 16 + head.captured → fault_at f n p bytes ≡ Some (TornRecord p)
+  record_torn few long head_is torn =
+      let captured : head.captured ≡ captured_in f.order bytes = ap (λ (h : RecordHead). h.captured) head_is.1 in
+      let torn' : length bytes < 16 + captured_in f.order bytes = omega arith in
+      fault_at_torn f n p bytes few long head_is.0 torn'

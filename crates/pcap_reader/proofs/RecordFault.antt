@@ -1,0 +1,48 @@
+-- The first fault at a place, test by test.
+use Rattle.std.proofs.Common.{◌≡◌, ◌+◌, ◌<◌, ◌≤◌, ℕ, List, length, Some, None, refl}
+use Rattle.std.proofs.lemmas.Bool.{lt-ltb, le-ltb, le-leb, lt-leb}
+use Rattle.pcap_reader.specs.declared.format.Format.{Format}
+use Rattle.pcap_reader.specs.declared.fault.CaptureFault.{CaptureFault}
+use Rattle.pcap_reader.specs.declared.fault.CaptureFault.TheVariants.{TornRecord, TooMany}
+use Rattle.pcap_reader.specs.Capture.{most_records}
+use Rattle.pcap_reader.specs.Remaining.{fault_at, head_fault, captured_in}
+
+-- after so many records nothing may stand there
+pub fault_at_most : (f : Format) (n p : ℕ) (bytes : List ℕ) → most_records ≤ n → fault_at f n p bytes ≡ Some TooMany
+unfolding fault_at
+fault_at_most f n p bytes many = rw (le-leb most_records n many) refl
+
+-- fewer bytes than a record's header has
+pub fault_at_short : (f : Format) (n p : ℕ) (bytes : List ℕ) → n < most_records → length bytes < 16 →
+    fault_at f n p bytes ≡ Some (TornRecord p)
+unfolding fault_at
+fault_at_short f n p bytes few short = rw (lt-leb most_records n few, lt-ltb (length bytes) 16 short) refl
+
+-- the header has a fault
+pub fault_at_head : (f : Format) (n p : ℕ) (bytes : List ℕ) (e : CaptureFault) → n < most_records →
+    16 ≤ length bytes → head_fault f p bytes ≡ Some e → fault_at f n p bytes ≡ Some e
+unfolding fault_at
+fault_at_head f n p bytes e few long h = rw (lt-leb most_records n few, le-ltb (length bytes) 16 long, h) refl
+
+-- fewer bytes than the header says
+pub fault_at_torn : (f : Format) (n p : ℕ) (bytes : List ℕ) → n < most_records → 16 ≤ length bytes →
+    head_fault f p bytes ≡ None → length bytes < 16 + captured_in f.order bytes →
+    fault_at f n p bytes ≡ Some (TornRecord p)
+unfolding fault_at
+fault_at_torn f n p bytes few long h torn = rw (
+  lt-leb most_records n few,
+  le-ltb (length bytes) 16 long,
+  h,
+  lt-ltb (length bytes) (16 + captured_in f.order bytes) torn,
+) refl
+
+-- a whole record stands there
+pub fault_at_none : (f : Format) (n p : ℕ) (bytes : List ℕ) → n < most_records → 16 ≤ length bytes →
+    head_fault f p bytes ≡ None → 16 + captured_in f.order bytes ≤ length bytes → fault_at f n p bytes ≡ None
+unfolding fault_at
+fault_at_none f n p bytes few long h whole = rw (
+  lt-leb most_records n few,
+  le-ltb (length bytes) 16 long,
+  h,
+  le-ltb (length bytes) (16 + captured_in f.order bytes) whole,
+) refl

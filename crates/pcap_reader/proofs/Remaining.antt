@@ -1,0 +1,83 @@
+-- What is to come, a step at a time.
+use Rattle.std.proofs.Common.{◌≡◌, ◌+◌, ◌-◌, ◌<◌, ◌≤◌, ℕ, zero, suc, List, [], ◌∷◌, length, drop, Option, Some, None, Ok, Err, take, refl, sym, ◌∙◌, ap, arith}
+use Rattle.pcap_reader.specs.declared.format.Format.{Format}
+use Rattle.pcap_reader.specs.declared.fault.CaptureFault.{CaptureFault}
+use Rattle.pcap_reader.specs.declared.fault.CaptureFault.TheVariants.{TooMany, Read, Failed}
+use Rattle.pcap_reader.specs.declared.format.RecordHead.{RecordHead}
+use Rattle.pcap_reader.specs.Capture.{most_records}
+use Rattle.pcap_reader.specs.Header.{header_of}
+use Rattle.pcap_reader.specs.Remaining.{Coming, coming_within, coming_from, whole_end, broken_end, then_coming, record_at, fault_at, captured_in, head_at, capture_of}
+use Rattle.pcap_reader.specs.Source.{IsNext}
+use Rattle.pcap_reader.proofs.RecordFault.{fault_at_most}
+
+within_nil : (left : ℕ) (f : Format) (n p : ℕ) → coming_within left f n p [] ≡ whole_end
+unfolding coming_within
+within_nil zero f n p = refl
+within_nil (suc left) f n p = refl
+
+within_fault : (left : ℕ) (f : Format) (n p b : ℕ) (bs : List ℕ) (e : CaptureFault) → left ≡ most_records - n →
+    fault_at f n p (b ∷ bs) ≡ Some e → coming_within left f n p (b ∷ bs) ≡ broken_end e
+unfolding coming_within
+within_fault zero f n p b bs e few h =
+    let many : most_records ≤ n = omega arith in
+    let same : TooMany ≡ e = cc (fault_at_most f n p (b ∷ bs) many, h) in
+    ap broken_end same
+within_fault (suc left) f n p b bs e few h = rw (coming_within, h) refl
+
+within_record : (left : ℕ) (f : Format) (n p b : ℕ) (bs : List ℕ) → left ≡ most_records - n →
+    fault_at f n p (b ∷ bs) ≡ None →
+    coming_within left f n p (b ∷ bs) ≡ then_coming (record_at f n p (b ∷ bs))
+    (coming_within (most_records - (n + 1)) f (n + 1) (p + (16 + captured_in f.order (b ∷ bs)))
+    (drop (16 + captured_in f.order (b ∷ bs)) (b ∷ bs)))
+unfolding coming_within
+within_record zero f n p b bs few h =
+    let many : most_records ≤ n = omega arith in
+    let wrong : Some TooMany ≡ None = sym (fault_at_most f n p (b ∷ bs) many) ∙ h in
+    cc
+within_record (suc left) f n p b bs few h =
+    let one : left ≡ most_records - (n + 1) = omega arith in
+    rw (coming_within, h) (ap (λ k. then_coming (record_at f n p (b ∷ bs))
+    (coming_within k f (n + 1) (p + (16 + captured_in f.order (b ∷ bs))) (drop (16 + captured_in f.order (b ∷ bs))
+    (b ∷ bs)))) one)
+
+-- nothing is to come of no bytes
+pub coming_from-nil : (f : Format) (n p : ℕ) (bytes : List ℕ) → length bytes ≡ 0 → coming_from f n p bytes ≡ whole_end
+unfolding coming_from
+coming_from-nil f n p [] h = within_nil (most_records - n) f n p
+coming_from-nil f n p (b ∷ bs) h = absurd (omega arith)
+
+-- a fault at the front is all that is to come
+pub coming_from_fault : (f : Format) (n p : ℕ) (bytes : List ℕ) (e : CaptureFault) → 0 < length bytes →
+    fault_at f n p bytes ≡ Some e → coming_from f n p bytes ≡ broken_end e
+unfolding coming_from
+coming_from_fault f n p [] e some h = absurd (omega arith)
+coming_from_fault f n p (b ∷ bs) e some h = within_fault (most_records - n) f n p b bs e refl h
+
+-- a record at the front comes first
+pub coming_from_record : (f : Format) (n p : ℕ) (bytes : List ℕ) → 0 < length bytes → fault_at f n p bytes ≡ None →
+    coming_from f n p bytes ≡ then_coming (record_at f n p bytes)
+    (coming_from f (n + 1) (p + (16 + captured_in f.order bytes)) (drop (16 + captured_in f.order bytes) bytes))
+unfolding coming_from
+coming_from_record f n p [] some h = absurd (omega arith)
+coming_from_record f n p (b ∷ bs) some h = within_record (most_records - n) f n p b bs refl h
+
+-- a fault at the end is what an answer with it says
+pub next_is_fault : (c : Coming) (e : CaptureFault) (after : Option Coming) (lent : List ℕ) → c ≡ broken_end e →
+    IsNext c (Err e) after lent
+next_is_fault c Read after lent h = tt
+next_is_fault c Failed after lent h = tt
+next_is_fault c e after lent h = h
+
+-- the first record, whatever was read of it
+pub coming_from_read : (f : Format) (n p : ℕ) (bytes : List ℕ) (head : RecordHead) (lent rest : List ℕ) →
+    0 < length bytes → fault_at f n p bytes ≡ None →
+    head ≡ head_at f n p bytes → lent ≡ take head.captured (drop 16 bytes) → rest ≡ drop (16 + head.captured) bytes →
+    coming_from f n p bytes ≡ then_coming (record { head = head; bytes = lent })
+    (coming_from f (n + 1) (p + (16 + head.captured)) rest)
+coming_from_read f n p bytes head lent rest some stands head_is lent_is rest_is = rw (rest_is, lent_is, head_is)
+    (coming_from_record f n p bytes some stands)
+
+-- what a file that begins with a lawful header gives
+pub capture_of_begun : (bytes : List ℕ) (f : Format) → header_of bytes ≡ Ok f →
+    capture_of bytes ≡ Ok (coming_from f 0 24 (drop 24 bytes))
+capture_of_begun bytes f h = rw (capture_of, h) refl

@@ -1,0 +1,58 @@
+-- Steps of a source.
+use Rattle.std.proofs.Common.{◌≡◌, ◌∙◌, ◌↔◌, ℕ, [], ◌++◌, Err, Option, Result, Bool, true, false, sym, arith, length-append}
+use Rattle.std.specs.Prelude.{IsTrue, IsErrOf}
+use Rattle.std.proofs.KnownBytes.{Consumes-nil, Consumes-trans}
+use Rattle.byte_stream.specs.Fault.{CountsFault}
+use Rattle.byte_stream.specs.Intake.{TakesAtMost}
+use Rattle.pcap_reader.specs.declared.format.RecordHead.{RecordHead}
+use Rattle.pcap_reader.specs.declared.fault.CaptureFault.{CaptureFault}
+use Rattle.pcap_reader.specs.declared.fault.CaptureFault.TheVariants.{Read, Failed}
+use Rattle.pcap_reader.specs.Fault.{IsRecordFault, MayAnswer}
+use Rattle.pcap_reader.specs.Source.{Supply, TakesFrom, read_failed}
+
+-- nothing was taken
+pub TakesFrom-none : (s : Supply) → TakesFrom s s
+TakesFrom-none s = record { taken = []; consumed = Consumes-nil s.unread; at_most = omega arith }
+
+-- one call after another
+pub TakesFrom-trans : (a b c : Supply) → TakesFrom a b → TakesFrom b c → TakesFrom a c
+TakesFrom-trans a b c p q =
+    record {
+      taken = p.taken ++ q.taken;
+      consumed = Consumes-trans a.unread b.unread c.unread p.taken q.taken p.consumed q.consumed;
+      at_most = omega (arith, length-append p.taken q.taken, p.at_most, q.at_most);
+    }
+
+-- no more was taken than might be
+pub TakesFrom-at_most : (a b : Supply) → TakesFrom a b → TakesAtMost a.most a.unread b.unread
+TakesFrom-at_most a b p = (p.taken, p.consumed, omega (arith, p.at_most))
+
+-- a record's fault is one that may be answered
+pub record_fault_may : (e : CaptureFault) → IsRecordFault e → MayAnswer e
+record_fault_may Read h = tt
+record_fault_may Failed h = tt
+record_fault_may e h = h
+
+-- the device hasn't failed
+pub record_fault_counts : (e : CaptureFault) (n m : ℕ) → IsRecordFault e → m ≡ n →
+    CountsFault (read_failed {X = Option RecordHead} (Err e)) n m
+record_fault_counts Read n m h same = absurd h
+record_fault_counts e n m h same = same
+
+not_failed : (e : CaptureFault) → IsRecordFault e → e ≡ Failed → ⊥
+not_failed Failed h same = h
+not_failed e h same = cc
+
+-- no answer of a source that hasn't failed is the answer after a fault
+pub unfailed_iff : (r : Result (Option RecordHead) CaptureFault) (b : Bool) → b ≡ false → (IsErrOf r Failed → ⊥) →
+    IsErrOf r Failed ↔ IsTrue b
+unfailed_iff r b unfailed other = (
+  λ same. absurd (other same),
+  λ yes. let wrong : true ≡ false = sym yes
+      ∙ unfailed in cc,
+)
+
+pub record_fault_iff : (e : CaptureFault) (b : Bool) → IsRecordFault e → b ≡ false →
+    IsErrOf {T = Option RecordHead} (Err e) Failed ↔ IsTrue b
+record_fault_iff e b h unfailed = unfailed_iff (Err e) b unfailed (λ same. let e_is : e ≡ Failed =
+    cc in not_failed e h e_is)

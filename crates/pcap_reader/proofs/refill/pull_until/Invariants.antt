@@ -1,0 +1,16 @@
+-- The bytes that stand at the front grow by what was pulled, and nothing of them is lost.
+use Rattle.std.proofs.Common.{◌≡◌, ◌-◌, ◌≤◌, take}
+use Rattle.pcap_reader.specs.Buffered.{Pulls}
+use Rattle.pcap_reader.proofs.refill.pull_until.Given as goal
+
+abbrev pub invariant-loop-held : goal.invariant-loop-held
+invariant-loop-held g l =
+    record {
+      at_most : l.held ≤ l.most;
+      unfailed : g.F.Feed.fault_count l.feed ≡ g.F.Feed.fault_count l.initial.feed;
+      pulls : Pulls g.F.Feed.remaining l.initial.feed l.feed (take l.initial.held l.initial.buffer)
+          (take l.held l.buffer);
+    }
+
+abbrev pub decreases-loop-held : goal.decreases-loop-held
+decreases-loop-held g l = l.wanted - l.held
