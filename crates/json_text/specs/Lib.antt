@@ -1,0 +1,3 @@
+pub mod Member
+pub mod Step
+pub mod Text
