@@ -1,0 +1,260 @@
+-- The numbers of groups that a claim gives to its servers.
+use Rattle.std.proofs.Common.{◌≡◌, ℕ, zero, suc, ◌+◌, ◌<◌, ◌≤◌, ◌==◌, ◌||◌, nat_lt, Bool, true, false, not, cond, if◌then◌else◌, List, [], ◌∷◌, ◌++◌, length, map, get_or, Option, Some, None, unwrap_or, refl, sym, ap, ◌∙◌, subst, arith}
+use Rattle.std.proofs.lemmas.Bool.{ltb-true, ltb-false}
+use Rattle.std.proofs.lemmas.Bool.Decides.{Decides-eqb}
+use Rattle.std.proofs.lemmas.List.FromFn.{length-range_with_len, get_or-range_with_len, length-map-range_with_len, get_or-map-range_with_len}
+use Rattle.std.proofs.lemmas.List.Sums.{AllPass-from_list_all, sum_by-cons, sum_by-append}
+use Rattle.std.proofs.lemmas.List.Folds.{list_all-append}
+use Rattle.std.specs.Prelude.{All}
+use Rattle.std.specs.List.{concat, list_all, list_any, position_from}
+use Rattle.claim_file.specs.Claim.{IsWithoutGap, group_count}
+use Rattle.claim_file.specs.Group.{servers_of, times_listed, groups_of, group_of, is_grouping}
+use Rattle.claim_file.proofs.Groups.{both_true, length-groups, once_each}
+
+-- a place below n, or 0
+place_small : (p : List ℕ → Bool) (i : ℕ) (groups : List (List ℕ)) (n : ℕ) → i + length groups ≤ n → 1 ≤ n →
+    unwrap_or (position_from p i groups) 0 < n
+place_small p i [] n fits some = omega arith
+place_small p i (g ∷ gs) n fits some =
+    elim (p g) as (λ b. unwrap_or (cond b (Some i) (position_from p (i + 1) gs)) 0 < n) [
+      | true ↦ omega arith
+      | false ↦ place_small p (i + 1) gs n (omega arith) some
+    ]
+
+pub given_grouping : (n : ℕ) (listed : List (List ℕ)) (groups : List ℕ) → groups_of n (Some listed) ≡ Some groups →
+    (is_grouping n listed ≡ true) × (map (group_of listed) (servers_of n) ≡ groups)
+given_grouping n listed groups e = at (is_grouping n listed) refl e
+  where
+    at : (b : Bool) → is_grouping n listed ≡ b →
+        (if b then Some (map (group_of listed) (servers_of n)) else None) ≡ Some groups →
+        (is_grouping n listed ≡ true) × (map (group_of listed) (servers_of n) ≡ groups)
+    at true t h = (t, cc)
+    at false t h = cc
+
+-- the parts of the test
+pub record IsGrouping (n : ℕ) (listed : List (List ℕ)) : Type 0 where
+  pub filled : list_all (λ group. not (length group == 0)) listed ≡ true
+  pub below : list_all (λ s. nat_lt s n) (concat listed) ≡ true
+  pub once : (s : ℕ) → s < n → times_listed s (concat listed) ≡ 1
+  pub few : length listed ≤ n
+
+pub grouping_parts : (n : ℕ) (listed : List (List ℕ)) → is_grouping n listed ≡ true → IsGrouping n listed
+grouping_parts n listed e =
+    let (front, once) = both_true _ _ e in
+    let (filled, below) = both_true _ _ front in
+    record {
+      filled = filled;
+      below = below;
+      once = once_each n (concat listed) once;
+      few =
+          length-groups n listed filled below once;
+    }
+
+-- each server has a group, whose number is below the count of servers
+pub groups_of-range : (n : ℕ) (listed : Option (List (List ℕ))) (groups : List ℕ) → 1 ≤ n →
+    groups_of n listed ≡ Some groups →
+    (length groups ≡ n) × All (λ g. g < n) groups
+groups_of-range n None groups some e =
+    let same : servers_of n ≡ groups = cc in
+    subst (λ gs. (length gs ≡ n) × All (λ g. g < n) gs) same (
+      length-range_with_len 0 n,
+      λ k d less. let small : k < n =
+          rw (length-range_with_len 0 n) at less in rw (get_or-range_with_len 0 n k d small) (omega arith),
+    )
+groups_of-range n (Some listed) groups some e =
+    let (test, same) = given_grouping n listed groups e in
+    let parts = grouping_parts n listed test in
+    subst (λ gs. (length gs ≡ n) × All (λ g. g < n) gs) same (
+      length-map-range_with_len (group_of listed) 0 n,
+      λ k d less.
+          let small : k < n = rw (length-map-range_with_len (group_of listed) 0 n) at less in
+          rw (get_or-map-range_with_len (group_of listed) 0 n k k d small (omega arith))
+          (place_small _ 0 listed n (omega (arith, parts.few)) some),
+    )
+
+-- how often a number stands in two lists, and in one that holds it
+times-append : (x : ℕ) (xs ys : List ℕ) → times_listed x (xs ++ ys) ≡ times_listed x xs + times_listed x ys
+times-append x xs ys = sum_by-append (λ y. cond (y == x) 1 0) xs ys
+
+times-cons : (x y : ℕ) (ys : List ℕ) → times_listed x (y ∷ ys) ≡ cond (y == x) 1 0 + times_listed x ys
+times-cons x y ys = sum_by-cons (λ z. cond (z == x) 1 0) y ys
+
+held_times : (x : ℕ) (ys : List ℕ) → list_any (λ s. s == x) ys ≡ true → 1 ≤ times_listed x ys
+held_times x [] e = cc
+held_times x (y ∷ ys) e = rw (times-cons x y ys) (here (y == x) (held_times x ys) e)
+  where
+    here : (b : Bool) → (list_any (λ s. s == x) ys ≡ true → 1 ≤ times_listed x ys) →
+        (b || list_any (λ s. s == x) ys) ≡ true → 1 ≤ cond b 1 0 + times_listed x ys
+    here true later h = omega arith
+    here false later h = let more = later h in omega arith
+
+not_held_times : (x : ℕ) (ys : List ℕ) → list_any (λ s. s == x) ys ≡ false → times_listed x ys ≡ 0
+not_held_times x [] e = refl
+not_held_times x (y ∷ ys) e = rw (times-cons x y ys) (here (y == x) (not_held_times x ys) e)
+  where
+    here : (b : Bool) → (list_any (λ s. s == x) ys ≡ false → times_listed x ys ≡ 0) →
+        (b || list_any (λ s. s == x) ys) ≡ false → cond b 1 0 + times_listed x ys ≡ 0
+    here true later h = cc
+    here false later h = let more = later h in omega arith
+
+-- a number that stands somewhere has a place among the groups
+place_found : (x : ℕ) (i : ℕ) (groups : List (List ℕ)) → 1 ≤ times_listed x (concat groups) →
+    unwrap_or (position_from (λ g. list_any (λ s. s == x) g) i groups) 0 < i + length groups
+place_found x i [] some = absurd (omega arith)
+place_found x i (g ∷ gs) some = here (list_any (λ s. s == x) g) (place_found x (i + 1) gs) refl
+  where
+    here : (b : Bool) →
+        (1 ≤ times_listed x (concat gs) →
+        unwrap_or (position_from (λ g. list_any (λ s. s == x) g) (i + 1) gs) 0 < i + 1 + length gs) →
+        list_any (λ s. s == x) g ≡ b →
+        unwrap_or (cond b (Some i) (position_from (λ g. list_any (λ s. s == x) g) (i + 1) gs)) 0 < i + length (g ∷ gs)
+    here true later e = omega arith
+    here false later e =
+        let none = not_held_times x g e in
+        let split = times-append x g (concat gs) in
+        let rest = later (omega arith) in
+        omega arith
+
+held_concat : (x : ℕ) (groups : List (List ℕ)) (g : ℕ) → g < length groups →
+    list_any (λ s. s == x) (get_or groups g []) ≡ true → 1 ≤ times_listed x (concat groups)
+held_concat x [] g less e = absurd (omega arith)
+held_concat x (h ∷ hs) zero less e =
+    let some = held_times x h e in
+    rw (times-append x h (concat hs)) (omega arith)
+held_concat x (h ∷ hs) (suc g) less e =
+    let some = held_concat x hs g (omega arith) e in
+    rw (times-append x h (concat hs)) (omega arith)
+
+-- a number that stands once has its place at the group that holds it
+place_once : (x : ℕ) (i : ℕ) (groups : List (List ℕ)) (g : ℕ) → g < length groups →
+    list_any (λ s. s == x) (get_or groups g []) ≡ true → times_listed x (concat groups) ≡ 1 →
+    unwrap_or (position_from (λ g. list_any (λ s. s == x) g) i groups) 0 ≡ i + g
+place_once x i [] g less e once = absurd (omega arith)
+place_once x i (h ∷ hs) zero less e once = rw e (omega arith)
+place_once x i (h ∷ hs) (suc g) less e once =
+    let later = held_concat x hs g (omega arith) e in
+    let split = times-append x h (concat hs) in
+    here (list_any (λ s. s == x) h) (place_once x (i + 1) hs g (omega arith) e) refl later split
+  where
+    here : (b : Bool) →
+        (times_listed x (concat hs) ≡ 1 →
+        unwrap_or (position_from (λ g. list_any (λ s. s == x) g) (i + 1) hs) 0 ≡ i + 1 + g) →
+        list_any (λ s. s == x) h ≡ b → 1 ≤ times_listed x (concat hs) →
+        times_listed x (h ++ concat hs) ≡ times_listed x h + times_listed x (concat hs) →
+        unwrap_or (cond b (Some i) (position_from (λ g. list_any (λ s. s == x) g) (i + 1) hs)) 0 ≡ i + suc g
+    here true rest t later split = let some = held_times x h t in absurd (omega arith)
+    here false rest t later split =
+        let none = not_held_times x h t in
+        let there = rest (omega arith) in
+        omega arith
+
+-- where each number is below n, the count of groups is at most n
+group_count-le : (n : ℕ) (groups : List ℕ) → All (λ g. g < n) groups → group_count groups ≤ n
+group_count-le n [] below = omega arith
+group_count-le n (g ∷ gs) below =
+    let first : g < n = below 0 0 (omega arith) in
+    let rest = group_count-le n gs (λ k d less. below (suc k) d (omega arith)) in
+    omega arith
+
+-- a group that isn't empty has a server
+first_held : (g : List ℕ) → not (length g == 0) ≡ true → list_any (λ s. s == get_or g 0 0) g ≡ true
+first_held [] e = cc
+first_held (x ∷ g) e = rw (eqb-self x) refl
+  where
+    eqb-self : (n : ℕ) → (n == n) ≡ true
+    eqb-self n = (Decides-eqb n n).1 refl
+
+below_concat : (n : ℕ) (groups : List (List ℕ)) (g : ℕ) → g < length groups →
+    not (length (get_or groups g []) == 0) ≡ true →
+    list_all (λ s. nat_lt s n) (concat groups) ≡ true → get_or (get_or groups g []) 0 0 < n
+below_concat n [] g less some below = absurd (omega arith)
+below_concat n ([] ∷ hs) zero less some below = cc
+below_concat n ((x ∷ h) ∷ hs) zero less some below = ltb-true x n (both_true _ _ below).0
+below_concat n (h ∷ hs) (suc g) less some below =
+    below_concat n hs g (omega arith) some
+    (both_true _ _ (sym (list_all-append (λ s. nat_lt s n) h (concat hs)) ∙ below)).1
+
+-- there are at most as many groups as are listed
+listed_count : (n : ℕ) (listed : List (List ℕ)) (groups : List ℕ) → groups_of n (Some listed) ≡ Some groups →
+    group_count groups ≤ length listed
+listed_count n listed groups e =
+    let (test, same) = given_grouping n listed groups e in
+    let parts = grouping_parts n listed test in
+    subst (λ gs. group_count gs ≤ length listed) same
+    (group_count-le (length listed) (map (group_of listed) (servers_of n))
+    (λ k d within.
+    let small : k < n = rw (length-map-range_with_len (group_of listed) 0 n) at within in
+    let found = place_found k 0 listed (omega (arith, parts.once k small)) in
+    rw (get_or-map-range_with_len (group_of listed) 0 n k k d small (omega arith)) (omega arith)))
+
+-- none of the groups is empty
+pub groups_of-without_gap : (n : ℕ) (listed : Option (List (List ℕ))) (groups : List ℕ) →
+    groups_of n listed ≡ Some groups →
+    IsWithoutGap groups
+groups_of-without_gap n None groups e =
+    let same : servers_of n ≡ groups = cc in
+    subst IsWithoutGap same (record {
+      none_empty = λ g less.
+          let most = group_count-le n (servers_of n)
+          (λ k d within. let small : k < n =
+          rw (length-range_with_len 0 n) at within in rw (get_or-range_with_len 0 n k d small) (omega arith)) in
+          let server : g < n = omega arith in
+          (g, rw (length-range_with_len 0 n) server, get_or-range_with_len 0 n g g server ∙ omega arith);
+    })
+groups_of-without_gap n (Some listed) groups e =
+    let (test, same) = given_grouping n listed groups e in
+    let parts = grouping_parts n listed test in
+    subst IsWithoutGap same (record {
+      none_empty = λ g less.
+          let most = subst (λ gs. group_count gs ≤ length listed) (sym same) (listed_count n listed groups e) in
+          let here : g < length listed = omega arith in
+          let filled = AllPass-from_list_all (λ group. not (length group == 0)) listed parts.filled g [] here in
+          let x = get_or (get_or listed g []) 0 0 in
+          let server : x < n = below_concat n listed g here filled parts.below in
+          let held = first_held (get_or listed g []) filled in
+          let place = place_once x 0 listed g here held (parts.once x server) in (
+            x,
+            rw (length-map-range_with_len (group_of listed) 0 n) server,
+            get_or-map-range_with_len (group_of listed) 0 n x x g server (omega arith) ∙ place ∙ omega arith,
+          );
+    })
+
+-- a server's number is that of the group which holds it
+pub group_number : (n : ℕ) (listed : List (List ℕ)) (groups : List ℕ) → groups_of n (Some listed) ≡ Some groups →
+    (server group : ℕ) → server < n → group < length listed →
+    list_any (λ s. s == server) (get_or listed group []) ≡ true → get_or groups server 0 ≡ group
+group_number n listed groups e server group small here held =
+    let (test, same) = given_grouping n listed groups e in
+    let parts = grouping_parts n listed test in
+    let place = place_once server 0 listed group here held (parts.once server small) in
+    subst (λ gs. get_or gs server 0 ≡ group) same
+    (get_or-map-range_with_len (group_of listed) 0 n server server 0 small (omega arith) ∙ place ∙ omega arith)
+
+group_count-ge : (groups : List ℕ) (k d : ℕ) → k < length groups → get_or groups k d < group_count groups
+group_count-ge [] k d less = absurd (omega arith)
+group_count-ge (g ∷ gs) zero d less = omega arith
+group_count-ge (g ∷ gs) (suc k) d less = let rest = group_count-ge gs k d (omega arith) in omega arith
+
+-- there are as many groups as are listed
+pub group_count-listed : (n : ℕ) (listed : List (List ℕ)) (groups : List ℕ) → groups_of n (Some listed) ≡ Some groups →
+    group_count groups ≡ length listed
+group_count-listed n listed groups e =
+    at (nat_lt (group_count groups) (length listed)) refl (listed_count n listed groups e)
+  where
+    at : (b : Bool) → nat_lt (group_count groups) (length listed) ≡ b → group_count groups ≤ length listed →
+        group_count groups ≡ length listed
+    at true t most =
+        let (test, same) = given_grouping n listed groups e in
+        let parts = grouping_parts n listed test in
+        let g = group_count groups in
+        let here : g < length listed = ltb-true g (length listed) t in
+        let filled = AllPass-from_list_all (λ group. not (length group == 0)) listed parts.filled g [] here in
+        let x = get_or (get_or listed g []) 0 0 in
+        let server : x < n = below_concat n listed g here filled parts.below in
+        let held = first_held (get_or listed g []) filled in
+        let number = group_number n listed groups e x g server here held in
+        let sized : length groups ≡ n = ap length (sym same) ∙ length-map-range_with_len (group_of listed) 0 n in
+        let within = group_count-ge groups x 0 (omega arith) in
+        absurd (omega arith)
+    at false t most = let least : length listed ≤ group_count groups =
+        ltb-false (group_count groups) (length listed) t in omega arith

@@ -1,0 +1,5 @@
+pub mod Addresses
+pub mod Groupings
+pub mod Groups
+pub mod Lawful
+pub mod Times

@@ -1,0 +1,135 @@
+-- The answers of the reader of times.
+use Rattle.std.proofs.Common.{◌+◌, nat_lt, negsuc, ◌*◌, ◌/◌, ◌%◌, ◌≤◌, ◌<◌, arith, ◌≡◌, ◌<◌, ◌^◌, ℕ, ℤ, pos, List, Bool, true, false, ◌&&◌, Option, Some, None, if◌then◌else◌, option_and_then, refl, sym, ap, ◌∙◌}
+use Rattle.std.proofs.lemmas.Bool.{leb-true, ltb-true}
+use Rattle.std.proofs.lemmas.Bool.Decides.{Decides-ltb}
+use Rattle.jiff_core.proofs.CalendarLemmas.{days_in_month_bounds}
+use Rattle.std.proofs.lemmas.Slice.Eq.{bytes_eq-Decides}
+use Rattle.std.specs.Str.{bytes_eq}
+use Rattle.jiff_core.specs.Calendar.{days_in_month}
+use Rattle.claim_file.proofs.Groups.{both_true}
+use Rattle.claim_file.specs.declared.time.Moment.{Moment}
+use Rattle.claim_file.specs.Time.{IsTime, exists, spelling, unix_second, pair_value, moment_at, in_u32, time_of}
+
+-- a moment that exists: the text is compared with its spelling
+time_of-there : (text : List ℕ) (second : ℤ) (same : Bool) →
+    Some second ≡ (if exists (moment_at text) then Some (unix_second (moment_at text)) else None) →
+    same ≡ bytes_eq text (spelling (moment_at text)) →
+    (if same then in_u32 second else None) ≡ time_of text
+time_of-there text second same found is =
+    at (exists (moment_at text)) found
+  where
+    at : (there : Bool) → Some second ≡ (if there then Some (unix_second (moment_at text)) else None) →
+        (if same then in_u32 second else None)
+        ≡ (if there && bytes_eq text (spelling (moment_at text)) then in_u32 (unix_second (moment_at text)) else None)
+    at true e = ap (λ o. if same then option_and_then in_u32 o else None) e
+        ∙ ap (λ b. if b then in_u32 (unix_second (moment_at text)) else None) is
+    at false e = cc
+
+-- the same, step by step as it is read
+pub time_of-read : {text bytes slice : List ℕ} {m : Moment} {second : ℤ} {found : Option ℤ} (same : Bool) →
+    bytes ≡ text → m ≡ moment_at bytes →
+    found ≡ (if exists m then Some (unix_second m) else None) → found ≡ Some second →
+    slice ≡ spelling m → same ≡ bytes_eq bytes slice →
+    (if same then in_u32 second else None) ≡ time_of text
+time_of-read {text} {bytes} {slice} {m} {second} {found} same known at unix is spelled test =
+    let there : Some second ≡ (if exists (moment_at bytes) then Some (unix_second (moment_at bytes)) else None) =
+    sym is ∙ unix ∙ ap (λ (v : Moment). if exists v then Some (unix_second v) else None) at in
+    let written : same ≡ bytes_eq bytes (spelling (moment_at bytes)) =
+    test ∙ ap (bytes_eq bytes) (spelled ∙ ap spelling at) in
+    time_of-there bytes second same there written ∙ ap time_of known
+
+-- the digits of a number below 100, read again
+pair_value-digits : (n : ℕ) → n < 100 → pair_value (48 + n / 10) (48 + n % 10) ≡ n
+pair_value-digits n small = omega arith
+
+-- a moment that exists has numbers of as many digits as are written
+small_parts : (m : Moment) → exists m ≡ true →
+    (m.year < 10000) × (m.month < 100) × (m.day < 100) × (m.hour < 100) × (m.minute < 100) × (m.second < 100)
+small_parts m there =
+    let (e3, second) = both_true _ _ there in
+    let (e2, minute) = both_true _ _ e3 in
+    let (date, hour) = both_true _ _ e2 in
+    let (d4, last_day) = both_true _ _ date in
+    let (d3, first_day) = both_true _ _ d4 in
+    let (d2, last_month) = both_true _ _ d3 in
+    let (year, first_month) = both_true _ _ d2 in
+    let y : m.year < 10000 = ltb-true _ _ year in
+    let mo : m.month ≤ 12 = leb-true _ _ last_month in
+    let d : m.day ≤ days_in_month (pos m.year) m.month = leb-true _ _ last_day in
+    let few : days_in_month (pos m.year) m.month ≤ 31 = (days_in_month_bounds (pos m.year) m.month).0 in
+    let h : m.hour < 24 = ltb-true _ _ hour in
+    let mi : m.minute < 60 = ltb-true _ _ minute in
+    let s : m.second < 60 = ltb-true _ _ second in
+    (y, omega arith, omega arith, omega arith, omega arith, omega arith)
+
+-- what was written is read again
+pub moment_at-spelling : (m : Moment) → exists m ≡ true → moment_at (spelling m) ≡ m
+moment_at-spelling m there =
+    let (y, mo, d, h, mi, s) = small_parts m there in
+    λ i. record {
+      year = year_again m.year y i;
+      month = pair_value-digits m.month mo i;
+      day = pair_value-digits m.day d i;
+      hour = pair_value-digits m.hour h i;
+      minute = pair_value-digits m.minute mi i;
+      second = pair_value-digits m.second s i;
+    }
+  where
+    year_again : (y : ℕ) → y < 10000 →
+        pair_value (48 + y / 100 / 10) (48 + y / 100 % 10) * 100
+        + pair_value (48 + y % 100 / 10) (48 + y % 100 % 10) ≡ y
+    year_again y small = omega arith
+
+-- what the two tests and the range say together
+said : (there same : Bool) (z : ℤ) (second : ℕ) → there ≡ true → same ≡ true → z ≡ pos second → second < 2 ^ 32 →
+    (if there && same then in_u32 z else None) ≡ Some second
+said there same z second t e counted small =
+    let less : nat_lt second (2 ^ 32) ≡ true = (Decides-ltb second (2 ^ 32)).1 small in
+    rw (t, e, counted, less) refl
+
+pub record IsSaid (there same : Bool) (z : ℤ) (second : ℕ) : Type 0 where
+  pub is_there : there ≡ true
+  pub is_same : same ≡ true
+  pub counted : z ≡ pos second
+  pub small : second < 2 ^ 32
+
+in_u32-some : (z : ℤ) (second : ℕ) → in_u32 z ≡ Some second → (z ≡ pos second) × (second < 2 ^ 32)
+in_u32-some (pos n) second e = at (nat_lt n (2 ^ 32)) refl e
+  where
+    at : (b : Bool) → nat_lt n (2 ^ 32) ≡ b → (if b then Some n else None) ≡ Some second →
+        (pos n ≡ pos second) × (second < 2 ^ 32)
+    at true t h =
+        let same : n ≡ second = cc in
+        let less : n < 2 ^ 32 = ltb-true n (2 ^ 32) t in
+        (ap pos same, omega arith)
+    at false t h = cc
+in_u32-some (negsuc n) second e = cc
+
+unsaid : (there same : Bool) (z : ℤ) (second : ℕ) → (if there && same then in_u32 z else None) ≡ Some second →
+    IsSaid there same z second
+unsaid true true z second e =
+    let (counted, small) = in_u32-some z second e in
+    record { is_there = refl; is_same = refl; counted = counted; small = small }
+unsaid true false z second e = cc
+unsaid false same z second e = cc
+
+-- a text that writes a moment says its second
+pub time_of-IsTime : (text : List ℕ) (second : ℕ) → IsTime text second → time_of text ≡ Some second
+time_of-IsTime text second time =
+    let same : moment_at text ≡ time.moment = ap moment_at time.spelled ∙ moment_at-spelling time.moment time.there in
+    said _ _ _ second (ap exists same ∙ time.there)
+    ((bytes_eq-Decides text (spelling (moment_at text))).1 (time.spelled ∙ ap spelling (sym same)))
+    (ap unix_second same ∙ time.counted) time.in_range
+
+-- a text that says a second writes a moment
+pub IsTime-time_of : (text : List ℕ) (second : ℕ) → time_of text ≡ Some second → IsTime text second
+IsTime-time_of text second says =
+    let parts = unsaid (exists (moment_at text)) (bytes_eq text (spelling (moment_at text)))
+    (unix_second (moment_at text)) second says in
+    record {
+      moment = moment_at text;
+      there = parts.is_there;
+      spelled = (bytes_eq-Decides text (spelling (moment_at text))).0 parts.is_same;
+      counted = parts.counted;
+      in_range = parts.small;
+    }

@@ -1,0 +1,29 @@
+//! A claim.
+
+/// A claim: the client's clock stayed within a bound of UTC over a span, where at most so many
+/// groups of servers are false.
+#[derive(Debug, Drop)]
+pub struct Claim {
+    /// The client's address.
+    pub client: [u8; 4],
+    /// The servers' addresses, 1 to 32. A server's number is its place here, from 0.
+    pub servers: Vec<[u8; 4]>,
+    /// For each server the number of its group, below the count of servers.
+    pub groups: Vec<u8>,
+    /// How many groups of servers may be false, at most 31.
+    pub false_max: u8,
+    /// The first tick of the span.
+    pub first: i128,
+    /// The last tick of the span, which belongs to it.
+    pub last: i128,
+    /// The bound, in ticks, rounded down.
+    pub bound: i128,
+    /// The bound in nanoseconds, as it is claimed.
+    pub bound_ns: u64,
+    /// The greatest drift of the client's clock, in parts of 10^9.
+    pub drift_ppb: u32,
+    /// How far a record time may be from the client's reading, in ticks, rounded up.
+    pub reading: i128,
+    /// The same in nanoseconds, as it is claimed.
+    pub reading_ns: u64,
+}

@@ -1,0 +1,61 @@
+//! What holds of the definitions that the contracts cite. A law is a function that does nothing:
+//! its contract is the law, for every text and every number.
+
+ghost use Rattle.std.specs.Prelude.{◌≡◌, ℕ, ◌<◌, ◌==◌, ◌↔◌, List, [], length, All};
+ghost use Rattle.std.specs.Prelude.{true, IsTrue, codes, Ok, Some, slice_index};
+ghost use Rattle.std.specs.List.{concat, list_any, slice_index_or};
+ghost use Rattle.std.specs.Net.Grammar.{IsDotted};
+ghost use Rattle.claim_file.specs.declared.time.Moment.{Moment};
+ghost use Rattle.claim_file.specs.Address.{address_of};
+ghost use Rattle.claim_file.specs.Claim.{ClaimData, IsLawful, IsWithoutGap, group_count};
+ghost use Rattle.claim_file.specs.Group.{groups_of, times_listed};
+ghost use Rattle.claim_file.specs.Reading.{claim_of};
+ghost use Rattle.claim_file.specs.Time.{IsTime, exists, spelling, time_of};
+
+/// What the bytes of a claim say keeps every limit that a calculation asks for, and none of its
+/// groups is empty.
+pub fn claims_are_lawful()
+    ensures lawful { (bytes : List ℕ) (claim : ClaimData) → claim_of bytes ≡ Ok claim →
+        IsLawful claim }
+    ensures numbered { (bytes : List ℕ) (claim : ClaimData) → claim_of bytes ≡ Ok claim →
+        IsWithoutGap claim.groups }
+{}
+
+/// A text says a time exactly where it is the text that writes a moment which exists.
+pub fn times_are_spelled()
+    ensures { (text : List ℕ) (second : ℕ) → (time_of text ≡ Some second) ↔ IsTime text second }
+{}
+
+/// No two moments are written by one text.
+pub fn moments_have_one_spelling()
+    ensures { (m n : Moment) → exists m ≡ true → exists n ≡ true → spelling m ≡ spelling n → m ≡ n }
+{}
+
+/// The first time is second 0 and the last second 2^32 - 1.
+pub fn first_and_last_time()
+    ensures first { time_of (codes "1970-01-01T00:00:00Z") ≡ Some 0 }
+    ensures last { time_of (codes "2106-02-07T06:28:15Z") ≡ Some 4294967295 }
+{}
+
+/// A text says an address exactly where it is four decimal numbers below 256 without leading zeros,
+/// with dots between them.
+pub fn addresses_are_dotted()
+    ensures { (text address : List ℕ) → (address_of text ≡ Some address) ↔ IsDotted text address }
+{}
+
+/// Where groups are listed, each server stands in them once and nothing else does, the number of a
+/// server is that of the group which holds it, and there are as many groups as are listed.
+pub fn groups_hold_each_server_once()
+    ensures once { (n : ℕ) (listed : List (List ℕ)) (groups : List ℕ) →
+        groups_of n (Some listed) ≡ Some groups →
+        (server : ℕ) → server < n → times_listed server (concat listed) ≡ 1 }
+    ensures no_other { (n : ℕ) (listed : List (List ℕ)) (groups : List ℕ) →
+        groups_of n (Some listed) ≡ Some groups → All (λ server. server < n) (concat listed) }
+    ensures number { (n : ℕ) (listed : List (List ℕ)) (groups : List ℕ) →
+        groups_of n (Some listed) ≡ Some groups →
+        (server group : ℕ) → server < n → group < length listed →
+        IsTrue (list_any (λ s. s == server) (slice_index_or listed group [])) →
+        slice_index groups server ≡ group }
+    ensures count { (n : ℕ) (listed : List (List ℕ)) (groups : List ℕ) →
+        groups_of n (Some listed) ≡ Some groups → group_count groups ≡ length listed }
+{}

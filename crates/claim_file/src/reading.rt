@@ -1,0 +1,145 @@
+//! What the text of a claim says.
+
+ghost use Rattle.std.specs.Prelude.{◌≡◌, ◌≤◌, ◌∷◌, true, IfOk, IsTrue, length, pos};
+ghost use Rattle.claim_file.specs.Address.{are_different};
+ghost use Rattle.claim_file.specs.Claim.{data_of, IsLawful, IsWithoutGap};
+ghost use Rattle.claim_file.specs.Fault.{Answers};
+ghost use Rattle.claim_file.specs.Fields.{fields_data};
+ghost use Rattle.claim_file.specs.Reading as spec;
+
+use crate::address::{self, read_address, read_addresses};
+use crate::claim::Claim;
+use crate::fault::ClaimFault;
+use crate::fields::{Fields, read_fields};
+use crate::group::read_groups;
+use crate::time::read_time;
+use era_unfold::{ns_down, ns_up};
+use json_text::parse;
+use std::alloc::Global;
+
+const MAX_SERVERS: usize = 32;
+
+const MAX_FALSE: u64 = 31;
+
+const MAX_BOUND_NS: u64 = 1_000_000_000_000_000;
+
+const MAX_DRIFT_PPB: u64 = 500_000_000;
+
+const MAX_READING_NS: u64 = 1_000_000_000;
+
+/// The claim that the bytes of a JSON text say, or the first fault that it has.
+///
+/// Times become Unix ticks of 2^-32 s; the bound is rounded down to whole ticks, the allowance up.
+pub fn read_claim(alloc: Global, bytes: &[u8]) -> Result<Claim, ClaimFault>
+    ensures exact { Answers result data_of (spec.claim_of bytes.now) }
+    ensures lawful { IfOk result (λ claim. IsLawful (data_of claim)) }
+    ensures numbered { IfOk result (λ claim. IsWithoutGap claim.groups.items) }
+{
+    let value = parse(alloc, bytes)?.ok_or(ClaimFault::Json)?;
+    let fields = read_fields(alloc, &value)?;
+    claim_from(alloc, &fields)
+}
+
+/// What fields of the right kinds say.
+fn claim_from(alloc: Global, fields: &Fields<'_>) -> Result<Claim, ClaimFault>
+    ensures exact { Answers result data_of (spec.claim_from (fields_data fields.now)) }
+{
+    let named = read_named(alloc, fields)?;
+    within_limits(alloc, fields, named)
+}
+
+/// The addresses and the Unix seconds that a claim's texts write.
+#[derive(Drop)]
+struct Named {
+    client: [u8; 4],
+    servers: Vec<[u8; 4]>,
+    first: u32,
+    last: u32,
+}
+
+/// What the texts of a claim say: addresses first, then times.
+fn read_named(alloc: Global, fields: &Fields<'_>) -> Result<Named, ClaimFault>
+    ensures exact { Answers result spec.named_data (spec.named_of (fields_data fields.now)) }
+{
+    let client = read_address(fields.client).ok_or(ClaimFault::Address)?;
+    let servers = read_addresses(alloc, &fields.servers)?.ok_or(ClaimFault::Address)?;
+    let first = read_time(fields.begin).ok_or(ClaimFault::Time)?;
+    let last = read_time(fields.end).ok_or(ClaimFault::Time)?;
+    Ok(Named {
+        client,
+        servers,
+        first,
+        last,
+    })
+}
+
+/// The claim of these members, where it is within its limits.
+fn within_limits(alloc: Global, fields: &Fields<'_>, named: Named) -> Result<Claim, ClaimFault>
+    ensures exact { Answers result data_of
+        (spec.within_limits (fields_data fields.now) (spec.named_data named)) }
+{
+    if !is_in_range(fields, &named) {
+        return Err(ClaimFault::Range);
+    }
+    if !all_differ(&named) {
+        return Err(ClaimFault::RepeatedServer);
+    }
+    let groups = read_groups(alloc, named.servers.len(), &fields.groups)?;
+    Ok(claim_with(fields, named, groups))
+}
+
+/// The claim that has these members, addresses, times and groups.
+fn claim_with(fields: &Fields<'_>, named: Named, groups: Vec<u8>) -> Claim
+    requires { spec.is_in_range (fields_data fields.now) (spec.named_data named) ≡ true }
+    ensures { data_of result
+        ≡ spec.claim_with (fields_data fields.now) (spec.named_data named) groups.items }
+{
+    let Named {
+        client,
+        servers,
+        first,
+        last,
+    } = named;
+    Claim {
+        client,
+        servers,
+        groups,
+        false_max: fields.false_max as u8,
+        first: ticks(first),
+        last: ticks(last),
+        bound: ns_down(fields.bound_ns),
+        bound_ns: fields.bound_ns,
+        drift_ppb: fields.drift_ppb as u32,
+        reading: ns_up(fields.reading_ns),
+        reading_ns: fields.reading_ns,
+    }
+}
+
+/// Whether the numbers are within their limits, and the span isn't backward.
+fn is_in_range(fields: &Fields<'_>, named: &Named) -> bool
+    ensures exact { result ≡ spec.is_in_range (fields_data fields.now) (spec.named_data named.now) }
+    ensures few { IsTrue result → length named.now.servers.items ≤ 32 }
+{
+    let count = named.servers.len();
+    1 <= count
+        && count <= MAX_SERVERS
+        && fields.false_max <= MAX_FALSE
+        && named.first <= named.last
+        && fields.bound_ns <= MAX_BOUND_NS
+        && fields.drift_ppb <= MAX_DRIFT_PPB
+        && fields.reading_ns <= MAX_READING_NS
+}
+
+/// Whether the addresses of the client and the servers differ from each other.
+fn all_differ(named: &Named) -> bool
+    ensures { result ≡ are_different (named.now.client ∷ named.now.servers.items) }
+{
+    !named.servers.contains(&named.client) && address::are_different(&named.servers)
+}
+
+/// A second, counted from 1970, in ticks.
+fn ticks(second: u32) -> i128
+    ensures { result ≡ pos (spec.second_ticks second) }
+{
+    (second as i128) << 32
+}
