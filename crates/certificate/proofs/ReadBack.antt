@@ -1,0 +1,115 @@
+-- What was written is read again.
+use Rattle.std.proofs.Common.{◌≡◌, ℕ, zero, suc, ◌+◌, ◌<◌, ◌≤◌, ◌^◌, List, [], ◌∷◌, length, map, true, nat_le, Some, None, Result, Ok, refl, sym, ap, ◌∙◌, arith, get_or, Err, if◌then◌else◌, subst, String, Global, string_bytes}
+use Rattle.std.proofs.lemmas.Bool.Decides.{Decides-ltb, nat_tests}
+use Rattle.std.specs.Prelude.{All, IfOk}
+use Rattle.serde_json.specs.Data.{Data, depth, items_depth}
+use Rattle.serde_json.specs.Events.{items_len}
+use Rattle.serde_json.specs.View.{items_of}
+use Rattle.std.proofs.Math.Bool.{Bool-set}
+use Rattle.std.proofs.Math.Logic.{∥∥₁_elim}
+use Rattle.std.proofs.lemmas.Str.{is_utf8-from_IsUtf8}
+use Rattle.std.specs.Str.{is_utf8}
+use Rattle.json_text.specs.Step.{given}
+use Rattle.json_text.specs.Text.{parsed}
+use Rattle.certificate.specs.declared.fault.CertificateFault.TheVariants.{Json}
+use Rattle.serde_json.specs.Read.{read}
+use Rattle.certificate.specs.declared.certificate.Piece.{Piece}
+use Rattle.certificate.specs.Certificate.{PieceData, CertificateData, NamesSamples, IsReadable, piece_data, max_pieces}
+use Rattle.certificate.specs.Reading.{sample_of, entry_of, entries_of, piece_of, pieces_from, certificate_from, certificate_of}
+use Rattle.certificate.specs.Writing.{number_value, entry_value, piece_value, certificate_value}
+
+at_most : (m n : ℕ) → m ≤ n → nat_le m n ≡ true
+at_most m n le = grind (arith, nat_tests)
+
+sample_of-value : (n : ℕ) → n < 2 ^ 32 → sample_of (number_value n) ≡ Some n
+sample_of-value n small = rw ((Decides-ltb n (2 ^ 32)).1 small) refl
+
+entry_of-value : (entry : ℕ × ℕ) → NamesSamples entry → entry_of (entry_value entry) ≡ Some entry
+entry_of-value (low, high) named = rw (sample_of-value low named.low, sample_of-value high named.high) refl
+
+entries_of-values : (entries : List (ℕ × ℕ)) → All NamesSamples entries →
+    entries_of (items_of (map entry_value entries)) ≡ Some entries
+entries_of-values [] named = refl
+entries_of-values (e ∷ es) named =
+    rw (
+      entry_of-value e (named 0 e (omega arith)),
+      entries_of-values es
+          (λ k d less. named (suc k) d (omega arith)),
+    ) refl
+
+items_len-map : {X : Type 0} (value : X → Data) (xs : List X) → items_len (items_of (map value xs)) ≡ length xs
+items_len-map value [] = refl
+items_len-map value (x ∷ xs) = ap suc (items_len-map value xs)
+
+piece_of-value : (number : ℕ) (piece : PieceData) → IsReadable piece → piece_of number (piece_value piece) ≡ Ok piece
+piece_of-value number piece readable =
+    rw (
+      items_len-map entry_value piece.entries,
+      at_most
+          (length piece.entries) 32 readable.few,
+      entries_of-values piece.entries readable.named,
+    ) refl
+
+pieces_from-values : (number : ℕ) (pieces : List PieceData) → All IsReadable pieces →
+    pieces_from number (items_of (map piece_value pieces)) ≡ Ok pieces
+pieces_from-values number [] readable = refl
+pieces_from-values number (p ∷ ps) readable =
+    rw (
+      piece_of-value number p (readable 0 p (omega arith)),
+      pieces_from-values (number + 1) ps
+          (λ k d less. readable (suc k) d (omega arith)),
+    ) refl
+
+pub certificate_from-value : (certificate : CertificateData) → length certificate.pieces ≤ max_pieces →
+    All IsReadable certificate.pieces →
+    certificate_from (certificate_value certificate) ≡ Ok certificate
+certificate_from-value certificate few readable =
+    rw (
+      items_len-map piece_value certificate.pieces,
+      at_most
+          (length certificate.pieces) max_pieces few,
+      pieces_from-values 0 certificate.pieces readable,
+    ) refl
+
+-- it nests five deep
+items_depth-map : {X : Type 0} (value : X → Data) (n : ℕ) → ((x : X) → depth (value x) ≤ n) → (xs : List X) →
+    items_depth (items_of (map value xs)) ≤ n
+items_depth-map value n below [] = omega arith
+items_depth-map value n below (x ∷ xs) =
+    let here = below x in
+    let rest = items_depth-map value n below xs in
+    omega arith
+
+piece-depth : (piece : PieceData) → depth (piece_value piece) ≤ 3
+piece-depth piece = let entries = items_depth-map entry_value 1 (λ e. omega arith) piece.entries in omega arith
+
+pub certificate-depth : (certificate : CertificateData) → depth (certificate_value certificate) ≤ 127
+certificate-depth certificate = let pieces = items_depth-map piece_value 3 piece-depth certificate.pieces in omega arith
+
+-- pieces that can be read, as they stand in memory
+pub readable_pieces : (pieces : List Piece) →
+    ((k : ℕ) (d : Piece) → k < length pieces → IsReadable (piece_data (get_or pieces k d))) →
+    All IsReadable (map piece_data pieces)
+readable_pieces [] each k d less = absurd (omega arith)
+readable_pieces (p ∷ ps) each zero d less = each 0 p (omega arith)
+readable_pieces (p ∷ ps) each (suc k) d less =
+    readable_pieces ps (λ j e within. each (suc j) e (omega arith)) k d (omega arith)
+
+-- a string is UTF-8, so what is read of it is parsed
+parsed_string : (text : String Global) (value : Data) → read (string_bytes text) ≡ Some value →
+    parsed (string_bytes text) ≡ Some value
+parsed_string text value is =
+    let valid : is_utf8 (string_bytes text) ≡ true =
+    ∥∥₁_elim text.ok (Bool-set _ _) (λ u. is_utf8-from_IsUtf8 (string_bytes text) u) in
+    ap (λ b. if b then read (string_bytes text) else None) valid ∙ is
+
+-- what a text of this value says
+pub reads_back : {E : Type 0} (answer : Result (String Global) E) (value : Data) (certificate : CertificateData) →
+    value ≡ certificate_value certificate → All IsReadable certificate.pieces →
+    IfOk answer (λ text. depth value ≤ 127 → read (string_bytes text) ≡ Some value) →
+    IfOk answer (λ text. length certificate.pieces ≤ max_pieces → certificate_of (string_bytes text) ≡ Ok certificate)
+reads_back (Err e) value certificate is readable again = tt
+reads_back (Ok text) value certificate is readable again = λ few.
+    let shallow = subst (λ d. depth d ≤ 127) (sym is) (certificate-depth certificate) in
+    ap (λ o. given Json o certificate_from) (parsed_string text value (again shallow))
+    ∙ ap certificate_from is ∙ certificate_from-value certificate few readable

@@ -1,0 +1,45 @@
+-- The text of a certificate is that of its JSON value.
+use Rattle.std.proofs.Common.{◌≡◌, ℕ, List, [], ◌∷◌, ◌++◌, false, map, refl, sym, ap, ◌∙◌, append_assoc}
+use Rattle.std.specs.List.{join_with_byte}
+use Rattle.serde_json.proofs.OnLiterals.{serde_json_on_literals}
+use Rattle.serde_json.specs.Data.{Data}
+use Rattle.serde_json.specs.View.{items_of}
+use Rattle.serde_json.specs.Written.{compact_text, items_text, has_float, items_have_float}
+use Rattle.certificate.specs.Certificate.{PieceData, CertificateData}
+use Rattle.certificate.specs.Writing.{comma, entry_text, piece_text, certificate_text, entry_value, piece_value, certificate_value}
+
+-- the elements of an array, with commas between them
+items_text-map : {X : Type 0} (value : X → Data) (text : X → List ℕ) → ((x : X) → compact_text (value x) ≡ text x) →
+    (xs : List X) →
+    items_text false (items_of (map value xs)) ≡ join_with_byte comma (map text xs) ++ 93 ∷ []
+items_text-map value text same [] = refl
+items_text-map value text same (x ∷ []) = ap (λ t. t ++ 93 ∷ []) (same x)
+items_text-map value text same (x ∷ y ∷ xs) =
+    ap (λ t. t ++ comma ∷ items_text false (items_of (map value (y ∷ xs)))) (same x)
+    ∙ ap (λ t. text x ++ comma ∷ t) (items_text-map value text same (y ∷ xs))
+    ∙ sym (append_assoc (text x) (comma ∷ join_with_byte comma (map text (y ∷ xs))) (93 ∷ []))
+
+entry_text-value : (entry : ℕ × ℕ) → compact_text (entry_value entry) ≡ entry_text entry
+entry_text-value (low, high) = simp append_assoc
+
+piece_text-value : (piece : PieceData) → compact_text (piece_value piece) ≡ piece_text piece
+unfolding serde_json_on_literals
+piece_text-value piece = rw (items_text-map entry_value entry_text entry_text-value piece.entries) (simp append_assoc)
+
+pub certificate_text-value : (certificate : CertificateData) →
+    compact_text (certificate_value certificate) ≡ certificate_text certificate
+unfolding serde_json_on_literals
+certificate_text-value certificate =
+    rw (items_text-map piece_value piece_text piece_text-value certificate.pieces) (simp append_assoc)
+
+-- no number of it is a float
+items-no_float : {X : Type 0} (value : X → Data) → ((x : X) → has_float (value x) ≡ false) → (xs : List X) →
+    items_have_float (items_of (map value xs)) ≡ false
+items-no_float value none [] = refl
+items-no_float value none (x ∷ xs) = rw (none x) (items-no_float value none xs)
+
+piece-no_float : (piece : PieceData) → has_float (piece_value piece) ≡ false
+piece-no_float piece = rw (items-no_float entry_value (λ e. refl) piece.entries) refl
+
+pub certificate-no_float : (certificate : CertificateData) → has_float (certificate_value certificate) ≡ false
+certificate-no_float certificate = rw (items-no_float piece_value piece-no_float certificate.pieces) refl

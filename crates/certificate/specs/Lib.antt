@@ -1,0 +1,4 @@
+pub mod Certificate
+pub mod Fault
+pub mod Reading
+pub mod Writing

@@ -1,0 +1,27 @@
+//! What holds of the definitions that the contracts cite. A law is a function that does nothing:
+//! its contract is the law, for every text and every certificate.
+
+ghost use Rattle.std.specs.Prelude.{◌≡◌, ℕ, ◌≤◌, List, Ok, All, length};
+ghost use Rattle.certificate.specs.Certificate.{CertificateData, IsReadable, max_pieces};
+ghost use Rattle.certificate.specs.Reading.{certificate_from, certificate_of};
+ghost use Rattle.certificate.specs.Writing.{certificate_text, certificate_value};
+ghost use Rattle.serde_json.specs.Written.{compact_text};
+
+/// What the bytes of a certificate say has at most 100,000 pieces, each with at most 32 entries,
+/// and each entry names two samples by numbers below 2^32.
+pub fn certificates_are_readable()
+    ensures few { (bytes : List ℕ) (certificate : CertificateData) →
+        certificate_of bytes ≡ Ok certificate → length certificate.pieces ≤ max_pieces }
+    ensures readable { (bytes : List ℕ) (certificate : CertificateData) →
+        certificate_of bytes ≡ Ok certificate → All IsReadable certificate.pieces }
+{}
+
+/// The text of such a certificate is the compact text of a JSON value, which says the same
+/// certificate.
+pub fn certificates_are_written_as_they_are_read()
+    ensures text { (certificate : CertificateData) →
+        certificate_text certificate ≡ compact_text (certificate_value certificate) }
+    ensures value { (certificate : CertificateData) → length certificate.pieces ≤ max_pieces →
+        All IsReadable certificate.pieces →
+        certificate_from (certificate_value certificate) ≡ Ok certificate }
+{}

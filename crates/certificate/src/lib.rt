@@ -1,0 +1,14 @@
+//! What a certificate says: a span cut into pieces, and for each piece the samples that hold the
+//! clock's error inside the bound there.
+#![tactic(auto)]
+
+mod certificate;
+mod fault;
+pub mod laws;
+mod reading;
+mod writing;
+
+pub use certificate::{Certificate, Piece};
+pub use fault::CertificateFault;
+pub use reading::read_certificate;
+pub use writing::write_certificate;
