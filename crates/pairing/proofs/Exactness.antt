@@ -1,0 +1,240 @@
+-- What is collected is what the definition says.
+use Rattle.std.proofs.Common.{◌≡◌, ◌∙◌, ℕ, ◌+◌, List, [], ◌∷◌, Bool, true, false, Option, Some, None, Result, Ok, Err, refl, sym, ap, length, arith, ◌<◌, ◌≤◌, inl, inr, zero-add, map, vec_len}
+use Rattle.std.specs.Prelude.{filter, count_by, is_none, nat_lt, MatchResult, ◌⊎◌, if◌then◌else◌}
+use Rattle.std.specs.List.{cons_option, filter_map}
+use Rattle.std.specs.Result.{result_ok}
+use Rattle.std.proofs.lemmas.Bool.Decides.{nat_tests}
+use Rattle.std.proofs.lemmas.List.Sums.{sum_by-append}
+use Rattle.pcap_reader.specs.Capture.{Record}
+use Rattle.claim_file.specs.Claim.{ClaimData}
+use Rattle.pairing.specs.declared.collected.Collected.{Collected}
+use Rattle.pairing.specs.declared.counts.Counts.{Counts}
+use Rattle.pairing.specs.declared.exchange.Exchange.{Exchange}
+use Rattle.pairing.specs.declared.fault.PairFault.{PairFault}
+use Rattle.pairing.specs.declared.fault.PairFault.TheVariants.{TooManyExchanges, Memory}
+use Rattle.pairing.specs.declared.index.Key.{Key}
+use Rattle.pairing.specs.declared.index.Place.{Place}
+use Rattle.pairing.specs.declared.refusal.Refusal.{Refusal}
+use Rattle.pairing.specs.declared.refusal.Refusal.TheVariants.{Version, Leap, Stratum, Precision, ZeroStamp, NoRequest, Ambiguous}
+use Rattle.pairing.specs.declared.waiting.Waiting.{Waiting}
+use Rattle.pairing.specs.Counts.{count_for, IsJoined}
+use Rattle.pairing.specs.Exchange.{most_exchanges}
+use Rattle.pairing.specs.Gathering.{IsGatheredFrom, is_accepted, is_early, is_for}
+use Rattle.pairing.specs.Index.{Indexes, place_of}
+use Rattle.pairing.specs.Message.{Request, Reply}
+use Rattle.pairing.specs.Pairing.{Collection, collection_of, data_of, requests_of, replies_of, requests_for, outcome_of, outcomes_of, paired, unless_refused, is_refused, refused_for, is_warning, exchanges_of, counts_of}
+use Rattle.pairing.specs.Refusal.{refusal_of}
+use Rattle.pairing.specs.Waiting.{exchange_at, outcomes_at, waiting_of}
+
+-- the first counts apart
+pub count_by-cons : {X : Type 0} (p : X → Bool) (x : X) (xs : List X) →
+    count_by p (x ∷ xs) ≡ (if p x then 1 else 0) + count_by p xs
+count_by-cons p x xs =
+    let f = λ (y : _). if p y then 1 else 0 in
+    sum_by-append f (x ∷ []) xs ∙ ap (λ n. n + count_by p xs) (zero-add (f x))
+
+-- the place of the requests that a reply may be one to says what becomes of it
+by_place : (reply : Reply) (requests : List Request) →
+    exchange_at (place_of requests) (waiting_of reply) ≡ paired reply requests
+by_place reply [] = refl
+by_place reply (q ∷ []) = refl
+by_place reply (q ∷ other ∷ others) = refl
+
+module _ (requests : List Request) (look_up : Key → Option Place) (indexed : Indexes look_up requests) where
+  -- what becomes of a waiting reply
+  abbrev found : Waiting → Result Exchange Refusal
+  found w = exchange_at (look_up w.key) w
+
+  found-waiting_of : (reply : Reply) → found (waiting_of reply) ≡ paired reply (requests_for reply requests)
+  found-waiting_of reply =
+      ap (λ (p : Option Place). exchange_at p (waiting_of reply)) (indexed (waiting_of reply).key)
+      ∙ by_place reply (requests_for reply requests)
+
+  exchanges-head : (reply : Reply) (accepted : List Reply) (o : Option Refusal) (xs : List Exchange) →
+      xs ≡ filter_map result_ok (map found (map waiting_of accepted)) →
+      cons_option (result_ok (unless_refused o (paired reply (requests_for reply requests)))) xs
+      ≡ filter_map result_ok (map found (map waiting_of (if is_none o then reply ∷ accepted else accepted)))
+  exchanges-head reply accepted None xs is =
+      ap (λ (p : Result Exchange Refusal). cons_option (result_ok p) xs) (sym (found-waiting_of reply))
+      ∙ ap (cons_option (result_ok (found (waiting_of reply)))) is
+  exchanges-head reply accepted (Some refusal) xs is = is
+
+  -- the exchanges of the replies are those of the waiting ones
+  pub exchanges-waiting : (replies : List Reply) →
+      filter_map result_ok (map (outcome_of requests) replies)
+      ≡ filter_map result_ok (map found (map waiting_of (filter is_accepted replies)))
+  exchanges-waiting [] = refl
+  exchanges-waiting (reply ∷ replies) =
+      exchanges-head reply (filter is_accepted replies) (refusal_of reply.header) (filter_map result_ok (map
+      (outcome_of requests) replies)) (exchanges-waiting replies)
+
+  refused-head : (reason : Refusal) (reply : Reply) (accepted : List Reply) (o : Option Refusal) (others early : ℕ) →
+      others ≡ early + count_by (is_refused reason) (map found (map waiting_of accepted)) →
+      (if is_refused reason (unless_refused o (paired reply (requests_for reply requests))) then 1 else 0) + others
+      ≡ ((if is_for reason o then 1 else 0) + early)
+      + count_by (is_refused reason) (map found (map waiting_of (if is_none o then reply ∷ accepted else accepted)))
+  refused-head reason reply accepted None others early is =
+      let one : ◌≡◌ {A = ℕ} (if is_refused reason (found (waiting_of reply)) then 1 else 0) (if is_refused reason
+      (paired reply (requests_for reply requests)) then 1 else 0) =
+      ap (λ (p : Result Exchange Refusal). if is_refused reason p then 1 else 0) (found-waiting_of reply) in
+      omega (
+        arith,
+        one,
+        is,
+        count_by-cons (is_refused reason) (found (waiting_of reply)) (map found
+            (map waiting_of accepted)),
+      )
+  refused-head reason reply accepted (Some refusal) others early is = omega (arith, is)
+
+  -- the refused replies are those that their own headers refuse, and those among the waiting ones
+  pub refused-waiting : (reason : Refusal) (replies : List Reply) →
+      refused_for reason (map (outcome_of requests) replies)
+      ≡ count_by (is_early reason) replies + refused_for reason (map found (map waiting_of
+      (filter is_accepted replies)))
+  refused-waiting reason [] = refl
+  refused-waiting reason (reply ∷ replies) =
+      let head = refused-head reason reply (filter is_accepted replies) (refusal_of reply.header) (refused_for reason
+      (map (outcome_of requests) replies)) (count_by (is_early reason) replies)
+      (refused-waiting reason replies) in
+      omega (
+        arith,
+        head,
+        count_by-cons (is_refused reason) (outcome_of requests reply) (map
+            (outcome_of requests) replies),
+        count_by-cons (is_early reason) reply replies,
+      )
+
+-- counts that agree in each field
+pub record SameCounts (a b : Counts) : Type 0 where
+  pub records : a.records ≡ b.records
+  pub requests : a.requests ≡ b.requests
+  pub replies : a.replies ≡ b.replies
+  pub refused : (reason : Refusal) → count_for reason a ≡ count_for reason b
+  pub warnings : a.warnings ≡ b.warnings
+
+counts-same : (a b : Counts) → SameCounts a b → a ≡ b
+counts-same a b s = λ i. record {
+  records = s.records i;
+  requests = s.requests i;
+  replies = s.replies i;
+  version = s.refused Version i;
+  leap = s.refused Leap i;
+  stratum = s.refused Stratum i;
+  precision = s.refused Precision i;
+  zero_stamp = s.refused ZeroStamp i;
+  no_request = s.refused NoRequest i;
+  ambiguous = s.refused Ambiguous i;
+  warnings = s.warnings i;
+}
+
+count_for-counts_of : (claim : ClaimData) (records : List Record) (reason : Refusal) →
+    count_for reason (counts_of claim records) ≡ refused_for reason (outcomes_of claim records)
+unfolding counts_of
+count_for-counts_of claim records Version = refl
+count_for-counts_of claim records Leap = refl
+count_for-counts_of claim records Stratum = refl
+count_for-counts_of claim records Precision = refl
+count_for-counts_of claim records ZeroStamp = refl
+count_for-counts_of claim records NoRequest = refl
+count_for-counts_of claim records Ambiguous = refl
+
+pub waiting-exchanges : (claim : ClaimData) (records : List Record) {look_up : Key →
+    Option Place} {waiting : List Waiting} {counts : Counts} →
+    IsGatheredFrom claim records look_up waiting counts →
+    filter_map result_ok (outcomes_at look_up waiting) ≡ exchanges_of claim records
+unfolding exchanges_of
+waiting-exchanges claim records {look_up} {waiting} {counts} g =
+    ap (λ (ws : List Waiting). filter_map result_ok (outcomes_at look_up ws)) g.waits
+    ∙ sym (exchanges-waiting (requests_of claim records) look_up g.indexed (replies_of claim records))
+
+module _ (claim : ClaimData) (records : List Record) {look_up : Key →
+    Option Place} {waiting : List Waiting} {counts joined : Counts} {exchanges : List Exchange}
+    (g : IsGatheredFrom claim records look_up waiting counts) (j : IsJoined counts
+    (outcomes_at look_up waiting) exchanges joined) where
+  pub collected-exchanges : exchanges ≡ exchanges_of claim records
+  collected-exchanges = j.exchanges_are ∙ waiting-exchanges claim records g
+
+  collected-refused : (reason : Refusal) → count_for reason joined ≡ refused_for reason (outcomes_of claim records)
+  collected-refused reason =
+      let waits : refused_for reason (outcomes_at look_up waiting)
+      ≡ refused_for reason (outcomes_at look_up (map waiting_of (filter is_accepted
+      (replies_of claim records)))) =
+      ap (λ (ws : List Waiting). refused_for reason (outcomes_at look_up ws)) g.waits in
+      omega (
+        arith,
+        j.refused reason,
+        g.refused reason,
+        waits,
+        refused-waiting (requests_of claim records) look_up g.indexed reason (replies_of claim records),
+      )
+
+  collected-warnings : joined.warnings ≡ count_by is_warning (exchanges_of claim records)
+  collected-warnings =
+      let same : count_by is_warning exchanges ≡ count_by is_warning (exchanges_of claim records) =
+      ap (count_by is_warning) collected-exchanges in
+      omega (arith, j.warned, g.warned, same)
+
+  collected-same : SameCounts joined (counts_of claim records)
+  unfolding counts_of
+  collected-same = record {
+    records = j.same_records ∙ g.all_records;
+    requests = j.same_requests ∙ g.all_requests;
+    replies = j.same_replies ∙ g.all_replies;
+    refused = λ reason. collected-refused reason ∙ sym (count_for-counts_of claim records reason);
+    warnings = collected-warnings;
+  }
+
+  pub collected-counts : joined ≡ counts_of claim records
+  collected-counts = counts-same joined (counts_of claim records) collected-same
+
+not_below : (a b : ℕ) → b ≤ a → nat_lt a b ≡ false
+not_below a b h = grind (arith, nat_tests)
+
+below : (a b : ℕ) → a < b → nat_lt a b ≡ true
+below a b h = grind (arith, nat_tests)
+
+-- a collection, where it isn't too large
+abbrev limited : List Exchange → Counts → Result Collection PairFault
+limited xs counts = if nat_lt most_exchanges (length xs) then Err TooManyExchanges else Ok (record {
+  exchanges = xs;
+  counts = counts;
+})
+
+few_enough : (xs : List Exchange) (counts : Counts) → length xs ≤ most_exchanges →
+    limited xs counts ≡ Ok (record { exchanges = xs; counts = counts })
+few_enough xs counts few =
+    ap (λ (b : Bool). if b then Err TooManyExchanges else Ok (record {
+      exchanges = xs;
+      counts =
+          counts;
+    })) (not_below most_exchanges (length xs) few)
+
+too_large : (xs : List Exchange) (counts : Counts) → most_exchanges < length xs →
+    limited xs counts ≡ Err TooManyExchanges
+too_large xs counts more =
+    ap (λ (b : Bool). if b then Err TooManyExchanges else Ok (record {
+      exchanges = xs;
+      counts =
+          counts;
+    })) (below most_exchanges (length xs) more)
+
+-- what is joined of all that was gathered
+pub collected : (claim : ClaimData) (records : List Record) (look_up : Key →
+    Option Place) (waiting : List Waiting) (counts : Counts) (r : Result Collected PairFault) →
+    IsGatheredFrom claim records look_up waiting counts →
+    MatchResult r
+    (λ c. IsJoined counts (outcomes_at look_up waiting) c.exchanges.items c.counts
+    × (vec_len c.exchanges ≤ most_exchanges))
+    (λ fault. (fault ≡ Memory) ⊎ ((fault ≡ TooManyExchanges)
+    × (most_exchanges < length (filter_map result_ok (outcomes_at look_up waiting))))) →
+    MatchResult r (λ c. collection_of claim records ≡ Ok (data_of c)) (λ fault. (fault ≡ Memory)
+    ⊎ (collection_of claim records ≡ Err fault))
+unfolding collection_of
+collected claim records look_up waiting counts (Ok c) g (j, few) =
+    rw (← collected-exchanges claim records g j, ← collected-counts claim records g j)
+    (few_enough c.exchanges.items c.counts (rw c.exchanges.ok.0 at few))
+collected claim records look_up waiting counts (Err fault) g (inl memory) = inl memory
+collected claim records look_up waiting counts (Err fault) g (inr (many, more)) =
+    let waits : filter_map result_ok (outcomes_at look_up waiting) ≡ exchanges_of claim records =
+    waiting-exchanges claim records g in
+    inr (too_large (exchanges_of claim records) (counts_of claim records) (rw waits at more) ∙ ap Err (sym many))

@@ -1,0 +1,234 @@
+-- One more record gathered.
+use Rattle.std.proofs.Common.{◌≡◌, ◌∙◌, ℕ, ◌+◌, List, [], ◌∷◌, ◌++◌, Bool, true, false, Option, Some, None, refl, sym, ap, length-append, arith, append-nil, map, true≢false}
+use Rattle.std.specs.Prelude.{filter, count_by, is_none, IsSome, ◌&&◌, ◌==◌, if◌then◌else◌}
+use Rattle.std.specs.List.{cons_option}
+use Rattle.std.specs.Option.{option_and_then, option_map}
+use Rattle.std.specs.Str.{bytes_eq}
+use Rattle.std.proofs.lemmas.List.{map-append}
+use Rattle.std.proofs.lemmas.List.Elements.{filter-append, filter_map-append}
+use Rattle.std.proofs.lemmas.Bool.Decides.{nat_tests}
+use Rattle.pcap_reader.specs.declared.format.RecordHead.{RecordHead}
+use Rattle.pcap_reader.specs.Capture.{Record}
+use Rattle.ntp_packet.specs.Header.{mode_of, version_of}
+use Rattle.ntp_packet.specs.Packet.{Packet, packet_of, ntp_port}
+use Rattle.claim_file.specs.Claim.{ClaimData}
+use Rattle.pairing.specs.declared.counts.Counts.{Counts}
+use Rattle.pairing.specs.declared.index.Key.{Key}
+use Rattle.pairing.specs.declared.index.Place.{Place}
+use Rattle.pairing.specs.declared.message.Message.{Message}
+use Rattle.pairing.specs.declared.message.Message.TheVariants.{Question, Refused, Answer}
+use Rattle.pairing.specs.declared.refusal.Refusal.{Refusal}
+use Rattle.pairing.specs.declared.refusal.Refusal.TheVariants.{Version, Leap, Stratum, Precision, ZeroStamp, NoRequest, Ambiguous}
+use Rattle.pairing.specs.declared.waiting.Waiting.{Waiting}
+use Rattle.pairing.specs.Counts.{zero_counts, count_for}
+use Rattle.pairing.specs.Gathering.{IsGathered, IsGatheredFrom, counts_with, is_accepted, is_early, is_for, requests_in, waiting_in}
+use Rattle.pairing.specs.Index.{Indexes, key_of, request_at}
+use Rattle.pairing.specs.Message.{Request, Reply, is_request, is_reply, server_at, requested_server, replying_server, request_to, reply_from, request_in, reply_in, request_of, reply_of}
+use Rattle.pairing.specs.Pairing.{requests_of, replies_of}
+use Rattle.pairing.specs.Refusal.{refusal_of}
+use Rattle.pairing.specs.Waiting.{judged, message_in, message_of, waiting_of}
+use Rattle.pairing.proofs.JoinSteps.{keeps_others, count_by-push, count_for-with_refusal}
+
+-- nothing is counted yet
+none_counted : (reason : Refusal) → count_for reason zero_counts ≡ 0
+none_counted Version = refl
+none_counted Leap = refl
+none_counted Stratum = refl
+none_counted Precision = refl
+none_counted ZeroStamp = refl
+none_counted NoRequest = refl
+none_counted Ambiguous = refl
+
+pub gathered_start : (look_up : Key → Option Place) → Indexes look_up [] → IsGathered 0 [] [] look_up [] zero_counts
+gathered_start look_up indexed = record {
+  indexed = indexed;
+  waits = refl;
+  all_records = refl;
+  all_requests = refl;
+  all_replies = refl;
+  refused = none_counted;
+  warned = refl;
+}
+
+-- What a record's message says of its request and its reply.
+pub data Says (head : RecordHead) : Option Message → List Request → List Reply → Type 0 where
+  silent : Says head None [] []
+  asks : (key : Key) → Says head (Some (Question key)) (request_at key head ∷ []) []
+  refused : (reply : Reply) (refusal : Refusal) → refusal_of reply.header ≡ Some refusal →
+      Says head (Some (Refused refusal)) [] (reply ∷ [])
+  accepted : (reply : Reply) → refusal_of reply.header ≡ None →
+      Says head (Some (Answer (waiting_of reply))) [] (reply ∷ [])
+
+says_judged : (head : RecordHead) (reply : Reply) (o : Option Refusal) → refusal_of reply.header ≡ o →
+    Says head (Some (judged reply)) [] (reply ∷ [])
+says_judged head reply None h = rw h (accepted reply h)
+says_judged head reply (Some refusal) h = rw h (refused reply refusal h)
+
+says_servers : (head : RecordHead) (p : Packet) (asked answered : Option ℕ) → (IsSome asked → answered ≡ None) →
+    Says head
+    (elim (option_map (request_to head p) asked) [
+      | Some q ↦ Some (Question (key_of q))
+      | None ↦ option_map judged
+          (option_map (reply_from head p) answered)
+    ])
+    (cons_option (option_map (request_to head p) asked) [])
+    (cons_option (option_map (reply_from head p) answered) [])
+says_servers head p (Some server) answered apart = rw (apart refl) (asks (key_of (request_to head p server)))
+says_servers head p None None apart = silent
+says_servers head p None (Some server) apart = says_judged head (reply_from head p server) (refusal_of p.header) refl
+
+-- a request's mode is no reply's
+modes_apart : (a b c d e : Bool) (mode : ℕ) → (a && b && mode == 3 && c) ≡ true → (d && e && mode == 4) ≡ false
+modes_apart a b c d e mode h = grind (arith, nat_tests)
+
+either_is_none : (b c : Bool) (x y : Option ℕ) → (b ≡ true → c ≡ false) → IsSome (if b then x else None) →
+    (if c then y else None) ≡ None
+either_is_none true c x y h some = ap (λ (t : Bool). if t then y else None) (h refl)
+either_is_none false c x y h some = absurd (true≢false (sym some))
+
+pub apart : (claim : ClaimData) (p : Packet) → IsSome (requested_server claim p) → replying_server claim p ≡ None
+unfolding requested_server replying_server
+apart claim p =
+    either_is_none (is_request claim p) (is_reply claim p) (server_at claim p.datagram.destination)
+    (server_at claim p.datagram.source)
+    (modes_apart (bytes_eq p.datagram.source claim.client) (p.datagram.destination_port == ntp_port)
+    (version_of p.header == 4)
+    (bytes_eq p.datagram.destination claim.client) (p.datagram.source_port == ntp_port) (mode_of p.header))
+
+says_packet : (claim : ClaimData) (head : RecordHead) (o : Option Packet) →
+    Says head (option_and_then (message_in claim head) o) (cons_option (option_and_then
+    (request_in claim head) o) []) (cons_option (option_and_then (reply_in claim head) o) [])
+says_packet claim head None = silent
+says_packet claim head (Some p) = says_servers head p (requested_server claim p) (replying_server claim p)
+    (apart claim p)
+
+pub says : (claim : ClaimData) (r : Record) → Says r.head (message_of claim r) (cons_option (request_of claim r) [])
+    (cons_option (reply_of claim r) [])
+unfolding message_of request_of reply_of
+says claim r = says_packet claim r.head (packet_of r.bytes)
+
+-- the counts of reasons are apart from the others
+abbrev renumbered : ℕ → ℕ → ℕ → Counts → Counts
+renumbered records requests replies counts = record counts {
+  records = records;
+  requests = requests;
+  replies =
+      replies;
+}
+
+count_for-renumbered : (reason : Refusal) (records requests replies : ℕ) (counts : Counts) →
+    count_for reason (renumbered records requests replies counts) ≡ count_for reason counts
+count_for-renumbered Version records requests replies counts = refl
+count_for-renumbered Leap records requests replies counts = refl
+count_for-renumbered Stratum records requests replies counts = refl
+count_for-renumbered Precision records requests replies counts = refl
+count_for-renumbered ZeroStamp records requests replies counts = refl
+count_for-renumbered NoRequest records requests replies counts = refl
+count_for-renumbered Ambiguous records requests replies counts = refl
+
+-- one more reply that its own header accepts, or refuses
+waits-accepted : (replies : List Reply) (reply : Reply) → refusal_of reply.header ≡ None →
+    map waiting_of (filter is_accepted (replies ++ reply ∷ []))
+    ≡ map waiting_of (filter is_accepted replies) ++ waiting_of reply ∷ []
+waits-accepted replies reply is =
+    ap (map waiting_of) (filter-append is_accepted replies (reply ∷ []))
+    ∙ map-append waiting_of (filter is_accepted replies) (filter is_accepted (reply ∷ []))
+    ∙ ap (λ (o : Option Refusal). map waiting_of (filter is_accepted replies) ++ map waiting_of
+    (if is_none o then reply ∷ [] else [])) is
+
+waits-refused : (replies : List Reply) (reply : Reply) (refusal : Refusal) → refusal_of reply.header ≡ Some refusal →
+    map waiting_of (filter is_accepted (replies ++ reply ∷ [])) ≡ map waiting_of (filter is_accepted replies)
+waits-refused replies reply refusal is =
+    ap (map waiting_of) (filter-append is_accepted replies (reply ∷ []))
+    ∙ map-append waiting_of (filter is_accepted replies) (filter is_accepted (reply ∷ []))
+    ∙ ap (λ (o : Option Refusal). map waiting_of (filter is_accepted replies) ++ map waiting_of
+    (if is_none o then reply ∷ [] else [])) is
+    ∙ append-nil (map waiting_of (filter is_accepted replies))
+
+early-push : (reason : Refusal) (replies : List Reply) (reply : Reply) (o : Option Refusal) →
+    refusal_of reply.header ≡ o →
+    count_by (is_early reason) (replies ++ reply ∷ []) ≡ count_by (is_early reason) replies +
+    (if is_for reason o then 1 else 0)
+early-push reason replies reply o is =
+    count_by-push (is_early reason) replies reply
+    ∙ ap (λ (o : Option Refusal). count_by (is_early reason) replies + (if is_for reason o then 1 else 0)) is
+
+module _ {n : ℕ} {requests : List Request} {replies : List Reply} {old : Key →
+    Option Place} {waiting : List Waiting} {counts : Counts}
+    (g : IsGathered n requests replies old waiting counts) (new : Key → Option Place) where
+  pub step : (head : RecordHead) (m : Option Message) (asked : List Request) (answered : List Reply) →
+      Says head m asked answered →
+      Indexes new (requests ++ requests_in m head) →
+      IsGathered (n + 1) (requests ++ asked) (replies ++ answered) new (waiting ++ waiting_in m)
+      (counts_with m counts)
+  step head m asked answered silent indexed = record {
+    indexed = indexed;
+    waits = rw (append-nil waiting, append-nil replies) g.waits;
+    all_records = ap (λ k. k + 1) g.all_records;
+    all_requests = rw (append-nil requests) g.all_requests;
+    all_replies = rw (append-nil replies) g.all_replies;
+    refused = λ reason. rw (append-nil replies) (count_for-renumbered reason
+        (counts.records + 1) counts.requests counts.replies counts ∙ g.refused reason);
+    warned = g.warned;
+  }
+  step head m asked answered (asks key) indexed = record {
+    indexed = indexed;
+    waits = rw (append-nil waiting, append-nil replies) g.waits;
+    all_records = ap (λ k. k + 1) g.all_records;
+    all_requests = omega (arith, g.all_requests, length-append requests (request_at key head ∷ []));
+    all_replies = rw (append-nil replies) g.all_replies;
+    refused = λ reason. rw (append-nil replies) (count_for-renumbered reason (counts.records + 1)
+        (counts.requests + 1) counts.replies counts ∙ g.refused reason);
+    warned = g.warned;
+  }
+  step head m asked answered (refused reply refusal is) indexed =
+      let counted = renumbered (counts.records + 1) counts.requests (counts.replies + 1) counts in
+      let others = keeps_others refusal counted in
+      record {
+        indexed = indexed;
+        waits = rw (append-nil waiting) (g.waits ∙ sym (waits-refused replies reply refusal is));
+        all_records = others.same_records ∙ ap (λ k. k + 1) g.all_records;
+        all_requests = rw (append-nil requests) (others.same_requests ∙ g.all_requests);
+        all_replies = others.same_replies ∙ omega (arith, g.all_replies, length-append replies (reply ∷ []));
+        refused = λ reason. omega (
+          arith,
+          early-push reason replies reply (Some refusal) is,
+          g.refused reason,
+          count_for-with_refusal refusal reason counted,
+          count_for-renumbered reason (counts.records + 1) counts.requests (counts.replies + 1) counts,
+        );
+        warned = others.same_warnings ∙ g.warned;
+      }
+  step head m asked answered (accepted reply is) indexed = record {
+    indexed = indexed;
+    waits = ap (λ ws. ws ++ waiting_of reply ∷ []) g.waits ∙ sym (waits-accepted replies reply is);
+    all_records = ap (λ k. k + 1) g.all_records;
+    all_requests = rw (append-nil requests) g.all_requests;
+    all_replies = omega (arith, g.all_replies, length-append replies (reply ∷ []));
+    refused = λ reason. omega (
+      arith,
+      early-push reason replies reply None is,
+      g.refused reason,
+      count_for-renumbered reason (counts.records + 1) counts.requests (counts.replies + 1) counts,
+    );
+    warned = g.warned;
+  }
+
+-- one more record
+pub gathered-push : (claim : ClaimData) (done : List Record) (r : Record) (old new : Key →
+    Option Place) (waiting : List Waiting) (counts : Counts) →
+    IsGatheredFrom claim done old waiting counts →
+    ((requests : List Request) → Indexes old requests →
+    Indexes new (requests ++ requests_in (message_of claim r) r.head)) →
+    IsGatheredFrom claim (done ++ r ∷ []) new (waiting ++ waiting_in (message_of claim r)) (counts_with
+    (message_of claim r) counts)
+unfolding requests_of replies_of
+gathered-push claim done r old new waiting counts g indexed =
+    rw (
+      length-append done (r ∷ []),
+      filter_map-append (request_of claim) done (r ∷ []),
+      filter_map-append (reply_of claim) done (r ∷ []),
+    )
+    (step g new r.head (message_of claim r) (cons_option (request_of claim r) []) (cons_option (reply_of claim r) [])
+    (says claim r)
+    (indexed (requests_of claim done) g.indexed))

@@ -1,0 +1,206 @@
+-- One more reply joined with its request.
+use Rattle.std.proofs.Common.{◌≡◌, ◌∙◌, ℕ, suc, ◌+◌, ◌≤◌, ◌<◌, List, [], ◌∷◌, ◌++◌, Bool, Result, Ok, Err, refl, sym, ap, length, arith, add-zero, zero-add, append-nil, Option, Some, None, map, take, drop, get_or, length-append, take-append-drop, true≢false}
+use Rattle.std.specs.Prelude.{count_by, IsOk, if◌then◌else◌}
+use Rattle.std.specs.List.{filter_map, cons_option}
+use Rattle.std.specs.Result.{result_ok}
+use Rattle.std.proofs.lemmas.List.Elements.{filter_map-append}
+use Rattle.std.proofs.lemmas.List.{map-append, take_more}
+use Rattle.std.proofs.lemmas.List.Sums.{sum_by-append, count_by-le-length}
+use Rattle.pairing.specs.declared.counts.Counts.{Counts}
+use Rattle.pairing.specs.declared.exchange.Exchange.{Exchange}
+use Rattle.pairing.specs.declared.refusal.Refusal.{Refusal}
+use Rattle.pairing.specs.declared.refusal.Refusal.TheVariants.{Version, Leap, Stratum, Precision, ZeroStamp, NoRequest, Ambiguous}
+use Rattle.pairing.specs.Counts.{count_for, with_refusal, with_outcome, IsJoined, HasRoom}
+use Rattle.pairing.specs.Pairing.{is_refused, is_warning}
+use Rattle.pairing.specs.Refusal.{same_refusal}
+
+abbrev Outcome : Type 0
+Outcome = Result Exchange Refusal
+
+length-kept : {Y : Type 0} (o : Option Y) (ys : List Y) (n : ℕ) → length ys ≤ n → length (cons_option o ys) ≤ suc n
+length-kept None ys n h = omega arith
+length-kept (Some y) ys n h = omega arith
+
+-- no more are given than there are
+pub length-filter_map : {X Y : Type 0} (h : X → Option Y) (xs : List X) → length (filter_map h xs) ≤ length xs
+length-filter_map h [] = omega arith
+length-filter_map h (x ∷ xs) = length-kept (h x) (filter_map h xs) (length xs) (length-filter_map h xs)
+
+-- a reason counts its own replies alone
+pub count_for-with_refusal : (refusal reason : Refusal) (counts : Counts) →
+    count_for reason (with_refusal refusal counts) ≡ count_for reason counts +
+    (if same_refusal refusal reason then 1 else 0)
+count_for-with_refusal Version Version counts = refl
+count_for-with_refusal Leap Leap counts = refl
+count_for-with_refusal Stratum Stratum counts = refl
+count_for-with_refusal Precision Precision counts = refl
+count_for-with_refusal ZeroStamp ZeroStamp counts = refl
+count_for-with_refusal NoRequest NoRequest counts = refl
+count_for-with_refusal Ambiguous Ambiguous counts = refl
+count_for-with_refusal _ _ counts = omega arith
+
+pub count_by-push : {X : Type 0} (p : X → Bool) (xs : List X) (x : X) →
+    count_by p (xs ++ x ∷ []) ≡ count_by p xs + (if p x then 1 else 0)
+count_by-push p xs x =
+    let f = λ (y : _). if p y then 1 else 0 in
+    sum_by-append f xs (x ∷ []) ∙ ap (λ n. count_by p xs + n) (zero-add (f x))
+
+pub joined-start : (counts : Counts) → IsJoined counts [] [] counts
+joined-start counts = record {
+  exchanges_are = refl;
+  refused = λ reason. sym (add-zero _);
+  warned = sym (add-zero _);
+  same_records = refl;
+  same_requests = refl;
+  same_replies = refl;
+}
+
+-- a refusal leaves the other counts
+pub record KeepsOthers (before after : Counts) : Type 0 where
+  pub same_records : after.records ≡ before.records
+  pub same_requests : after.requests ≡ before.requests
+  pub same_replies : after.replies ≡ before.replies
+  pub same_warnings : after.warnings ≡ before.warnings
+
+pub keeps_others : (refusal : Refusal) (counts : Counts) → KeepsOthers counts (with_refusal refusal counts)
+keeps_others Version counts = record {
+  same_records = refl;
+  same_requests = refl;
+  same_replies = refl;
+  same_warnings = refl;
+}
+keeps_others Leap counts = record {
+  same_records = refl;
+  same_requests = refl;
+  same_replies = refl;
+  same_warnings =
+      refl;
+}
+keeps_others Stratum counts = record {
+  same_records = refl;
+  same_requests = refl;
+  same_replies = refl;
+  same_warnings = refl;
+}
+keeps_others Precision counts = record {
+  same_records = refl;
+  same_requests = refl;
+  same_replies = refl;
+  same_warnings = refl;
+}
+keeps_others ZeroStamp counts = record {
+  same_records = refl;
+  same_requests = refl;
+  same_replies = refl;
+  same_warnings = refl;
+}
+keeps_others NoRequest counts = record {
+  same_records = refl;
+  same_requests = refl;
+  same_replies = refl;
+  same_warnings = refl;
+}
+keeps_others Ambiguous counts = record {
+  same_records = refl;
+  same_requests = refl;
+  same_replies = refl;
+  same_warnings = refl;
+}
+
+accepted : (reason : Refusal) (counts : Counts) (x : Exchange) →
+    count_for reason (with_outcome (Ok x) counts) ≡ count_for reason counts
+accepted Version counts x = refl
+accepted Leap counts x = refl
+accepted Stratum counts x = refl
+accepted Precision counts x = refl
+accepted ZeroStamp counts x = refl
+accepted NoRequest counts x = refl
+accepted Ambiguous counts x = refl
+
+-- one more outcome
+pub joined-push : (start counts : Counts) (outcomes : List Outcome) (exchanges : List Exchange) (o : Outcome) →
+    IsJoined start outcomes exchanges counts →
+    IsJoined start (outcomes ++ o ∷ []) (exchanges ++ filter_map result_ok (o ∷ [])) (with_outcome o counts)
+joined-push start counts outcomes exchanges (Ok x) j = record {
+  exchanges_are = ap (λ (xs : List Exchange). xs ++ x ∷ []) j.exchanges_are
+      ∙ sym (filter_map-append result_ok outcomes (Ok x ∷ []));
+  refused = λ reason.
+      let same : count_for reason (with_outcome (Ok x) counts) ≡ count_for reason counts = accepted reason counts x in
+      omega (arith, j.refused reason, count_by-push (is_refused reason) outcomes (Ok x), same);
+  warned = omega (arith, j.warned, count_by-push is_warning exchanges x);
+  same_records = j.same_records;
+  same_requests = j.same_requests;
+  same_replies = j.same_replies;
+}
+joined-push start counts outcomes exchanges (Err refusal) j =
+    let others = keeps_others refusal counts in
+    record {
+      exchanges_are = rw (
+        append-nil exchanges,
+        filter_map-append result_ok outcomes (Err refusal ∷ []),
+        append-nil (filter_map result_ok outcomes),
+      ) j.exchanges_are;
+      refused = λ reason. omega (
+        arith,
+        j.refused reason,
+        count_by-push (is_refused reason) outcomes (Err refusal),
+        count_for-with_refusal refusal reason counts,
+      );
+      warned = rw (append-nil exchanges) (others.same_warnings ∙ j.warned);
+      same_records = others.same_records ∙ j.same_records;
+      same_requests = others.same_requests ∙ j.same_requests;
+      same_replies = others.same_replies ∙ j.same_replies;
+    }
+
+-- what was counted of some outcomes leaves room for the others
+pub joined-room : (start counts : Counts) (outcomes : List Outcome) (exchanges : List Exchange) (all : ℕ) →
+    IsJoined start outcomes exchanges counts → HasRoom start all → length outcomes < all → HasRoom counts 1
+joined-room start counts outcomes exchanges all j room more = record {
+  records = omega (arith, j.same_records, room.records);
+  requests = omega (arith, j.same_requests, room.requests);
+  replies = omega (arith, j.same_replies, room.replies);
+  refused = λ reason. omega (
+    arith,
+    j.refused reason,
+    count_by-le-length (is_refused reason) outcomes,
+    room.refused reason,
+  );
+  warned =
+      let fewer : length exchanges ≤ length outcomes = rw j.exchanges_are (length-filter_map result_ok outcomes) in
+      omega (arith, j.warned, count_by-le-length is_warning exchanges, room.warned);
+}
+
+ok_given : (o : Outcome) → IsOk o → length (filter_map result_ok (o ∷ [])) ≡ 1
+ok_given (Ok x) h = refl
+ok_given (Err refusal) h = absurd (true≢false (sym h))
+
+module _ {W : Type 0} (f : W → Outcome) (xs : List W) (i : ℕ) (d : W) (more : i < length xs) where
+  -- one more is taken
+  pub outcomes-more : map f (take (i + 1) xs) ≡ map f (take i xs) ++ f (get_or xs i d) ∷ []
+  outcomes-more = ap (map f) (take_more xs i d more) ∙ map-append f (take i xs) (get_or xs i d ∷ [])
+
+  -- the exchanges of all are those of the first and those of the rest
+  parted : filter_map result_ok (map f xs) ≡ filter_map result_ok (map f (take (i + 1) xs)) ++ filter_map result_ok
+      (map f (drop (i + 1) xs))
+  parted =
+      ap (λ ys. filter_map result_ok (map f ys)) (sym (take-append-drop (i + 1) xs))
+      ∙ ap (filter_map result_ok) (map-append f (take (i + 1) xs) (drop (i + 1) xs))
+      ∙ filter_map-append result_ok (map f (take (i + 1) xs)) (map f (drop (i + 1) xs))
+
+  -- an exchange beyond the most
+  pub too_many : (most : ℕ) (exchanges : List Exchange) → exchanges ≡ filter_map result_ok (map f (take i xs)) →
+      IsOk (f (get_or xs i d)) → length exchanges ≡ most → most < length (filter_map result_ok (map f xs))
+  too_many most exchanges is ok full =
+      let o = f (get_or xs i d) in
+      let one : length (filter_map result_ok (o ∷ [])) ≡ 1 = ok_given o ok in
+      let grown : length (filter_map result_ok (map f (take (i + 1) xs))) ≡ length exchanges + 1 =
+      ap (λ ys. length (filter_map result_ok ys)) outcomes-more
+      ∙ ap length (filter_map-append result_ok (map f (take i xs)) (o ∷ []))
+      ∙ length-append (filter_map result_ok (map f (take i xs))) (filter_map result_ok (o ∷ []))
+      ∙ omega (arith, ap length is, one) in
+      let whole : length (filter_map result_ok (map f xs))
+      ≡ length (filter_map result_ok (map f (take (i + 1) xs))) + length (filter_map result_ok (map f (drop
+      (i + 1) xs))) =
+      ap length parted ∙ length-append (filter_map result_ok (map f (take (i + 1) xs))) (filter_map result_ok (map f
+      (drop (i + 1) xs))) in
+      omega (arith, grown, whole, full)

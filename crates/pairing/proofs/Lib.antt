@@ -1,0 +1,11 @@
+pub mod IndexSteps
+pub mod JoinSteps
+pub mod GatheringSteps
+pub mod Exactness
+pub mod ReadingSteps
+pub mod Limits
+pub mod Completion
+pub mod Tallies
+pub mod Order
+pub mod Pairs
+pub mod Servers

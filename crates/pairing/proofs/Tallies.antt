@@ -1,0 +1,62 @@
+-- Sums of counts.
+use Rattle.std.proofs.Common.{◌≡◌, ◌∙◌, ℕ, ◌+◌, List, [], ◌∷◌, Result, Ok, Err, refl, sym, length, arith}
+use Rattle.std.specs.Prelude.{if◌then◌else◌}
+use Rattle.std.specs.List.{cons_option, filter_map}
+use Rattle.std.specs.Result.{result_ok}
+use Rattle.std.proofs.lemmas.List.{length-map}
+use Rattle.pcap_reader.specs.Capture.{Record}
+use Rattle.claim_file.specs.Claim.{ClaimData}
+use Rattle.pairing.specs.declared.exchange.Exchange.{Exchange}
+use Rattle.pairing.specs.declared.refusal.Refusal.{Refusal}
+use Rattle.pairing.specs.declared.refusal.Refusal.TheVariants.{Version, Leap, Stratum, Precision, ZeroStamp, NoRequest, Ambiguous}
+use Rattle.pairing.specs.Pairing.{requests_of, replies_of, outcome_of, outcomes_of, is_refused, refused_for, exchanges_of}
+use Rattle.pairing.proofs.Exactness.{count_by-cons}
+
+abbrev Outcome : Type 0
+Outcome = Result Exchange Refusal
+
+-- how many are refused for any reason
+abbrev refused_in_all : List Outcome → ℕ
+refused_in_all os =
+    refused_for Version os + refused_for Leap os + refused_for Stratum os + refused_for Precision os + refused_for
+    ZeroStamp os + refused_for NoRequest os
+    + refused_for Ambiguous os
+
+abbrev one_for : Refusal → Outcome → ℕ
+one_for reason o = if is_refused reason o then 1 else 0
+
+one_each : (o : Outcome) (os : List Exchange) →
+    one_for Version o + one_for Leap o + one_for Stratum o + one_for Precision o + one_for ZeroStamp o + one_for
+    NoRequest o + one_for Ambiguous o
+    + length (cons_option (result_ok o) os) ≡ 1 + length os
+one_each (Ok x) os = omega arith
+one_each (Err Version) os = omega arith
+one_each (Err Leap) os = omega arith
+one_each (Err Stratum) os = omega arith
+one_each (Err Precision) os = omega arith
+one_each (Err ZeroStamp) os = omega arith
+one_each (Err NoRequest) os = omega arith
+one_each (Err Ambiguous) os = omega arith
+
+each_once : (os : List Outcome) → length os ≡ refused_in_all os + length (filter_map result_ok os)
+each_once [] = refl
+each_once (o ∷ os) =
+    omega (
+      arith,
+      each_once os,
+      one_each o (filter_map result_ok os),
+      count_by-cons (is_refused Version) o os,
+      count_by-cons (is_refused Leap) o os,
+      count_by-cons (is_refused Stratum) o os,
+      count_by-cons (is_refused Precision) o os,
+      count_by-cons (is_refused ZeroStamp) o os,
+      count_by-cons (is_refused NoRequest) o os,
+      count_by-cons (is_refused Ambiguous) o os,
+    )
+
+pub replies-counted : (claim : ClaimData) (records : List Record) → length (replies_of claim records)
+    ≡ refused_in_all (outcomes_of claim records) + length (exchanges_of claim records)
+unfolding exchanges_of
+replies-counted claim records =
+    let requests = requests_of claim records in
+    sym (length-map (replies_of claim records) (outcome_of requests)) ∙ each_once (outcomes_of claim records)

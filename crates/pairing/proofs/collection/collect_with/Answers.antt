@@ -1,0 +1,25 @@
+use Rattle.indexmap.specs.IndexMap.{get}
+use Rattle.claim_file.specs.Claim.{data_of}
+use Rattle.pairing.specs.Index.{same_key}
+use Rattle.pairing.proofs.Completion.{answer-whole, lawful-whole, leaves-whole, ready}
+use Rattle.pairing.proofs.collection.collect_with.Goals as goal
+
+pub finish-requires : goal.finish-requires
+finish-requires g c =
+    let whole = c.in-Ok.ensures.whole in
+    ready (data_of c.args.claim.now) whole.records
+    (get same_key c.gather.new.gathering.index.places) c.gather.new.gathering.waiting.items
+    c.gather.new.gathering.counts whole.given whole.gathered
+
+pub returns-in-Ok : goal.returns-in-Ok
+returns-in-Ok g c =
+    let whole = c.in-Ok.ensures.whole in
+    let claim = data_of c.args.claim.now in
+    let start = g.S.RecordSource.state c.args.source.now in
+    let exact = c.finish.ensures claim whole.records whole.gathered in
+    record {
+      exact = answer-whole claim start.remaining whole.records c.finish.result whole.known exact;
+      lawful = lawful-whole claim whole.records c.finish.result whole.given exact;
+      leaves = leaves-whole claim whole.records start
+          (g.S.RecordSource.state c.gather.new.source) c.finish.result c.in-Ok.ensures.leaves exact;
+    }

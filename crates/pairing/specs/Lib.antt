@@ -1,0 +1,13 @@
+pub mod Answer
+pub mod Counts
+pub mod Exchange
+pub mod Fault
+pub mod Gathering
+pub mod Index
+pub mod Message
+pub mod Pair
+pub mod Pairing
+pub mod Provenance
+pub mod Reading
+pub mod Refusal
+pub mod Waiting

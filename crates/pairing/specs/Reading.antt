@@ -1,0 +1,46 @@
+-- How far a source was read.
+use Rattle.std.specs.Prelude.{◌≡◌, List, ◌++◌, length, false, Option, Some, None, IfSome}
+use Rattle.pcap_reader.specs.Capture.{Record}
+use Rattle.pcap_reader.specs.Remaining.{Coming}
+use Rattle.pcap_reader.specs.Source.{SourceState, TakesFrom}
+use Rattle.claim_file.specs.Claim.{ClaimData}
+use Rattle.pairing.specs.declared.counts.Counts.{Counts}
+use Rattle.pairing.specs.declared.index.Key.{Key}
+use Rattle.pairing.specs.declared.index.Place.{Place}
+use Rattle.pairing.specs.declared.waiting.Waiting.{Waiting}
+use Rattle.pairing.specs.Answer.{AreGiven}
+use Rattle.pairing.specs.Gathering.{IsGatheredFrom}
+
+-- Of what was to come these records were given, and the rest remains.
+abbrev pub Continues : List Record → Option Coming → Coming → Type 0
+Continues done after coming =
+    (rest : Coming) × (after ≡ Some rest) × (coming.records ≡ done ++ rest.records)
+    × (coming.fault ≡ rest.fault)
+
+-- These records were given since the start.
+pub record IsRead (start now : SourceState) (done : List Record) : Type 0 where
+  pub given : AreGiven done
+  pub count : now.given ≡ length done
+  pub known : IfSome start.remaining (Continues done now.remaining)
+  pub unfailed : now.has_failed ≡ false
+  pub no_fault : now.fault_count ≡ start.fault_count
+  pub takes : TakesFrom start.supply now.supply
+
+-- All records of the source were given, and its end is whole.
+abbrev pub IsWhole : List Record → Coming → Type 0
+IsWhole records coming = (coming.records ≡ records) × (coming.fault ≡ None)
+
+-- So far some records were read, and are gathered.
+pub record Gathers (claim : ClaimData) (start now : SourceState)
+    (look_up : Key → Option Place) (waiting : List Waiting) (counts : Counts) : Type 0 where
+  pub records : List Record
+  pub read : IsRead start now records
+  pub gathered : IsGatheredFrom claim records look_up waiting counts
+
+-- A whole source was read, and is gathered.
+pub record GathersAll (claim : ClaimData) (remaining : Option Coming)
+    (look_up : Key → Option Place) (waiting : List Waiting) (counts : Counts) : Type 0 where
+  pub records : List Record
+  pub given : AreGiven records
+  pub known : IfSome remaining (IsWhole records)
+  pub gathered : IsGatheredFrom claim records look_up waiting counts

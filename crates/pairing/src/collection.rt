@@ -1,0 +1,97 @@
+//! The exchanges of a whole capture.
+
+ghost use Rattle.std.specs.Prelude.{◌≡◌, ◌-◌, ◌^◌, ◌<◌, ◌⊎◌, [], Err, OnOk, IfErr, IfSome};
+ghost use Rattle.indexmap.specs.IndexMap.{get};
+ghost use Rattle.pcap_reader.specs.Source.{IsFresh};
+ghost use Rattle.claim_file.specs.Claim.{IsLawful, data_of};
+ghost use Rattle.pairing.specs.Answer.{Collects, IsFromOutside, LeavesSource, answer_of};
+ghost use Rattle.pairing.specs.Gathering.{IsGatheredFrom};
+ghost use Rattle.pairing.specs.Index.{same_key};
+ghost use Rattle.pairing.specs.Reading.{GathersAll};
+
+use crate::collected::Collected;
+use crate::fault::PairFault;
+use crate::gathering::Gathering;
+use crate::message::read_message;
+use claim_file::Claim;
+use pcap_reader::RecordSource;
+use std::alloc::Global;
+use std::hash::{BuildHasher, BuildHasherDefault, FoldHasher};
+
+/// Gathers what each record of a source says.
+fn gather<S: RecordSource, H: BuildHasher + Drop>(
+    source: &mut S,
+    claim: &Claim,
+    gathering: &mut Gathering<H>,
+) -> Result<(), PairFault>
+    requires lawful { IsLawful (data_of claim.now) }
+    requires fresh { IsFresh (S.state source.old) }
+    requires room { (S.state source.old).fault_count < 2 ^ 64 - 1 }
+    requires empty { IsGatheredFrom (data_of claim.now) []
+        (get same_key gathering.old.index.places) gathering.old.waiting.items gathering.old.counts }
+    ensures whole { OnOk result (GathersAll (data_of claim.now) (S.state source.old).remaining
+        (get same_key gathering.new.index.places) gathering.new.waiting.items
+        gathering.new.counts) }
+    ensures fault { IfErr result (λ fault. IfSome (S.state source.old).remaining (λ coming.
+        IsFromOutside fault ⊎ (answer_of (data_of claim.now) coming ≡ Err fault))) }
+    ensures leaves { LeavesSource (S.state source.old) result (S.state source.new) }
+{
+    'records: loop {
+        match source.next_record() {
+            Ok(Some(head)) => {
+                let message = read_message(claim, &head, source.bytes());
+                let Ok(()) = gathering.take(&head, message) else {
+                    return Err(PairFault::Memory);
+                };
+            }
+            Ok(None) => return Ok(()),
+            Err(fault) => return Err(PairFault::Capture(fault)),
+        }
+    }
+}
+
+/// Collects the exchanges and counts of a whole capture, in one pass, with an index of requests
+/// that hashes by `hasher`. Who doesn't trust the capture's writer passes a hasher with a random
+/// key.
+///
+/// The source has given nothing and answered no fault, and the claim keeps its limits. `Capture`
+/// comes where the source ends with a fault, `TooManyExchanges` where it ends whole with over
+/// 1,000,000 exchanges, and `Memory` where no memory was left. After a fault the source is used no
+/// further.
+pub fn collect_with<S: RecordSource, H: BuildHasher + Drop>(
+    alloc: Global,
+    source: &mut S,
+    claim: &Claim,
+    hasher: H,
+) -> Result<Collected, PairFault>
+    requires claim { IsLawful (data_of claim.now) }
+    requires fresh { IsFresh (S.state source.old) }
+    requires room { (S.state source.old).fault_count < 2 ^ 64 - 1 }
+    ensures { Collects (data_of claim.now) (S.state source.old) result (S.state source.new) }
+{
+    let mut gathering = Gathering::new(alloc, hasher);
+    match gather(source, claim, &mut gathering) {
+        Ok(()) => gathering.finish(alloc),
+        Err(fault) => Err(fault),
+    }
+}
+
+/// Collects the exchanges and counts of a whole capture, as `collect_with` does, with std's hasher
+/// of a fixed key.
+pub fn collect<S: RecordSource>(
+    alloc: Global,
+    source: &mut S,
+    claim: &Claim,
+) -> Result<Collected, PairFault>
+    requires claim { IsLawful (data_of claim.now) }
+    requires fresh { IsFresh (S.state source.old) }
+    requires room { (S.state source.old).fault_count < 2 ^ 64 - 1 }
+    ensures { Collects (data_of claim.now) (S.state source.old) result (S.state source.new) }
+{
+    collect_with(
+        alloc,
+        source,
+        claim,
+        BuildHasherDefault::<FoldHasher>::new(),
+    )
+}

@@ -1,0 +1,107 @@
+//! The index of requests.
+
+ghost use Rattle.std.specs.Prelude.{◌≡◌, [], ◌∷◌, ◌++◌, List, OnOk};
+ghost use Rattle.indexmap.specs.IndexMap.{get};
+ghost use Rattle.pcap_reader.specs.declared.format.RecordHead.{RecordHead as Head};
+ghost use Rattle.pairing.specs.Index.{Indexes, moment_of, place_after, request_at, same_key};
+ghost use Rattle.pairing.specs.Message.{Request};
+
+use era_unfold::Unit;
+use indexmap::IndexMap;
+use pcap_reader::RecordHead;
+use std::alloc::{AllocError, Global};
+use std::hash::BuildHasher;
+
+/// What a request and its replies share.
+#[derive(Clone, Copy, Debug, PartialEq, Eq, Hash)]
+pub(crate) struct Key {
+    /// The server's number.
+    pub server: u8,
+    /// The client's port.
+    pub port: u16,
+    /// The request's transmit timestamp, the reply's origin timestamp.
+    pub stamp: u64,
+}
+
+/// Which record, and when it was captured.
+#[derive(Clone, Copy, Debug, PartialEq, Eq)]
+pub(crate) struct Moment {
+    /// The record's number.
+    pub number: u32,
+    /// Seconds since 1970-01-01T00:00:00Z.
+    pub sec: u32,
+    /// The part of the second, in units.
+    pub sub: u32,
+    /// The unit of `sub`.
+    pub unit: Unit,
+}
+
+impl Moment {
+    /// The moment of a record.
+    pub(crate) fn new(head: &RecordHead) -> Moment
+        ensures { result ≡ moment_of head.now }
+    {
+        Moment {
+            number: head.number,
+            sec: head.sec,
+            sub: head.sub,
+            unit: head.unit,
+        }
+    }
+}
+
+/// The requests with one key.
+#[derive(Clone, Copy, Debug, PartialEq, Eq)]
+pub(crate) enum Place {
+    /// The one and only.
+    One(Moment),
+    /// Two or more.
+    Several,
+}
+
+impl Place {
+    /// What stands at a key after the request that a record holds, and what stood there before.
+    fn after(before: Option<Place>, head: &RecordHead) -> Place
+        ensures { result ≡ place_after before head.now }
+    {
+        match before {
+            None => Place::One(Moment::new(head)),
+            Some(_) => Place::Several,
+        }
+    }
+}
+
+/// Each key's requests, as far as the capture was read.
+#[derive(Drop)]
+pub(crate) struct Index<H: BuildHasher> {
+    places: IndexMap<Key, Place, H>,
+}
+
+impl<H: BuildHasher + Drop> Index<H> {
+    /// The index of no request.
+    pub(crate) fn new(alloc: Global, hasher: H) -> Index<H>
+        ensures { Indexes (get same_key result.places) [] }
+    {
+        Index {
+            places: IndexMap::with_hasher(alloc, hasher),
+        }
+    }
+
+    /// Notes the request that a record holds.
+    pub(crate) fn note(&mut self, key: Key, head: &RecordHead) -> Result<(), AllocError>
+        ensures { (requests : List Request) → Indexes (get same_key self.old.places) requests →
+            OnOk result (Indexes (get same_key self.new.places)
+            (requests ++ request_at key head.now ∷ [])) }
+    {
+        let place = Place::after(self.find(key), head);
+        self.places.insert(key, place)?;
+        Ok(())
+    }
+
+    /// What the requests with a key are.
+    pub(crate) fn find(&self, key: Key) -> Option<Place>
+        ensures { result ≡ get same_key self.now.places key }
+    {
+        self.places.get(&key).copied()
+    }
+}

@@ -1,0 +1,26 @@
+//! Requests and replies of a capture, and the exchanges that they make (RFC 5905, section 8).
+//!
+//! A reply names its request by its origin timestamp. Its request is the one and only one of the
+//! whole capture to that server, from that port of the client, with that transmit timestamp,
+//! wherever it stands. `collect` gives the exchanges in the order of their replies, and counts what
+//! became of each reply, over any source of records.
+#![tactic(auto)]
+
+mod collected;
+mod collection;
+mod counts;
+mod exchange;
+mod fault;
+mod gathering;
+mod index;
+mod join;
+pub mod laws;
+mod message;
+mod refusal;
+mod waiting;
+
+pub use collected::Collected;
+pub use collection::{collect, collect_with};
+pub use counts::Counts;
+pub use exchange::Exchange;
+pub use fault::PairFault;

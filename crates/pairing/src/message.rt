@@ -1,0 +1,125 @@
+//! Requests and replies among the packets of a capture.
+
+ghost use Rattle.std.specs.Prelude.{◌≡◌, ◌<◌, length, position, IfSome};
+ghost use Rattle.std.specs.Str.{bytes_eq};
+ghost use Rattle.ntp_packet.specs.Header.{AreBytes};
+ghost use Rattle.ntp_packet.specs.Packet.{packet_shown};
+ghost use Rattle.claim_file.specs.Claim.{IsLawful, data_of};
+ghost use Rattle.pairing.specs.Waiting.{judged, message_in, message_of};
+ghost use Rattle.pairing.specs.Message.{reply_from, server_at, requested_server, replying_server};
+
+use crate::index::Key;
+use crate::refusal::{Refusal, accepted_distance};
+use crate::waiting::Waiting;
+use claim_file::Claim;
+use ntp_packet::kinds::Packet;
+use ntp_packet::packet;
+use pcap_reader::RecordHead;
+
+/// The port of NTP, at the server's end.
+const NTP_PORT: u16 = 123;
+
+const CLIENT_MODE: u8 = 3;
+
+const SERVER_MODE: u8 = 4;
+
+/// What a record says to the pairing.
+#[derive(Clone, Copy, Debug, PartialEq, Eq)]
+pub(crate) enum Message {
+    /// A request with this key.
+    Question(Key),
+    /// A reply that its own header refuses.
+    Refused(Refusal),
+    /// A reply that waits for its request.
+    Answer(Waiting),
+}
+
+/// The place of this address among the servers'.
+fn place_of(servers: &[[u8; 4]], address: [u8; 4]) -> Option<usize>
+    ensures place { result ≡ position (λ server. bytes_eq server address) servers.now }
+    ensures within { IfSome result (λ place. place < length servers.now) }
+{
+    servers.iter().position(|server| *server == address)
+}
+
+/// The number of the server with this address.
+fn server_at(claim: &Claim, address: [u8; 4]) -> Option<u8>
+    requires { IsLawful (data_of claim.now) }
+    ensures { result ≡ server_at (data_of claim.now) address }
+{
+    let place = place_of(&claim.servers, address)?;
+    Some(place as u8)
+}
+
+/// The server that a packet is a request to: a packet of mode 3 and version 4, from the client's
+/// address to the server's, port 123.
+#[tactic(auto, unfolding(crate::specs::Message::requested_server))]
+pub(crate) fn requested_server(claim: &Claim, packet: &Packet<'_>) -> Option<u8>
+    requires { IsLawful (data_of claim.now) }
+    ensures { result ≡ requested_server (data_of claim.now) (packet_shown packet.now) }
+{
+    let datagram = &packet.datagram;
+    if datagram.source != claim.client || datagram.destination_port != NTP_PORT {
+        return None;
+    }
+    if packet.header.mode() != CLIENT_MODE || packet.header.version() != 4 {
+        return None;
+    }
+    server_at(claim, datagram.destination)
+}
+
+/// The server that a packet is a reply of: a packet of mode 4, from the server's address, port 123,
+/// to the client's.
+#[tactic(auto, unfolding(crate::specs::Message::replying_server))]
+pub(crate) fn replying_server(claim: &Claim, packet: &Packet<'_>) -> Option<u8>
+    requires { IsLawful (data_of claim.now) }
+    ensures { result ≡ replying_server (data_of claim.now) (packet_shown packet.now) }
+{
+    let datagram = &packet.datagram;
+    if datagram.destination != claim.client || datagram.source_port != NTP_PORT {
+        return None;
+    }
+    if packet.header.mode() != SERVER_MODE {
+        return None;
+    }
+    server_at(claim, datagram.source)
+}
+
+/// What a reply of this server says.
+fn judge(server: u8, head: &RecordHead, packet: &Packet<'_>) -> Message
+    ensures { result ≡ judged (reply_from head.now (packet_shown packet.now) server) }
+{
+    match accepted_distance(&packet.header) {
+        Ok(distance) => Message::Answer(Waiting::new(server, head, packet, distance)),
+        Err(refusal) => Message::Refused(refusal),
+    }
+}
+
+/// What a packet says.
+fn message_in(claim: &Claim, head: &RecordHead, packet: &Packet<'_>) -> Option<Message>
+    requires { IsLawful (data_of claim.now) }
+    ensures { result ≡ message_in (data_of claim.now) head.now (packet_shown packet.now) }
+{
+    if let Some(server) = requested_server(claim, packet) {
+        return Some(Message::Question(Key {
+            server,
+            port: packet.datagram.source_port,
+            stamp: packet.header.transmit(),
+        }));
+    }
+    let server = replying_server(claim, packet)?;
+    Some(judge(server, head, packet))
+}
+
+/// What a record says: a request, a reply, or nothing.
+#[tactic(auto, unfolding(crate::specs::Waiting::message_of, crate::specs::Message::request_of, crate::specs::Message::reply_of))]
+pub(crate) fn read_message(claim: &Claim, head: &RecordHead, bytes: &[u8]) -> Option<Message>
+    requires { IsLawful (data_of claim.now) }
+    ensures message { result
+        ≡ message_of (data_of claim.now) (record { head = head.now; bytes = bytes.now }) }
+
+    // A reader's bytes are bytes, which bounds what they say.
+    ensures bytes { AreBytes bytes.now }
+{
+    message_in(claim, head, &packet(bytes)?)
+}
