@@ -1,0 +1,5 @@
+pub mod Kept
+pub mod MomentLemmas
+pub mod OnWireLemmas
+pub mod SampleLemmas
+pub mod WideningLemmas

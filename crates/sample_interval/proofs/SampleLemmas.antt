@@ -1,0 +1,28 @@
+-- The sample of an exchange.
+use Rattle.std.proofs.Common.{◌≡◌, ℕ, ◌^◌, ℤ, pos, ◌≤ℤ◌, refl, arith}
+use Rattle.std.proofs.lemmas.Int.{ints}
+use Rattle.pairing.specs.declared.exchange.Exchange.{Exchange}
+use Rattle.sample_interval.specs.Exchange.{IsOfSomeClaim}
+use Rattle.sample_interval.specs.Sample.{sample_of, IsLawfulSample}
+use Rattle.sample_interval.specs.declared.kinds.Sample.{Sample}
+
+-- samples whose numbers are equal
+pub same_sample : {server : ℕ} {low low' from from' to to' high high' begin begin' end end' : ℤ} → low ≡ low' →
+    from ≡ from' → to ≡ to' → high ≡ high' → begin ≡ begin' → end ≡ end' →
+    ◌≡◌ {A = Sample} record
+    { server = server; low = low; low_from = from; low_to = to; high = high; high_from = begin; high_to = end } record
+    { server = server; low = low'; low_from = from'; low_to = to'; high = high'; high_from = begin'; high_to = end' }
+same_sample a b c d e f = rw (a, b, c, d, e, f) refl
+
+pub lawful : (x : Exchange) (reading : ℤ) → IsOfSomeClaim x → pos 0 ≤ℤ reading → reading ≤ℤ pos (2 ^ 32) →
+    IsLawfulSample (sample_of x reading)
+lawful x reading h from to = record {
+  low = omega (arith, ints);
+  low_from = omega (arith, ints);
+  low_to = omega (arith, ints);
+  low_place_in_order = omega (arith, ints);
+  high = omega (arith, ints);
+  high_from = omega (arith, ints);
+  high_to = omega (arith, ints);
+  high_place_in_order = omega (arith, ints);
+}

@@ -1,0 +1,5 @@
+use Rattle.sample_interval.proofs.MomentLemmas.{at_reply}
+use Rattle.sample_interval.proofs.laws.error_at_the_reply_is_no_more.Goals as goal
+
+pub returns : goal.returns
+returns c = at_reply

@@ -1,0 +1,11 @@
+use Rattle.sample_interval.proofs.WideningLemmas.{widening-mono_distance, widening-mono_rate, widening-zero}
+use Rattle.sample_interval.proofs.laws.widening_grows.Goals as goal
+
+pub returns-clause-distance : goal.returns-clause-distance
+returns-clause-distance c = widening-mono_distance
+
+pub returns-clause-rate : goal.returns-clause-rate
+returns-clause-rate c = widening-mono_rate
+
+pub returns-clause-zero : goal.returns-clause-zero
+returns-clause-zero c = widening-zero

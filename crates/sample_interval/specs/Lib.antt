@@ -1,0 +1,6 @@
+pub mod Exchange
+pub mod Window
+pub mod Sample
+pub mod OnWire
+pub mod Widening
+pub mod Moment

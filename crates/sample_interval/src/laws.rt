@@ -1,0 +1,118 @@
+//! What holds of the definitions. A law is a function that does nothing: its contract is the law,
+//! for every number. Where a moment may fall between two ticks, times and readings are whole
+//! numbers of 1/n tick.
+ghost use Rattle.std.specs.Prelude.{◌≡◌, ℕ, ◌<◌, ◌≤◌, ◌*◌, ℤ, pos, ◌+ℤ◌, ◌-ℤ◌, ◌*ℤ◌, ◌≤ℤ◌, ◌↔◌};
+ghost use Rattle.std.specs.Prelude.{◌⊎◌};
+ghost use Rattle.intersection.specs.declared.kinds.Interval.{Interval};
+ghost use Rattle.era_unfold.specs.Ratio.{IsSignedFloor, IsSignedCeiling};
+ghost use Rattle.intersection.specs.Fraction.{HoldsFraction};
+ghost use Rattle.pairing.specs.declared.exchange.Exchange.{Exchange};
+ghost use Rattle.sample_interval.specs.Moment.{Moment, error_of, DriftsWithin};
+ghost use Rattle.sample_interval.specs.Moment.{DriftsWithinByReading, IsInWindow, IsWithinDistance};
+ghost use Rattle.sample_interval.specs.OnWire.{offset_doubled, delay_of, least_offset_doubled};
+ghost use Rattle.sample_interval.specs.OnWire.{greatest_offset_doubled};
+ghost use Rattle.sample_interval.specs.OnWire.{offset_from, offset_to, delay_from, delay_to};
+ghost use Rattle.sample_interval.specs.Sample.{least_error, greatest_error, sample_of};
+ghost use Rattle.sample_interval.specs.Widening.{IsWidening, widening, billion};
+ghost use Rattle.sample_interval.specs.Window.{request_start, request_end, reply_start, reply_end};
+
+/// A drift that is bounded by true time is bounded by the clock's own readings too: from parts in
+/// 10^9 of true time to parts in 10^9 less the rate of what the clock shows.
+pub fn drift_shows_on_the_clock_itself()
+    ensures { (ppb : ℕ) (a b : Moment) → ppb ≤ billion →
+        DriftsWithin ppb a b → DriftsWithinByReading ppb a b }
+{}
+
+/// Where the server isn't false, the client's error at the request is no less than the sample's low
+/// end: the request left before the server received it, and the server's time of receipt is off by
+/// the root distance at most.
+pub fn error_at_the_request_is_no_less()
+    ensures { (x : Exchange) (allowance : ℤ) (n : ℕ) (request : Moment) (received : ℤ) →
+        IsInWindow n (request_start x allowance) (request_end x allowance) request.reading →
+        request.time ≤ℤ received → IsWithinDistance n x.t2 x.distance received →
+        (least_error x allowance *ℤ pos n) ≤ℤ error_of request }
+{}
+
+/// Where the server isn't false, the client's error at the reply is no more than the sample's high
+/// end.
+pub fn error_at_the_reply_is_no_more()
+    ensures { (x : Exchange) (allowance : ℤ) (n : ℕ) (reply : Moment) (sent : ℤ) →
+        IsInWindow n (reply_start x allowance) (reply_end x allowance) reply.reading →
+        sent ≤ℤ reply.time → IsWithinDistance n x.t3 x.distance sent →
+        error_of reply ≤ℤ (greatest_error x allowance *ℤ pos n) }
+{}
+
+/// A wider allowance widens a sample at both ends and in both places alike, and never moves it.
+pub fn wider_allowance_widens()
+    ensures { (x : Exchange) (allowance more : ℤ) → let narrow = sample_of x allowance in
+        sample_of x (allowance +ℤ more) ≡ record narrow {
+          low = narrow.low -ℤ more;
+          low_from = narrow.low_from -ℤ more;
+          low_to = narrow.low_to +ℤ more;
+          high = narrow.high +ℤ more;
+          high_from = narrow.high_from -ℤ more;
+          high_to = narrow.high_to +ℤ more;
+        } }
+{}
+
+/// A larger root distance widens a sample at both ends alike, and leaves its places where they are.
+pub fn larger_distance_widens()
+    ensures { (x : Exchange) (allowance more : ℤ) → let narrow = sample_of x allowance in
+        sample_of (record x { distance = x.distance +ℤ more }) allowance ≡ record narrow {
+          low = narrow.low -ℤ more;
+          high = narrow.high +ℤ more;
+        } }
+{}
+
+/// Every distance has its widening, which is one number.
+pub fn widening_is_one_number()
+    ensures is { (ppb distance : ℕ) → ppb < billion →
+        IsWidening ppb distance (widening ppb distance) }
+    ensures one { (ppb distance w : ℕ) → ppb < billion →
+        IsWidening ppb distance w → w ≡ widening ppb distance }
+{}
+
+/// The widening grows with the distance and with the rate, and is zero exactly where one of them
+/// is.
+pub fn widening_grows()
+    ensures distance { (ppb near far : ℕ) → ppb < billion → near ≤ far →
+        widening ppb near ≤ widening ppb far }
+    ensures rate { (slow fast distance : ℕ) → fast < billion → slow ≤ fast →
+        widening slow distance ≤ widening fast distance }
+    ensures zero { (ppb distance : ℕ) → ppb < billion →
+        (widening ppb distance ≡ 0) ↔ ((ppb ≡ 0) ⊎ (distance ≡ 0)) }
+{}
+
+/// The offset's interval is rounded outwards as little as can be: to the floor and the ceiling of
+/// half a whole number.
+pub fn offset_is_rounded_outwards()
+    ensures from { (x : Exchange) (allowance : ℤ) →
+        IsSignedFloor (offset_from x allowance) (least_offset_doubled x allowance) 2 }
+    ensures to { (x : Exchange) (allowance : ℤ) →
+        IsSignedCeiling (offset_to x allowance) (greatest_offset_doubled x allowance) 2 }
+{}
+
+/// The intervals of offset and delay hold the offset and the delay of every choice of moments
+/// inside the two windows, fractions of a tick too.
+pub fn offset_and_delay_hold_every_choice()
+    ensures offset { (x : Exchange) (allowance : ℤ) (n : ℕ) (t1 t4 : ℤ) → 0 < n →
+        IsInWindow n (request_start x allowance) (request_end x allowance) t1 →
+        IsInWindow n (reply_start x allowance) (reply_end x allowance) t4 →
+        let stamps : Interval =
+        record { lo = offset_from x allowance; hi = offset_to x allowance } in
+        HoldsFraction stamps (offset_doubled t1 (x.t2 *ℤ pos n) (x.t3 *ℤ pos n) t4) (2 * n) }
+    ensures delay { (x : Exchange) (allowance : ℤ) (n : ℕ) (t1 t4 : ℤ) → 0 < n →
+        IsInWindow n (request_start x allowance) (request_end x allowance) t1 →
+        IsInWindow n (reply_start x allowance) (reply_end x allowance) t4 →
+        let delays : Interval = record { lo = delay_from x allowance; hi = delay_to x allowance } in
+        HoldsFraction delays (delay_of t1 (x.t2 *ℤ pos n) (x.t3 *ℤ pos n) t4) n }
+{}
+
+/// Offset and half the delay give the way out, offset less half the delay the way back (RFC 5905,
+/// section 8).
+pub fn offset_and_delay_give_both_ways()
+    ensures out { (t1 t2 t3 t4 : ℤ) →
+        offset_doubled t1 t2 t3 t4 +ℤ delay_of t1 t2 t3 t4 ≡ pos 2 *ℤ (t2 -ℤ t1) }
+    ensures back { (t1 t2 t3 t4 : ℤ) →
+        offset_doubled t1 t2 t3 t4 -ℤ delay_of t1 t2 t3 t4 ≡ pos 2 *ℤ (t3 -ℤ t4) }
+{}

@@ -1,0 +1,21 @@
+//! How far the error drifts.
+ghost use Rattle.std.specs.Prelude.{◌≡◌, ◌≤◌, ◌^◌, pos, ◌≤ℤ◌, unsigned_abs};
+ghost use Rattle.sample_interval.specs.Widening.{IsWidening, widening};
+
+const PARTS: u128 = 1_000_000_000;
+
+/// The most that the error changes, in ticks and rounded up, while the clock advances by `distance`
+/// ticks: the least whole number W with `W * (10^9 - drift_ppb) >= drift_ppb * distance`.
+///
+/// The rate is up to 500,000,000 parts in 10^9 of true time, the distance from 0 to 2^80.
+pub fn widen(drift_ppb: u32, distance: i128) -> i128
+    requires rate { drift_ppb ≤ 500_000_000 }
+    requires from_zero { pos 0 ≤ℤ distance }
+    requires in_range { distance ≤ℤ pos (2 ^ 80) }
+    ensures exact { result ≡ pos (widening drift_ppb (unsigned_abs distance)) }
+    ensures least { IsWidening drift_ppb (unsigned_abs distance) (unsigned_abs result) }
+    ensures at_most_the_distance { result ≤ℤ distance }
+{
+    let rate = u128::from(drift_ppb);
+    (rate * distance.unsigned_abs()).div_ceil(PARTS - rate) as i128
+}
