@@ -1,0 +1,141 @@
+-- The greatest distance between a place and a piece, and what it moves.
+use Rattle.std.proofs.Common.{◌≡◌, ℕ, ◌-◌, ◌*◌, ◌^◌, ◌<◌, ◌≤◌, ℤ, pos, ◌+ℤ◌, ◌-ℤ◌, ◌*ℤ◌, ◌≤ℤ◌, unsigned_abs}
+use Rattle.std.proofs.Common.{refl, ◌∙◌, arith, to_z, of_z, FitsSigned, negsuc}
+use mir.Syntax.{w128}
+use Rattle.std.specs.Int.{int_max, int_min}
+use Rattle.std.proofs.lemmas.Int.{ints, clamps, to_z-of_z}
+use Rattle.std.proofs.Math.Nat.{mul-le-mul_left, mul-le-mul_right}
+use Rattle.era_unfold.proofs.Rounding.{le_of_products}
+use Rattle.intersection.proofs.FractionLemmas.{times_le}
+use Rattle.sample_interval.proofs.Kept.{kept}
+use Rattle.sample_interval.proofs.MomentLemmas.{times-add}
+use Rattle.sample_interval.proofs.WideningLemmas.{IsWidening-widening, widening-mono_distance}
+use Rattle.sample_interval.specs.Moment.{Moment, error_of, error_change, DriftsWithinByReading, IsInWindow}
+use Rattle.sample_interval.specs.Widening.{widening, billion}
+use Rattle.sample_interval.specs.declared.kinds.Sample.{Sample}
+use Rattle.span_cover.specs.Piece.{IsPiece, farthest, change, moved_low, moved_high}
+
+pub max_of_same : (a b c d : ℤ) → a ≡ c → b ≡ d → int_max a b ≡ int_max c d
+max_of_same a b c d e f = rw (e, f) refl
+
+pub min_of_same : (a b c d : ℤ) → a ≡ c → b ≡ d → int_min a b ≡ int_min c d
+min_of_same a b c d e f = rw (e, f) refl
+
+pub farthest-bounds : (from to p q : ℤ) → unsigned_abs from ≤ 2 ^ 72 → unsigned_abs to ≤ 2 ^ 72 → from ≤ℤ to →
+    IsPiece p q → (pos 0 ≤ℤ farthest from to p q) × (farthest from to p q ≤ℤ pos (2 ^ 73))
+farthest-bounds from to p q a b c d = (omega (arith, ints, clamps), omega (arith, ints, clamps))
+
+-- a distance that the code computes
+pub farthest-kept : (from to p q r : ℤ) → unsigned_abs from ≤ 2 ^ 72 → unsigned_abs to ≤ 2 ^ 72 → IsPiece p q →
+    FitsSigned w128 r →
+    r ≡ farthest (to_z w128 (of_z w128 from)) (to_z w128 (of_z w128 to)) (to_z w128 (of_z w128 p))
+    (to_z w128 (of_z w128 q)) →
+    to_z w128 (of_z w128 r) ≡ farthest from to p q
+farthest-kept from to p q r a b piece fits e =
+    let f = kept from (omega arith) in
+    let t = kept to (omega arith) in
+    let first = kept p (omega (arith, ints)) in
+    let last = kept q (omega (arith, ints)) in
+    to_z-of_z w128 r fits ∙ e ∙ rw (f, t, first, last) refl
+
+-- no reading of the piece is further from the place
+pub within_farthest : (from to p q place reading : ℤ) → from ≤ℤ place → place ≤ℤ to → p ≤ℤ reading → reading ≤ℤ q →
+    pos (unsigned_abs (reading -ℤ place)) ≤ℤ farthest from to p q
+within_farthest from to p q place reading a b c d = omega (arith, ints, clamps)
+
+farthest-narrower : (from to p q inner outer : ℤ) → from ≤ℤ to → p ≤ℤ inner → inner ≤ℤ outer → outer ≤ℤ q →
+    unsigned_abs (farthest from to inner outer) ≤ unsigned_abs (farthest from to p q)
+farthest-narrower from to p q inner outer a b c d = omega (arith, ints, clamps)
+
+change-narrower : (from to p q inner outer : ℤ) (ppb : ℕ) → ppb < billion → from ≤ℤ to → p ≤ℤ inner → inner ≤ℤ outer →
+    outer ≤ℤ q → change from to inner outer ppb ≤ℤ change from to p q ppb
+change-narrower from to p q inner outer ppb h a b c d =
+    let less = widening-mono_distance ppb _ _ h (farthest-narrower from to p q inner outer a b c d) in
+    omega (arith, ints)
+
+less_moved : (end near far : ℤ) → near ≤ℤ far → ((end -ℤ far) ≤ℤ (end -ℤ near)) × ((end +ℤ near) ≤ℤ (end +ℤ far))
+less_moved end near far h = (omega (arith, ints), omega (arith, ints))
+
+pub moved_low-narrower : (ppb : ℕ) (sample : Sample) (p q inner outer : ℤ) → ppb < billion →
+    sample.low_from ≤ℤ sample.low_to → p ≤ℤ inner → inner ≤ℤ outer → outer ≤ℤ q →
+    moved_low sample p q ppb ≤ℤ moved_low sample inner outer ppb
+unfolding moved_low
+moved_low-narrower ppb sample p q inner outer h a b c d =
+    (less_moved sample.low _ _ (change-narrower sample.low_from sample.low_to p q inner outer ppb h a b c d)).0
+
+pub moved_high-narrower : (ppb : ℕ) (sample : Sample) (p q inner outer : ℤ) → ppb < billion →
+    sample.high_from ≤ℤ sample.high_to → p ≤ℤ inner → inner ≤ℤ outer → outer ≤ℤ q →
+    moved_high sample inner outer ppb ≤ℤ moved_high sample p q ppb
+unfolding moved_high
+moved_high-narrower ppb sample p q inner outer h a b c d =
+    (less_moved sample.high _ _ (change-narrower sample.high_from sample.high_to p q inner outer ppb h a b c d)).1
+
+-- ---- the error at a reading of the piece
+
+-- the change of the error, n times over, by the widening of a distance
+change_within : (n g ppb e r d w : ℕ) → 0 < g → g * e ≤ ppb * r → r ≤ d * n → ppb * d ≤ w * g → e ≤ w * n
+change_within n g ppb e r d w positive drift near wide =
+    let far : ppb * r ≤ ppb * (d * n) = mul-le-mul_left ppb near in
+    let scaled : ppb * d * n ≤ w * g * n = mul-le-mul_right n wide in
+    let product : e * g ≤ w * n * g = omega arith in
+    le_of_products e (w * n) g positive product
+
+abs_times : (z : ℤ) (n : ℕ) → (z *ℤ pos n) ≤ℤ pos (unsigned_abs z * n)
+abs_times (pos x) n = omega (arith, ints)
+abs_times (negsuc x) n = omega (arith, ints)
+
+between : (far place reading : ℤ) (most : ℕ) → far ≤ℤ pos most → (reading -ℤ place) ≤ℤ far → (place -ℤ reading) ≤ℤ far →
+    unsigned_abs (reading -ℤ place) ≤ most
+between far place reading most a b c = omega (arith, ints)
+
+-- readings in a place and in a piece are no further apart than n times the greatest distance
+apart : (n : ℕ) (from to p q place reading : ℤ) → IsInWindow n from to place → IsInWindow n p q reading →
+    unsigned_abs (reading -ℤ place) ≤ unsigned_abs (farthest from to p q) * n
+apart n from to p q place reading a b =
+    let far = farthest from to p q in
+    let onward = times-add q (q -ℤ from) from n (omega (arith, ints)) in
+    let back = times-add to (to -ℤ p) p n (omega (arith, ints)) in
+    let onward_far = times_le (q -ℤ from) far n (omega (arith, ints, clamps)) in
+    let back_far = times_le (to -ℤ p) far n (omega (arith, ints, clamps)) in
+    between (far *ℤ pos n) place reading (unsigned_abs far * n) (abs_times far n)
+    (omega (arith, ints, a.0, b.1)) (omega (arith, ints, a.1, b.0))
+
+no_less : (moved low before after : ℤ) (wide : ℕ) → low ≡ moved +ℤ pos wide → low ≤ℤ before →
+    unsigned_abs (after -ℤ before) ≤ wide → moved ≤ℤ after
+no_less moved low before after wide a b c = omega (arith, ints)
+
+no_more : (moved high before after : ℤ) (wide : ℕ) → moved ≡ high +ℤ pos wide → before ≤ℤ high →
+    unsigned_abs (after -ℤ before) ≤ wide → after ≤ℤ moved
+no_more moved high before after wide a b c = omega (arith, ints)
+
+module _ (n ppb : ℕ) (p q : ℤ) (observed : Moment) (rate : ppb < billion)
+    (inside : IsInWindow n p q observed.reading) where
+  change_of_error : (from to : ℤ) (a : Moment) → IsInWindow n from to a.reading → DriftsWithinByReading ppb a observed →
+      error_change a observed ≤ widening ppb (unsigned_abs (farthest from to p q)) * n
+  change_of_error from to a place drift =
+      let d : ℕ = unsigned_abs (farthest from to p q) in
+      change_within n (billion - ppb) ppb (error_change a observed) (unsigned_abs (observed.reading -ℤ a.reading)) d
+      (widening ppb d) (omega arith) drift (apart n from to p q a.reading observed.reading place inside)
+      (IsWidening-widening ppb d rate).not_below
+
+  pub error_no_less : (sample : Sample) (request : Moment) →
+      IsInWindow n sample.low_from sample.low_to request.reading → (sample.low *ℤ pos n) ≤ℤ error_of request →
+      DriftsWithinByReading ppb request observed → (moved_low sample p q ppb *ℤ pos n) ≤ℤ error_of observed
+  unfolding moved_low
+  error_no_less sample request place least drift =
+      let w : ℕ = widening ppb (unsigned_abs (farthest sample.low_from sample.low_to p q)) in
+      let parts = times-add sample.low (sample.low -ℤ pos w) (pos w) n (omega (arith, ints)) in
+      no_less ((sample.low -ℤ pos w) *ℤ pos n) (sample.low *ℤ pos n) (error_of request) (error_of observed) (w * n)
+      parts least
+      (change_of_error sample.low_from sample.low_to request place drift)
+
+  pub error_no_more : (sample : Sample) (reply : Moment) →
+      IsInWindow n sample.high_from sample.high_to reply.reading → error_of reply ≤ℤ (sample.high *ℤ pos n) →
+      DriftsWithinByReading ppb reply observed → error_of observed ≤ℤ (moved_high sample p q ppb *ℤ pos n)
+  unfolding moved_high
+  error_no_more sample reply place most drift =
+      let w : ℕ = widening ppb (unsigned_abs (farthest sample.high_from sample.high_to p q)) in
+      let parts = times-add (sample.high +ℤ pos w) sample.high (pos w) n refl in
+      no_more ((sample.high +ℤ pos w) *ℤ pos n) (sample.high *ℤ pos n) (error_of reply) (error_of observed) (w * n)
+      parts most
+      (change_of_error sample.high_from sample.high_to reply place drift)

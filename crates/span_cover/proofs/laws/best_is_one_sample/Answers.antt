@@ -1,0 +1,5 @@
+use Rattle.span_cover.proofs.BestLemmas.{IsFirstBest-one}
+use Rattle.span_cover.proofs.laws.best_is_one_sample.Goals as goal
+
+pub returns : goal.returns
+returns c = IsFirstBest-one

@@ -1,0 +1,92 @@
+//! The best samples of a server.
+ghost use Rattle.std.specs.Prelude.{◌≡◌, ◌≤◌, length, All, IsNone, IfSome, ◌↔◌};
+ghost use Rattle.sample_interval.specs.Sample.{IsLawfulSample};
+ghost use Rattle.span_cover.specs.Piece.{IsPiece};
+ghost use Rattle.span_cover.specs.Best.{best_of, first_best_of, merit, better};
+ghost use Rattle.span_cover.specs.Best.{IsBestLow, IsBestHigh, HasNoSample};
+
+use crate::piece::{lowered, raised};
+use sample_interval::kinds::Sample;
+
+/// Which end of a sample is asked for.
+#[derive(Clone, Copy)]
+pub enum End {
+    Low,
+    High,
+}
+
+/// The numbers of the samples of a server that make its interval over the piece `p` to `q`
+/// narrowest: the one with the greatest moved low and the one with the least moved high, the least
+/// number where several agree. None where the server has no sample.
+///
+/// `p` and `q` are Unix ticks, from 0 to below 2^64. The rate is up to 500,000,000 parts in 10^9,
+/// and the samples are at most 1,000,000.
+pub fn best(samples: &[Sample], server: u8, p: i128, q: i128, drift_ppb: u32) -> Option<(u32, u32)>
+    requires samples { All IsLawfulSample samples.now }
+    requires few { length samples.now ≤ 1_000_000 }
+    requires piece { IsPiece p q }
+    requires rate { drift_ppb ≤ 500_000_000 }
+    ensures exact { result ≡ best_of samples.now server p q drift_ppb }
+    ensures none { IsNone result ↔ HasNoSample samples.now server }
+    ensures low { IfSome result (λ chosen. IsBestLow samples.now server p q drift_ppb chosen.0) }
+    ensures high { IfSome result (λ chosen. IsBestHigh samples.now server p q drift_ppb chosen.1) }
+{
+    let low = first_best(samples, server, End::Low, p, q, drift_ppb)?;
+    let high = first_best(samples, server, End::High, p, q, drift_ppb)?;
+    Some((low, high))
+}
+
+// The first of the server's samples with the greatest merit.
+fn first_best(
+    samples: &[Sample],
+    server: u8,
+    end: End,
+    p: i128,
+    q: i128,
+    drift_ppb: u32,
+) -> Option<u32>
+    requires samples { All IsLawfulSample samples.now }
+    requires few { length samples.now ≤ 1_000_000 }
+    requires piece { IsPiece p q }
+    requires rate { drift_ppb ≤ 500_000_000 }
+    ensures { result ≡ first_best_of (λ s. merit end s p q drift_ppb) samples.now server }
+{
+    let mut best: Option<(u32, i128)> = None;
+    // From the last sample to the first, so that the first of those that agree is left.
+    for number in (0..samples.len()).rev() {
+        let sample = samples[number];
+        if sample.server == server {
+            best = better_of(number as u32, merit_of(&sample, end, p, q, drift_ppb), best);
+        }
+    }
+    best.map(|(number, _)| number)
+}
+
+// How good the sample is for this end: more is narrower.
+fn merit_of(sample: &Sample, end: End, p: i128, q: i128, drift_ppb: u32) -> i128
+    requires sample { IsLawfulSample sample.now }
+    requires piece { IsPiece p q }
+    requires rate { drift_ppb ≤ 500_000_000 }
+    ensures { result ≡ merit end sample.now p q drift_ppb }
+{
+    match end {
+        End::Low => lowered(sample, p, q, drift_ppb),
+        End::High => -raised(sample, p, q, drift_ppb),
+    }
+}
+
+// A sample, unless a later one has more merit.
+fn better_of(number: u32, merit: i128, later: Option<(u32, i128)>) -> Option<(u32, i128)>
+    ensures { result ≡ better number merit later }
+{
+    match later {
+        Some((_, more)) => {
+            if merit < more {
+                later
+            } else {
+                Some((number, merit))
+            }
+        }
+        None => Some((number, merit)),
+    }
+}

@@ -1,0 +1,45 @@
+//! What holds of the definitions. A law is a function that does nothing: its contract is the law,
+//! for every number.
+ghost use Rattle.std.specs.Prelude.{◌≡◌, List, ℕ, ◌<◌, ◌≤◌, ℤ, pos, ◌-ℤ◌, ◌*ℤ◌, ◌≤ℤ◌, unsigned_abs};
+ghost use Rattle.intersection.specs.Fraction.{HoldsFraction};
+ghost use Rattle.sample_interval.specs.declared.kinds.Sample.{Sample};
+ghost use Rattle.sample_interval.specs.Moment.{Moment, error_of, DriftsWithinByReading, IsInWindow};
+ghost use Rattle.sample_interval.specs.Widening.{billion};
+ghost use Rattle.span_cover.specs.Best.{IsFirstBest};
+ghost use Rattle.span_cover.specs.Piece.{farthest, moved_low, moved_high, piece_interval_of};
+
+/// At a reading inside the piece, the client's error lies in the piece's interval, where its clock
+/// drifts within the rate and the two samples bound the error at their own moments.
+pub fn error_lies_in_the_interval_of_the_piece()
+    ensures { (n ppb : ℕ) (low high : Sample) (p q : ℤ) (request reply observed : Moment) →
+        ppb < billion → IsInWindow n p q observed.reading →
+        IsInWindow n low.low_from low.low_to request.reading →
+        (low.low *ℤ pos n) ≤ℤ error_of request → DriftsWithinByReading ppb request observed →
+        IsInWindow n high.high_from high.high_to reply.reading →
+        error_of reply ≤ℤ (high.high *ℤ pos n) → DriftsWithinByReading ppb reply observed →
+        HoldsFraction (piece_interval_of low high p q ppb) (error_of observed) n }
+{}
+
+/// A piece inside another has a narrower interval from the same samples.
+pub fn piece_inside_another_is_narrower()
+    ensures low { (ppb : ℕ) (sample : Sample) (p q inner outer : ℤ) →
+        ppb < billion → sample.low_from ≤ℤ sample.low_to →
+        p ≤ℤ inner → inner ≤ℤ outer → outer ≤ℤ q →
+        moved_low sample p q ppb ≤ℤ moved_low sample inner outer ppb }
+    ensures high { (ppb : ℕ) (sample : Sample) (p q inner outer : ℤ) →
+        ppb < billion → sample.high_from ≤ℤ sample.high_to →
+        p ≤ℤ inner → inner ≤ℤ outer → outer ≤ℤ q →
+        moved_high sample inner outer ppb ≤ℤ moved_high sample p q ppb }
+{}
+
+/// No other sample is the first of a server's samples that has the most merit.
+pub fn best_is_one_sample()
+    ensures { (merit : Sample → ℤ) (samples : List Sample) (server j k : ℕ) →
+        IsFirstBest merit samples server j → IsFirstBest merit samples server k → j ≡ k }
+{}
+
+/// No reading of a piece is further from one of a place than the greatest distance.
+pub fn no_reading_is_farther()
+    ensures { (from to p q place reading : ℤ) → from ≤ℤ place → place ≤ℤ to → p ≤ℤ reading →
+        reading ≤ℤ q → pos (unsigned_abs (reading -ℤ place)) ≤ℤ farthest from to p q }
+{}
