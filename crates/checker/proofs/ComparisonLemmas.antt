@@ -1,0 +1,186 @@
+-- How verdicts compare, where fewer points are admissible.
+use Rattle.std.proofs.Common.{◌≡◌, ℕ, ◌+◌, ◌<◌, ◌≤◌, ℤ, pos, neg_ℤ, ◌≤ℤ◌, Bool, true, false, cond, ◌&&◌, ◌||◌, int_lt, int_le, nat_lt, ◌⊎◌, inl, inr, ⊎_elim, List, [], ◌∷◌, length, Option, Some, None, Result, Ok, Err, refl, sym, ap, ◌∙◌, subst, arith}
+use Rattle.std.specs.List.{AllZip}
+use Rattle.std.specs.Ordering.{int_eq}
+use Rattle.std.proofs.lemmas.Int.{ints}
+use Rattle.std.proofs.lemmas.Bool.{cond-true, cond-false}
+use Rattle.certificate.specs.Certificate.{PieceData, CertificateData}
+use Rattle.claim_file.specs.Claim.{ClaimData}
+use Rattle.intersection.specs.Hull.{IsAdmissible, IsHull, hull_of}
+use Rattle.intersection.specs.declared.kinds.Interval.{Interval}
+use Rattle.intersection.specs.declared.kinds.Hull.{Hull}
+use Rattle.intersection.specs.declared.kinds.Hull.TheVariants.{Unbounded, Empty, Bounded}
+use Rattle.intersection.proofs.EndPointLemmas.{IsHull-hull_of}
+use Rattle.sample_interval.specs.declared.kinds.Sample.{Sample}
+use Rattle.checker.specs.Comparison.{IsYesOr, IsContradiction}
+use Rattle.checker.specs.Piece.{group_intervals, piece_hull}
+use Rattle.checker.specs.Verdict.{parts_after, hull_fault, parts_fault, piece_fault, verdict_after, verdict_from, verdict_of}
+use Rattle.checker.specs.declared.part.Part.{Part}
+use Rattle.checker.specs.declared.stretch.Stretch.{Stretch}
+use Rattle.checker.specs.declared.verdict.Verdict.{Verdict}
+use Rattle.checker.specs.declared.verdict.Verdict.TheVariants.{Yes, No}
+use Rattle.checker.specs.declared.verdict.Why.{Why}
+use Rattle.checker.specs.declared.verdict.Why.TheVariants.{Cut, Contradiction, Exceeds, Uncovered}
+use Rattle.checker.proofs.PartLemmas.{by_test}
+use Rattle.checker.proofs.VerdictLemmas.{yes_step}
+
+-- no fault, or such a one
+abbrev pub FaultIs : (Why → Type 0) → Option Why → Type 0
+FaultIs P fault = (fault ≡ None) ⊎ ((why : Why) × (fault ≡ Some why) × P why)
+
+-- ---- verdicts, piece by piece
+
+module _ (samples : List Sample) (claim other : ClaimData) (P : Why → Type 0) where
+  -- where a piece shows that the error is within the bound, so does another one, or it fails for such a reason
+  pub record Follows (piece next : PieceData) : Type 0 where
+    pub upto : piece.upto ≡ next.upto
+    pub fault : (begin : ℤ) → piece_fault samples claim begin piece ≡ None
+        → FaultIs P (piece_fault samples other begin next)
+
+  fails_here : (k : ℕ) (fault : Option Why) (rest : Verdict) → FaultIs P fault
+      → IsYesOr P rest → IsYesOr P (verdict_after fault k rest)
+  fails_here k fault rest is later = ⊎_elim
+      (λ none. rw none later)
+      (λ found. inr (k, found.0, (ap (λ (f : Option Why). verdict_after f k rest) found.1), found.2)) is
+
+  pub verdict_follows : claim.last ≡ other.last → (k : ℕ) (begin : ℤ) (pieces next : List PieceData)
+      → AllZip Follows pieces next → verdict_from samples claim k begin pieces ≡ Yes
+      → IsYesOr P (verdict_from samples other k begin next)
+  verdict_follows last k begin [] [] zip e =
+      inl (ap (λ (z : ℤ). cond (nat_lt 0 k && int_eq begin z) Yes (No k Uncovered)) (sym last) ∙ e)
+  verdict_follows last k begin [] (q ∷ next) zip e = absurd zip
+  verdict_follows last k begin (p ∷ pieces) [] zip e = absurd zip
+  verdict_follows last k begin (p ∷ pieces) (q ∷ next) zip e =
+      let step = yes_step samples claim k (piece_fault samples claim begin p) _ e in
+      let rest = verdict_follows last (k + 1) (pos p.upto) pieces next zip.1 step.1 in
+      let rest' : IsYesOr P (verdict_from samples other (k + 1) (pos q.upto) next) =
+      subst (λ (n : ℕ). IsYesOr P (verdict_from samples other (k + 1) (pos n) next)) zip.0.upto rest in
+      fails_here k (piece_fault samples other begin q) _ (zip.0.fault begin step.0) rest'
+
+  pub all_follow : ((piece : PieceData) → Follows piece piece) → (pieces : List PieceData)
+      → AllZip Follows pieces pieces
+  all_follow each [] = tt
+  all_follow each (p ∷ pieces) = (each p, all_follow each pieces)
+
+  -- a piece follows where what its entries say does
+  not_cut : (cut : Bool) (fault next : Option Why) → cond cut (Some Cut) fault ≡ None
+      → (fault ≡ None → FaultIs P next) → FaultIs P (cond cut (Some Cut) next)
+  not_cut true fault next e follows = absurd cc
+  not_cut false fault next e follows = follows e
+
+  pub piece_follows : claim.last ≡ other.last → (piece next : PieceData) → piece.upto ≡ next.upto
+      → ((stretch : Stretch)
+      → parts_fault claim (parts_after samples stretch claim.drift_ppb [] piece.entries) ≡ None
+      → FaultIs P (parts_fault other (parts_after samples stretch other.drift_ppb [] next.entries)))
+      → Follows piece next
+  piece_follows last piece next upto says = record {
+    upto = upto;
+    fault = λ begin e.
+        let stretch : Stretch = record { begin = begin; end = pos piece.upto } in
+        let same = not_cut (int_lt (pos piece.upto) begin || int_lt claim.last (pos piece.upto)) _ _ e (says stretch) in
+        let moved : FaultIs P (cond (int_lt (pos piece.upto) begin || int_lt other.last (pos piece.upto)) (Some Cut)
+        (parts_fault other (parts_after samples stretch other.drift_ppb [] next.entries))) =
+        subst (λ (z : ℤ). FaultIs P (cond (int_lt (pos piece.upto) begin || int_lt z (pos piece.upto)) (Some Cut)
+        (parts_fault other (parts_after samples stretch other.drift_ppb [] next.entries)))) last same in
+        subst (λ (n : ℕ). FaultIs P (piece_fault samples other begin (record next { upto = n }))) upto moved;
+  }
+
+-- ---- hulls
+
+within_test : (bound lo hi : ℤ) → neg_ℤ bound ≤ℤ lo → hi ≤ℤ bound → (int_le (neg_ℤ bound) lo && int_le hi bound) ≡ true
+within_test bound lo hi above below = grind (arith, ints)
+
+within_ends : (bound lo hi : ℤ) → (int_le (neg_ℤ bound) lo && int_le hi bound) ≡ true
+    → (neg_ℤ bound ≤ℤ lo) × (hi ≤ℤ bound)
+within_ends bound lo hi h = (grind (arith, ints), grind (arith, ints))
+
+ends_within : (bound lo hi : ℤ) → hull_fault bound (Bounded lo hi) ≡ None → (neg_ℤ bound ≤ℤ lo) × (hi ≤ℤ bound)
+ends_within bound lo hi e = by_test (int_le (neg_ℤ bound) lo && int_le hi bound)
+    (λ passes. within_ends bound lo hi passes)
+    (λ fails. absurd (
+    let no : Some Exceeds ≡ None =
+    sym (cond-false (int_le (neg_ℤ bound) lo && int_le hi bound) None (Some Exceeds) fails) ∙ e in
+    cc))
+
+passes_hull : (bound lo hi : ℤ) → neg_ℤ bound ≤ℤ lo → hi ≤ℤ bound → hull_fault bound (Bounded lo hi) ≡ None
+passes_hull bound lo hi above below =
+    cond-true (int_le (neg_ℤ bound) lo && int_le hi bound) None (Some Exceeds) (within_test bound lo hi above below)
+
+module _ (bound wider : ℤ) (list other : List Interval) (f g : ℕ) (no_less : bound ≤ℤ wider)
+    (fewer : (point : ℤ) → IsAdmissible other g point → IsAdmissible list f point)
+    (longer : f < length list → g < length other) where
+  nested_hull : (hull next : Hull) → IsHull list f hull → IsHull other g next → hull_fault bound hull ≡ None
+      → FaultIs IsContradiction (hull_fault wider next)
+  nested_hull Unbounded next is is' e = absurd cc
+  nested_hull Empty next is is' e = absurd cc
+  nested_hull (Bounded lo hi) Unbounded is is' e = absurd (let more = longer is.0 in omega arith)
+  nested_hull (Bounded lo hi) Empty is is' e = inr (Contradiction, refl, refl)
+  nested_hull (Bounded lo hi) (Bounded lo' hi') is is' e =
+      let ends = ends_within bound lo hi e in
+      let least = is.1.1 lo' (fewer lo' is'.1.0) in
+      let greatest = is.2.1 hi' (fewer hi' is'.2.0) in
+      let above = ends.0 in
+      let below = ends.1 in
+      inl (passes_hull wider lo' hi' (omega (arith, ints)) (omega (arith, ints)))
+
+  pub hull_follows : hull_fault bound (hull_of list f) ≡ None
+      → FaultIs IsContradiction (hull_fault wider (hull_of other g))
+  hull_follows e = nested_hull (hull_of list f) (hull_of other g) (IsHull-hull_of list f) (IsHull-hull_of other g) e
+
+-- ---- a wider bound, and fewer false groups
+
+no_fault : {P : Type 0} (why : Why) → Some why ≡ None → P
+no_fault why e = absurd cc
+
+parts_narrow : (claim other : ClaimData) (said : Result (List Part) Why) → claim.bound ≤ℤ other.bound
+    → claim.groups ≡ other.groups → other.false_max ≤ claim.false_max → parts_fault claim said ≡ None
+    → FaultIs IsContradiction (parts_fault other said)
+parts_narrow claim other (Err why) bound groups few e = absurd cc
+parts_narrow claim other (Ok parts) bound groups few e =
+    subst (λ (gs : List ℕ). FaultIs IsContradiction (hull_fault other.bound (piece_hull gs other.false_max parts)))
+    groups
+    (hull_follows claim.bound other.bound (group_intervals claim.groups parts) (group_intervals claim.groups parts)
+    claim.false_max other.false_max bound (λ point some. omega arith) (λ some. omega arith) e)
+
+pub fewer_false : (samples : List Sample) (claim : ClaimData) (g : ℕ) (certificate : CertificateData)
+    → g ≤ claim.false_max → verdict_of samples claim certificate ≡ Yes
+    → IsYesOr IsContradiction (verdict_of samples (record claim { false_max = g }) certificate)
+fewer_false samples claim g certificate few e =
+    let other : ClaimData = record claim { false_max = g } in
+    verdict_follows samples claim other IsContradiction refl 0 claim.first certificate.pieces certificate.pieces
+    (all_follow samples claim other IsContradiction
+    (λ piece. piece_follows samples claim other IsContradiction refl piece piece refl
+    (λ stretch passes. parts_narrow claim other _ (omega (arith, ints)) refl few passes))
+    certificate.pieces)
+    e
+
+-- a hull that lies in one bound lies in a wider one
+wider_hull : (bound wider : ℤ) (hull : Hull) → bound ≤ℤ wider → hull_fault bound hull ≡ None
+    → hull_fault wider hull ≡ None
+wider_hull bound wider Unbounded le e = absurd cc
+wider_hull bound wider Empty le e = absurd cc
+wider_hull bound wider (Bounded lo hi) le e =
+    let ends = ends_within bound lo hi e in
+    let above = ends.0 in
+    let below = ends.1 in
+    passes_hull wider lo hi (omega (arith, ints)) (omega (arith, ints))
+
+wider_parts : (claim : ClaimData) (wider : ℤ) (said : Result (List Part) Why) → claim.bound ≤ℤ wider
+    → parts_fault claim said ≡ None → parts_fault (record claim { bound = wider }) said ≡ None
+wider_parts claim wider (Err why) le e = absurd cc
+wider_parts claim wider (Ok parts) le e =
+    wider_hull claim.bound wider (piece_hull claim.groups claim.false_max parts) le e
+
+pub wider_bound : (samples : List Sample) (claim : ClaimData) (wider : ℤ) (certificate : CertificateData)
+    → claim.bound ≤ℤ wider → verdict_of samples claim certificate ≡ Yes
+    → verdict_of samples (record claim { bound = wider }) certificate ≡ Yes
+wider_bound samples claim wider certificate le e =
+    let other : ClaimData = record claim { bound = wider } in
+    let never : Why → Type 0 = λ why. ⊥ in
+    ⊎_elim (λ is. is) (λ found. absurd found.3)
+    (verdict_follows samples claim other never refl 0 claim.first certificate.pieces certificate.pieces
+    (all_follow samples claim other never
+    (λ piece. piece_follows samples claim other never refl piece piece refl
+    (λ stretch passes. inl (wider_parts claim wider _ le passes)))
+    certificate.pieces)
+    e)

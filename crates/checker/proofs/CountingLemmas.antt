@@ -1,0 +1,130 @@
+-- Of the groups that have an entry, only those that hold a false server can leave the error out.
+use Rattle.std.proofs.Common.{◌≡◌, ℕ, zero, suc, ◌+◌, ◌<◌, ◌≤◌, ℤ, pos, ◌*ℤ◌, ◌≤ℤ◌, Bool, true, false, cond, ◌&&◌, ◌||◌, int_lt, List, [], ◌∷◌, ◌++◌, length, Option, Some, None, IfSome, count_by, refl, subst, arith}
+use Rattle.std.specs.Prelude.{All, slice_index, ◌==◌, fold, filter, filter_map}
+use Rattle.std.specs.List.{list_any, cons_option, AllByRecursion}
+use Rattle.std.proofs.lemmas.Int.{ints}
+use Rattle.std.proofs.lemmas.Bool.{cond-true, cond-false}
+use Rattle.std.proofs.lemmas.Bool.Decides.{nat_tests}
+use Rattle.std.proofs.lemmas.List.Sums.{sum_by-cons}
+use Rattle.std.proofs.lemmas.List.Elements.{recursion_from_All}
+use Rattle.intersection.specs.Fraction.{HoldsFraction, leaves_fraction_out, IsAdmissibleFraction}
+use Rattle.intersection.specs.declared.kinds.Interval.{Interval}
+use Rattle.checker.specs.Groups.{numbers_below, holds_false, false_group_count}
+use Rattle.checker.specs.Piece.{meet_of, narrowed, group_interval, group_intervals}
+use Rattle.checker.specs.declared.part.Part.{Part}
+use Rattle.checker.proofs.PartLemmas.{by_test}
+
+-- ---- tests that fail
+
+either_fails : (a b : Bool) → (a || b) ≡ false → (a ≡ false) × (b ≡ false)
+either_fails true b h = absurd cc
+either_fails false b h = (refl, h)
+
+second_fails : (a b : Bool) → (a && b) ≡ false → a ≡ true → b ≡ false
+second_fails true b h yes' = h
+second_fails false b h yes' = absurd cc
+
+none_of : (p : ℕ → Bool) (xs : List ℕ) (k : ℕ) → list_any p (xs ++ k ∷ []) ≡ false
+    → (list_any p xs ≡ false) × (p k ≡ false)
+none_of p [] k h = let parts = either_fails (p k) false h in (refl, parts.0)
+none_of p (x ∷ xs) k h =
+    let parts = either_fails (p x) (list_any p (xs ++ k ∷ [])) h in
+    let rest = none_of p xs k parts.1 in
+    (rw (parts.0, rest.0) refl, rest.1)
+
+-- a test that no number below n passes
+fails_below : (p : ℕ → Bool) (n k : ℕ) → k < n → list_any p (numbers_below n) ≡ false → p k ≡ false
+fails_below p zero k below h = absurd (omega arith)
+fails_below p (suc n) k below h =
+    let parts = none_of p (numbers_below n) n h in
+    by_test (k == n)
+    (λ same. let is : n ≡ k = grind (arith, nat_tests) in subst (λ (m : ℕ). p m ≡ false) is parts.1)
+    (λ other. fails_below p n k (grind (arith, nat_tests)) parts.0)
+
+-- ---- the meet of intervals that hold a fraction
+
+meet_holds : (a b : Interval) (e : ℤ) (n : ℕ) → HoldsFraction a e n → HoldsFraction b e n
+    → HoldsFraction (meet_of a b) e n
+meet_holds a b e n in_a in_b = (
+  elim (int_lt b.lo a.lo) as (λ t. (cond t a.lo b.lo *ℤ pos n) ≤ℤ e) [ true ↦ in_a.0 | false ↦ in_b.0 ],
+  elim (int_lt b.hi a.hi) as (λ t. e ≤ℤ (cond t b.hi a.hi *ℤ pos n)) [ true ↦ in_b.1 | false ↦ in_a.1 ],
+)
+
+module _ (e : ℤ) (n : ℕ) where
+  -- what is common so far holds the fraction, where there is anything
+  narrowed_holds : (common : Option Interval) (part : Part) → IfSome common (λ i. HoldsFraction i e n)
+      → HoldsFraction part.interval e n → IfSome (narrowed common part) (λ i. HoldsFraction i e n)
+  narrowed_holds None part so_far holds = holds
+  narrowed_holds (Some common) part so_far holds = meet_holds common part.interval e n so_far holds
+
+  common_holds : (test : Part → Bool) (common : Option Interval) (parts : List Part)
+      → IfSome common (λ i. HoldsFraction i e n)
+      → AllByRecursion (λ part. test part ≡ true → HoldsFraction part.interval e n) parts
+      → IfSome (fold narrowed common (filter test parts)) (λ i. HoldsFraction i e n)
+  common_holds test common [] so_far all = so_far
+  common_holds test common (part ∷ parts) so_far all = by_test (test part)
+      (λ passes. rw (cond-true (test part) (part ∷ filter test parts) (filter test parts) passes)
+      (common_holds test (narrowed common part) parts (narrowed_holds common part so_far (all.0 passes)) all.1))
+      (λ fails. rw (cond-false (test part) (part ∷ filter test parts) (filter test parts) fails)
+      (common_holds test common parts so_far all.1))
+
+  -- a fraction that an interval holds isn't left out by it
+  not_left_out : (interval : Interval) → HoldsFraction interval e n → leaves_fraction_out interval e n ≡ false
+  not_left_out interval holds = grind (arith, ints)
+
+-- ---- counts
+
+counted : (r : ℕ → Bool) (g : ℕ) (gs : List ℕ) → count_by r (g ∷ gs) ≡ cond (r g) 1 0 + count_by r gs
+counted r g gs = sum_by-cons _ g gs
+
+module _ (h : ℕ → Option Interval) (q : Interval → Bool) (r : ℕ → Bool)
+    (only : (g : ℕ) (i : Interval) → h g ≡ Some i → r g ≡ false → q i ≡ false) where
+  -- where what h gives passes the test q only if its number passes r, no more are counted
+  one_counted : (g : ℕ) (gs : List ℕ) (o : Option Interval) (b : Bool) → h g ≡ o → r g ≡ b
+      → count_by q (filter_map h gs) ≤ count_by r gs
+      → count_by q (cons_option o (filter_map h gs)) ≤ cond b 1 0 + count_by r gs
+  one_counted g gs None b is t rest = omega arith
+  one_counted g gs (Some i) true is t rest = by_test (q i)
+      (λ passes. omega
+      (arith, sum_by-cons (λ j. cond (q j) 1 0) i (filter_map h gs), cond-true {A = ℕ} (q i) 1 0 passes))
+      (λ fails. omega
+      (arith, sum_by-cons (λ j. cond (q j) 1 0) i (filter_map h gs), cond-false {A = ℕ} (q i) 1 0 fails))
+  one_counted g gs (Some i) false is t rest =
+      omega (arith, sum_by-cons (λ j. cond (q j) 1 0) i (filter_map h gs), cond-false {A = ℕ} (q i) 1 0 (only g i is t))
+
+  counts_le : (gs : List ℕ) → count_by q (filter_map h gs) ≤ count_by r gs
+  counts_le [] = omega arith
+  counts_le (g ∷ gs) =
+      let step = one_counted g gs (h g) (r g) refl refl (counts_le gs) in
+      rw (counted r g gs) step
+
+-- ---- groups
+
+module _ (groups : List ℕ) (parts : List Part) (is_false : ℕ → Bool) (e : ℤ) (n : ℕ)
+    (listed : All (λ part. part.server < length groups) parts)
+    (hold : All (λ part. is_false part.server ≡ false → HoldsFraction part.interval e n) parts) where
+  -- where a group holds no false server, the intervals of its parts hold the error
+  parts_of_true_group : (g : ℕ) → holds_false groups is_false g ≡ false
+      → All (λ part. (slice_index groups part.server == g) ≡ true → HoldsFraction part.interval e n) parts
+  parts_of_true_group g none k d below in_it =
+      hold k d below
+      (second_fails _ _ (fails_below _ (length groups) _ (listed k d below) none) in_it)
+
+  group_holds : (g : ℕ) (interval : Interval) → group_interval groups parts g ≡ Some interval
+      → holds_false groups is_false g ≡ false → leaves_fraction_out interval e n ≡ false
+  group_holds g interval is none =
+      let all = recursion_from_All
+      (λ part. (slice_index groups part.server == g) ≡ true → HoldsFraction part.interval e n) parts
+      (parts_of_true_group g none) in
+      let common = common_holds e n (λ part. slice_index groups part.server == g) None parts tt all in
+      let holds : HoldsFraction interval e n =
+      subst (λ (o : Option Interval). IfSome o (λ i. HoldsFraction i e n)) is common in
+      not_left_out e n interval holds
+
+  -- so at most as many groups leave the error out as hold a false server
+  pub few_leave_it_out : (f : ℕ) → false_group_count groups is_false ≤ f
+      → IsAdmissibleFraction (group_intervals groups parts) f e n
+  few_leave_it_out f few =
+      let counts = counts_le (group_interval groups parts) (λ interval. leaves_fraction_out interval e n)
+      (holds_false groups is_false) group_holds (numbers_below (length groups)) in
+      omega arith

@@ -1,0 +1,28 @@
+-- Pieces that share their ends hold every reading of the span, fractions of a tick too.
+use Rattle.std.proofs.Common.{ℕ, suc, ◌<◌, ℤ, pos, ◌*ℤ◌, ◌<ℤ◌, ◌≤ℤ◌, List, [], ◌∷◌, length, arith}
+use Rattle.std.proofs.lemmas.Int.{ints, by_lt_z}
+use Rattle.certificate.specs.Certificate.{PieceData}
+use Rattle.sample_interval.specs.Moment.{IsInWindow}
+use Rattle.checker.specs.Stretch.{stretches_from, last_end, SomeHoldsReading}
+use Rattle.checker.specs.declared.stretch.Stretch.{Stretch}
+
+later : (n : ℕ) (reading : ℤ) (first : Stretch) (stretches : List Stretch) → SomeHoldsReading stretches n reading
+    → SomeHoldsReading (first ∷ stretches) n reading
+later n reading first stretches (k, holds) = (suc k, holds)
+
+le_from_lt : (a b : ℤ) → a <ℤ b → a ≤ℤ b
+le_from_lt a b h = omega (arith, ints)
+
+pub covered : (n : ℕ) (reading begin : ℤ) (piece : PieceData) (pieces : List PieceData)
+    → IsInWindow n begin (last_end begin (piece ∷ pieces)) reading
+    → SomeHoldsReading (stretches_from begin (piece ∷ pieces)) n reading
+covered n reading begin piece [] inside = (0, inside)
+covered n reading begin piece (next ∷ pieces) inside = by_lt_z (pos piece.upto *ℤ pos n) reading
+    (λ after. later n reading _ (stretches_from (pos piece.upto) (next ∷ pieces))
+    (covered n reading (pos piece.upto) next pieces (le_from_lt (pos piece.upto *ℤ pos n) reading after, inside.1)))
+    (λ before. (0, (inside.0, before)))
+
+pub all_covered : (n : ℕ) (reading begin : ℤ) (pieces : List PieceData) → 0 < length pieces
+    → IsInWindow n begin (last_end begin pieces) reading → SomeHoldsReading (stretches_from begin pieces) n reading
+all_covered n reading begin [] some inside = absurd (omega arith)
+all_covered n reading begin (piece ∷ pieces) some inside = covered n reading begin piece pieces inside

@@ -1,0 +1,10 @@
+pub mod PartLemmas
+pub mod GroupLemmas
+pub mod CountingLemmas
+pub mod CoverLemmas
+pub mod VerdictLemmas
+pub mod TraceabilityLemmas
+pub mod CourseLemmas
+pub mod ComparisonLemmas
+pub mod EntryLemmas
+pub mod OrderLemmas

@@ -1,0 +1,11 @@
+use Rattle.std.proofs.Common.{◌≡◌, ◌≤◌, length}
+use Rattle.std.specs.Prelude.{filter_map}
+use Rattle.checker.specs.Groups.{numbers_below}
+use Rattle.checker.specs.Piece.{group_interval}
+use Rattle.checker.proofs.group.group_intervals.Given as goal
+
+abbrev pub invariant-loop-group : goal.invariant-loop-group
+invariant-loop-group l = record {
+  so_far : l.intervals.items ≡ filter_map (group_interval l.groups l.parts) (numbers_below l.group);
+  fits : length l.intervals.items ≤ l.group;
+}

@@ -1,0 +1,5 @@
+use Rattle.checker.proofs.ComparisonLemmas.{fewer_false}
+use Rattle.checker.proofs.laws.fewer_false_groups_narrow.Goals as goal
+
+pub returns : goal.returns
+returns c = fewer_false

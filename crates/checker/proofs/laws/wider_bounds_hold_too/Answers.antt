@@ -1,0 +1,5 @@
+use Rattle.checker.proofs.ComparisonLemmas.{wider_bound}
+use Rattle.checker.proofs.laws.wider_bounds_hold_too.Goals as goal
+
+pub returns : goal.returns
+returns c = wider_bound

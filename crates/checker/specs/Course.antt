@@ -1,0 +1,88 @@
+-- What may have happened while a capture was made.
+--
+-- A capture shows requests and replies. It doesn't show at which true times they left and arrived,
+-- how far the client's clock was off then, or which servers are false. A course of events fills all
+-- that in. A claim that is to be traced to a capture has to hold in every course that fits it.
+--
+-- The four moments of an exchange are those of RFC 5905, section 8: the client sends (T1), the
+-- server receives (T2), the server sends (T3), the client receives (T4). The client's clock is read
+-- at the first and the last, and once more when it is observed. Error is reading less true time.
+--
+-- Moments needn't fall on whole ticks of 2^-32 s: all times and readings are whole numbers of 1/N
+-- tick, counted from 1970, for a fineness N. What holds for every fineness holds for every
+-- fraction. Nothing orders the moments of different exchanges.
+use Rattle.std.specs.Prelude.{◌≡◌, ℕ, ◌<◌, ◌≤◌, ℤ, ◌≤ℤ◌, ◌⊎◌, Bool, false, List, length, Some, slice_get}
+use Rattle.claim_file.specs.Claim.{ClaimData}
+use Rattle.pairing.specs.declared.exchange.Exchange.{Exchange}
+use Rattle.sample_interval.specs.Moment.{Moment, DriftsWithin, IsInWindow, IsWithinDistance}
+use Rattle.sample_interval.specs.Window.{request_start, request_end, reply_start, reply_end}
+use Rattle.checker.specs.Groups.{false_group_count}
+
+-- a course of events; exchanges and servers go by their numbers
+pub record Course : Type 0 where
+  -- how many parts a tick has
+  pub fineness : ℕ
+  -- which servers are false: what they say may be anything
+  pub is_false : ℕ → Bool
+  -- of each exchange, the client's moment at the request: true time and the clock's reading
+  pub request : ℕ → Moment
+  -- the true time at which the server received the request
+  pub received : ℕ → ℤ
+  -- the true time at which it sent the reply
+  pub sent : ℕ → ℤ
+  -- the client's moment at the reply
+  pub reply : ℕ → Moment
+  -- a moment at which the client's clock is observed
+  pub observation : Moment
+
+-- a moment of the client: the observation, or one of the requests and replies of so many exchanges
+abbrev pub IsClientMoment : Course → ℕ → Moment → Type 0
+IsClientMoment course count moment =
+    (moment ≡ course.observation)
+    ⊎ ((k : ℕ) × (k < count) × ((moment ≡ course.request k) ⊎ (moment ≡ course.reply k)))
+
+-- this holds of each exchange and its number
+abbrev pub OfEach : List Exchange → (ℕ → Exchange → Type 0) → Type 0
+OfEach xs P = (k : ℕ) (x : Exchange) → slice_get xs k ≡ Some x → P k x
+
+-- this holds of each exchange with a server that isn't false, and its number
+abbrev pub OfEachTrue : List Exchange → Course → (ℕ → Exchange → Type 0) → Type 0
+OfEachTrue xs course P =
+    (k : ℕ) (x : Exchange) → slice_get xs k ≡ Some x → course.is_false x.server ≡ false → P k x
+
+-- what the clock read at an exchange's request and reply lies in the windows of their records
+abbrev pub ReadsInWindows : ℤ → Course → ℕ → Exchange → Type 0
+ReadsInWindows allowance course k x =
+    IsInWindow course.fineness (request_start x allowance) (request_end x allowance)
+    (course.request k).reading
+    × IsInWindow course.fineness (reply_start x allowance) (reply_end x allowance)
+    (course.reply k).reading
+
+-- the four moments of an exchange come one after another
+abbrev pub ComesInOrder : Course → ℕ → Exchange → Type 0
+ComesInOrder course k x =
+    ((course.request k).time ≤ℤ course.received k)
+    × (course.received k ≤ℤ course.sent k)
+    × (course.sent k ≤ℤ (course.reply k).time)
+
+-- the server's two timestamps are within its announced root distance of true time
+abbrev pub KeepsRootDistance : Course → ℕ → Exchange → Type 0
+KeepsRootDistance course k x =
+    IsWithinDistance course.fineness x.t2 x.distance (course.received k)
+    × IsWithinDistance course.fineness x.t3 x.distance (course.sent k)
+
+-- the course is one that may have given these exchanges, under what the claim grants
+pub record Fits (claim : ClaimData) (xs : List Exchange) (course : Course) : Type 0 where
+  -- a tick has at least one part
+  pub some_fineness : 0 < course.fineness
+  -- at most `false_max` groups hold a false server
+  pub few_false : false_group_count claim.groups course.is_false ≤ claim.false_max
+  -- each record time is right within its unit and the claimed allowance
+  pub in_windows : OfEach xs (ReadsInWindows claim.reading course)
+  -- between any two moments of the client its error changes by the claimed rate at most
+  pub drift : (a b : Moment) → IsClientMoment course (length xs) a
+      → IsClientMoment course (length xs) b → DriftsWithin claim.drift_ppb a b
+  -- a server that isn't false gets a request after it left and answers before the reply arrives
+  pub ordered : OfEachTrue xs course (ComesInOrder course)
+  -- and its timestamps are as near to true time as it announces
+  pub within_root_distance : OfEachTrue xs course (KeepsRootDistance course)

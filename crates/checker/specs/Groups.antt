@@ -1,0 +1,22 @@
+-- Groups of servers.
+--
+-- Servers that hang on one reference are one group: where one is false, all may be. A claim gives
+-- each server the number of its group. Without groups each server is a group of its own.
+use Rattle.std.specs.Prelude.{ℕ, zero, suc, ◌==◌, Bool, ◌&&◌, List, [], ◌∷◌, ◌++◌, length, slice_index, count_by}
+use Rattle.std.specs.List.{list_any}
+
+-- the numbers from 0 on, so many of them
+abbrev pub numbers_below : ℕ → List ℕ
+numbers_below zero = []
+numbers_below (suc n) = numbers_below n ++ n ∷ []
+
+-- one of the servers of this group is false
+abbrev pub holds_false : List ℕ → (ℕ → Bool) → ℕ → Bool
+holds_false groups is_false group =
+    list_any (λ server. (slice_index groups server == group) && is_false server)
+    (numbers_below (length groups))
+
+-- how many groups hold a false server
+abbrev pub false_group_count : List ℕ → (ℕ → Bool) → ℕ
+false_group_count groups is_false =
+    count_by (holds_false groups is_false) (numbers_below (length groups))

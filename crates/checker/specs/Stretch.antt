@@ -1,0 +1,29 @@
+-- The parts of a span that the pieces of a certificate are.
+--
+-- A piece begins where the piece before it ends, and both hold that reading.
+use Rattle.std.specs.Prelude.{ℕ, ℤ, pos, List, [], ◌∷◌, slice_get, IsSomeAnd}
+use Rattle.certificate.specs.Certificate.{PieceData, CertificateData}
+use Rattle.claim_file.specs.Claim.{ClaimData}
+use Rattle.sample_interval.specs.Moment.{IsInWindow}
+use Rattle.checker.specs.declared.stretch.Stretch.{Stretch}
+
+-- the stretches of pieces of which the first begins here
+abbrev pub stretches_from : ℤ → List PieceData → List Stretch
+stretches_from begin [] = []
+stretches_from begin (piece ∷ pieces) =
+    record { begin = begin; end = pos piece.upto } ∷ stretches_from (pos piece.upto) pieces
+
+-- the stretches of a certificate's pieces in the span of a claim
+abbrev pub stretches_of : ClaimData → CertificateData → List Stretch
+stretches_of claim certificate = stretches_from claim.first certificate.pieces
+
+-- where the last of them ends
+abbrev pub last_end : ℤ → List PieceData → ℤ
+last_end begin [] = begin
+last_end begin (piece ∷ pieces) = last_end (pos piece.upto) pieces
+
+-- one of the stretches holds a reading, which is a whole number of 1/n tick
+abbrev pub SomeHoldsReading : List Stretch → ℕ → ℤ → Type 0
+SomeHoldsReading stretches n reading =
+    (k : ℕ) × IsSomeAnd (slice_get stretches k)
+    (λ stretch. IsInWindow n stretch.begin stretch.end reading)

@@ -1,0 +1,77 @@
+-- Courses that fit, so that what is said of all courses that fit isn't said of none.
+--
+-- One server answers one request. The claim is for one moment, with no drift and no allowance. The
+-- capture's clock counts microseconds, so the windows of its records are 4,295 and 4,296 ticks
+-- long.
+use Rattle.std.specs.Prelude.{ℕ, ◌+◌, ◌*◌, ◌^◌, ℤ, pos, ◌-ℤ◌, false, [], ◌∷◌}
+use Rattle.claim_file.specs.Claim.{ClaimData}
+use Rattle.pairing.specs.declared.exchange.Exchange.{Exchange}
+use Rattle.sample_interval.specs.Moment.{Moment}
+use Rattle.checker.specs.Course.{Course}
+
+-- 2001-09-09T01:46:40Z in Unix ticks
+abbrev pub worked_second : ℕ
+worked_second = 1000000000 * 2 ^ 32
+
+-- the claim: the clock was within 10,001,001 ns of UTC at that second
+abbrev pub worked_claim : ClaimData
+worked_claim = record {
+  client = 192 ∷ 0 ∷ 2 ∷ 10 ∷ [];
+  servers = (192 ∷ 0 ∷ 2 ∷ 1 ∷ []) ∷ [];
+  groups = 0 ∷ [];
+  false_max = 0;
+  first = pos worked_second;
+  last = pos worked_second;
+  bound = pos 42953972;
+  bound_ns = 10001001;
+  drift_ppb = 0;
+  reading = pos 0;
+  reading_ns = 0;
+}
+
+-- the exchange: sent at that second, answered 10 ms later, received 20 ms later
+abbrev pub worked_exchange : Exchange
+worked_exchange = record {
+  server = 0;
+  request = 0;
+  reply = 1;
+  t1_low = pos worked_second;
+  t1_high = pos (worked_second + 4295);
+  t4_low = pos (worked_second + 85899345);
+  t4_high = pos (worked_second + 85903641);
+  t2 = pos (worked_second + 42949673);
+  t3 = pos (worked_second + 42949673);
+  distance = pos 1;
+  leap = 0;
+  stratum = 1;
+  reference = 71 ∷ 80 ∷ 83 ∷ 0 ∷ [];
+}
+
+-- the clock reads so much, and is off by so much
+abbrev pub moment_with : ℤ → ℤ → Moment
+moment_with error reading = record { time = reading -ℤ error; reading = reading }
+
+-- a course of whole ticks with no false server, in which the clock is off by one error throughout;
+-- it reads the second itself at the request and when it is observed
+abbrev pub worked_course : ℤ → ℤ → Course
+worked_course error reply_reading = record {
+  fineness = 1;
+  is_false = λ server. false;
+  request = λ k. moment_with error (pos worked_second);
+  received = λ k. pos (worked_second + 42949673);
+  sent = λ k. pos (worked_second + 42949673);
+  reply = λ k. moment_with error reply_reading;
+  observation = moment_with error (pos worked_second);
+}
+
+-- a course in which nothing happens but that the clock is observed
+abbrev pub lone_course : ℕ → Moment → Course
+lone_course n observation = record {
+  fineness = n;
+  is_false = λ server. false;
+  request = λ k. observation;
+  received = λ k. observation.time;
+  sent = λ k. observation.time;
+  reply = λ k. observation;
+  observation = observation;
+}

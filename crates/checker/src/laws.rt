@@ -1,0 +1,129 @@
+//! What holds of verdicts, and why. A law is a function that does nothing: its contract is the law,
+//! for every number.
+//!
+//! The argument goes up the house: drift on the clock itself and the error at one exchange
+//! (`sample_interval`), the error throughout a piece (`span_cover`), how many groups leave it out
+//! (here), the hull of whole points that holds it (`intersection`), the pieces that hold every
+//! reading of the span (here).
+ghost use Rattle.std.specs.Prelude.{◌≡◌, ℕ, ◌+◌, ◌<◌, ◌≤◌, ℤ, pos, ◌≤ℤ◌, ◌⊎◌, Bool, false};
+ghost use Rattle.std.specs.Prelude.{List, [], ◌∷◌, length, All, slice_get, IsSomeAnd};
+ghost use Rattle.certificate.specs.Certificate.{PieceData, CertificateData};
+ghost use Rattle.claim_file.specs.Claim.{ClaimData, IsLawful};
+ghost use Rattle.intersection.specs.Fraction.{HoldsFraction, IsAdmissibleFraction};
+ghost use Rattle.sample_interval.specs.Moment.{Moment, IsInWindow};
+ghost use Rattle.sample_interval.specs.declared.kinds.Sample.{Sample};
+ghost use Rattle.checker.specs.Comparison.{IsYesOr, IsContradiction, IsRefusedEntry, HasOneMoreEntry};
+ghost use Rattle.checker.specs.Comparison.{HasEntriesSwapped};
+ghost use Rattle.checker.specs.Course.{Fits};
+ghost use Rattle.checker.specs.Groups.{false_group_count};
+ghost use Rattle.checker.specs.Piece.{group_intervals};
+ghost use Rattle.checker.specs.Stretch.{stretches_from, stretches_of, last_end, SomeHoldsReading};
+ghost use Rattle.checker.specs.Traceability.{IsTraceable, IsContradicted};
+ghost use Rattle.checker.specs.Verdict.{verdict_of};
+ghost use Rattle.checker.specs.WorkedCourse.{worked_second, worked_claim, worked_exchange};
+ghost use Rattle.checker.specs.WorkedCourse.{worked_course, lone_course};
+ghost use Rattle.checker.specs.declared.part.Part.{Part};
+ghost use Rattle.checker.specs.declared.verdict.Verdict.TheVariants.{Yes, No};
+ghost use Rattle.checker.specs.declared.verdict.Why.TheVariants.{Contradiction};
+
+use intersection::laws::{every_list_has_a_hull, whole_points_are_fine_enough};
+use sample_interval::laws::{
+    drift_shows_on_the_clock_itself, error_at_the_reply_is_no_more, error_at_the_request_is_no_less,
+};
+use span_cover::laws::error_lies_in_the_interval_of_the_piece;
+
+/// Where the interval of each server that isn't false holds the error, at most as many groups leave
+/// it out as hold a false server.
+pub fn few_groups_leave_the_error_out()
+    ensures { (groups : List ℕ) (parts : List Part) (is_false : ℕ → Bool) (e : ℤ) (n f : ℕ) →
+        All (λ part. part.server < length groups) parts →
+        All (λ part. is_false part.server ≡ false → HoldsFraction part.interval e n) parts →
+        false_group_count groups is_false ≤ f →
+        IsAdmissibleFraction (group_intervals groups parts) f e n }
+{}
+
+/// Pieces that share their ends hold every reading of the span, fractions of a tick too.
+pub fn pieces_hold_every_reading()
+    ensures { (n : ℕ) (reading begin : ℤ) (pieces : List PieceData) → 0 < length pieces →
+        IsInWindow n begin (last_end begin pieces) reading →
+        SomeHoldsReading (stretches_from begin pieces) n reading }
+{}
+
+/// Where the verdict is yes, the error of the client's clock is within the claimed bound at every
+/// moment whose reading lies in the claimed span, in every course of events that fits exchanges
+/// with these samples: with any delays that aren't negative, any drift within the claimed rate, and
+/// at most the claimed number of groups that hold a false server. Where a piece contradicts itself,
+/// no such course has a reading there.
+pub fn verdicts_are_traceable()
+    ensures yes { (claim : ClaimData) (samples : List Sample) (certificate : CertificateData) →
+        IsLawful claim → All (λ sample. sample.server < length claim.servers) samples →
+        verdict_of samples claim certificate ≡ Yes → IsTraceable claim samples }
+    ensures contradiction { (claim : ClaimData) (samples : List Sample) (certificate : CertificateData) →
+        IsLawful claim → All (λ sample. sample.server < length claim.servers) samples →
+        (k : ℕ) → verdict_of samples claim certificate ≡ No k Contradiction →
+        IsSomeAnd (slice_get (stretches_of claim certificate) k)
+        (IsContradicted claim samples) }
+{
+    drift_shows_on_the_clock_itself();
+    error_at_the_request_is_no_less();
+    error_at_the_reply_is_no_more();
+    error_lies_in_the_interval_of_the_piece();
+    whole_points_are_fine_enough();
+    every_list_has_a_hull();
+}
+
+/// Courses that fit are not made up: one server's exchange, of which the capture says that the
+/// clock was off by at most 42,953,969 ticks, fits a course with no error at all, and one with an
+/// error of 42,953,968 ticks.
+pub fn worked_courses_fit()
+    ensures exact { Fits worked_claim (worked_exchange ∷ [])
+        (worked_course (pos 0) (pos (worked_second + 85899345))) }
+    ensures far { Fits worked_claim (worked_exchange ∷ [])
+        (worked_course (pos 42953968) (pos (worked_second + 85903641))) }
+{}
+
+/// Without exchanges the clock may be off by anything, so that no certificate is accepted.
+pub fn nothing_is_known_without_exchanges()
+    ensures any_error { (claim : ClaimData) (n : ℕ) (observation : Moment) → 0 < n →
+        Fits claim [] (lone_course n observation) }
+    ensures refused { (claim : ClaimData) (certificate : CertificateData) → IsLawful claim →
+        ¬ (verdict_of [] claim certificate ≡ Yes) }
+{
+    verdicts_are_traceable();
+}
+
+/// Yes for a bound is yes for every wider bound.
+pub fn wider_bounds_hold_too()
+    ensures { (samples : List Sample) (claim : ClaimData) (wider : ℤ)
+        (certificate : CertificateData) → claim.bound ≤ℤ wider →
+        verdict_of samples claim certificate ≡ Yes →
+        verdict_of samples (record claim { bound = wider }) certificate ≡ Yes }
+{}
+
+/// Where fewer groups may be false, a yes stays yes or becomes a contradiction: the bound is no
+/// wider.
+pub fn fewer_false_groups_narrow()
+    ensures { (samples : List Sample) (claim : ClaimData) (fewer : ℕ)
+        (certificate : CertificateData) → fewer ≤ claim.false_max →
+        verdict_of samples claim certificate ≡ Yes →
+        IsYesOr IsContradiction
+        (verdict_of samples (record claim { false_max = fewer }) certificate) }
+{}
+
+/// One more entry in a piece, unless it is refused by itself, leaves a yes as it is or makes it a
+/// contradiction. So an auditor who distrusts a piece may add entries without fear of a wider
+/// bound.
+pub fn more_entries_narrow()
+    ensures { (samples : List Sample) (claim : ClaimData) (certificate more : CertificateData) →
+        HasOneMoreEntry certificate more → verdict_of samples claim certificate ≡ Yes →
+        IsYesOr (λ why. IsContradiction why ⊎ IsRefusedEntry why)
+        (verdict_of samples claim more) }
+{}
+
+/// Two neighbouring entries of a piece may change places, and so its entries may stand in any
+/// order.
+pub fn order_of_entries_changes_no_yes()
+    ensures { (samples : List Sample) (claim : ClaimData) (certificate swapped : CertificateData) →
+        HasEntriesSwapped certificate swapped → verdict_of samples claim certificate ≡ Yes →
+        verdict_of samples claim swapped ≡ Yes }
+{}

@@ -1,0 +1,54 @@
+//! One piece of a certificate.
+
+ghost use Rattle.std.specs.Prelude.{◌≡◌, ◌≤◌, ◌<◌, ◌^◌, pos, ◌≤ℤ◌, ◌<ℤ◌, length, All};
+ghost use Rattle.claim_file.specs.Claim.{IsLawful, data_of};
+ghost use Rattle.certificate.specs.Certificate.{piece_data};
+ghost use Rattle.sample_interval.specs.Sample.{IsLawfulSample};
+ghost use Rattle.checker.specs.Verdict.{hull_fault, piece_fault};
+
+use crate::entry::parts;
+use crate::group::piece_hull;
+use crate::stretch::Stretch;
+use crate::verdict::Why;
+use certificate::Piece;
+use claim_file::Claim;
+use intersection::kinds::Hull;
+use sample_interval::kinds::Sample;
+
+/// The first test that fails in a piece that begins at `begin`.
+pub fn piece_fault(samples: &[Sample], claim: &Claim, begin: i128, piece: &Piece) -> Option<Why>
+    requires claim { IsLawful (data_of claim.now) }
+    requires samples { All IsLawfulSample samples.now }
+    requires listed { All (λ sample. sample.server < length claim.now.servers.items) samples.now }
+    requires from_1970 { pos 0 ≤ℤ begin }
+    requires in_range { begin <ℤ pos (2 ^ 64) }
+    ensures { result ≡ piece_fault samples.now (data_of claim.now) begin (piece_data piece.now) }
+{
+    let stretch = Stretch {
+        begin,
+        end: i128::from(piece.upto),
+    };
+    if stretch.end < begin || claim.last < stretch.end {
+        return Some(Why::Cut);
+    }
+    match parts(samples, stretch, claim.drift_ppb, &piece.entries) {
+        Ok(parts) => hull_fault(
+            piece_hull(parts.as_slice(), claim.groups.as_slice(), claim.false_max),
+            claim.bound,
+        ),
+        Err(why) => Some(why),
+    }
+}
+
+/// Why a hull doesn't show that the error is within a bound.
+fn hull_fault(hull: Hull, bound: i128) -> Option<Why>
+    requires { pos 0 ≤ℤ bound }
+    ensures { result ≡ hull_fault bound hull }
+{
+    match hull {
+        Hull::Unbounded => Some(Why::Unbounded),
+        Hull::Empty => Some(Why::Contradiction),
+        Hull::Bounded { lo, hi } if -bound <= lo && hi <= bound => None,
+        Hull::Bounded { .. } => Some(Why::Exceeds),
+    }
+}

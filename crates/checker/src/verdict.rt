@@ -1,0 +1,128 @@
+//! The verdict on a certificate, and why it is no.
+
+ghost use Rattle.std.specs.Prelude.{◌≡◌, ℕ, ◌≤◌, ◌<◌, length, All, vec_len, slice_get, IsSomeAnd};
+ghost use Rattle.claim_file.specs.Claim.{IsLawful, data_of as claim_data};
+ghost use Rattle.certificate.specs.Certificate.{data_of as certificate_data, max_pieces};
+ghost use Rattle.sample_interval.specs.Sample.{IsLawfulSample};
+ghost use Rattle.checker.specs.Stretch.{stretches_of};
+ghost use Rattle.checker.specs.Traceability.{IsTraceable, IsContradicted};
+ghost use Rattle.checker.specs.Verdict.{verdict_of};
+
+use crate::laws::verdicts_are_traceable;
+use crate::piece::piece_fault;
+use certificate::Certificate;
+use claim_file::Claim;
+use sample_interval::kinds::Sample;
+
+/// Why a certificate isn't accepted: the first test that fails in its piece.
+#[derive(Clone, Copy, Debug, PartialEq, Eq)]
+pub enum Why {
+    /// The piece ends before it begins, or after the span.
+    Cut,
+    /// An entry names a sample that there is not.
+    BadSample,
+    /// An entry names samples of two servers.
+    MixedServers,
+    /// Two entries of the piece are of one server.
+    RepeatedServer,
+    /// Every group with an entry may be false.
+    Unbounded,
+    /// No error is left that the samples allow: no course of events fits them.
+    Contradiction,
+    /// The error may lie outside the bound.
+    Exceeds,
+    /// The pieces end before the span does, or there is none.
+    Uncovered,
+}
+
+impl Why {
+    ghost use Rattle.checker.specs.Verdict.{why_number};
+
+    /// The number of the reason, from 1 to 8 in the order of declaration.
+    pub fn number(&self) -> u8
+        ensures { result ≡ why_number self.now }
+    {
+        match self {
+            Why::Cut => 1,
+            Why::BadSample => 2,
+            Why::MixedServers => 3,
+            Why::RepeatedServer => 4,
+            Why::Unbounded => 5,
+            Why::Contradiction => 6,
+            Why::Exceeds => 7,
+            Why::Uncovered => 8,
+        }
+    }
+}
+
+/// What a certificate shows of a claim.
+#[derive(Clone, Copy, Debug, PartialEq, Eq)]
+pub enum Verdict {
+    /// The clock stayed within the bound, in every course of events that fits the exchanges.
+    Yes,
+    /// The certificate doesn't show it.
+    No {
+        /// The number of the piece, from 0; of `Uncovered`, how many pieces there are.
+        piece: u32,
+        /// The first test that failed there.
+        why: Why,
+    },
+}
+
+/// Whether the certificate shows that the error of the client's clock is within the claimed bound
+/// at every reading of the claimed span. It takes no memory.
+///
+/// The samples are those of all exchanges, in their order, and the certificate has at most 100,000
+/// pieces. For each the tests come in this order: `Cut`; entry by entry `BadSample`,
+/// `MixedServers`, `RepeatedServer`; `Unbounded`, `Contradiction`, `Exceeds`. After the last piece
+/// comes `Uncovered`.
+pub fn check(samples: &[Sample], claim: &Claim, certificate: &Certificate) -> Verdict
+    requires claim { IsLawful (claim_data claim.now) }
+    requires samples { All IsLawfulSample samples.now }
+    requires listed { All (λ sample. sample.server < length claim.now.servers.items) samples.now }
+    requires pieces { vec_len certificate.now.pieces ≤ max_pieces }
+    ensures exact { result ≡
+        verdict_of samples.now (claim_data claim.now) (certificate_data certificate.now) }
+
+    // In every course of events that fits exchanges with these samples, the error is within the
+    // bound over the span.
+    ensures yes { result ≡ Verdict.Yes → IsTraceable (claim_data claim.now) samples.now }
+
+    // In no such course does the clock show a reading of the piece.
+    ensures contradiction { (k : ℕ) → result ≡ Verdict.No k Why.Contradiction →
+        IsSomeAnd (slice_get
+        (stretches_of (claim_data claim.now) (certificate_data certificate.now)) k)
+        (IsContradicted (claim_data claim.now) samples.now) }
+{
+    verdicts_are_traceable();
+    first_fault(samples, claim, certificate)
+}
+
+// The verdict, piece by piece.
+fn first_fault(samples: &[Sample], claim: &Claim, certificate: &Certificate) -> Verdict
+    requires claim { IsLawful (claim_data claim.now) }
+    requires samples { All IsLawfulSample samples.now }
+    requires listed { All (λ sample. sample.server < length claim.now.servers.items) samples.now }
+    requires pieces { vec_len certificate.now.pieces ≤ max_pieces }
+    ensures { result ≡
+        verdict_of samples.now (claim_data claim.now) (certificate_data certificate.now) }
+{
+    let mut begin = claim.first;
+    for (number, piece) in certificate.pieces.iter().enumerate() {
+        if let Some(why) = piece_fault(samples, claim, begin, piece) {
+            return Verdict::No {
+                piece: number as u32,
+                why,
+            };
+        }
+        begin = i128::from(piece.upto);
+    }
+    let count = certificate.pieces.len();
+    if count > 0 && begin == claim.last {
+        return Verdict::Yes;
+    }
+    Verdict::No {
+        piece: count as u32,
+        why: Why::Uncovered,
+    }
+}
