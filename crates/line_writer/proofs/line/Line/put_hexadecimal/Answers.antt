@@ -1,0 +1,30 @@
+use Rattle.std.proofs.Common.{◌≡◌, ◌+◌, ◌-◌, length, get_or, ◌∙◌, arith, refl}
+use Rattle.std.proofs.lemmas.List.{drop_all}
+use Rattle.line_writer.proofs.Pairs.{pair_at, encode_at, encode_none}
+use Rattle.line_writer.proofs.line.Line.put_hexadecimal.Goals as goal
+
+pub loop-left-init : goal.loop-left-init
+loop-left-init c = record {
+  within = omega arith;
+  text = rw (drop_all (length c.args.bytes.now) c.args.bytes.now (omega arith), encode_none) refl;
+  grown = omega arith;
+}
+
+pub loop-left-preserved : goal.loop-left-preserved
+loop-left-preserved c =
+    let k = c.loop-left.left - 1 in
+    let next : k + 1 ≡ c.loop-left.left = omega arith in
+    let pair = pair_at (get_or c.args.bytes.now k 0) (c.type_inv.bytes k).fits in
+    record {
+      within = omega arith;
+      text = c.put_byte-in-loop-left.ensures.text ∙ rw (
+        c.put_byte.ensures.text,
+        c.loop-left.invariant.text,
+        c.from-pair.ensures,
+        pair.0,
+        pair.1,
+        encode_at c.args.bytes.now k (omega arith),
+        next,
+      ) refl;
+      grown = omega arith;
+    }

@@ -1,0 +1,23 @@
+-- Pieces of text that the lines of every command are joined from. A text is the list of its bytes.
+use Rattle.std.specs.Prelude.{ℕ, ◌-◌, List, ◌++◌, length, codes, slice_index, replicate}
+use Rattle.std.specs.Fmt.{decimal}
+use Rattle.hex.specs.Hex.{encode_lower}
+use Rattle.byteorder.specs.Endian.{big_bytes}
+
+-- a decimal number with zeros before it, so that it has `width` digits or more
+abbrev pub zero_padded : ℕ → ℕ → List ℕ
+zero_padded width n = replicate (width - length (decimal n)) 48 ++ decimal n
+
+-- the four numbers of an IPv4 address, joined by dots
+abbrev pub address : List ℕ → List ℕ
+address bytes =
+    decimal (slice_index bytes 0) ++ codes "." ++ decimal (slice_index bytes 1) ++
+    codes "." ++ decimal (slice_index bytes 2) ++ codes "." ++ decimal (slice_index bytes 3)
+
+-- an address and a port
+abbrev pub endpoint : List ℕ → ℕ → List ℕ
+endpoint bytes port = address bytes ++ codes ":" ++ decimal port
+
+-- a number of so many bytes in hexadecimal, two digits a byte, the highest first
+abbrev pub hexadecimal : ℕ → ℕ → List ℕ
+hexadecimal width n = encode_lower (big_bytes width n)

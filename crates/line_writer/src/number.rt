@@ -1,0 +1,143 @@
+//! Numbers in decimal.
+
+ghost use Rattle.std.specs.Prelude.{◌≡◌, ℕ, ◌+◌, ◌^◌, ◌<◌, ◌≤◌, List, ◌++◌, length, max};
+ghost use Rattle.std.specs.Fmt.{decimal, signed_decimal};
+ghost use Rattle.line_writer.specs.Text.{zero_padded};
+
+use crate::line::{CAPACITY, Line};
+
+/// A number that a line may have, in decimal.
+pub trait Number: Copy {
+    /// Its digits, after a minus sign where it is below zero.
+    ghost text: { Self → List ℕ };
+
+    /// How many bytes the longest text has.
+    ghost most: { ℕ };
+
+    /// Writes the number.
+    fn put(self, line: &mut Line)
+        requires { length line.old + most ≤ CAPACITY }
+        ensures text { line.new ≡ text self ++ line.old }
+        ensures at_most { length line.new ≤ length line.old + most };
+}
+
+#[tactic(auto, using(crate::proofs::Digits::digits_of_8_bits))]
+impl Number for u8 {
+    ghost text = { decimal };
+
+    ghost most = { 3 };
+
+    #[inline]
+    fn put(self, line: &mut Line) {
+        line.put_digits(u64::from(self));
+    }
+}
+
+#[tactic(auto, using(crate::proofs::Digits::digits_of_16_bits))]
+impl Number for u16 {
+    ghost text = { decimal };
+
+    ghost most = { 5 };
+
+    #[inline]
+    fn put(self, line: &mut Line) {
+        line.put_digits(u64::from(self));
+    }
+}
+
+#[tactic(auto, using(crate::proofs::Digits::digits_of_32_bits))]
+impl Number for u32 {
+    ghost text = { decimal };
+
+    ghost most = { 10 };
+
+    #[inline]
+    fn put(self, line: &mut Line) {
+        line.put_digits(u64::from(self));
+    }
+}
+
+#[tactic(auto, using(crate::proofs::Digits::digits_of_64_bits))]
+impl Number for u64 {
+    ghost text = { decimal };
+
+    ghost most = { 20 };
+
+    #[inline]
+    fn put(self, line: &mut Line) {
+        line.put_digits(self);
+    }
+}
+
+#[tactic(auto, using(crate::proofs::Digits::digits_of_8_bits))]
+impl Number for i8 {
+    ghost text = { signed_decimal };
+
+    ghost most = { 4 };
+
+    #[inline]
+    fn put(self, line: &mut Line) {
+        line.put_digits(u64::from(self.unsigned_abs()));
+        if self < 0 {
+            line.put_byte(b'-');
+        }
+    }
+}
+
+#[tactic(auto, using(crate::proofs::Digits::digits_of_128_bits))]
+impl Number for i128 {
+    ghost text = { signed_decimal };
+
+    ghost most = { 40 };
+
+    #[inline]
+    fn put(self, line: &mut Line) {
+        put_wide(line, self.unsigned_abs());
+        if self < 0 {
+            line.put_byte(b'-');
+        }
+    }
+}
+
+#[tactic(auto, using(crate::proofs::Digits::digits_of_128_bits))]
+/// Writes the digits of a number: those past 64 bits one at a time.
+#[inline]
+fn put_wide(line: &mut Line, n: u128)
+    requires { length line.old + 39 ≤ CAPACITY }
+    ensures text { line.new ≡ decimal n ++ line.old }
+    ensures at_most { length line.new ≤ length line.old + 39 }
+{
+    let mut left = n;
+    while left > u128::from(u64::MAX) {
+        line.put_byte(b'0' + (left % 10) as u8);
+        left /= 10;
+    }
+    line.put_digits(left as u64);
+}
+
+impl Line {
+    /// Writes a number in decimal.
+    #[inline]
+    pub fn put_number<N: Number>(&mut self, n: N)
+        requires { length self.old + N.most ≤ CAPACITY }
+        ensures text { self.new ≡ N.text n ++ self.old }
+        ensures at_most { length self.new ≤ length self.old + N.most }
+    {
+        n.put(self);
+    }
+
+    /// Writes a number in decimal, with zeros before it where it has fewer than `width` digits.
+    #[inline]
+    pub fn put_zero_padded(&mut self, width: usize, n: u32)
+        requires { length self.old + max width 10 ≤ CAPACITY }
+        ensures text { self.new ≡ zero_padded width n ++ self.old }
+        ensures at_most { length self.new ≤ length self.old + max width 10 }
+    {
+        let before = self.len();
+        self.put_number(n);
+        let digits = self.len() - before;
+        for _ in 0..width.saturating_sub(digits) {
+            self.put_byte(b'0');
+        }
+    }
+}
