@@ -1,0 +1,3 @@
+pub mod Known
+pub mod OutputLemmas
+pub mod ClosingLemmas

@@ -1,0 +1,106 @@
+-- How texts go their way to a sink.
+use Rattle.std.proofs.Common.{◌≡◌, ◌∙◌, ◌++◌, ◌+◌, ℕ, List, [], ◌∷◌, Option, Ok, refl, sym, ap, subst}
+use Rattle.std.proofs.Common.{append_assoc, length, take, length-append, arith}
+use Rattle.std.proofs.lemmas.List.{append-nil}
+use Rattle.std.proofs.lemmas.List.Folds.{concat-append}
+use Rattle.std.proofs.Math.Seq.{take-append-add}
+use Rattle.std.proofs.KnownBytes.{Appends-nil, Appends-trans}
+use Rattle.std.specs.List.{concat}
+use Rattle.std.specs.Io.KnownBytes.{Appends}
+use Rattle.report.specs.declared.fault.RunFault.TheVariants.{Write}
+use Rattle.report.specs.Output.{OutputState, SinkState, HasPut, IsCut, StopsIn, Puts, IsReady, fresh_output, with_text}
+use Rattle.report.proofs.Known.{appends_same}
+
+-- at the start nothing was put
+pub put_nothing : (sink : SinkState) → HasPut sink.contents (fresh_output sink) []
+put_nothing sink = record {
+  gone = [];
+  kept = [];
+  parts = refl;
+  gathered = refl;
+  went = Appends-nil sink.contents;
+  counted = refl;
+}
+
+-- what has gone out and what is gathered
+both_parts : (before : Option (List ℕ)) (o : OutputState) (texts : List (List ℕ)) (p : HasPut before o texts) →
+    concat p.gone ++ o.gathered ≡ concat texts
+both_parts before o texts p = rw (p.gathered, p.parts) (sym (concat-append p.gone p.kept))
+
+-- a text is gathered
+put_gathered : (before : Option (List ℕ)) (o : OutputState) (texts : List (List ℕ)) (text : List ℕ) →
+    HasPut before o texts → HasPut before (with_text o text) (texts ++ text ∷ [])
+put_gathered before o texts text p = record {
+  gone = p.gone;
+  kept = p.kept ++ text ∷ [];
+  parts = rw p.parts (simp append_assoc);
+  gathered = rw p.gathered (sym (concat-append p.kept (text ∷ []) ∙ simp append-nil));
+  went = p.went;
+  counted = p.counted;
+}
+
+-- all that was gathered goes out
+pub put_flushed : (before : Option (List ℕ)) (old new : OutputState) (texts : List (List ℕ)) → HasPut before old texts →
+    Appends old.sink.contents new.sink.contents old.gathered → new.gathered ≡ [] →
+    new.sent ≡ old.sent + length old.gathered → HasPut before new (texts ++ [])
+put_flushed before old new texts p went empty count =
+    let all = both_parts before old texts p in
+    let gone = Appends-trans before old.sink.contents new.sink.contents (concat p.gone) old.gathered p.went went in
+    record {
+      gone = texts;
+      kept = [];
+      parts = refl;
+      gathered = empty;
+      went = appends_same before new.sink.contents (concat p.gone ++ old.gathered) (concat texts) all gone;
+      counted = count ∙ (rw p.counted (sym (length-append (concat p.gone) old.gathered)) ∙ ap length all);
+    }
+
+-- the sink fails in what was gathered
+pub put_stopped : (before : Option (List ℕ)) (old : OutputState) (after : Option (List ℕ)) (texts : List (List ℕ))
+    (k : ℕ) → HasPut before old texts → IsCut old.gathered old.sink.contents after k →
+    StopsIn texts before after (Write (old.sent + k))
+put_stopped before old after texts k p cut =
+    let all = both_parts before old texts p in
+    let sent : take (old.sent + k) (concat p.gone ++ old.gathered) ≡ concat p.gone ++ take k old.gathered =
+    ap (λ n. take (n + k) (concat p.gone ++ old.gathered)) p.counted ∙ take-append-add (concat p.gone) old.gathered k in
+    let first = sym (ap (take (old.sent + k)) (sym all) ∙ sent) in
+    let gone = Appends-trans before old.sink.contents after (concat p.gone) (take k old.gathered) p.went cut.went in
+    record {
+      sent = old.sent + k;
+      fault_is = refl;
+      cut = record {
+        short = omega (arith, ap length all, length-append (concat p.gone) old.gathered, p.counted, cut.short);
+        went = appends_same before after _ _ first gone;
+      };
+    }
+
+-- a text is gathered after a call that put nothing
+pub puts_one : (old mid : OutputState) (text : List ℕ) → Puts old mid [] (Ok tt) →
+    Puts old (with_text mid text) (text ∷ []) (Ok tt)
+puts_one old mid text p = record {
+  texts = λ before texts put.
+      let here = subst (λ (l : List (List ℕ)). HasPut before mid l) (append-nil texts) (p.texts before texts put) in
+      put_gathered before mid texts text here;
+  fault = tt;
+  count = omega (arith, p.count, length-append mid.gathered text, length-append text []);
+  is_open = p.is_open;
+  faults = p.faults;
+}
+
+-- a call that does nothing puts nothing
+pub puts_none : (o : OutputState) → IsReady o → Puts o o [] (Ok tt)
+puts_none o ready = record {
+  texts = λ before texts put. subst (λ (l : List (List ℕ)). HasPut before o l) (sym (append-nil texts)) put;
+  fault = tt;
+  count = omega arith;
+  is_open = ready.is_open;
+  faults = refl;
+}
+
+-- where nothing is gathered all has gone out
+pub put_all : (before : Option (List ℕ)) (now : OutputState) (texts : List (List ℕ)) → HasPut before now texts →
+    now.gathered ≡ [] → Appends before now.sink.contents (concat texts) × (now.sent ≡ length (concat texts))
+put_all before now texts p empty =
+    let last = append-nil (concat p.gone) in
+    let all = sym last ∙ (ap (λ t. concat p.gone ++ t) (sym empty) ∙ both_parts before now texts p) in
+    (appends_same before now.sink.contents (concat p.gone) (concat texts) all p.went, p.counted ∙ ap length all)

@@ -1,0 +1,56 @@
+-- How a run ends: what it has put by then, and what its sink has got in the end.
+use Rattle.std.specs.Prelude.{◌≡◌, ◌+◌, ℕ, List, [], ◌++◌, Option, false, Result, Err}
+use Rattle.std.specs.List.{concat}
+use Rattle.report.specs.declared.fault.Input.{Input}
+use Rattle.report.specs.declared.fault.Outcome.{Outcome}
+use Rattle.report.specs.declared.fault.RunFault.{RunFault}
+use Rattle.report.specs.declared.fault.RunFault.TheVariants.{Device, Write, Memory}
+use Rattle.report.specs.Output.{SinkState, OutputState, HasPut, IsCut, IsReady}
+use Rattle.report.specs.Reports.{Report, text_of, GetsText, CountsSink, StaysOrWrites, is_device}
+
+-- the whole of a report was put
+abbrev pub IsPut : Report → Option (List ℕ) → OutputState → Type 0
+IsPut report before now =
+    (texts : List (List ℕ)) × (concat texts ≡ text_of report) × HasPut before now texts
+
+-- What a run has put that comes to this answer, of the report that it's to give: all of it, but
+-- nothing where memory was refused and some first lines where a device failed. Where the sink
+-- failed it has got a part of it.
+abbrev pub HasRun : Report → Option (List ℕ) → OutputState → Result Outcome RunFault → Type 0
+HasRun report before now (Err Memory) = HasPut before now []
+HasRun report before now (Err (Device input)) =
+    (first others : List (List ℕ)) × (report.lines ≡ first ++ others) × HasPut before now first
+HasRun report before now (Err (Write sent)) = IsCut (text_of report) before now.sink.contents sent
+HasRun report before now answer =
+    (answer ≡ report.answer) × IsPut report before now
+
+-- A run that came to this answer may be ended: its sink is closed where it has failed, and else may
+-- be used further.
+abbrev pub CanClose : OutputState → Result Outcome RunFault → Type 0
+CanClose now (Err (Write sent)) = now.sink.is_open ≡ false
+CanClose now answer = IsReady now
+
+-- a fault of what an input says, after which its lines still go out: no device failed, and memory
+-- wasn't refused
+abbrev pub IsRefusal : RunFault → Type 0
+IsRefusal (Device input) = ⊥
+IsRefusal (Write sent) = ⊥
+IsRefusal Memory = ⊥
+IsRefusal _ = Unit {0}
+
+-- how often the sink has failed in a run that came to this answer
+abbrev pub stops_of : Result Outcome RunFault → ℕ
+stops_of (Err (Write sent)) = 1
+stops_of answer = 0
+
+-- What ending a run does: the sink gets the text of whatever report the run has come to the answer
+-- of, and is closed, and no input's device is asked.
+pub record Closes (old : OutputState) (after : SinkState)
+    (ran answer : Result Outcome RunFault) : Type 0 where
+  pub text : (report : Report) (before : Option (List ℕ)) → HasRun report before old ran →
+      GetsText report before after.contents answer
+  pub stays : StaysOrWrites ran answer
+  pub closed : after.is_open ≡ false
+  pub sink : (before : ℕ) → old.sink.faults ≡ before + stops_of ran →
+      CountsSink answer before after.faults
+  pub source : (input : Input) → is_device input answer ≡ is_device input ran

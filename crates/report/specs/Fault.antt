@@ -1,0 +1,38 @@
+-- The faults of a run: their numbers, and which of them a fault of the capture is.
+use Rattle.std.specs.Prelude.{ℕ}
+use Rattle.pcap_reader.specs.declared.fault.CaptureFault.{CaptureFault}
+use Rattle.pcap_reader.specs.declared.fault.CaptureFault.TheVariants as captures
+use Rattle.claim_file.specs.declared.fault.ClaimFault.{ClaimFault}
+use Rattle.claim_file.specs.declared.fault.ClaimFault.TheVariants as claims
+use Rattle.certificate.specs.declared.fault.CertificateFault.{CertificateFault}
+use Rattle.certificate.specs.declared.fault.CertificateFault.TheVariants as certificates
+use Rattle.report.specs.declared.fault.Input.TheVariants as inputs
+use Rattle.report.specs.declared.fault.RunFault.{RunFault}
+use Rattle.report.specs.declared.fault.RunFault.TheVariants.{Capture, Claim, Certificate, Exchanges, TooBig, Device, Write, Memory}
+
+-- each fault's number. The numbers between are kept for inputs that other commands read.
+abbrev pub number_of : RunFault → ℕ
+number_of (Capture fault) = 1
+number_of (Claim fault) = 2
+number_of (Certificate fault) = 3
+number_of Exchanges = 5
+number_of (TooBig input) = 7
+number_of (Device input) = 8
+number_of (Write sent) = 9
+number_of Memory = 10
+
+-- what a run answers where its capture has this fault
+abbrev pub run_fault_of : CaptureFault → RunFault
+run_fault_of captures.Read = Device inputs.Capture
+run_fault_of captures.Memory = Memory
+run_fault_of fault = Capture fault
+
+-- what a run answers where its claim has this fault
+abbrev pub claim_run_fault_of : ClaimFault → RunFault
+claim_run_fault_of claims.Memory = Memory
+claim_run_fault_of fault = Claim fault
+
+-- what a run answers where its certificate has this fault
+abbrev pub certificate_run_fault_of : CertificateFault → RunFault
+certificate_run_fault_of certificates.Memory = Memory
+certificate_run_fault_of fault = Certificate fault

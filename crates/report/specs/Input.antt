@@ -1,0 +1,24 @@
+-- What reading a whole input takes of its feed.
+use Rattle.std.specs.Prelude.{◌≡◌, ◌≤◌, ◌<◌, ℕ, List, length, Bool, true, false, Result, Ok, Err}
+use Rattle.report.specs.declared.fault.Input.{Input}
+use Rattle.report.specs.declared.fault.RunFault.{RunFault}
+use Rattle.report.specs.declared.fault.RunFault.TheVariants.{TooBig, Device, Memory}
+
+-- All bytes were read, no more than the limit, or the input is too big: it has more. That a device
+-- failed and that memory was refused say nothing of its bytes.
+abbrev pub ReadsWhole : List ℕ → ℕ → Result (List ℕ) RunFault → Type 0
+ReadsWhole bytes limit (Ok read) = (read ≡ bytes) × (length bytes ≤ limit)
+ReadsWhole bytes limit (Err (TooBig input)) = limit < length bytes
+ReadsWhole bytes limit (Err fault) = Unit {0}
+
+-- the faults of reading an input
+abbrev pub IsInputFault : Input → RunFault → Type 0
+IsInputFault which (TooBig input) = input ≡ which
+IsInputFault which (Device input) = input ≡ which
+IsInputFault which Memory = Unit {0}
+IsInputFault which _ = ⊥
+
+-- whether reading an input failed in its device
+abbrev pub read_failed : {X : Type 0} → Result X RunFault → Bool
+read_failed (Err (Device input)) = true
+read_failed result = false

@@ -1,0 +1,10 @@
+pub mod Fault
+pub mod Output
+pub mod State
+pub mod Reports
+pub mod Closing
+pub mod ExitStatus
+pub mod FaultText
+pub mod Input
+pub mod Publication
+pub mod Telling

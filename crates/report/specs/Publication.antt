@@ -1,0 +1,40 @@
+-- How a run ends that makes its whole text before it writes any.
+use Rattle.std.specs.Prelude.{◌≡◌, [], false, Result, Ok, Err}
+use Rattle.report.specs.declared.fault.Input.{Input}
+use Rattle.report.specs.declared.fault.Outcome.{Outcome}
+use Rattle.report.specs.declared.fault.RunFault.{RunFault}
+use Rattle.report.specs.declared.fault.RunFault.TheVariants.{Device, Write, Memory}
+use Rattle.report.specs.declared.publication.Made.{Made}
+use Rattle.report.specs.Output.{SinkState}
+use Rattle.report.specs.Reports.{Report, text_of, GetsText, CountsSink, StaysOrWrites, is_device}
+
+-- the answer of a run that comes to its end with this
+abbrev pub answer_of : Result Made RunFault → Result Outcome RunFault
+answer_of (Ok made) = Ok made.outcome
+answer_of (Err fault) = Err fault
+
+-- What was made is what the report calls for: its whole text and outcome, or its refusal, which has
+-- no text. That a device failed and that memory was refused say nothing of the report, and no run
+-- finds before its text is written that this failed.
+abbrev pub IsMadeFor : Report → Result Made RunFault → Type 0
+IsMadeFor report (Ok made) = (text_of report ≡ made.text.items) × (report.answer ≡ Ok made.outcome)
+IsMadeFor report (Err Memory) = Unit {0}
+IsMadeFor report (Err (Device input)) = Unit {0}
+IsMadeFor report (Err (Write sent)) = ⊥
+IsMadeFor report (Err fault) = (text_of report ≡ []) × (report.answer ≡ Err fault)
+
+-- Nothing was written before.
+abbrev pub IsUnwritten : Result Made RunFault → Type 0
+IsUnwritten (Err (Write sent)) = ⊥
+IsUnwritten made = Unit {0}
+
+-- What publishing does: the sink gets the text of whatever report was made, and is closed, and no
+-- input's device is asked.
+pub record Publishes (before after : SinkState) (made : Result Made RunFault)
+    (answer : Result Outcome RunFault) : Type 0 where
+  pub text : (report : Report) → IsMadeFor report made →
+      GetsText report before.contents after.contents answer
+  pub stays : StaysOrWrites (answer_of made) answer
+  pub closed : after.is_open ≡ false
+  pub sink : CountsSink answer before.faults after.faults
+  pub source : (input : Input) → is_device input answer ≡ is_device input (answer_of made)

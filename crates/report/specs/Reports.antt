@@ -1,0 +1,92 @@
+-- What every engine promises of its answer, of its sink and of its inputs.
+use Rattle.std.specs.Prelude.{◌≡◌, ◌≤◌, ◌⊎◌, ℕ, List, [], ◌++◌, length, take, Option, IfSome, Bool, true, false, Result, Ok, Err}
+use Rattle.std.specs.List.{concat}
+use Rattle.std.specs.Io.KnownBytes.{Appends, Keeps}
+use Rattle.byte_stream.specs.Fault.{CountsFault}
+use Rattle.report.specs.declared.fault.Input.{Input}
+use Rattle.report.specs.declared.fault.Input.TheVariants as inputs
+use Rattle.report.specs.declared.fault.Outcome.{Outcome}
+use Rattle.report.specs.declared.fault.RunFault.{RunFault}
+use Rattle.report.specs.declared.fault.RunFault.TheVariants.{Device, Write, Memory}
+use Rattle.report.specs.Output.{SinkState}
+
+-- What an engine is to write and to answer: lines that may go out while its inputs are read, then a
+-- text that goes out only after all of them.
+pub record Report : Type 0 where
+  pub lines : List (List ℕ)
+  pub closing : List ℕ
+  pub answer : Result Outcome RunFault
+
+-- the whole text of a report
+abbrev pub text_of : Report → List ℕ
+text_of report = concat report.lines ++ report.closing
+
+-- the report that is a whole text, with an outcome
+abbrev pub whole_text : List ℕ → Outcome → Report
+whole_text text outcome = record { lines = []; closing = text; answer = Ok outcome }
+
+-- The sink has got the first lines of the report, whole, and no more.
+abbrev pub GetsLines : Report → Option (List ℕ) → Option (List ℕ) → Type 0
+GetsLines report before after =
+    (first others : List (List ℕ)) × (report.lines ≡ first ++ others)
+    × Appends before after (concat first)
+
+-- What the sink has got at each answer: nothing where memory was refused, some first lines where a
+-- device failed, and at a failed write exactly as many bytes of the text as it says. Any other
+-- answer is the report's, and comes with the whole text.
+abbrev pub GetsText : Report → Option (List ℕ) → Option (List ℕ) → Result Outcome RunFault → Type 0
+GetsText report before after (Err Memory) = Keeps before after
+GetsText report before after (Err (Device input)) = GetsLines report before after
+GetsText report before after (Err (Write sent)) =
+    (sent ≤ length (text_of report)) × Appends before after (take sent (text_of report))
+GetsText report before after answer =
+    (answer ≡ report.answer) × Appends before after (text_of report)
+
+-- How the sink's faults are counted: one more where the answer is `Write`, and none where it's an
+-- outcome. At any other fault the sink may have failed as it was finished, which the answer doesn't
+-- tell.
+abbrev pub CountsSink : Result Outcome RunFault → ℕ → ℕ → Type 0
+CountsSink (Ok outcome) before after = CountsFault false before after
+CountsSink (Err (Write sent)) before after = CountsFault true before after
+CountsSink (Err fault) before after = (failed : Bool) × CountsFault failed before after
+
+-- The answer that a run came to stays, unless a write fails.
+abbrev pub StaysOrWrites : Result Outcome RunFault → Result Outcome RunFault → Type 0
+StaysOrWrites ran answer = (answer ≡ ran) ⊎ ((sent : ℕ) × (answer ≡ Err (Write sent)))
+
+-- whether two inputs are the same
+abbrev pub is_same : Input → Input → Bool
+is_same inputs.Claim inputs.Claim = true
+is_same inputs.Capture inputs.Capture = true
+is_same inputs.Certificate inputs.Certificate = true
+is_same _ _ = false
+
+-- whether the answer is that the device of this input failed
+abbrev pub is_device : Input → Result Outcome RunFault → Bool
+is_device which (Err (Device input)) = is_same input which
+is_device which answer = false
+
+-- the devices of a run at one moment: how often that of each input has failed, and the sink
+pub record Devices : Type 0 where
+  pub source : Input → ℕ
+  pub sink : SinkState
+
+-- the counts of a run whose only input is a capture
+abbrev pub only_capture : ℕ → Input → ℕ
+only_capture count inputs.Capture = count
+only_capture count _ = 0
+
+-- the counts of a run that has no input
+abbrev pub no_input : Input → ℕ
+no_input input = 0
+
+-- What an engine promises of its answer and of its devices, for the report that its inputs' bytes
+-- call for, where they are known. The sink is closed in the end: after the last byte it was
+-- finished, unless a push failed.
+pub record Reports (report : Option Report) (before after : Devices)
+    (answer : Result Outcome RunFault) : Type 0 where
+  pub text : IfSome report (λ r. GetsText r before.sink.contents after.sink.contents answer)
+  pub closed : after.sink.is_open ≡ false
+  pub sink : CountsSink answer before.sink.faults after.sink.faults
+  pub source : (input : Input) →
+      CountsFault (is_device input answer) (before.source input) (after.source input)

@@ -1,0 +1,32 @@
+-- How an answer is told beside its status: a fault by its line, and an outcome by nothing.
+use Rattle.std.specs.Prelude.{◌≡◌, ◌+◌, ◌⊎◌, ℕ, List, [], ◌++◌, codes, Option, Result, Ok, Err}
+use Rattle.std.specs.Io.KnownBytes.{Appends, Keeps}
+use Rattle.report.specs.declared.fault.Outcome.{Outcome}
+use Rattle.report.specs.declared.fault.RunFault.{RunFault}
+use Rattle.report.specs.Output.{SinkState, IsCut}
+use Rattle.report.specs.ExitStatus.{status_of}
+use Rattle.report.specs.FaultText.{fault_text}
+use Rattle.report.specs.Reports.{Report, Devices, Reports}
+
+-- the line that tells an answer, with its line feed: none for an outcome
+abbrev pub told_text : Result Outcome RunFault → List ℕ
+told_text (Ok outcome) = []
+told_text (Err fault) = fault_text fault ++ codes "\n"
+
+-- The sink was told the answer: it has got the whole line, or nothing where memory for the line was
+-- refused, or a first part of it where the sink failed.
+abbrev pub Tells : Result Outcome RunFault → SinkState → SinkState → Type 0
+Tells answer before after =
+    Appends before.contents after.contents (told_text answer)
+    ⊎ (Keeps before.contents after.contents ⊎
+    ((gone : ℕ) × IsCut (told_text answer) before.contents after.contents gone
+    × (after.faults ≡ before.faults + 1)))
+
+-- What a caller of a whole command sees: there is one answer, of which the report stands in the
+-- output's sink, the fault's line in the sink for errors, and the status in the result.
+pub record Answers (report : Option Report) (before after : Devices) (err err' : SinkState)
+    (status : ℕ) : Type 0 where
+  pub answer : Result Outcome RunFault
+  pub reports : Reports report before after answer
+  pub tells : Tells answer err err'
+  pub status_is : status ≡ status_of answer

@@ -1,0 +1,121 @@
+//! What a run answers.
+
+ghost use Rattle.std.specs.Prelude.{◌≡◌};
+ghost use Rattle.report.specs.declared.fault.RunFault.TheVariants.{Memory};
+ghost use Rattle.report.specs.Fault.{number_of, run_fault_of, claim_run_fault_of, certificate_run_fault_of};
+
+use certificate::CertificateFault;
+use claim_file::ClaimFault;
+use pcap_reader::CaptureFault;
+use std::alloc::AllocError;
+use thiserror::Error;
+
+/// What a run that came to its end says.
+#[derive(Clone, Copy, Debug, PartialEq, Eq)]
+pub enum Outcome {
+    /// Yes.
+    Yes,
+    /// No: only commands that answer a question say it.
+    No,
+}
+
+/// An input of a run.
+#[derive(Clone, Copy, Debug, PartialEq, Eq)]
+pub enum Input {
+    /// The claim.
+    Claim,
+    /// The packet capture.
+    Capture,
+    /// The certificate.
+    Certificate,
+}
+
+/// Why a run was given up.
+#[derive(Clone, Copy, Debug, PartialEq, Eq, Error)]
+pub enum RunFault {
+    /// The capture is refused.
+    #[error("the capture is refused: {0}")]
+    Capture(CaptureFault),
+    /// The claim is refused.
+    #[error("the claim is refused: {0}")]
+    Claim(ClaimFault),
+    /// The certificate is refused.
+    #[error("the certificate is refused: {0}")]
+    Certificate(CertificateFault),
+    /// The capture has over 1,000,000 exchanges.
+    #[error("over 1000000 exchanges")]
+    Exchanges,
+    /// An input is longer than its limit.
+    #[error("an input is too big")]
+    TooBig(Input),
+    /// The device of an input failed.
+    #[error("the device of an input failed")]
+    Device(Input),
+    /// The output failed after so many bytes of the text had gone out.
+    #[error("the output failed after {0} bytes")]
+    Write(u64),
+    /// Out of memory.
+    #[error("out of memory")]
+    Memory,
+}
+
+impl RunFault {
+    /// The fault's number, from 1 to 10: 1 a capture, 2 a claim, 3 a certificate, 5 too many
+    /// exchanges, 7 to 10 the last four. The others are kept for inputs that other commands read.
+    pub fn number(&self) -> u8
+        ensures { result ≡ number_of self.now }
+    {
+        match self {
+            RunFault::Capture(_) => 1,
+            RunFault::Claim(_) => 2,
+            RunFault::Certificate(_) => 3,
+            RunFault::Exchanges => 5,
+            RunFault::TooBig(_) => 7,
+            RunFault::Device(_) => 8,
+            RunFault::Write(_) => 9,
+            RunFault::Memory => 10,
+        }
+    }
+}
+
+impl From<CaptureFault> for RunFault {
+    ghost from_gives = { λ fault e. e ≡ run_fault_of fault };
+
+    fn from(fault: CaptureFault) -> RunFault {
+        match fault {
+            CaptureFault::Read => RunFault::Device(Input::Capture),
+            CaptureFault::Memory => RunFault::Memory,
+            fault => RunFault::Capture(fault),
+        }
+    }
+}
+
+impl From<ClaimFault> for RunFault {
+    ghost from_gives = { λ fault e. e ≡ claim_run_fault_of fault };
+
+    fn from(fault: ClaimFault) -> RunFault {
+        match fault {
+            ClaimFault::Memory => RunFault::Memory,
+            fault => RunFault::Claim(fault),
+        }
+    }
+}
+
+impl From<CertificateFault> for RunFault {
+    ghost from_gives = { λ fault e. e ≡ certificate_run_fault_of fault };
+
+    fn from(fault: CertificateFault) -> RunFault {
+        match fault {
+            CertificateFault::Memory => RunFault::Memory,
+            fault => RunFault::Certificate(fault),
+        }
+    }
+}
+
+impl From<AllocError> for RunFault {
+    ghost from_gives = { λ _ e. e ≡ Memory };
+
+    fn from(_e: AllocError) -> RunFault {
+        RunFault::Memory
+    }
+}

@@ -1,0 +1,58 @@
+//! An input that is read whole.
+
+ghost use Rattle.std.specs.Prelude.{◌≡◌, ◌+◌, ◌-◌, ◌^◌, ◌<◌, Ok, Err, IfOk, IfErr, IfSome, MatchResult, length};
+ghost use Rattle.byte_stream.specs.Fault.{CountsFault};
+ghost use Rattle.byte_stream.specs.Intake.{TakesAtMost};
+ghost use Rattle.report.specs.Input.{ReadsWhole, IsInputFault, read_failed};
+
+use crate::fault::{Input, RunFault};
+use byte_stream::Feed;
+use std::alloc::{AllocError, Global};
+
+/// How many bytes are asked for at once.
+const CHUNK: usize = 65536;
+
+/// All bytes of an input, where they are no more than `limit`.
+///
+/// `TooBig(which)` comes where there are more, after one byte past the limit; `Device(which)`
+/// exactly where the feed failed, and `Memory` where memory was refused.
+pub fn read_input<F: Feed>(
+    alloc: Global,
+    feed: &mut F,
+    which: Input,
+    limit: u64,
+) -> Result<Vec<u8>, RunFault>
+    requires { F.fault_count feed.old < 2 ^ 64 - 1 }
+    ensures whole { IfSome (F.remaining feed.old) (λ bytes. MatchResult result
+        (λ read. ReadsWhole bytes limit (Ok read.items))
+        (λ fault. ReadsWhole bytes limit (Err fault))) }
+    ensures fault { IfErr result (IsInputFault which) }
+    ensures counts_fault { CountsFault (read_failed result)
+        (F.fault_count feed.old) (F.fault_count feed.new) }
+    ensures at_most { TakesAtMost (limit + 1) (F.remaining feed.old) (F.remaining feed.new) }
+{
+    let mut chunk = make_chunk(alloc)?;
+    let mut read = Vec::new(alloc);
+    'pulls: loop {
+        let room = limit - read.len() as u64;
+        let wanted = room.min(CHUNK as u64 - 1) as usize + 1;
+        let (front, _) = chunk.split_at_mut(wanted);
+        let Ok(n) = feed.pull(front) else {
+            return Err(RunFault::Device(which));
+        };
+        if n == 0 {
+            return Ok(read);
+        }
+        read.extend_from_slice(&front[..n])?;
+        if n as u64 > room {
+            return Err(RunFault::TooBig(which));
+        }
+    }
+}
+
+/// The room for one pull.
+fn make_chunk(alloc: Global) -> Result<Vec<u8>, AllocError>
+    ensures { IfOk result (λ chunk. length chunk.items ≡ CHUNK) }
+{
+    vec![in alloc; 0; CHUNK]
+}

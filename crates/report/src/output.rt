@@ -1,0 +1,213 @@
+//! Text on its way to a sink.
+
+ghost use Rattle.std.specs.Prelude.{◌≡◌, ◌+◌, ◌-◌, ◌^◌, ◌<◌, ◌≤◌, ℕ, [], ◌∷◌, ◌++◌, length, take, IsTrue, OnOk, IfOk, IfErr, is_ok, is_err, vec_capacity};
+ghost use Rattle.std.specs.Io.KnownBytes.{Appends};
+ghost use Rattle.byte_stream.specs.Fault.{CountsFault};
+
+use crate::fault::{Outcome, RunFault};
+use byte_stream::Sink;
+use std::alloc::{AllocError, Global};
+
+/// How many bytes an output gathers at most before it pushes them.
+pub const OUTPUT_CAPACITY: usize = 65536;
+
+/// Texts on their way to a sink: they are gathered, and pushed many at a time. No call takes
+/// memory.
+///
+/// It borrows its sink and the buffer that it gathers in, and hands both back where it's dropped.
+pub struct Output<'a, K> {
+    sink: &'a mut K,
+    text: &'a mut Vec<u8>,
+    sent: u64,
+    ghost room: { 65536 ≤ vec_capacity text.now },
+}
+
+impl<K> Drop for Output<'_, K> {
+    fn drop(self)
+        ensures { self.exit.0.now ≡ self.entry.sink.now }
+    {
+        let Output {
+            sink: _,
+            text: _,
+            sent: _,
+        } = self;
+    }
+}
+
+/// The memory that an output gathers in.
+pub fn output_buffer(alloc: Global) -> Result<Vec<u8>, AllocError>
+    ensures { IfOk result (λ buffer. OUTPUT_CAPACITY ≤ vec_capacity buffer) }
+{
+    Vec::with_capacity(alloc, OUTPUT_CAPACITY)
+}
+
+/// Pushes all the bytes, or answers how many went out before the sink failed.
+pub(crate) fn push_all<K: Sink>(out: &mut K, bytes: &[u8]) -> Result<(), usize>
+    requires is_open { IsTrue (K.is_open out.old) }
+    requires room { K.fault_count out.old < 2 ^ 64 - 1 }
+    ensures ok { OnOk result (Appends (K.contents out.old) (K.contents out.new) bytes.now) }
+    ensures cut { IfErr result (λ gone. gone < length bytes.now) }
+    ensures err { IfErr result (λ gone.
+        Appends (K.contents out.old) (K.contents out.new) (take gone bytes.now)) }
+    ensures stays_open { K.is_open out.new ≡ is_ok result }
+    ensures counts_fault { CountsFault (is_err result)
+        (K.fault_count out.old) (K.fault_count out.new) }
+{
+    let mut gone = 0;
+    while gone < bytes.len() {
+        let (_, rest) = bytes.split_at(gone);
+        match out.push(rest) {
+            Ok(n) => gone += n,
+            Err(_) => return Err(gone),
+        }
+    }
+    Ok(())
+}
+
+impl<'a, K: Sink> Output<'a, K> {
+    ghost use Rattle.report.specs.Output.{IsReady, Puts, fresh_output, with_text};
+    ghost use Rattle.report.specs.Closing.{CanClose, Closes, IsRefusal};
+    ghost use Rattle.report.specs.State.{output_state, sink_state, sink_name};
+
+    /// An output over this sink that has got nothing, and gathers in this buffer, in place of what
+    /// it held.
+    pub fn new(sink: &'a mut K, buffer: &'a mut Vec<u8>) -> Output<'a, K>
+        requires { OUTPUT_CAPACITY ≤ vec_capacity buffer.old }
+        ensures same_sink { sink_name result ≡ sink.entry.ghost_name }
+        ensures state { output_state K.contents K.is_open K.fault_count result
+            ≡ fresh_output (sink_state K.contents K.is_open K.fault_count sink.old) }
+    {
+        buffer.clear();
+        Output {
+            sink,
+            text: buffer,
+            sent: 0,
+        }
+    }
+
+    /// Pushes what is gathered.
+    ///
+    /// The answer is `Write(n)` where the sink failed after exactly n bytes of all that was put.
+    pub fn flush(&mut self) -> Result<(), RunFault>
+        requires { IsReady (output_state K.contents K.is_open K.fault_count self.old) }
+        ensures same_sink { sink_name self.new ≡ sink_name self.old }
+        ensures puts_nothing { Puts (output_state K.contents K.is_open K.fault_count self.old)
+            (output_state K.contents K.is_open K.fault_count self.new) [] result }
+        ensures empty { OnOk result
+            ((output_state K.contents K.is_open K.fault_count self.new).gathered ≡ []) }
+    {
+        match push_all(self.sink, self.text.as_slice()) {
+            Ok(()) => {
+                self.sent += self.text.len() as u64;
+                self.text.clear();
+                Ok(())
+            }
+            Err(gone) => Err(RunFault::Write(self.sent + gone as u64)),
+        }
+    }
+
+    /// Gathers a text, after it has pushed what is gathered where there isn't room for both.
+    ///
+    /// The answer is `Write(n)` where the sink failed after exactly n bytes of what was put before.
+    pub fn put(&mut self, text: &[u8]) -> Result<(), RunFault>
+        requires ready { IsReady (output_state K.contents K.is_open K.fault_count self.old) }
+        requires fits { length text.now ≤ OUTPUT_CAPACITY }
+        ensures same_sink { sink_name self.new ≡ sink_name self.old }
+        ensures puts { Puts (output_state K.contents K.is_open K.fault_count self.old)
+            (output_state K.contents K.is_open K.fault_count self.new) (text.now ∷ []) result }
+    {
+        if self.text.len() <= OUTPUT_CAPACITY - text.len() {
+            self.gather(text);
+            return Ok(());
+        }
+        self.flush()?;
+        self.gather(text);
+        Ok(())
+    }
+
+    /// Gathers a text for which there is room.
+    fn gather(&mut self, text: &[u8])
+        requires { length (output_state K.contents K.is_open K.fault_count self.old).gathered
+            + length text.now ≤ OUTPUT_CAPACITY }
+        ensures same_sink { sink_name self.new ≡ sink_name self.old }
+        ensures gathers { output_state K.contents K.is_open K.fault_count self.new
+            ≡ with_text (output_state K.contents K.is_open K.fault_count self.old) text.now }
+    {
+        self.text.extend_from_slice(text).unwrap();
+    }
+
+    /// Ends a run that came to this answer: pushes what is gathered and finishes the sink, but
+    /// where the sink has failed. Where a device failed or memory was refused, what is gathered
+    /// isn't pushed.
+    ///
+    /// The answer stays, but where a push fails, or `finish` fails after an outcome: then it's
+    /// `Write`.
+    pub fn close(&mut self, ran: Result<Outcome, RunFault>) -> Result<Outcome, RunFault>
+        requires { CanClose (output_state K.contents K.is_open K.fault_count self.old) ran }
+        ensures same_sink { sink_name self.new ≡ sink_name self.old }
+        ensures closes { Closes (output_state K.contents K.is_open K.fault_count self.old)
+            (output_state K.contents K.is_open K.fault_count self.new).sink ran result }
+    {
+        match ran {
+            Ok(outcome) => self.end(outcome),
+            Err(fault) => Err(self.give_up(fault)),
+        }
+    }
+
+    /// Ends a run whose text was put whole.
+    fn end(&mut self, outcome: Outcome) -> Result<Outcome, RunFault>
+        requires { IsReady (output_state K.contents K.is_open K.fault_count self.old) }
+        ensures same_sink { sink_name self.new ≡ sink_name self.old }
+        ensures closes { Closes (output_state K.contents K.is_open K.fault_count self.old)
+            (output_state K.contents K.is_open K.fault_count self.new).sink (Ok outcome) result }
+    {
+        match self.flush() {
+            Ok(()) => match self.sink.finish() {
+                Ok(()) => Ok(outcome),
+                Err(_) => Err(RunFault::Write(self.sent)),
+            },
+            Err(failed) => Err(failed),
+        }
+    }
+
+    /// Ends a run that is given up, and answers its fault, or that the sink failed meanwhile.
+    fn give_up(&mut self, fault: RunFault) -> RunFault
+        requires { CanClose (output_state K.contents K.is_open K.fault_count self.old) (Err fault) }
+        ensures same_sink { sink_name self.new ≡ sink_name self.old }
+        ensures closes { Closes (output_state K.contents K.is_open K.fault_count self.old)
+            (output_state K.contents K.is_open K.fault_count self.new).sink
+            (Err fault) (Err result) }
+    {
+        match fault {
+            RunFault::Write(sent) => RunFault::Write(sent),
+            RunFault::Device(input) => {
+                let _ = self.sink.finish();
+                RunFault::Device(input)
+            }
+            RunFault::Memory => {
+                let _ = self.sink.finish();
+                RunFault::Memory
+            }
+            refusal => self.refuse(refusal),
+        }
+    }
+
+    /// Ends a run whose input is refused, and answers that, or that the sink failed before all
+    /// lines had gone out.
+    fn refuse(&mut self, refusal: RunFault) -> RunFault
+        requires ready { IsReady (output_state K.contents K.is_open K.fault_count self.old) }
+        requires refusal { IsRefusal refusal }
+        ensures same_sink { sink_name self.new ≡ sink_name self.old }
+        ensures closes { Closes (output_state K.contents K.is_open K.fault_count self.old)
+            (output_state K.contents K.is_open K.fault_count self.new).sink
+            (Err refusal) (Err result) }
+    {
+        match self.flush() {
+            Ok(()) => {
+                let _ = self.sink.finish();
+                refusal
+            }
+            Err(failed) => failed,
+        }
+    }
+}

@@ -1,0 +1,48 @@
+//! The end of a run that makes its whole text before it writes any.
+
+ghost use Rattle.std.specs.Prelude.{◌-◌, ◌^◌, ◌<◌, IsTrue};
+ghost use Rattle.report.specs.Publication.{IsUnwritten, Publishes};
+ghost use Rattle.report.specs.State.{sink_state};
+
+use crate::fault::{Outcome, RunFault};
+use crate::output::push_all;
+use byte_stream::Sink;
+
+/// The whole text of a run, and its outcome.
+#[derive(Debug, Drop)]
+pub struct Made {
+    /// The text, of lines that each end with a line feed.
+    pub text: Vec<u8>,
+    /// The outcome.
+    pub outcome: Outcome,
+}
+
+/// Pushes the text that was made and finishes the sink. Where none was made it only finishes the
+/// sink, and answers the fault whatever `finish` gives.
+///
+/// `Write(n)` comes where the sink failed after exactly n bytes of the text; n is the whole length
+/// where only `finish` failed.
+pub fn publish<K: Sink>(out: &mut K, made: &Result<Made, RunFault>) -> Result<Outcome, RunFault>
+    requires is_open { IsTrue (K.is_open out.old) }
+    requires room { K.fault_count out.old < 2 ^ 64 - 1 }
+    requires unwritten { IsUnwritten made.now }
+    ensures { Publishes (sink_state K.contents K.is_open K.fault_count out.old)
+        (sink_state K.contents K.is_open K.fault_count out.new) made.now result }
+{
+    match made {
+        Ok(made) => {
+            let text = made.text.as_slice();
+            match push_all(out, text) {
+                Ok(()) => match out.finish() {
+                    Ok(()) => Ok(made.outcome),
+                    Err(_) => Err(RunFault::Write(text.len() as u64)),
+                },
+                Err(gone) => Err(RunFault::Write(gone as u64)),
+            }
+        }
+        Err(fault) => {
+            let _ = out.finish();
+            Err(*fault)
+        }
+    }
+}
