@@ -1,0 +1,193 @@
+-- How a listing comes to its answer.
+use Rattle.std.proofs.Common.{◌≡◌, ◌∙◌, ◌++◌, ◌+◌, ◌≤◌, ℕ, List, [], ◌∷◌, Option, Some, None, Result, Ok, Err, refl, sym, ap, subst, arith, append-nil, true≢false, inl, inr}
+use Rattle.std.specs.Prelude.{IfSome}
+use Rattle.std.specs.List.{concat}
+use Rattle.std.specs.Option.{option_map}
+use Rattle.std.proofs.lemmas.List.Folds.{concat-append}
+use Rattle.byte_stream.specs.Fault.{CountsFault}
+use Rattle.pcap_reader.specs.declared.fault.CaptureFault.{CaptureFault}
+use Rattle.pcap_reader.specs.declared.fault.CaptureFault.TheVariants as captures
+use Rattle.pcap_reader.specs.Remaining.{Coming, broken_end}
+use Rattle.pcap_reader.specs.Source.{SourceState, IsStep, IsNext, TakesFrom}
+use Rattle.pcap_reader.proofs.Step.{TakesFrom-trans}
+use Rattle.report.specs.declared.fault.Input.{Input}
+use Rattle.report.specs.declared.fault.Input.TheVariants as inputs
+use Rattle.report.specs.declared.fault.Outcome.{Outcome}
+use Rattle.report.specs.declared.fault.Outcome.TheVariants as outcomes
+use Rattle.report.specs.declared.fault.RunFault.{RunFault}
+use Rattle.report.specs.declared.fault.RunFault.TheVariants as faults
+use Rattle.report.specs.Closing.{HasRun, Closes}
+use Rattle.report.specs.Fault.{run_fault_of}
+use Rattle.report.specs.Output.{SinkState, OutputState, Puts, fresh_output, put_count}
+use Rattle.report.specs.Reports.{Report, GetsText, is_device, only_capture}
+use Rattle.listing.specs.Listing.{lines_of, closing_line, listing}
+use Rattle.listing.specs.Progress.{HasGiven, HasPassed, IsUnderWay, HasListed, Lists, moment, most_line}
+use Rattle.listing.proofs.Devices.{no_device, capture_device}
+use Rattle.listing.proofs.ProgressLemmas.{at_some, lines-listing, cut_in_lines, listing-whole, listing-broken}
+use Rattle.listing.proofs.UnderWay.{ready_after}
+
+-- lines that were put are the first of the report's
+first_lines : {whole now : Coming} {done : List (List ℕ)} {records : ℕ} → HasGiven whole now done records →
+    (listing whole).lines ≡ done ++ lines_of now.records
+first_lines {whole = whole} given = lines-listing whole ∙ given.lines
+
+concat-one : (done : List (List ℕ)) (text : List ℕ) → concat (done ++ text ∷ []) ≡ concat done ++ text
+concat-one done text = concat-append done (text ∷ []) ∙ ap (λ (t : List ℕ). concat done ++ t) (append-nil text)
+
+-- where the bytes are known, with what is known of the records that are left
+module _ (start now : Option Coming) (done : List (List ℕ)) (records : ℕ) (Q : Coming → Type 0) where
+  with_given : HasPassed start now done records →
+      ((whole rest : Coming) → HasGiven whole rest done records → Q whole) → IfSome start Q
+  with_given passed step = elim start as (λ (o : Option Coming). HasPassed o now done records → IfSome o Q) [
+    | None ↦ λ nothing. tt
+    | Some whole ↦ λ h. step whole h.0 h.2
+  ] passed
+
+  with_rest : (P : Coming → Type 0) → HasPassed start now done records → IfSome now P →
+      ((whole rest : Coming) → P rest → HasGiven whole rest done records → Q whole) → IfSome start Q
+  with_rest P passed known step = elim start as (λ (o : Option Coming). HasPassed o now done records → IfSome o Q) [
+    | None ↦ λ nothing. tt
+    | Some whole ↦ λ h. step whole h.0 (at_some now h.0 P h.1 known) h.2
+  ] passed
+
+module _ {start : SourceState} {sink : SinkState} where
+  -- the sink failed in what was gathered
+  pub listed_short : {s s' : SourceState} {o o' : OutputState} {packets : ℕ} {added : List (List ℕ)}
+      {fault : RunFault} → IsUnderWay start sink (moment s o) packets →
+      s'.fault_count ≡ s.fault_count → TakesFrom s.supply s'.supply →
+      Puts o o' added (Err fault) → HasListed start sink (moment s' o') (Err fault)
+  listed_short {s = s} {s' = s'} {o' = o'} u same takes puts =
+      let stop = puts.texts sink.contents u.done u.put in
+      let text = with_given start.remaining s.remaining u.done s.given
+      (λ c. HasRun (listing c) sink.contents o' (Err (faults.Write stop.sent))) u.passed
+      (λ whole rest given.
+      cut_in_lines (listing whole) u.done (lines_of rest.records) (first_lines given) stop.cut) in
+      subst (λ (f : RunFault). HasListed start sink (moment s' o') (Err f)) (sym stop.fault_is) (record {
+        text = text;
+        can_close = puts.is_open;
+        stops = omega (arith, puts.faults, u.sink_faults);
+        source = no_device (Err (faults.Write stop.sent)) (λ input. refl) (same ∙ u.same_faults);
+        takes = TakesFrom-trans start.supply s.supply s'.supply u.takes takes;
+        in_memory = λ wrong. cc;
+      })
+
+  -- the records end whole, and the closing line was put
+  pub listed_whole : {s s' : SourceState} {o o' : OutputState} {packets : ℕ} →
+      IsUnderWay start sink (moment s o) packets → IsStep s (Ok None) s' →
+      Puts o o' (closing_line s.given packets ∷ []) (Ok tt) → put_count o' ≤ (put_count o + most_line) →
+      HasListed start sink (moment s' o') (Ok outcomes.Yes)
+  listed_whole {s = s} {s' = s'} {o' = o'} {packets = packets} u step puts short =
+      let closing = closing_line s.given packets in
+      let put = puts.texts sink.contents u.done u.put in
+      let whole_text = λ (whole rest : Coming) (next : IsNext rest (Ok None) s'.remaining s'.lent)
+      (given : HasGiven whole rest u.done s.given).
+      let all = subst (λ (c : Coming). HasGiven whole c u.done s.given) next.0 given in
+      let is : listing whole ≡ record { lines = u.done; closing = closing; answer = Ok outcomes.Yes } =
+      rw u.packets_are (listing-whole all) in
+      subst (λ (r : Report). HasRun r sink.contents o' (Ok outcomes.Yes)) (sym is)
+      (refl, (u.done ++ closing ∷ [], concat-one u.done closing, put)) in
+      record {
+        text = with_rest start.remaining s.remaining u.done s.given
+            (λ c. HasRun (listing c) sink.contents o' (Ok outcomes.Yes))
+            (λ c. IsNext c (Ok None) s'.remaining s'.lent) u.passed step.next_is whole_text;
+        can_close = ready_after u.ready puts (omega (arith, u.short, u.few));
+        stops = omega (arith, puts.faults, u.sink_faults);
+        source = no_device (Ok outcomes.Yes) (λ input. refl) (step.counts_fault ∙ u.same_faults);
+        takes = TakesFrom-trans start.supply s.supply s'.supply u.takes step.takes;
+        in_memory = λ wrong. cc;
+      }
+
+  -- a fault of the bytes stands after the records
+  listed_broken : {s s' : SourceState} {o : OutputState} {packets : ℕ} (fault : CaptureFault) →
+      IsUnderWay start sink (moment s o) packets → IfSome s.remaining (λ c. c ≡ broken_end fault) →
+      s'.fault_count ≡ s.fault_count → TakesFrom s.supply s'.supply →
+      HasListed start sink (moment s' o) (Err (faults.Capture fault))
+  listed_broken {s = s} {s' = s'} {o = o} fault u next same takes =
+      let answer : Result Outcome RunFault = Err (faults.Capture fault) in
+      let broken_text = λ (whole rest : Coming) (end : rest ≡ broken_end fault)
+      (given : HasGiven whole rest u.done s.given).
+      let all = subst (λ (c : Coming). HasGiven whole c u.done s.given) end given in
+      subst (λ (r : Report). HasRun r sink.contents o answer) (sym (listing-broken all))
+      (refl, (u.done, sym (append-nil (concat u.done)), u.put)) in
+      record {
+        text = with_rest start.remaining s.remaining u.done s.given (λ c. HasRun (listing c) sink.contents o answer)
+            (λ c. c ≡ broken_end fault) u.passed next broken_text;
+        can_close = u.ready;
+        stops = omega (arith, u.sink_faults);
+        source = no_device answer (λ input. refl) (same ∙ u.same_faults);
+        takes = TakesFrom-trans start.supply s.supply s'.supply u.takes takes;
+        in_memory = λ wrong. cc;
+      }
+
+  -- the source's device failed
+  listed_device : {s s' : SourceState} {o : OutputState} {packets : ℕ} → IsUnderWay start sink (moment s o) packets →
+      IsStep s (Err captures.Read) s' → HasListed start sink (moment s' o) (Err (faults.Device inputs.Capture))
+  listed_device {s = s} {s' = s'} {o = o} u step = record {
+    text = with_given start.remaining s.remaining u.done s.given
+        (λ c. HasRun (listing c) sink.contents o (Err (faults.Device inputs.Capture))) u.passed
+        (λ whole rest given. (u.done, lines_of rest.records, first_lines given, u.put));
+    can_close = u.ready;
+    stops = omega (arith, u.sink_faults);
+    source = capture_device start.fault_count s'.fault_count (step.counts_fault ∙ ap (λ n. n + 1) u.same_faults);
+    takes = TakesFrom-trans start.supply s.supply s'.supply u.takes step.takes;
+    in_memory = λ wrong. cc;
+  }
+
+  -- the source answered a fault
+  pub listed_refused : {s s' : SourceState} {o : OutputState} {packets : ℕ} (fault : CaptureFault) →
+      IsUnderWay start sink (moment s o) packets → IsStep s (Err fault) s' →
+      HasListed start sink (moment s' o) (Err (run_fault_of fault))
+  listed_refused captures.Read u step = listed_device u step
+  listed_refused captures.Failed u step = absurd (true≢false (sym (step.failed_iff.0 refl) ∙ u.unfailed))
+  listed_refused (captures.TornRecord p) u step =
+      listed_broken (captures.TornRecord p) u step.next_is step.counts_fault step.takes
+  listed_refused (captures.TooLong p) u step =
+      listed_broken (captures.TooLong p) u step.next_is step.counts_fault step.takes
+  listed_refused (captures.BadFraction p) u step =
+      listed_broken (captures.BadFraction p) u step.next_is step.counts_fault step.takes
+  listed_refused captures.TooMany u step = listed_broken captures.TooMany u step.next_is step.counts_fault step.takes
+  listed_refused captures.TornHeader u step = absurd step.may_answer
+  listed_refused captures.Magic u step = absurd step.may_answer
+  listed_refused captures.Version u step = absurd step.may_answer
+  listed_refused captures.Link u step = absurd step.may_answer
+  listed_refused captures.Memory u step = absurd step.may_answer
+
+-- A listing is closed.
+module _ {o : OutputState} {after : SinkState} {ran answer : Result Outcome RunFault}
+    (closes : Closes o after ran answer) where
+  lists_text : (known : Option Coming) (before : Option (List ℕ)) →
+      IfSome known (λ coming. HasRun (listing coming) before o ran) →
+      IfSome (option_map listing known) (λ r. GetsText r before after.contents answer)
+  lists_text None before listed = tt
+  lists_text (Some coming) before listed = closes.text (listing coming) before listed
+
+  not_memory : (ran ≡ Err faults.Memory → ⊥) → answer ≡ Err faults.Memory → ⊥
+  not_memory in_memory refused = elim closes.stays [
+    | inl same ↦ in_memory (sym same ∙ refused)
+    | inr written ↦ let wrong : Err (faults.Write written.0) ≡ Err faults.Memory = sym written.1 ∙ refused in cc
+  ]
+
+module _ {start end : SourceState} {sink after : SinkState} {o : OutputState}
+    {ran answer : Result Outcome RunFault} where
+  counts_source : HasListed start sink (moment end o) ran → Closes o after ran answer → (input : Input) →
+      CountsFault (is_device input answer) (only_capture start.fault_count input) (only_capture end.fault_count input)
+  counts_source listed closes input = rw (closes.source input) (listed.source input)
+
+  lists_closed : HasListed start sink (moment end o) ran → Closes o after ran answer → Lists start end sink after answer
+  lists_closed listed closes = record {
+    reports = record {
+      text = lists_text closes start.remaining sink.contents listed.text;
+      closed = closes.closed;
+      sink = closes.sink sink.faults listed.stops;
+      source = counts_source listed closes;
+    };
+    takes = listed.takes;
+    in_memory = not_memory closes listed.in_memory;
+  }
+
+  -- a listing whose output began over this sink
+  pub lists_over : {first : OutputState} → first ≡ fresh_output sink → HasListed start first.sink (moment end o) ran →
+      Closes o after ran answer → Lists start end sink after answer
+  lists_over fresh listed closes =
+      let same = ap (λ (x : OutputState). x.sink) fresh in
+      lists_closed (subst (λ (s : SinkState). HasListed start s (moment end o) ran) same listed) closes

@@ -1,0 +1,6 @@
+pub mod Answer
+pub mod Devices
+pub mod ProgressLemmas
+pub mod TwentyFields
+pub mod UnderWay
+pub mod Refusal

@@ -1,0 +1,116 @@
+-- How the run of a listing ends that has no record to list, and what it makes of a capture's bytes.
+use Rattle.std.proofs.Common.{◌≡◌, ℕ, List, [], Option, Some, None, Result, Ok, Err, refl, sym, ap, subst}
+use Rattle.std.specs.Prelude.{IfSome}
+use Rattle.std.specs.Option.{option_map}
+use Rattle.byte_stream.specs.Fault.{CountsFault}
+use Rattle.pcap_reader.specs.declared.fault.CaptureFault.{CaptureFault}
+use Rattle.pcap_reader.specs.declared.fault.CaptureFault.TheVariants as captures
+use Rattle.pcap_reader.specs.Refusal.{IsRefusal}
+use Rattle.pcap_reader.specs.Remaining.{Coming, capture_of}
+use Rattle.pcap_reader.specs.Source.{AllRemains, is_read}
+use Rattle.report.specs.declared.fault.Outcome.{Outcome}
+use Rattle.report.specs.declared.fault.RunFault.{RunFault}
+use Rattle.report.specs.declared.fault.RunFault.TheVariants as faults
+use Rattle.report.specs.Fault.{run_fault_of}
+use Rattle.report.specs.Output.{SinkState}
+use Rattle.report.specs.Publication.{IsMadeFor, Publishes}
+use Rattle.report.specs.Reports.{Report, Reports, text_of, GetsText}
+use Rattle.listing.proofs.Devices.{CountsCapture, no_device, capture_device}
+use Rattle.listing.specs.Listing.{listing, report_on, report_of, list_report, list_devices}
+
+-- the report on what is to come
+pub listing-of : (coming : Coming) → listing coming ≡ report_on coming.records coming.fault
+unfolding listing
+listing-of coming = refl
+
+-- the report on bytes that are read, and on bytes with a faulty header
+pub list_report-read : (bytes : List ℕ) (coming : Coming) → capture_of bytes ≡ Ok coming →
+    list_report bytes ≡ listing coming
+unfolding list_report
+list_report-read bytes coming is = ap report_of is
+
+list_report-refused : (bytes : List ℕ) (fault : CaptureFault) → capture_of bytes ≡ Err fault →
+    list_report bytes ≡ record { lines = []; closing = []; answer = Err (faults.Capture fault) }
+unfolding list_report
+list_report-refused bytes fault is = ap report_of is
+
+made_by : (bytes : List ℕ) (fault : CaptureFault) → capture_of bytes ≡ Err fault →
+    (text_of (list_report bytes) ≡ []) × ((list_report bytes).answer ≡ Err (faults.Capture fault))
+made_by bytes fault is = let e = list_report-refused bytes fault is in (rw e refl, rw e refl)
+
+-- a refusal is what the bytes' report calls for
+pub made_refused : (known : Option (List ℕ)) (fault : CaptureFault) → IsRefusal known fault →
+    IfSome (option_map list_report known) (λ r. IsMadeFor r (Err (run_fault_of fault)))
+made_refused None fault refusal = tt
+made_refused (Some bytes) captures.Read refusal = tt
+made_refused (Some bytes) captures.Memory refusal = tt
+made_refused (Some bytes) captures.TornHeader refusal = made_by bytes captures.TornHeader refusal.1
+made_refused (Some bytes) captures.Magic refusal = made_by bytes captures.Magic refusal.1
+made_refused (Some bytes) captures.Version refusal = made_by bytes captures.Version refusal.1
+made_refused (Some bytes) captures.Link refusal = made_by bytes captures.Link refusal.1
+made_refused (Some bytes) fault refusal = absurd refusal.0
+
+-- a capture's device is asked as often by the run
+pub counts_refused : (fault : CaptureFault) (before after : ℕ) → CountsFault (is_read fault) before after →
+    CountsCapture (Err (run_fault_of fault)) before after
+counts_refused captures.Read before after counts input = capture_device before after counts input
+counts_refused fault before after counts input =
+    no_device (Err (run_fault_of fault)) (λ i. refl) counts input
+
+-- a refusal is published
+published_text : {before after : SinkState} {answer : Result Outcome RunFault} (report : Option Report)
+    (fault : RunFault) → IfSome report (λ r. IsMadeFor r (Err fault)) → Publishes before after (Err fault) answer →
+    IfSome report (λ r. GetsText r before.contents after.contents answer)
+published_text None fault made p = tt
+published_text (Some r) fault made p = p.text r made
+
+pub reports_published : {count count' : ℕ} {before after : SinkState} {answer : Result Outcome RunFault}
+    (report : Option Report) (fault : RunFault) → IfSome report (λ r. IsMadeFor r (Err fault)) →
+    Publishes before after (Err fault) answer → CountsCapture (Err fault) count count' →
+    Reports report (list_devices count before) (list_devices count' after) answer
+reports_published report fault made p counts = record {
+  text = published_text report fault made p;
+  closed = p.closed;
+  sink = p.sink;
+  source = λ input. rw (p.source input) (counts input);
+}
+
+-- What was listed of a source is what the bytes' report calls for.
+module _ (answer : Result Outcome RunFault) where
+  bytes_text : (known : Option (List ℕ)) (remaining : Option Coming) (old new : Option (List ℕ)) →
+      IfSome known (λ bytes. AllRemains bytes remaining) →
+      IfSome (option_map listing remaining) (λ r. GetsText r old new answer) →
+      IfSome (option_map list_report known) (λ r. GetsText r old new answer)
+  bytes_text None remaining old new all text = tt
+  bytes_text (Some bytes) None old new (coming, is, remains) text = let wrong : None ≡ Some coming = remains in cc
+  bytes_text (Some bytes) (Some c) old new (coming, is, remains) text =
+      let same : c ≡ coming = cc in
+      rw (list_report-read bytes coming is) (subst (λ (x : Coming). GetsText (listing x) old new answer) same text)
+
+  same_counts : (count count' n m : ℕ) → n ≡ count → count' ≡ m → CountsCapture answer n m →
+      CountsCapture answer count count'
+  same_counts count count' n m first last counts input = rw (sym first, last) (counts input)
+
+  pub reports_of_bytes : {count count' n m : ℕ} {before after : SinkState} (known : Option (List ℕ))
+      (remaining : Option Coming) → IfSome known (λ bytes. AllRemains bytes remaining) → n ≡ count → count' ≡ m →
+      Reports (option_map listing remaining) (list_devices n before) (list_devices m after) answer →
+      Reports (option_map list_report known) (list_devices count before) (list_devices count' after) answer
+  reports_of_bytes {count = count} {count' = count'} {n = n} {m = m} {before = before} {after = after}
+      known remaining all first last listed =
+      record {
+        text = bytes_text known remaining before.contents after.contents all listed.text;
+        closed = listed.closed;
+        sink = listed.sink;
+        source = same_counts count count' n m first last listed.source;
+      }
+
+nothing_made : (report : Option Report) → IfSome report (λ r. IsMadeFor r (Err faults.Memory))
+nothing_made None = tt
+nothing_made (Some r) = tt
+
+-- memory was refused before anything was taken or pushed
+pub reports_refused_memory : {count : ℕ} {before after : SinkState} {answer : Result Outcome RunFault}
+    (report : Option Report) → Publishes before after (Err faults.Memory) answer →
+    Reports report (list_devices count before) (list_devices count after) answer
+reports_refused_memory report p =
+    reports_published report faults.Memory (nothing_made report) p (no_device (Err faults.Memory) (λ i. refl) refl)

@@ -1,0 +1,84 @@
+-- How a listing goes on, call by call.
+use Rattle.std.proofs.Common.{◌≡◌, ◌∙◌, ◌++◌, ◌+◌, ◌<◌, ◌≤◌, ◌^◌, ℕ, List, [], length, Option, Some, None, Ok, refl, sym, ap, subst, arith, append-nil, length-append}
+use Rattle.pcap_reader.specs.declared.format.RecordHead.{RecordHead}
+use Rattle.pcap_reader.specs.Source.{SourceState, IsFresh, IsStep}
+use Rattle.pcap_reader.proofs.Step.{TakesFrom-none, TakesFrom-trans}
+use Rattle.report.specs.Output.{SinkState, OutputState, HasPut, IsReady, Puts, fresh_output, put_count}
+use Rattle.report.proofs.OutputLemmas.{put_nothing}
+use Rattle.listing.specs.PacketLine.{line_of}
+use Rattle.listing.specs.Progress.{HasPassed, IsUnderWay, PutsLine, moment, most_line, texts_of}
+use Rattle.listing.proofs.ProgressLemmas.{passed_start, passed_more}
+
+-- an output that has just taken texts may take more
+pub ready_after : {o o' : OutputState} {added : List (List ℕ)} → IsReady o → Puts o o' added (Ok tt) →
+    put_count o' < 2 ^ 64 → IsReady o'
+ready_after ready puts few = record { is_open = puts.is_open; room = rw puts.faults ready.room; few = few }
+
+texts_few : (line : Option (List ℕ)) → length (texts_of line) ≤ 1
+texts_few None = omega arith
+texts_few (Some line) = omega arith
+
+module _ {start : SourceState} {sink : SinkState} where
+  pub under_way_start : {o : OutputState} → IsFresh start → IsReady o → o ≡ fresh_output sink →
+      IsUnderWay start sink (moment start o) 0
+  under_way_start {o = o} fresh ready empty = record {
+    ready = ready;
+    unfailed = fresh.unfailed;
+    same_faults = refl;
+    takes = TakesFrom-none start.supply;
+    few = omega (arith, fresh.none_given);
+    few_packets = omega arith;
+    short = let none : put_count o ≡ 0 = rw empty refl in omega arith;
+    sink_faults = ap (λ (x : OutputState). x.sink.faults) empty;
+    done = [];
+    packets_are = refl;
+    put = rw empty (put_nothing sink);
+    passed = passed_start start.remaining start.given fresh.none_given;
+  }
+
+  -- what is gathered went out
+  pub under_way_flushed : {s : SourceState} {o o' : OutputState} {packets : ℕ} →
+      IsUnderWay start sink (moment s o) packets → Puts o o' [] (Ok tt) → IsUnderWay start sink (moment s o') packets
+  under_way_flushed {o' = o'} u puts = record {
+    ready = ready_after u.ready puts (omega (arith, puts.count, u.ready.few));
+    unfailed = u.unfailed;
+    same_faults = u.same_faults;
+    takes = u.takes;
+    few = u.few;
+    few_packets = u.few_packets;
+    short = omega (arith, puts.count, u.short);
+    sink_faults = puts.faults ∙ u.sink_faults;
+    done = u.done;
+    packets_are = u.packets_are;
+    put = let put = puts.texts sink.contents u.done u.put in
+        subst (λ (l : List (List ℕ)). HasPut sink.contents o' l) (append-nil u.done) put;
+    passed = u.passed;
+  }
+
+  -- a record was given, and its line was put
+  pub under_way_more : {s s' : SourceState} {o o' : OutputState} {packets count : ℕ} (head : RecordHead) →
+      IsUnderWay start sink (moment s o) packets → IsStep s (Ok (Some head)) s' →
+      PutsLine (line_of (record { head = head; bytes = s'.lent })) o o' (Ok count) →
+      put_count o' ≤ (put_count o + most_line) → IsUnderWay start sink (moment s' o') (packets + count)
+  under_way_more {s = s} {s' = s'} head u step (count_is, puts) short =
+      let line = texts_of (line_of (record { head = head; bytes = s'.lent })) in
+      let one = texts_few (line_of (record { head = head; bytes = s'.lent })) in
+      let number = step.numbers.0 in
+      let given = step.numbers.1 in
+      let lawful = step.lawful.number in
+      let passed = passed_more start.remaining s.remaining s'.remaining u.done s.given head s'.lent u.passed
+      step.next_is in
+      record {
+        ready = ready_after u.ready puts (omega (arith, u.short, u.few));
+        unfailed = step.stays_failed;
+        same_faults = step.counts_fault ∙ u.same_faults;
+        takes = TakesFrom-trans start.supply s.supply s'.supply u.takes step.takes;
+        few = omega arith;
+        few_packets = omega (arith, u.few_packets);
+        short = omega (arith, u.short);
+        sink_faults = puts.faults ∙ u.sink_faults;
+        done = u.done ++ line;
+        packets_are = omega (arith, u.packets_are, length-append u.done line);
+        put = puts.texts sink.contents u.done u.put;
+        passed = subst (λ (n : ℕ). HasPassed start.remaining s'.remaining (u.done ++ line) n) (sym given) passed;
+      }

@@ -1,0 +1,3 @@
+pub mod PacketLine
+pub mod Listing
+pub mod Progress

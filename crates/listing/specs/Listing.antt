@@ -1,0 +1,50 @@
+-- The whole text of `list`: a line for each NTP packet, and a closing line where the capture ends
+-- whole.
+use Rattle.std.specs.Prelude.{ℕ, List, [], ◌++◌, length, codes, Option, Some, None, Result, Ok, Err}
+use Rattle.std.specs.Fmt.{decimal}
+use Rattle.std.specs.List.{filter_map}
+use Rattle.pcap_reader.specs.declared.fault.CaptureFault.{CaptureFault}
+use Rattle.pcap_reader.specs.Capture.{Record}
+use Rattle.pcap_reader.specs.Remaining.{Coming, capture_of}
+use Rattle.report.specs.declared.fault.Outcome.TheVariants as outcomes
+use Rattle.report.specs.declared.fault.RunFault.TheVariants as faults
+use Rattle.report.specs.Output.{SinkState}
+use Rattle.report.specs.Reports.{Report, Devices, only_capture}
+use Rattle.listing.specs.PacketLine.{line_of}
+
+-- the last line: how many records, and how many of them hold an NTP packet
+unfoldable pub closing_line : ℕ → ℕ → List ℕ
+closing_line records packets =
+    codes "records " ++ decimal records ++ codes " packets " ++ decimal packets ++ codes "\n"
+
+-- the lines of these records, in order
+unfoldable pub lines_of : List Record → List (List ℕ)
+lines_of records = filter_map line_of records
+
+-- The report on these records, and then a whole end or a fault, which leaves the closing line out.
+abbrev pub report_on : List Record → Option CaptureFault → Report
+report_on records None =
+    record {
+      lines = lines_of records;
+      closing = closing_line (length records) (length (lines_of records));
+      answer = Ok outcomes.Yes;
+    }
+report_on records (Some fault) =
+    record { lines = lines_of records; closing = []; answer = Err (faults.Capture fault) }
+
+-- the report on what is to come of a capture
+unfoldable pub listing : Coming → Report
+listing coming = report_on coming.records coming.fault
+
+-- the report on a capture, or on a file with a faulty header, which has no lines
+abbrev pub report_of : Result Coming CaptureFault → Report
+report_of (Ok coming) = listing coming
+report_of (Err fault) = record { lines = []; closing = []; answer = Err (faults.Capture fault) }
+
+-- the report on the bytes of a file
+unfoldable pub list_report : List ℕ → Report
+list_report bytes = report_of (capture_of bytes)
+
+-- the devices of a listing at one moment: how often that of the capture has failed, and the sink
+abbrev pub list_devices : ℕ → SinkState → Devices
+list_devices count sink = record { source = only_capture count; sink = sink }

@@ -1,0 +1,86 @@
+-- How far a listing has come.
+use Rattle.std.specs.Prelude.{◌≡◌, ◌+◌, ◌*◌, ◌≤◌, ℕ, List, [], ◌∷◌, ◌++◌, length, Option, Some, None, Ok, IfSome, false, Result, Err}
+use Rattle.std.specs.Option.{option_map}
+use Rattle.byte_stream.specs.Fault.{CountsFault}
+use Rattle.pcap_reader.specs.Capture.{most_records}
+use Rattle.pcap_reader.specs.Remaining.{Coming}
+use Rattle.pcap_reader.specs.Source.{SourceState, TakesFrom}
+use Rattle.report.specs.declared.fault.Input.{Input}
+use Rattle.report.specs.declared.fault.Outcome.{Outcome}
+use Rattle.report.specs.declared.fault.RunFault.{RunFault}
+use Rattle.report.specs.declared.fault.RunFault.TheVariants.{Memory}
+use Rattle.report.specs.Closing.{HasRun, CanClose, stops_of}
+use Rattle.report.specs.Output.{SinkState, OutputState, HasPut, IsReady, Puts, put_count}
+use Rattle.report.specs.Reports.{Reports, is_device, only_capture}
+use Rattle.listing.specs.Listing.{lines_of, listing, list_devices}
+
+-- Of a capture some records were given, and these are the lines of those that hold an NTP packet.
+pub record HasGiven (whole rest : Coming) (done : List (List ℕ)) (records : ℕ) : Type 0 where
+  pub lines : lines_of whole.records ≡ done ++ lines_of rest.records
+  pub fault : whole.fault ≡ rest.fault
+  pub given : length whole.records ≡ records + length rest.records
+
+-- the same where the bytes of the capture are known
+abbrev pub HasPassed : Option Coming → Option Coming → List (List ℕ) → ℕ → Type 0
+HasPassed start now done records =
+    IfSome start (λ whole. (rest : Coming) × (now ≡ Some rest) × HasGiven whole rest done records)
+
+-- a source and an output at one moment
+pub record Moment : Type 0 where
+  pub source : SourceState
+  pub output : OutputState
+
+abbrev pub moment : SourceState → OutputState → Moment
+moment source output = record { source = source; output = output }
+
+-- more bytes than a line of a listing has
+abbrev pub most_line : ℕ
+most_line = 512
+
+-- the texts that a record's line adds: one, or none
+abbrev pub texts_of : Option (List ℕ) → List (List ℕ)
+texts_of None = []
+texts_of (Some line) = line ∷ []
+
+-- A record's line was put, where it has one, and so many lines were.
+abbrev pub PutsLine : Option (List ℕ) → OutputState → OutputState → Result ℕ RunFault → Type 0
+PutsLine line old new (Ok count) =
+    (count ≡ length (texts_of line)) × Puts old new (texts_of line) (Ok tt)
+PutsLine line old new (Err fault) = Puts old new (texts_of line) (Err fault)
+
+-- A listing under way: so many records were given, of which so many hold an NTP packet, and the
+-- lines of these were put.
+pub record IsUnderWay (start : SourceState) (sink : SinkState) (now : Moment) (packets : ℕ)
+    : Type 0 where
+  pub ready : IsReady now.output
+  pub unfailed : now.source.has_failed ≡ false
+  pub same_faults : now.source.fault_count ≡ start.fault_count
+  pub takes : TakesFrom start.supply now.source.supply
+  pub few : now.source.given ≤ most_records
+  pub few_packets : packets ≤ now.source.given
+  pub short : put_count now.output ≤ most_line * now.source.given
+  pub sink_faults : now.output.sink.faults ≡ sink.faults
+  pub done : List (List ℕ)
+  pub packets_are : packets ≡ length done
+  pub put : HasPut sink.contents now.output done
+  pub passed : HasPassed start.remaining now.source.remaining done now.source.given
+
+-- A listing that came to this answer and is still to be closed.
+pub record HasListed (start : SourceState) (sink : SinkState) (now : Moment)
+    (ran : Result Outcome RunFault) : Type 0 where
+  pub text : IfSome start.remaining (λ coming. HasRun (listing coming) sink.contents now.output ran)
+  pub can_close : CanClose now.output ran
+  pub stops : now.output.sink.faults ≡ sink.faults + stops_of ran
+  pub source : (input : Input) → CountsFault (is_device input ran)
+      (only_capture start.fault_count input) (only_capture now.source.fault_count input)
+  pub takes : TakesFrom start.supply now.source.supply
+  pub in_memory : ran ≡ Err Memory → ⊥
+
+-- What a listing does that has the memory that it needs: what every engine promises, with a bound
+-- on what it takes of the capture. It isn't refused for memory.
+pub record Lists (start end : SourceState) (before after : SinkState)
+    (answer : Result Outcome RunFault) : Type 0 where
+  pub reports : Reports (option_map listing start.remaining)
+      (list_devices start.fault_count before) (list_devices end.fault_count after) answer
+  pub takes : TakesFrom start.supply end.supply
+  pub in_memory : answer ≡ Err Memory → ⊥

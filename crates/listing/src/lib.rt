@@ -1,0 +1,17 @@
+//! The listing of a capture: a line for each NTP packet, and a closing line where the capture ends
+//! whole.
+//!
+//! `run_list` lists what a feed gives, `list_from` what is to come of any source of records. Both
+//! promise what every engine does, `Reports` of the crate `report`, for the text that
+//! `specs/Listing` says.
+#![tactic(auto)]
+
+pub mod laws;
+mod list;
+mod packet_line;
+mod record;
+mod run;
+
+pub use list::list_from;
+pub use packet_line::write_packet_line;
+pub use run::run_list;

@@ -1,0 +1,63 @@
+//! The run of `list` over a feed and a sink.
+
+ghost use Rattle.std.specs.Prelude.{◌≡◌, ◌-◌, ◌^◌, ◌<◌, IsTrue, IfSome, Err};
+ghost use Rattle.std.specs.Option.{option_map};
+ghost use Rattle.byte_stream.specs.Intake.{TakesAtMost};
+ghost use Rattle.pcap_reader.specs.declared.fault.CaptureFault.{CaptureFault};
+ghost use Rattle.pcap_reader.specs.Limit.{most_taken, buffer_size};
+ghost use Rattle.pcap_reader.specs.Remaining.{capture_of};
+ghost use Rattle.report.specs.Reports.{Reports};
+ghost use Rattle.report.specs.State.{sink_state};
+ghost use Rattle.listing.specs.Listing.{list_report, list_devices};
+
+use crate::list::list_in;
+use byte_stream::{Feed, Sink};
+use pcap_reader::Capture;
+use report::{Outcome, RunFault, output_buffer, publish};
+use std::alloc::Global;
+
+/// Lists a capture: one line for each NTP packet as its record is read, and at the end of a whole
+/// capture a closing line. The feed is handed back beside the answer.
+///
+/// All memory is taken before the first byte is: at `Memory` the feed is as it was, and the sink
+/// holds what it held. A capture that is refused gives `Capture`, and the lines of the records
+/// before the fault have gone out then, without the closing line. `Device` comes where the feed
+/// failed, with some first lines gone out, whole; `Write(n)` where the sink failed, and exactly
+/// the first n bytes of the text have gone out then. The sink is closed with each answer.
+///
+/// Of a feed whose bytes are known at most 1,048,640,000,025 are taken, and where they begin with
+/// no lawful header at most one buffer.
+pub fn run_list<F: Feed, K: Sink>(
+    alloc: Global,
+    capture: F,
+    out: &mut K,
+) -> (F, Result<Outcome, RunFault>)
+    requires feed_room { F.fault_count capture < 2 ^ 64 - 1 }
+    requires is_open { IsTrue (K.is_open out.old) }
+    requires sink_room { K.fault_count out.old < 2 ^ 64 - 1 }
+    ensures reports { Reports (option_map list_report (F.remaining capture))
+        (list_devices (F.fault_count capture)
+        (sink_state K.contents K.is_open K.fault_count out.old))
+        (list_devices (F.fault_count result.0)
+        (sink_state K.contents K.is_open K.fault_count out.new)) result.1 }
+    ensures memory { result.1 ≡ Err RunFault.Memory → result.0 ≡ capture }
+    ensures at_most { TakesAtMost most_taken (F.remaining capture) (F.remaining result.0) }
+    ensures refused_header { IfSome (F.remaining capture) (λ bytes.
+        (fault : CaptureFault) → capture_of bytes ≡ Err fault →
+        TakesAtMost buffer_size (F.remaining capture) (F.remaining result.0)) }
+{
+    let mut buffer = match output_buffer(alloc) {
+        Ok(buffer) => buffer,
+        Err(_) => return (capture, publish(out, &Err(RunFault::Memory))),
+    };
+    match Capture::begin(alloc, capture) {
+        Ok(mut source) => {
+            let answer = list_in(&mut source, &mut buffer, out);
+            (source.into_feed(), answer)
+        }
+        Err((feed, fault)) => {
+            let answer = publish(out, &Err(RunFault::from(fault)));
+            (feed, answer)
+        }
+    }
+}
