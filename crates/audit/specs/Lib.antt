@@ -1,0 +1,7 @@
+pub mod Evidence
+pub mod EvidenceData
+pub mod SampleLine
+pub mod CountsLine
+pub mod CheckReport
+pub mod Check
+pub mod Samples
