@@ -1,98 +1,89 @@
 //! ntpaudit: what a packet capture of NTP shows of a clock.
 //!
-//! The program reads its command line, opens its files, calls the engine of its command and tells the answer. The
-//! engines are functions over feeds and a sink, and their contracts say what they write. `run_list` writes one line
-//! for each NTP packet of a capture.
+//! The program reads its command line, opens its files and calls the engine of its command. What an
+//! engine writes and answers is said by its contract in its own crate; how an answer is told stands
+//! in the crate `report`.
 #![tactic(auto)]
 
-ghost use Rattle.std.specs.Prelude.{◌-◌, ◌^◌, ◌<◌};
+ghost use Rattle.std.specs.Prelude.{◌-◌, ◌^◌, ◌<◌, IsTrue};
 
+mod answer;
 mod command_line;
-mod draft;
-mod fault;
-mod input;
-mod line;
-mod list;
-mod report;
-mod sink;
-mod test_sink;
-mod text;
-mod write_sink;
 
-use crate::command_line::{Request, read_command_line};
-pub use fault::{Input, Outcome, RunFault};
-pub use input::read_input;
-pub use list::run_list;
-use pcap_reader::{Feed, ReadFeed};
-pub use report::{fault_line, status};
-pub use sink::{Sink, SinkFault};
+use crate::answer::{answer, answer_check, refuse, show};
+use crate::command_line::{CheckPaths, Request, read_command_line};
+pub use audit::run_check;
+pub use byte_stream::{Sink, SinkFault, TestSink, WriteSink};
+pub use listing::run_list;
+use pcap_reader::ReadFeed;
+use report::tell;
+pub use report::{Input, Outcome, RunFault, fault_line, read_input, status};
 use std::alloc::AllocError;
 use std::fs;
 use std::process::ExitCode;
-pub use test_sink::TestSink;
-pub use write_sink::WriteSink;
 
-/// The exit status of a refused command line.
-const REFUSED_COMMAND_LINE: u8 = 5;
-
-/// The exit status of want of memory.
-const NO_MEMORY: u8 = 3;
-
-/// Tells an answer: a fault by its line on standard error, and each by its status.
-fn tell(rt: &HostRuntime, answer: &Result<Outcome, RunFault>) -> u8 {
-    if let Err(fault) = answer {
-        if let Ok(line) = fault_line(rt.alloc(), fault) {
-            let _ = eprintln!(rt; "{line}");
-        }
-    }
-    status(answer)
-}
-
-/// Lists what a feed gives on standard output.
-fn list_on_stdout<F: Feed + Drop>(rt: &HostRuntime, capture: F) -> Result<Outcome, RunFault>
-    requires { F.fault_count capture < 2 ^ 64 - 1 }
+/// Opens the three files of a check, all before anything is read, and settles the claim. The result
+/// is the exit status.
+fn check_files<K: Sink, E: Sink>(
+    rt: &HostRuntime,
+    paths: &CheckPaths,
+    out: &mut K,
+    err: &mut E,
+) -> u8
+    requires out_is_open { IsTrue (K.is_open out.old) }
+    requires out_room { K.fault_count out.old < 2 ^ 64 - 1 }
+    requires err_is_open { IsTrue (E.is_open err.old) }
+    requires err_room { E.fault_count err.old < 2 ^ 64 - 1 }
 {
-    let mut out = WriteSink::new(rt.stdout());
-    let (_, answer) = run_list(rt.alloc(), capture, &mut out);
-    answer
+    let alloc = rt.alloc();
+    let Ok(claim) = fs::open(rt, paths.claim.as_str()) else {
+        return tell(alloc, &Err(RunFault::Device(Input::Claim)), err);
+    };
+    let Ok(certificate) = fs::open(rt, paths.certificate.as_str()) else {
+        return tell(alloc, &Err(RunFault::Device(Input::Certificate)), err);
+    };
+    let Ok(capture) = fs::open(rt, paths.capture.as_str()) else {
+        return tell(alloc, &Err(RunFault::Device(Input::Capture)), err);
+    };
+    let mut claim = ReadFeed::new(claim);
+    let mut certificate = ReadFeed::new(certificate);
+    answer_check(
+        alloc,
+        &mut claim,
+        ReadFeed::new(capture),
+        &mut certificate,
+        out,
+        err,
+    )
+    .1
 }
 
 /// Runs the command of a request, and answers the exit status.
-fn run(rt: &HostRuntime, request: &Request) -> u8 {
+fn run<K: Sink, E: Sink>(rt: &HostRuntime, request: Request, out: &mut K, err: &mut E) -> u8
+    requires out_is_open { IsTrue (K.is_open out.old) }
+    requires out_room { K.fault_count out.old < 2 ^ 64 - 1 }
+    requires err_is_open { IsTrue (E.is_open err.old) }
+    requires err_room { E.fault_count err.old < 2 ^ 64 - 1 }
+{
+    let alloc = rt.alloc();
     match request {
-        Request::List(None) => tell(rt, &list_on_stdout(rt, ReadFeed::new(rt.stdin()))),
-        Request::List(Some(path)) => {
-            let answer = match fs::open(rt, path.as_str()) {
-                Ok(file) => list_on_stdout(rt, ReadFeed::new(file)),
-                Err(_) => Err(RunFault::Device(Input::Capture)),
-            };
-            tell(rt, &answer)
-        }
-        Request::Show(text) => match print!(rt; "{text}") {
-            Ok(()) => 0,
-            Err(_) => 4,
+        Request::List(None) => answer(alloc, ReadFeed::new(rt.stdin()), out, err).1,
+        Request::List(Some(path)) => match fs::open(rt, path.as_str()) {
+            Ok(file) => answer(alloc, ReadFeed::new(file), out, err).1,
+            Err(_) => tell(alloc, &Err(RunFault::Device(Input::Capture)), err),
         },
-        Request::Refuse(text) => {
-            let _ = eprint!(rt; "{text}");
-            REFUSED_COMMAND_LINE
-        }
+        Request::Check(paths) => check_files(rt, &paths, out, err),
+        Request::Show(text) => show(alloc, text, out, err),
+        Request::Refuse(text) => refuse(text, err),
     }
 }
 
 fn main(rt: HostRuntime) -> ExitCode {
+    let mut out = WriteSink::new(rt.stdout());
+    let mut err = WriteSink::new(rt.stderr());
     let code = match read_command_line(&rt) {
-        Ok(request) => run(&rt, &request),
-        Err(AllocError) => {
-            let _ = eprintln!(rt; "ntpaudit: memory");
-            NO_MEMORY
-        }
+        Ok(request) => run(&rt, request, &mut out, &mut err),
+        Err(AllocError) => tell(rt.alloc(), &Err(RunFault::Memory), &mut err),
     };
     ExitCode::from(code)
 }
-
-#[cfg(test)]
-mod device_tests;
-#[cfg(test)]
-mod input_tests;
-#[cfg(test)]
-mod tests;
