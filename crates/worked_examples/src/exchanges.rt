@@ -1,0 +1,384 @@
+//! Requests, replies and exchanges, by hand.
+
+ghost use Rattle.std.specs.Prelude.{None};
+
+use claim_file::read_claim;
+use pairing::{Collected, Exchange, PairFault, collect};
+use pcap_reader::{Capture, CaptureFault, Cut, Feed, FeedFault, TestFeed, Whole};
+use std::alloc::{AllocError, Global};
+use std::process::Abort;
+use std::test::Fail;
+use vectors::{C1, V1};
+
+/// Bytes of a frame that are filled anew: from where, to where, and with which byte.
+type Fill = (usize, usize, u8);
+
+/// A record of `V1`, by its place there, with two parts of its frame filled anew.
+type Piece = (usize, Fill, Fill);
+
+const AS_IS: Fill = (0, 0, 0);
+
+/// The request and the reply of `V1`, and no record.
+const REQUEST: Piece = (24, AS_IS, AS_IS);
+
+const REPLY: Piece = (130, AS_IS, AS_IS);
+
+const NONE: Piece = (0, AS_IS, AS_IS);
+
+/// A request to 192.0.2.2, a request from port 49153, and one of version 3.
+const TO_SECOND: Piece = (24, (33, 34, 2), AS_IS);
+
+const FROM_OTHER_PORT: Piece = (24, (35, 36, 1), AS_IS);
+
+const OLD_REQUEST: Piece = (24, (42, 43, 0x1b), AS_IS);
+
+/// `C1` with a second server, 192.0.2.2.
+const TWO_SERVERS: &str = "{\"client\":\"192.0.2.10\",\"servers\":[\"192.0.2.1\",\"192.0.2.2\"],\
+    \"false_max\":0,\"from\":\"2001-09-09T01:46:40Z\",\"to\":\"2001-09-09T01:46:40Z\",\
+    \"bound_ns\":10001001,\"drift_ppb\":0,\"reading_ns\":0}";
+
+fn reply(from: usize, to: usize, byte: u8) -> Piece {
+    (130, (from, to, byte), AS_IS)
+}
+
+fn put(file: &mut Vec<u8>, piece: Piece) -> Result<(), AllocError> {
+    let (start, first, second) = piece;
+    let Some(record) = V1.get(start..start.saturating_add(106)) else {
+        return Ok(());
+    };
+    let mut bytes = [0; 106];
+    bytes.copy_from_slice(record);
+    for (from, to, byte) in [first, second] {
+        if let Some(part) = bytes.get_mut(from.saturating_add(16)..to.saturating_add(16)) {
+            part.fill(byte);
+        }
+    }
+    if start > 0 {
+        file.extend_from_slice(&bytes)?;
+    }
+    Ok(())
+}
+
+/// The capture of these records.
+fn capture_of(alloc: Global, pieces: [Piece; 3]) -> Result<Vec<u8>, AllocError> {
+    let mut file = V1[..24].to_vec(alloc)?;
+    for piece in pieces {
+        put(&mut file, piece)?;
+    }
+    Ok(file)
+}
+
+/// What is collected of a capture: of the whole one, or through a feed that is cut so.
+fn collected(
+    rt: &impl Abort,
+    alloc: Global,
+    claim: &str,
+    file: &[u8],
+    cut: Option<Cut>,
+) -> Result<Collected, Fail> {
+    let claim = read_claim(alloc, claim.as_bytes())?;
+    match cut {
+        None => {
+            let mut source = Whole::begin(file)?;
+            Ok(collect(alloc, &mut source, &claim)?)
+        }
+        Some(cut) => {
+            let Ok(mut source) = Capture::begin(alloc, TestFeed::new(file, cut, None)) else {
+                panic!(rt; "no capture");
+            };
+            Ok(collect(alloc, &mut source, &claim)?)
+        }
+    }
+}
+
+/// The counts in the order of their fields.
+fn counts(collected: &Collected) -> [u32; 11] {
+    let c = &collected.counts;
+    [
+        c.records,
+        c.requests,
+        c.replies,
+        c.version,
+        c.leap,
+        c.stratum,
+        c.precision,
+        c.zero_stamp,
+        c.no_request,
+        c.ambiguous,
+        c.warnings,
+    ]
+}
+
+/// The server, the request and the reply of an exchange.
+fn pair(collected: &Collected, number: usize) -> Option<(u8, u32, u32)> {
+    let exchange = collected.exchanges.get(number)?;
+    Some((exchange.server, exchange.request, exchange.reply))
+}
+
+/// Both sources give these counts and these exchanges.
+fn expect(
+    rt: &impl Abort,
+    alloc: Global,
+    claim: &str,
+    pieces: [Piece; 3],
+    want: [u32; 11],
+    pairs: [Option<(u8, u32, u32)>; 2],
+) -> Result<(), Fail> {
+    let file = capture_of(alloc, pieces)?;
+    for cut in [None, Some(Cut::Fixed(1)), Some(Cut::Growing)] {
+        let collected = collected(rt, alloc, claim, &file, cut)?;
+        assert_eq!(rt; counts(&collected), want, "{pieces:?}");
+        assert_eq!(rt; pair(&collected, 0), pairs[0], "{pieces:?}");
+        assert_eq!(rt; pair(&collected, 1), pairs[1], "{pieces:?}");
+        assert!(rt; collected.exchanges.len() <= 2);
+    }
+    Ok(())
+}
+
+/// The exchange of `V1`, field by field.
+#[test]
+fn the_exchange(rt: HostRuntime) -> Result<(), Fail> {
+    let collected = collected(&rt, rt.alloc(), C1, &V1, None)?;
+    let want = Exchange {
+        server: 0,
+        request: 0,
+        reply: 1,
+        t1_low: 4_294_967_296_000_000_000,
+        t1_high: 4_294_967_296_000_004_295,
+        t4_low: 4_294_967_296_085_899_345,
+        t4_high: 4_294_967_296_085_903_641,
+        t2: 4_294_967_296_042_949_673,
+        t3: 4_294_967_296_042_949_673,
+        distance: 1,
+        leap: 0,
+        stratum: 1,
+        reference: [0x47, 0x50, 0x53, 0],
+    };
+    assert_eq!(rt; collected.exchanges.as_slice(), [want].as_slice());
+    Ok(())
+}
+
+/// Where requests and replies stand, and which request a reply names.
+#[test]
+fn pairs(rt: HostRuntime) -> Result<(), Fail> {
+    let none = [None, None];
+    for (pieces, want, pairs) in [
+        (
+            [REQUEST, REPLY, NONE],
+            [2, 1, 1, 0, 0, 0, 0, 0, 0, 0, 0],
+            [Some((0, 0, 1)), None],
+        ),
+        (
+            [REPLY, REQUEST, NONE],
+            [2, 1, 1, 0, 0, 0, 0, 0, 0, 0, 0],
+            [Some((0, 1, 0)), None],
+        ),
+        (
+            [REQUEST, NONE, NONE],
+            [1, 1, 0, 0, 0, 0, 0, 0, 0, 0, 0],
+            none,
+        ),
+        (
+            [REQUEST, REQUEST, REPLY],
+            [3, 2, 1, 0, 0, 0, 0, 0, 0, 1, 0],
+            none,
+        ),
+        (
+            [REQUEST, REPLY, REQUEST],
+            [3, 2, 1, 0, 0, 0, 0, 0, 0, 1, 0],
+            none,
+        ),
+        (
+            [REQUEST, REPLY, REPLY],
+            [3, 1, 2, 0, 0, 0, 0, 0, 0, 0, 0],
+            [Some((0, 0, 1)), Some((0, 0, 2))],
+        ),
+        (
+            [REQUEST, FROM_OTHER_PORT, REPLY],
+            [3, 2, 1, 0, 0, 0, 0, 0, 0, 0, 0],
+            [Some((0, 0, 2)), None],
+        ),
+        // A reply to another port, and one of another server than was asked.
+        (
+            [REQUEST, reply(37, 38, 1), NONE],
+            [2, 1, 1, 0, 0, 0, 0, 0, 1, 0, 0],
+            none,
+        ),
+        (
+            [TO_SECOND, REPLY, NONE],
+            [2, 0, 1, 0, 0, 0, 0, 0, 1, 0, 0],
+            none,
+        ),
+        (
+            [OLD_REQUEST, REPLY, NONE],
+            [2, 0, 1, 0, 0, 0, 0, 0, 1, 0, 0],
+            none,
+        ),
+        // From port 124, of 192.0.2.9, with a payload of 47 bytes, and to 192.0.2.11.
+        (
+            [REQUEST, reply(35, 36, 124), NONE],
+            [2, 1, 0, 0, 0, 0, 0, 0, 0, 0, 0],
+            none,
+        ),
+        (
+            [REQUEST, reply(29, 30, 9), NONE],
+            [2, 1, 0, 0, 0, 0, 0, 0, 0, 0, 0],
+            none,
+        ),
+        (
+            [REQUEST, reply(39, 40, 55), NONE],
+            [2, 1, 0, 0, 0, 0, 0, 0, 0, 0, 0],
+            none,
+        ),
+        (
+            [REQUEST, reply(33, 34, 11), NONE],
+            [2, 1, 0, 0, 0, 0, 0, 0, 0, 0, 0],
+            none,
+        ),
+    ] {
+        expect(&rt, rt.alloc(), C1, pieces, want, pairs)?;
+    }
+    // The same timestamp to two servers, and the reply of the first and of the second.
+    let want = [3, 2, 1, 0, 0, 0, 0, 0, 0, 0, 0];
+    for (last, pair) in [(REPLY, (0, 0, 2)), (reply(29, 30, 2), (1, 1, 2))] {
+        expect(
+            &rt,
+            rt.alloc(),
+            TWO_SERVERS,
+            [REQUEST, TO_SECOND, last],
+            want,
+            [Some(pair), None],
+        )?;
+    }
+    Ok(())
+}
+
+/// Each test of a reply's header at its edge.
+#[test]
+fn headers(rt: HostRuntime) -> Result<(), Fail> {
+    let some = [Some((0, 0, 1)), None];
+    let none = [None, None];
+    for (from, to, byte, want, pairs) in [
+        // The stratum.
+        (43, 44, 0, [2, 1, 1, 0, 0, 1, 0, 0, 0, 0, 0], none),
+        (43, 44, 1, [2, 1, 1, 0, 0, 0, 0, 0, 0, 0, 0], some),
+        (43, 44, 15, [2, 1, 1, 0, 0, 0, 0, 0, 0, 0, 0], some),
+        (43, 44, 16, [2, 1, 1, 0, 0, 1, 0, 0, 0, 0, 0], none),
+        (43, 44, 255, [2, 1, 1, 0, 0, 1, 0, 0, 0, 0, 0], none),
+        // The precision.
+        (45, 46, 16, [2, 1, 1, 0, 0, 0, 0, 0, 0, 0, 0], some),
+        (45, 46, 17, [2, 1, 1, 0, 0, 0, 1, 0, 0, 0, 0], none),
+        // The leap indicator: 1, 2, 3, and 3 with version 3.
+        (42, 43, 0x64, [2, 1, 1, 0, 0, 0, 0, 0, 0, 0, 1], some),
+        (42, 43, 0xa4, [2, 1, 1, 0, 0, 0, 0, 0, 0, 0, 1], some),
+        (42, 43, 0xe4, [2, 1, 1, 0, 1, 0, 0, 0, 0, 0, 0], none),
+        (42, 43, 0xdc, [2, 1, 1, 1, 0, 0, 0, 0, 0, 0, 0], none),
+        // The origin, receive and transmit timestamps.
+        (66, 74, 0, [2, 1, 1, 0, 0, 0, 0, 1, 0, 0, 0], none),
+        (74, 82, 0, [2, 1, 1, 0, 0, 0, 0, 1, 0, 0, 0], none),
+        (82, 90, 0, [2, 1, 1, 0, 0, 0, 0, 1, 0, 0, 0], none),
+    ] {
+        let pieces = [REQUEST, reply(from, to, byte), NONE];
+        expect(&rt, rt.alloc(), C1, pieces, want, pairs)?;
+    }
+    // Leap indicator 3 and stratum 0 count once.
+    let both = [REQUEST, (130, (42, 43, 0xe4), (43, 44, 0)), NONE];
+    expect(
+        &rt,
+        rt.alloc(),
+        C1,
+        both,
+        [2, 1, 1, 0, 1, 0, 0, 0, 0, 0, 0],
+        none,
+    )
+}
+
+/// A capture's fault is the answer, whatever was read before it.
+#[test]
+fn faults(rt: HostRuntime) -> Result<(), Fail> {
+    let claim = read_claim(rt.alloc(), C1.as_bytes())?;
+    let mut torn = Whole::begin(&V1[..235])?;
+    match collect(rt.alloc(), &mut torn, &claim) {
+        Err(fault) => {
+            assert_eq!(rt; fault, PairFault::Capture(CaptureFault::TornRecord(130)));
+            assert_eq!(rt; fault.number(), 1);
+        }
+        Ok(_) => panic!(rt; "torn"),
+    }
+    let feed = TestFeed::new(&V1, Cut::Fixed(100), Some(3));
+    let Ok(mut failing) = Capture::begin(rt.alloc(), feed) else {
+        panic!(rt; "no capture");
+    };
+    match collect(rt.alloc(), &mut failing, &claim) {
+        Err(fault) => assert_eq!(rt; fault, PairFault::Capture(CaptureFault::Read)),
+        Ok(_) => panic!(rt; "the third pull fails"),
+    }
+    assert_eq!(rt; failing.into_feed().faults(), 1);
+    Ok(())
+}
+
+/// To be run with each allocation refused in turn: the answer is `Memory` and no other.
+#[test]
+fn refused_memory(rt: HostRuntime) -> Result<(), Fail> {
+    let Ok(claim) = read_claim(rt.alloc(), C1.as_bytes()) else {
+        return Ok(());
+    };
+    let mut source = Whole::begin(&V1)?;
+    match collect(rt.alloc(), &mut source, &claim) {
+        Ok(collected) => assert_eq!(rt; collected.exchanges.len(), 1),
+        Err(fault) => assert_eq!(rt; fault, PairFault::Memory),
+    }
+    Ok(())
+}
+
+/// The header and the request of `V1`, and then its reply again and again.
+#[derive(Drop)]
+struct Replies {
+    at: usize,
+    more: u32,
+}
+
+impl Feed for Replies {
+    ghost remaining = { λ _. None };
+
+    ghost fault_count = { λ _. 0 };
+
+    fn pull(&mut self, into: &mut [u8]) -> Result<usize, FeedFault> {
+        if self.at >= V1.len() && self.more > 0 {
+            self.more -= 1;
+            self.at = 130;
+        }
+        let rest = V1.get(self.at..).unwrap_or(&[]);
+        let count = into.len().min(rest.len());
+        into[..count].copy_from_slice(&rest[..count]);
+        self.at = self.at.saturating_add(count);
+        Ok(count)
+    }
+
+    fn faults(&self) -> u64 {
+        0
+    }
+}
+
+/// A million exchanges, and one more.
+#[test]
+fn most_exchanges(rt: HostRuntime) -> Result<(), Fail> {
+    let claim = read_claim(rt.alloc(), C1.as_bytes())?;
+    for (more, fault) in [
+        (999_999, None),
+        (1_000_000, Some(PairFault::TooManyExchanges)),
+    ] {
+        let Ok(mut source) = Capture::begin(rt.alloc(), Replies { at: 0, more }) else {
+            panic!(rt; "no capture");
+        };
+        match collect(rt.alloc(), &mut source, &claim) {
+            Ok(collected) => {
+                assert_eq!(rt; fault, None);
+                assert_eq!(rt; collected.exchanges.len(), 1_000_000);
+                assert_eq!(rt; collected.counts.replies, 1_000_000);
+            }
+            Err(refused) => assert_eq!(rt; Some(refused), fault),
+        }
+    }
+    Ok(())
+}

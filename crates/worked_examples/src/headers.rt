@@ -1,0 +1,163 @@
+//! NTP packets and their headers, by hand.
+
+use ntp_packet::{NtpView, packet, view};
+use vectors::V1;
+
+/// A server's reply: stratum 1, reference GPS.
+const REPLY: [u8; 48] = [
+    0x24, 0x01, 0x06, 0xe0, 0x00, 0x00, 0x00, 0x00, 0x00, 0x00, 0x00, 0x00, 0x47, 0x50, 0x53, 0x00,
+    0xbf, 0x45, 0x48, 0x80, 0x00, 0x00, 0x00, 0x00, 0x11, 0x22, 0x33, 0x44, 0x55, 0x66, 0x77, 0x88,
+    0xbf, 0x45, 0x48, 0x80, 0x02, 0x8f, 0x5c, 0x29, 0xbf, 0x45, 0x48, 0x80, 0x02, 0x8f, 0x5c, 0x29,
+];
+
+/// A header whose bytes all differ.
+const MIXED: [u8; 48] = [
+    0xd9, 0x93, 0x96, 0x99, 0x9c, 0x9f, 0xa2, 0xa5, 0xa8, 0xab, 0xae, 0xb1, 0xb4, 0xb7, 0xba, 0xbd,
+    0xc0, 0xc3, 0xc6, 0xc9, 0xcc, 0xcf, 0xd2, 0xd5, 0xd8, 0xdb, 0xde, 0xe1, 0xe4, 0xe7, 0xea, 0xed,
+    0xf0, 0xf3, 0xf6, 0xf9, 0xfc, 0xff, 0x02, 0x05, 0x08, 0x0b, 0x0e, 0x11, 0x14, 0x17, 0x1a, 0x1d,
+];
+
+/// Every field of a header.
+#[derive(Clone, Copy, Debug, PartialEq, Eq)]
+struct Fields {
+    leap: u8,
+    version: u8,
+    mode: u8,
+    stratum: u8,
+    poll: i8,
+    precision: i8,
+    root_delay: u32,
+    root_dispersion: u32,
+    reference_id: [u8; 4],
+    reference: u64,
+    origin: u64,
+    receive: u64,
+    transmit: u64,
+}
+
+const REPLY_FIELDS: Fields = Fields {
+    leap: 0,
+    version: 4,
+    mode: 4,
+    stratum: 1,
+    poll: 6,
+    precision: -32,
+    root_delay: 0,
+    root_dispersion: 0,
+    reference_id: [0x47, 0x50, 0x53, 0x00],
+    reference: 0xbf45_4880_0000_0000,
+    origin: 0x1122_3344_5566_7788,
+    receive: 0xbf45_4880_028f_5c29,
+    transmit: 0xbf45_4880_028f_5c29,
+};
+
+const MIXED_FIELDS: Fields = Fields {
+    leap: 3,
+    version: 3,
+    mode: 1,
+    stratum: 147,
+    poll: -106,
+    precision: -103,
+    root_delay: 0x9c9f_a2a5,
+    root_dispersion: 0xa8ab_aeb1,
+    reference_id: [0xb4, 0xb7, 0xba, 0xbd],
+    reference: 0xc0c3_c6c9_cccf_d2d5,
+    origin: 0xd8db_dee1_e4e7_eaed,
+    receive: 0xf0f3_f6f9_fcff_0205,
+    transmit: 0x080b_0e11_1417_1a1d,
+};
+
+fn fields_of(header: &NtpView<'_>) -> Fields {
+    Fields {
+        leap: header.leap(),
+        version: header.version(),
+        mode: header.mode(),
+        stratum: header.stratum(),
+        poll: header.poll(),
+        precision: header.precision(),
+        root_delay: header.root_delay(),
+        root_dispersion: header.root_dispersion(),
+        reference_id: header.reference_id(),
+        reference: header.reference(),
+        origin: header.origin(),
+        receive: header.receive(),
+        transmit: header.transmit(),
+    }
+}
+
+#[test]
+fn reads_every_field(rt: HostRuntime) {
+    for (bytes, want) in [(REPLY, REPLY_FIELDS), (MIXED, MIXED_FIELDS)] {
+        let got = view(&bytes).map(|header| fields_of(&header));
+        assert_eq!(rt; got, Some(want));
+    }
+}
+
+#[test]
+fn ignores_what_follows_the_header(rt: HostRuntime) {
+    let mut payload = [0xff; 60];
+    payload[..48].copy_from_slice(&REPLY);
+    let got = view(&payload).map(|header| fields_of(&header));
+    assert_eq!(rt; got, Some(REPLY_FIELDS));
+    assert!(rt; view(&payload[..47]).is_none());
+    assert!(rt; view(&[]).is_none());
+}
+
+/// Root delay, root dispersion, precision (its byte), and the root distance that they make.
+const DISTANCES: [(u32, u32, u8, Option<i128>); 10] = [
+    (0, 0, 0xe0, Some(1)),
+    (256, 16, 0xec, Some(9_441_280)),
+    (0xffff_ffff, 0, 0xe0, Some(140_737_488_322_561)),
+    (0xffff_ffff, 0xffff_ffff, 16, Some(703_687_441_678_336)),
+    (0, 0, 17, None),
+    (0, 0, 127, None),
+    (0, 0, 0, Some(4_294_967_296)),
+    (0, 0, 0xe1, Some(2)),
+    (2, 0, 0xdf, Some(65_537)),
+    (0, 0, 0x80, Some(1)),
+];
+
+#[test]
+fn adds_up_the_root_distance(rt: HostRuntime) {
+    for (delay, dispersion, precision, want) in DISTANCES {
+        let mut payload = REPLY;
+        payload[3] = precision;
+        payload[4..8].copy_from_slice(&delay.to_be_bytes());
+        payload[8..12].copy_from_slice(&dispersion.to_be_bytes());
+        let got = view(&payload).map(|header| header.root_distance());
+        assert_eq!(rt;
+            got,
+            Some(want),
+            "delay {delay} dispersion {dispersion} precision {precision}"
+        );
+    }
+}
+
+/// The frame of the request of `V1` with one byte changed: its ports at 34 and 36, its UDP length
+/// at 38.
+#[test]
+fn finds_packets(rt: HostRuntime) {
+    for (place, byte, is_packet) in [
+        (0, 0, true),
+        // To port 124.
+        (37, 124, false),
+        // A payload of 47 bytes, and a fragment.
+        (39, 55, false),
+        (20, 0x20, false),
+    ] {
+        let mut frame = [0; 90];
+        frame.copy_from_slice(&V1[40..130]);
+        if let Some(old) = frame.get_mut(place) {
+            *old = byte;
+        }
+        assert_eq!(rt; packet(&frame).is_some(), is_packet, "{byte} at {place}");
+    }
+    match packet(&V1[146..]) {
+        Some(reply) => {
+            assert_eq!(rt; reply.datagram.source_port, 123);
+            assert_eq!(rt; reply.datagram.payload.len(), 48);
+            assert_eq!(rt; (reply.header.mode(), reply.header.stratum()), (4, 1));
+        }
+        None => panic!(rt; "a reply is a packet"),
+    }
+}

@@ -1,0 +1,77 @@
+//! Samples, offsets, delays and widenings, by hand.
+ghost use Rattle.sample_interval.specs.Exchange.{IsOfSomeClaim};
+
+use pairing::Exchange;
+use sample_interval::kinds::Sample;
+use sample_interval::{delay, offset, sample, widen};
+
+// 2001-09-09T01:46:40Z, the second 1,000,000,000.
+const SECOND: i128 = 4_294_967_296_000_000_000;
+
+// A request at the second, in microseconds, its reply 20 ms later, and both timestamps half way.
+fn exchange() -> Exchange
+    ensures { IsOfSomeClaim result }
+{
+    Exchange {
+        server: 0,
+        request: 0,
+        reply: 1,
+        t1_low: SECOND,
+        t1_high: SECOND + 4295,
+        t4_low: SECOND + 85_899_345,
+        t4_high: SECOND + 85_903_641,
+        t2: SECOND + 42_949_673,
+        t3: SECOND + 42_949_673,
+        distance: 1,
+        leap: 0,
+        stratum: 1,
+        reference: [0x47, 0x50, 0x53, 0],
+    }
+}
+
+#[test]
+fn widenings_round_up(rt: HostRuntime) {
+    for (rate, distance, widened) in [
+        (20_000, 274_877_906_944, 5_497_669),
+        (0, 274_877_906_944, 0),
+        (500_000_000, 1, 1),
+        (1, 1, 1),
+        (500_000_000, 7, 7),
+    ] {
+        assert_eq!(rt; widen(rate, distance), widened, "{distance} at {rate}");
+    }
+}
+
+#[test]
+fn exact_readings(rt: HostRuntime) {
+    let x = exchange();
+    assert_eq!(rt; offset(&x, 0), (-4295, 1));
+    assert_eq!(rt; delay(&x, 0), (85_895_050, 85_903_641));
+    let expected = Sample {
+        server: 0,
+        low: -42_949_674,
+        low_from: SECOND,
+        low_to: SECOND + 4295,
+        high: 42_953_969,
+        high_from: SECOND + 85_899_345,
+        high_to: SECOND + 85_903_641,
+    };
+    assert_eq!(rt; sample(&x, 0), expected);
+}
+
+#[test]
+fn readings_within_a_microsecond(rt: HostRuntime) {
+    let x = exchange();
+    assert_eq!(rt; offset(&x, 4295), (-8590, 4296));
+    assert_eq!(rt; delay(&x, 4295), (85_886_460, 85_912_231));
+    let expected = Sample {
+        server: 0,
+        low: -42_953_969,
+        low_from: SECOND - 4295,
+        low_to: SECOND + 8590,
+        high: 42_958_264,
+        high_from: SECOND + 85_895_050,
+        high_to: SECOND + 85_907_936,
+    };
+    assert_eq!(rt; sample(&x, 4295), expected);
+}
