@@ -1,0 +1,61 @@
+"""What the test scripts share: counting cases, showing what was wrong, and the last line 'N passed, M failed'."""
+import os
+import subprocess
+import sys
+from pathlib import Path
+
+ROOT = Path(__file__).resolve().parent.parent
+DATA = ROOT / "data"
+
+# A run that takes longer than this has hung; no test depends on being quicker.
+SECONDS = 120
+
+passed, failed = 0, []
+
+
+def program():
+    """The program under test: the file that the environment's NTPAUDIT names (from the repository's root), or the one
+    that the launcher keeps, which the launcher has made sure of just now."""
+    if "NTPAUDIT" in os.environ:
+        return str((ROOT / os.environ["NTPAUDIT"]).resolve())
+    ran = subprocess.run([ROOT / "ntpaudit", "--version"], stdin=subprocess.DEVNULL, stdout=subprocess.DEVNULL)
+    if ran.returncode:
+        print(f"FAILED: ./ntpaudit --version ends with status {ran.returncode}\n0 passed, 1 failed")
+        sys.exit(1)
+    return str(ROOT / "out" / "ntpaudit")
+
+
+def check(name, **pairs):
+    """Counts a case: each pair is what was seen and what is wanted, or what was seen and a test of it."""
+    global passed
+    wrong = []
+    for what, (seen, wanted) in pairs.items():
+        if not (wanted(seen) if callable(wanted) else seen == wanted):
+            wrong.append(f"{what} {short(seen)}" + ("" if callable(wanted) else f", wanted {short(wanted)}"))
+    if wrong:
+        failed.append(name)
+        print(f"FAILED {name}: {'; '.join(wrong)}", flush=True)
+    else:
+        passed += 1
+
+
+def short(seen):
+    text = repr(seen)
+    return text if len(text) < 300 else f"{text[:140]} .. {text[-140:]} ({len(seen)} long)"
+
+
+def run(words, given=b"", **how):
+    """Status, standard output and standard error of a command."""
+    if given is not None:
+        how["input"] = given
+    try:
+        ran = subprocess.run([str(word) if not isinstance(word, bytes) else word for word in words],
+                             **{"stdout": subprocess.PIPE, "stderr": subprocess.PIPE, "timeout": SECONDS, **how})
+    except subprocess.TimeoutExpired:
+        return "no end", b"", b""
+    return ran.returncode, ran.stdout, ran.stderr
+
+
+def finish():
+    print(f"{passed} passed, {len(failed)} failed")
+    sys.exit(bool(failed))
