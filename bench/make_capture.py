@@ -1,10 +1,11 @@
 #!/usr/bin/env python3
 """Writes a capture for measurements: NTP requests and replies among other traffic, the same bytes at every run.
 
-  make_capture.py FILE [--records N | --bytes N] [--big-frames]
+  make_capture.py FILE [--records N | --bytes N] [--big-frames | --only-ntp]
 
 Of each eight records four are NTP packets, two are TCP segments, one is a DNS query and one an ARP request. With
---big-frames the TCP segments have 60,000 bytes, as a host with segmentation offload records them. It ends after N
+--big-frames the TCP segments have 60,000 bytes, as a host with segmentation offload records them. With --only-ntp
+there are requests and replies alone. It ends after N
 records (2,000,000 if nothing is said) or with the record that reaches N bytes, and prints what the listing's closing
 line has to say. Classic format, little-endian, microseconds.
 """
@@ -15,7 +16,7 @@ import sys
 MOST_RECORDS = 4_000_000
 START = 1_700_000_000
 SECONDS_TO_1970 = 2_208_988_800
-SERVERS = 7
+SERVERS = 8
 
 
 def ethernet(kind):
@@ -87,7 +88,9 @@ def main():
     size = words.add_mutually_exclusive_group()
     size.add_argument("--records", type=int, default=2_000_000)
     size.add_argument("--bytes", type=int)
-    words.add_argument("--big-frames", action="store_true")
+    kind = words.add_mutually_exclusive_group()
+    kind.add_argument("--big-frames", action="store_true")
+    kind.add_argument("--only-ntp", action="store_true")
     given = words.parse_args()
     most_records = MOST_RECORDS if given.bytes else given.records
     if not 0 <= most_records <= MOST_RECORDS:
@@ -96,6 +99,8 @@ def main():
     with open(given.file, "wb", buffering=1 << 20) as out:
         out.write(struct.pack("<IHHiIII", 0xA1B2C3D4, 2, 4, 0, 0, 262_144, 1))
         for moment, frame, is_ntp in frames(given.big_frames):
+            if given.only_ntp and not is_ntp:
+                continue
             if records == most_records or given.bytes and size >= given.bytes:
                 break
             out.write(struct.pack("<IIII", *divmod(moment, 1_000_000), len(frame), len(frame)))
