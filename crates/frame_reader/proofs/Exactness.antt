@@ -3,8 +3,8 @@ use Rattle.std.proofs.Common.{◌≡◌, ℕ, ◌⊎◌, ◌↔◌, List, Option
 use Rattle.std.specs.Option.{option_or}
 use Rattle.std.specs.Prelude.{IsSome}
 use Rattle.frame_reader.specs.declared.skip.Skip.{Skip}
-use Rattle.frame_reader.specs.Frame.{Fields, HoldsDatagram, IsBytes, link_skip, packet_of, packet_skip, segment_of, segment_skip, skip_of, fields_at, unless_skipped, datagram_of}
-use Rattle.frame_reader.proofs.WordLemmas.{ReadsBytes-from_all}
+use Rattle.frame_reader.specs.Frame.{Fields, HoldsDatagram, link_skip, packet_of, packet_skip, segment_of, segment_skip, skip_of, fields_at, unless_skipped, datagram_of}
+use Rattle.byte_stream.specs.Bytes.{IsBytes, byte_at-lt}
 use Rattle.frame_reader.proofs.HeaderTests.{option_or-none, link_passed, link_passes, packet_passed, packet_passes, segment_passed, segment_passes}
 use Rattle.frame_reader.proofs.Soundness.{parted}
 use Rattle.frame_reader.proofs.Completeness.{joined}
@@ -19,7 +19,7 @@ holds-unskipped frame bytes e =
     let link = option_or-none (link_skip frame)
     (option_or (packet_skip (packet_of frame)) (segment_skip (segment_of (packet_of frame)))) e in
     let inner = option_or-none (packet_skip (packet_of frame)) (segment_skip (segment_of (packet_of frame))) link.1 in
-    parted frame (ReadsBytes-from_all frame bytes) (link_passed frame link.0)
+    parted frame (byte_at-lt frame bytes) (link_passed frame link.0)
     (packet_passed (packet_of frame) inner.0) (segment_passed (segment_of (packet_of frame)) inner.1)
 
 unskipped : (frame : List ℕ) (d : Fields) → HoldsDatagram frame d → skip_of frame ≡ None

@@ -4,17 +4,12 @@ use Rattle.std.proofs.lemmas.Bool.{cases_lt}
 use Rattle.std.proofs.lemmas.List.{get_or-drop, get_or-take, get_or_past, get_or_default, drop_more, length-take}
 use Rattle.std.proofs.Math.Seq.{drop-append-add}
 use Rattle.byteorder.specs.Endian.{big_bytes, big_number}
-use Rattle.frame_reader.specs.Frame.{word, IsBytes}
+use Rattle.byte_stream.specs.Bytes.{IsBytes}
+use Rattle.frame_reader.specs.Frame.{word}
 
 -- each place reads as a byte, and as 0 past the end
 abbrev pub ReadsBytes : List ℕ → Type 0
 ReadsBytes xs = (i : ℕ) → get_or xs i 0 < 256
-
-pub ReadsBytes-from_all : (xs : List ℕ) → IsBytes xs → ReadsBytes xs
-ReadsBytes-from_all xs all i = elim (cases_lt i (length xs)) [
-  | inl inside ↦ all i 0 inside
-  | inr past ↦ rw (get_or_past xs i 0 past) (omega arith)
-]
 
 pub IsBytes-from_reads : (xs : List ℕ) → ReadsBytes xs → IsBytes xs
 IsBytes-from_reads xs bytes k d inside = rw (get_or_default xs k d 0 inside) (bytes k)

@@ -5,7 +5,6 @@
 -- tag. The second half says what any frame gives: its fields by their places, or the first reason
 -- to skip it.
 use Rattle.std.specs.Prelude.{◌≡◌, ℕ, ◌+◌, ◌-◌, ◌*◌, ◌/◌, ◌%◌, ◌^◌, ◌<◌, List, [], ◌∷◌, ◌++◌, length, drop, Option, Some, None, Result, Ok, Err, nat_lt, ◌==◌, not, if◌then◌else◌, slice_index, slice_range}
-use Rattle.std.specs.List.{All}
 use Rattle.std.specs.Option.{option_or}
 use Rattle.byteorder.specs.Endian.{big_bytes, big_number}
 use Rattle.frame_reader.specs.declared.kinds.Datagram.{Datagram}
@@ -100,10 +99,6 @@ pub record HoldsDatagram (frame : List ℕ) (d : Fields) : Type 0 where
   pub joined : frame ≡ frame_bytes parts d
 
 -- ---- any frame
-
--- a list of bytes
-abbrev pub IsBytes : List ℕ → Type 0
-IsBytes bytes = All (λ b. b < 256) bytes
 
 -- the number in the two bytes from a place, the high byte first
 unfoldable pub word : List ℕ → ℕ → ℕ

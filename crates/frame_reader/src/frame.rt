@@ -3,16 +3,16 @@
 ghost use Rattle.std.specs.Prelude.{◌≡◌, Ok, Err, Some, MatchResult, IfOk, IfErr};
 ghost use Rattle.frame_reader.specs.Frame.{fields_of, datagram_of, skip_of, HoldsDatagram};
 
-use crate::bytes::{address_at, word_at};
 use crate::ethernet::packet;
 use crate::ipv4::segment;
 use crate::kinds::Datagram;
 use crate::skip::Skip;
+use crate::udp::segment_datagram;
 
 /// The UDP datagram that an Ethernet II frame holds (RFC 768, RFC 791, IEEE 802.1Q), or the first
 /// reason to skip the frame. The payload is the UDP length less the 8 bytes of the UDP header; what
 /// follows it is padding. The frame may have any length.
-#[tactic(auto, unfolding(crate::specs::Frame::datagram_of, crate::specs::Frame::skip_of, crate::specs::Frame::segment_skip, crate::specs::Frame::fields_at))]
+#[tactic(auto, unfolding(crate::specs::Frame::datagram_of, crate::specs::Frame::skip_of))]
 pub fn datagram(frame: &[u8]) -> Result<Datagram<'_>, Skip>
     ensures exact { MatchResult result
         (λ d. datagram_of frame.now ≡ Ok (fields_of d))
@@ -24,18 +24,5 @@ pub fn datagram(frame: &[u8]) -> Result<Datagram<'_>, Skip>
 {
     let packet = packet(frame)?;
     let segment = segment(packet)?;
-    if segment.len() < 8 {
-        return Err(Skip::UdpLength);
-    }
-    let length = usize::from(word_at(segment, 4));
-    if length < 8 || segment.len() < length {
-        return Err(Skip::UdpLength);
-    }
-    Ok(Datagram {
-        source: address_at(packet, 12),
-        destination: address_at(packet, 16),
-        source_port: word_at(segment, 0),
-        destination_port: word_at(segment, 2),
-        payload: &segment[8..length],
-    })
+    segment_datagram(packet, segment)
 }

@@ -3,7 +3,8 @@
 ghost use Rattle.std.specs.Prelude.{◌≡◌, ◌↔◌, ℕ, ◌+◌, ◌<◌, List, ◌++◌, length, take, Ok, Err, Some, IsSome};
 ghost use Rattle.frame_reader.specs.declared.skip.Skip.{Skip};
 ghost use Rattle.frame_reader.specs.declared.skip.Skip.TheVariants.{Short};
-ghost use Rattle.frame_reader.specs.Frame.{Fields, IsBytes, HoldsDatagram, skip_of, datagram_of};
+ghost use Rattle.byte_stream.specs.Bytes.{IsBytes};
+ghost use Rattle.frame_reader.specs.Frame.{Fields, HoldsDatagram, skip_of, datagram_of};
 
 /// A frame gives a datagram exactly where it is the joined list of that datagram's parts: Ethernet
 /// addresses, at most one tag, IPv4 header, UDP header, payload and padding.

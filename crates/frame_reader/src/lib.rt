@@ -14,6 +14,7 @@ mod ipv4;
 pub mod kinds;
 pub mod laws;
 mod skip;
+mod udp;
 
 pub use frame::datagram;
 pub use skip::Skip;

@@ -1,31 +1,20 @@
 -- How large the fields of a header are.
-use Rattle.std.proofs.Common.{◌≡◌, ℕ, ◌+◌, ◌-◌, ◌<◌, ◌^◌, List, length, inl, inr, arith}
-use Rattle.std.specs.Prelude.{pos, negsuc, ◌+ℤ◌, ◌≤ℤ◌, ◌⊎◌, slice_index, slice_range}
-use Rattle.std.proofs.lemmas.Bool.{cases_lt}
+use Rattle.std.proofs.Common.{◌≡◌, ℕ, ◌+◌, ◌-◌, ◌<◌, ◌^◌, List, arith}
+use Rattle.std.specs.Prelude.{pos, negsuc, ◌+ℤ◌, ◌≤ℤ◌, ◌⊎◌, slice_range}
 use Rattle.std.proofs.lemmas.Bool.Decides.{nat_tests}
 use Rattle.std.proofs.lemmas.Int.{ints}
-use Rattle.std.proofs.lemmas.List.{get_or_past}
 use Rattle.std.proofs.lemmas.List.Elements.{All-take, All-drop}
 use Rattle.byteorder.specs.Endian.{twos_complement}
 use Rattle.byteorder.specs.Numbers.{big_from-lt}
-use Rattle.ntp_packet.specs.Header.{AreBytes, field}
+use Rattle.byte_stream.specs.Bytes.{IsBytes, byte_at-lt}
+use Rattle.ntp_packet.specs.Header.{field}
 
--- each byte, and the 0 past the last, is below 256
-pub slice_index-lt : (bytes : List ℕ) → AreBytes bytes → (k : ℕ) → slice_index bytes k < 256
-slice_index-lt bytes h k = elim (cases_lt k (length bytes)) [
-  | inl below ↦ h k 0 below
-  | inr past ↦ omega (
-    arith,
-    get_or_past bytes k 0 past,
-  )
-]
-
-pub field-lt : (first width : ℕ) (bytes : List ℕ) → AreBytes bytes → field first width bytes < 256 ^ width
+pub field-lt : (first width : ℕ) (bytes : List ℕ) → IsBytes bytes → field first width bytes < 256 ^ width
 unfolding field
 field-lt first width bytes h =
     let rest = All-drop (λ (byte : ℕ). byte < 256) first bytes h in
     let part = All-take (λ (byte : ℕ). byte < 256) (first + width - first) _ rest in
-    big_from-lt 0 width (slice_range bytes first (first + width)) (slice_index-lt _ part)
+    big_from-lt 0 width (slice_range bytes first (first + width)) (byte_at-lt _ part)
 
 pub twos_complement-least : (byte : ℕ) → negsuc 127 ≤ℤ twos_complement 1 byte
 twos_complement-least byte = grind (arith, nat_tests, ints)

@@ -18,12 +18,8 @@
 --
 -- The short format counts units of 2^-16 s, and a timestamp units of 2^-32 s (RFC 5905, section 6).
 -- A tick is 2^-32 s. Root delay and root dispersion are read as unsigned.
-use Rattle.std.specs.Prelude.{ℕ, ◌+◌, ◌-◌, ◌*◌, ◌/◌, ◌%◌, ◌^◌, ℤ, pos, negsuc, int_lt, ◌<◌, List, take, slice_index, slice_range, All, Option, Some, None, if◌then◌else◌}
+use Rattle.std.specs.Prelude.{ℕ, ◌+◌, ◌-◌, ◌*◌, ◌/◌, ◌%◌, ◌^◌, ℤ, pos, negsuc, int_lt, List, take, slice_index, slice_range, Option, Some, None, if◌then◌else◌}
 use Rattle.byteorder.specs.Endian.{big_number, twos_complement}
-
--- a list of bytes
-abbrev pub AreBytes : List ℕ → Type 0
-AreBytes bytes = All (λ byte. byte < 256) bytes
 
 -- the header of a payload: its first 48 bytes
 abbrev pub header_of : List ℕ → List ℕ

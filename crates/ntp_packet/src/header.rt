@@ -34,10 +34,11 @@ pub fn view(payload: &[u8]) -> Option<NtpView<'_>>
     Some(NtpView { bytes })
 }
 
-#[tactic(auto, unfolding(crate::specs::Header::field, crate::specs::Header::signed_field, crate::specs::Header::leap_of, crate::specs::Header::version_of, crate::specs::Header::mode_of, crate::specs::Header::reference_id_of))]
+#[tactic(auto, unfolding(crate::specs::Header::field))]
 impl NtpView<'_> {
     /// The leap indicator, 0 to 3. 1 and 2 warn of a leap second, and 3 says that the clock is
     /// unsynchronized.
+    #[tactic(auto, unfolding(crate::specs::Header::leap_of))]
     pub fn leap(&self) -> u8
         ensures { result ≡ leap_of self.now }
     {
@@ -45,6 +46,7 @@ impl NtpView<'_> {
     }
 
     /// The version number, 0 to 7.
+    #[tactic(auto, unfolding(crate::specs::Header::version_of))]
     pub fn version(&self) -> u8
         ensures { result ≡ version_of self.now }
     {
@@ -52,6 +54,7 @@ impl NtpView<'_> {
     }
 
     /// The mode, 0 to 7. 3 is a client and 4 a server.
+    #[tactic(auto, unfolding(crate::specs::Header::mode_of))]
     pub fn mode(&self) -> u8
         ensures { result ≡ mode_of self.now }
     {
@@ -67,6 +70,7 @@ impl NtpView<'_> {
     }
 
     /// The longest time between messages, in log2 seconds, -128 to 127.
+    #[tactic(auto, unfolding(crate::specs::Header::field, crate::specs::Header::signed_field))]
     pub fn poll(&self) -> i8
         ensures { result ≡ poll_of self.now }
     {
@@ -74,6 +78,7 @@ impl NtpView<'_> {
     }
 
     /// The precision of the sender's clock, in log2 seconds, -128 to 127.
+    #[tactic(auto, unfolding(crate::specs::Header::field, crate::specs::Header::signed_field))]
     pub fn precision(&self) -> i8
         ensures { result ≡ precision_of self.now }
     {
@@ -95,6 +100,7 @@ impl NtpView<'_> {
     }
 
     /// The reference identifier: the source that the sender takes its time from, or a kiss code.
+    #[tactic(auto, unfolding(crate::specs::Header::reference_id_of))]
     pub fn reference_id(&self) -> [u8; 4]
         ensures { result ≡ reference_id_of self.now }
     {

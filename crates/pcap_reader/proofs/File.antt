@@ -4,7 +4,8 @@ use Rattle.std.specs.Prelude.{MatchOption}
 use Rattle.std.proofs.lemmas.List.{take-append-drop}
 use Rattle.pcap_reader.specs.declared.fault.CaptureFault.{CaptureFault}
 use Rattle.pcap_reader.specs.declared.format.Format.{Format}
-use Rattle.pcap_reader.specs.Broken.{IsBytes, BeginsWith, IsBrokenAfter, HasHeaderFault, HasFault}
+use Rattle.byte_stream.specs.Bytes.{IsBytes}
+use Rattle.pcap_reader.specs.Broken.{BeginsWith, IsBrokenAfter, HasHeaderFault, HasFault}
 use Rattle.pcap_reader.specs.Capture.{Record, IsHeader, IsRecordAt, IsCapture, record_spelling, spelling, most_records}
 use Rattle.pcap_reader.specs.Header.{header_of}
 use Rattle.pcap_reader.specs.Remaining.{Coming, coming_from, capture_of, fault_at}

@@ -11,7 +11,8 @@ use Rattle.pcap_reader.specs.declared.fault.CaptureFault.TheVariants.{TornHeader
 use Rattle.pcap_reader.specs.declared.format.Endian.{Endian}
 use Rattle.pcap_reader.specs.declared.format.Endian.TheVariants.{Big, Little}
 use Rattle.pcap_reader.specs.declared.format.Format.{Format}
-use Rattle.pcap_reader.specs.Broken.{IsBytes, HasMagic, HasVersion, HasLink, HasHeaderFault}
+use Rattle.byte_stream.specs.Bytes.{IsBytes}
+use Rattle.pcap_reader.specs.Broken.{HasMagic, HasVersion, HasLink, HasHeaderFault}
 use Rattle.pcap_reader.specs.Capture.{IsHeader, magic_of}
 use Rattle.pcap_reader.specs.Field.{number_in, spelled}
 use Rattle.pcap_reader.specs.Header.{format_of, version_and_link, header_of}

@@ -1,12 +1,13 @@
 -- Lists joined of parts of known length.
-use Rattle.std.proofs.Common.{◌≡◌, ℕ, ◌+◌, List, ◌++◌, length, take, drop, refl, sym, ◌∙◌, append_assoc, drop-drop}
-use Rattle.std.proofs.lemmas.List.{get_or-drop, take-append-drop}
+use Rattle.std.proofs.Common.{◌≡◌, ℕ, ◌+◌, ◌<◌, List, ◌++◌, length, take, drop, refl, sym, ◌∙◌, append_assoc, drop-drop}
+use Rattle.std.proofs.lemmas.List.{take-append-drop}
+use Rattle.std.proofs.lemmas.List.Elements.{All-drop}
 use Rattle.std.proofs.Math.Seq.{drop-append_seam, take-append_seam, take-add}
-use Rattle.pcap_reader.specs.Broken.{IsBytes}
+use Rattle.byte_stream.specs.Bytes.{IsBytes}
 
 -- bytes stay bytes
 pub bytes_after : (bytes : List ℕ) (n : ℕ) → IsBytes bytes → IsBytes (drop n bytes)
-bytes_after bytes n h i = rw get_or-drop (h (n + i))
+bytes_after bytes n h = All-drop (λ byte. byte < 256) n bytes h
 
 -- the front, and what follows it
 pub front : {A : Type 0} (xs part rest : List A) (n : ℕ) → xs ≡ part ++ rest → length part ≡ n → take n xs ≡ part

@@ -9,7 +9,7 @@ use Rattle.pcap_reader.specs.declared.fault.CaptureFault.TheVariants.{TornRecord
 use Rattle.pcap_reader.specs.declared.format.Endian.{Endian}
 use Rattle.pcap_reader.specs.declared.format.Format.{Format}
 use Rattle.pcap_reader.specs.declared.format.RecordHead.{RecordHead}
-use Rattle.pcap_reader.specs.Broken.{IsBytes}
+use Rattle.byte_stream.specs.Bytes.{IsBytes}
 use Rattle.pcap_reader.specs.Capture.{Record, IsRecordAt, record_spelling, most_captured, most_records}
 use Rattle.pcap_reader.specs.Field.{number_in, spelled}
 use Rattle.pcap_reader.specs.Remaining.{fault_at, head_fault, head_at, record_at, sec_in, sub_in, captured_in, original_in}

@@ -4,7 +4,7 @@ use Rattle.std.specs.Prelude.{MatchOption}
 use Rattle.pcap_reader.specs.declared.fault.CaptureFault.{CaptureFault}
 use Rattle.pcap_reader.specs.declared.fault.CaptureFault.TheVariants.{TooMany}
 use Rattle.pcap_reader.specs.declared.format.Format.{Format}
-use Rattle.pcap_reader.specs.Broken.{IsBytes}
+use Rattle.byte_stream.specs.Bytes.{IsBytes}
 use Rattle.pcap_reader.specs.Capture.{Record, IsRecordAt, AreRecordsFrom, record_spelling, spelling, most_records}
 use Rattle.pcap_reader.specs.Remaining.{Coming, coming_from, broken_end, whole_end, then_coming, fault_at, record_at, captured_in}
 use Rattle.pcap_reader.proofs.Remaining.{coming_from-nil, coming_from_fault, coming_from_record, coming_from_read}

@@ -3,7 +3,7 @@ use Rattle.std.proofs.Common.{◌≡◌, ℕ, ◌+◌, ◌*◌, ◌/◌, ◌%◌
 use Rattle.byteorder.specs.Numbers.{big_number-reads_back, little_number-reads_back, length-bytes_high_first, length-bytes_low_first, big_from-lt, little_from-lt}
 use Rattle.pcap_reader.specs.declared.format.Endian.{Endian}
 use Rattle.pcap_reader.specs.declared.format.Endian.TheVariants.{Big, Little}
-use Rattle.pcap_reader.specs.Broken.{IsBytes}
+use Rattle.byte_stream.specs.Bytes.{IsBytes, byte_at-lt}
 use Rattle.pcap_reader.specs.Field.{number_in, spelled}
 
 -- the bytes of a number have that number in them
@@ -18,8 +18,8 @@ length-spelled Little n x = length-bytes_low_first 0 n x
 
 -- no number in n bytes reaches 256 ^ n
 pub number_in-lt : (order : Endian) (n : ℕ) (bytes : List ℕ) → IsBytes bytes → number_in order n bytes < 256 ^ n
-number_in-lt Big n bytes h = big_from-lt 0 n bytes h
-number_in-lt Little n bytes h = little_from-lt 0 n bytes h
+number_in-lt Big n bytes h = big_from-lt 0 n bytes (byte_at-lt bytes h)
+number_in-lt Little n bytes h = little_from-lt 0 n bytes (byte_at-lt bytes h)
 
 -- the digits of a number to the base 256
 digit_1_of_2 : (x a b : ℕ) → a < 256 → b < 256 → x ≡ a * 256 + b → x / 256 % 256 ≡ a
@@ -75,9 +75,12 @@ pub spelled-number_in_2 : (order : Endian) (bytes : List ℕ) → IsBytes bytes 
     spelled order 2 (number_in order 2 bytes) ≡ take 2 bytes
 spelled-number_in_2 order [] h long = absurd (omega arith)
 spelled-number_in_2 order (a ∷ []) h long = absurd (omega arith)
-spelled-number_in_2 Big (a ∷ b ∷ rest) h long = big_2 (number_in Big 2 (a ∷ b ∷ rest)) a b (h 0) (h 1) (omega arith)
-spelled-number_in_2 Little (a ∷ b ∷ rest) h long = little_2 (number_in Little 2 (a ∷ b ∷ rest)) a b (h 0) (h 1)
-    (omega arith)
+spelled-number_in_2 Big (a ∷ b ∷ rest) h long =
+    let at = byte_at-lt (a ∷ b ∷ rest) h in
+    big_2 (number_in Big 2 (a ∷ b ∷ rest)) a b (at 0) (at 1) (omega arith)
+spelled-number_in_2 Little (a ∷ b ∷ rest) h long =
+    let at = byte_at-lt (a ∷ b ∷ rest) h in
+    little_2 (number_in Little 2 (a ∷ b ∷ rest)) a b (at 0) (at 1) (omega arith)
 
 -- four bytes are those of the number in them
 pub spelled-number_in_4 : (order : Endian) (bytes : List ℕ) → IsBytes bytes → 4 ≤ length bytes →
@@ -86,7 +89,9 @@ spelled-number_in_4 order [] h long = absurd (omega arith)
 spelled-number_in_4 order (a ∷ []) h long = absurd (omega arith)
 spelled-number_in_4 order (a ∷ b ∷ []) h long = absurd (omega arith)
 spelled-number_in_4 order (a ∷ b ∷ c ∷ []) h long = absurd (omega arith)
-spelled-number_in_4 Big (a ∷ b ∷ c ∷ d ∷ rest) h long = big_4 (number_in Big 4 (a ∷ b ∷ c ∷ d ∷ rest)) a b c d (h 0)
-    (h 1) (h 2) (h 3) (omega arith)
+spelled-number_in_4 Big (a ∷ b ∷ c ∷ d ∷ rest) h long =
+    let at = byte_at-lt (a ∷ b ∷ c ∷ d ∷ rest) h in
+    big_4 (number_in Big 4 (a ∷ b ∷ c ∷ d ∷ rest)) a b c d (at 0) (at 1) (at 2) (at 3) (omega arith)
 spelled-number_in_4 Little (a ∷ b ∷ c ∷ d ∷ rest) h long =
-    little_4 (number_in Little 4 (a ∷ b ∷ c ∷ d ∷ rest)) a b c d (h 0) (h 1) (h 2) (h 3) (omega arith)
+    let at = byte_at-lt (a ∷ b ∷ c ∷ d ∷ rest) h in
+    little_4 (number_in Little 4 (a ∷ b ∷ c ∷ d ∷ rest)) a b c d (at 0) (at 1) (at 2) (at 3) (omega arith)

@@ -1,31 +1,13 @@
 -- Steps of a source.
-use Rattle.std.proofs.Common.{◌≡◌, ◌∙◌, ◌↔◌, ℕ, [], ◌++◌, Err, Option, Result, Bool, true, false, sym, arith, length-append}
+use Rattle.std.proofs.Common.{◌≡◌, ◌∙◌, ◌↔◌, ℕ, Err, Option, Result, Bool, true, false, sym}
 use Rattle.std.specs.Prelude.{IsTrue, IsErrOf}
-use Rattle.std.proofs.KnownBytes.{Consumes-nil, Consumes-trans}
 use Rattle.byte_stream.specs.Fault.{CountsFault}
-use Rattle.byte_stream.specs.Intake.{TakesAtMost}
 use Rattle.pcap_reader.specs.declared.format.RecordHead.{RecordHead}
 use Rattle.pcap_reader.specs.declared.fault.CaptureFault.{CaptureFault}
 use Rattle.pcap_reader.specs.declared.fault.CaptureFault.TheVariants.{Read, Failed}
 use Rattle.pcap_reader.specs.Fault.{IsRecordFault, MayAnswer}
-use Rattle.pcap_reader.specs.Source.{Supply, TakesFrom, read_failed}
-
--- nothing was taken
-pub TakesFrom-none : (s : Supply) → TakesFrom s s
-TakesFrom-none s = record { taken = []; consumed = Consumes-nil s.unread; at_most = omega arith }
-
--- one call after another
-pub TakesFrom-trans : (a b c : Supply) → TakesFrom a b → TakesFrom b c → TakesFrom a c
-TakesFrom-trans a b c p q =
-    record {
-      taken = p.taken ++ q.taken;
-      consumed = Consumes-trans a.unread b.unread c.unread p.taken q.taken p.consumed q.consumed;
-      at_most = omega (arith, length-append p.taken q.taken, p.at_most, q.at_most);
-    }
-
--- no more was taken than might be
-pub TakesFrom-at_most : (a b : Supply) → TakesFrom a b → TakesAtMost a.most a.unread b.unread
-TakesFrom-at_most a b p = (p.taken, p.consumed, omega (arith, p.at_most))
+pub use Rattle.pcap_reader.specs.Source.{TakesFrom-none, TakesFrom-trans, TakesFrom-at_most}
+use Rattle.pcap_reader.specs.Source.{read_failed}
 
 -- a record's fault is one that may be answered
 pub record_fault_may : (e : CaptureFault) → IsRecordFault e → MayAnswer e

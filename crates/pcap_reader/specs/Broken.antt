@@ -1,16 +1,12 @@
 -- Bytes that are no capture: with which records they begin, what is left after these, and what
 -- the fault is. As with a capture, nothing here says how the bytes are read.
-use Rattle.std.specs.Prelude.{◌≡◌, ◌<◌, ◌≤◌, ◌+◌, ℕ, List, ◌++◌, length, take, drop, slice_index, Some, ◌⊎◌}
+use Rattle.std.specs.Prelude.{◌≡◌, ◌<◌, ◌≤◌, ◌+◌, ℕ, List, ◌++◌, length, take, drop, Some, ◌⊎◌}
 use Rattle.pcap_reader.specs.declared.fault.CaptureFault.{CaptureFault}
 use Rattle.pcap_reader.specs.declared.fault.CaptureFault.TheVariants.{TornHeader, Magic, Version, Link}
 use Rattle.pcap_reader.specs.declared.format.Format.{Format}
 use Rattle.pcap_reader.specs.Field.{spelled}
 use Rattle.pcap_reader.specs.Capture.{Record, IsHeader, IsRecordAt, AreRecordsFrom, magic_of, record_spelling, spelling}
 use Rattle.pcap_reader.specs.Remaining.{fault_at}
-
--- every number is a byte
-abbrev pub IsBytes : List ℕ → Type 0
-IsBytes bytes = (i : ℕ) → slice_index bytes i < 256
 
 -- the bytes begin with a lawful header and these records
 pub record BeginsWith (bytes : List ℕ) (format : Format) (records : List Record)

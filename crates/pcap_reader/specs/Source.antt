@@ -1,7 +1,10 @@
 -- A source of records, as the crates above see it: its state, and what a call does to it.
 use Rattle.std.specs.Prelude.{◌≡◌, ◌+◌, ◌<◌, ◌≤◌, ◌↔◌, ℕ, List, [], ◌∷◌, length, Option, Some, None, Result, Ok, Err, Bool, true, false, IsTrue, IfOk, IfErr, IfSome, IsErrOf, is_err}
 use Rattle.std.specs.Io.KnownBytes.{Consumes}
+use Rattle.std.proofs.Common.{◌++◌, arith, length-append}
+use Rattle.std.proofs.KnownBytes.{Consumes-nil, Consumes-trans}
 use Rattle.byte_stream.specs.Fault.{CountsFault}
+use Rattle.byte_stream.specs.Intake.{TakesAtMost}
 use Rattle.pcap_reader.specs.declared.fault.CaptureFault.{CaptureFault}
 use Rattle.pcap_reader.specs.declared.fault.CaptureFault.TheVariants.{TornRecord, TooMany, Read, Failed}
 use Rattle.pcap_reader.specs.declared.format.RecordHead.{RecordHead}
@@ -21,6 +24,25 @@ pub record TakesFrom (before after : Supply) : Type 0 where
   pub taken : List ℕ
   pub consumed : Consumes before.unread after.unread taken
   pub at_most : length taken + after.most ≤ before.most
+
+-- nothing was taken
+pub TakesFrom-none : (s : Supply) → TakesFrom s s
+TakesFrom-none s = record { taken = []; consumed = Consumes-nil s.unread; at_most = omega arith }
+
+-- what two calls take in a row
+pub TakesFrom-trans : (first second third : Supply) → TakesFrom first second →
+    TakesFrom second third → TakesFrom first third
+TakesFrom-trans first second third p q = record {
+  taken = p.taken ++ q.taken;
+  consumed = Consumes-trans first.unread second.unread third.unread p.taken q.taken
+      p.consumed q.consumed;
+  at_most = omega (arith, length-append p.taken q.taken, p.at_most, q.at_most);
+}
+
+-- no more than might be
+pub TakesFrom-at_most : (before after : Supply) → TakesFrom before after →
+    TakesAtMost before.most before.unread after.unread
+TakesFrom-at_most before after p = (p.taken, p.consumed, omega (arith, p.at_most))
 
 -- a feed of which a whole capture may be taken
 abbrev pub whole_supply : Option (List ℕ) → Supply

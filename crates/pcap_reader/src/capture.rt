@@ -98,8 +98,9 @@ impl<F: Feed> Capture<F> {
     fn read_record(&mut self) -> Result<Option<RecordHead>, CaptureFault>
         requires unfailed { self.old.failed ≡ false }
         requires faults { F.fault_count self.old.input.feed < 2 ^ 64 - 1 }
-        ensures { IsStep (⟦<Capture<F> as RecordSource>⟧.state self.old) result
-            (record (⟦<Capture<F> as RecordSource>⟧.state self.new) { has_failed = is_err result }) }
+        ensures { let after = ⟦<Capture<F> as RecordSource>⟧.state self.new in
+            IsStep (⟦<Capture<F> as RecordSource>⟧.state self.old) result
+            (record after { has_failed = is_err result }) }
     {
         self.lent = 0;
         let (format, given, place) = (self.format, self.given, self.input.place);

@@ -4,7 +4,8 @@
 ghost use Rattle.std.specs.Prelude.{◌≡◌, ◌↔◌, ◌++◌, ◌⊎◌, ℕ, List, Some, None, Ok, Err};
 ghost use Rattle.pcap_reader.specs.declared.fault.CaptureFault.{CaptureFault};
 ghost use Rattle.pcap_reader.specs.declared.format.Format.{Format};
-ghost use Rattle.pcap_reader.specs.Broken.{IsBytes, IsBrokenAfter, HasHeaderFault, HasFault};
+ghost use Rattle.byte_stream.specs.Bytes.{IsBytes};
+ghost use Rattle.pcap_reader.specs.Broken.{IsBrokenAfter, HasHeaderFault, HasFault};
 ghost use Rattle.pcap_reader.specs.Capture.{Record, IsHeader, IsCapture};
 ghost use Rattle.pcap_reader.specs.Remaining.{capture_of};
 

@@ -7,12 +7,12 @@ use Rattle.pcap_reader.specs.Buffered.{held_bytes, last_bytes, still_has, supply
 use Rattle.pcap_reader.specs.Capture.{most_records}
 use Rattle.pcap_reader.specs.Prefix.{ShowsHead, ShowsFault}
 use Rattle.pcap_reader.specs.Remaining.{coming_from}
-use Rattle.pcap_reader.specs.Source.{TakesFrom}
+use Rattle.pcap_reader.specs.Source.{TakesFrom, TakesFrom-trans}
 use Rattle.pcap_reader.specs.declared.fault.CaptureFault.TheVariants.{TornRecord}
 use Rattle.pcap_reader.proofs.Intake.{refilled, refilled_twice, Refills-takes, length-held, last-none}
 use Rattle.pcap_reader.proofs.NextRecord.{head_held, IsNext-same, says_nothing, next_end, next_fault, next_torn, next_whole}
 use Rattle.pcap_reader.proofs.Ranges.{length-range}
-use Rattle.pcap_reader.proofs.Step.{TakesFrom-trans, unfailed_iff, record_fault_may, record_fault_counts, record_fault_iff}
+use Rattle.pcap_reader.proofs.Step.{unfailed_iff, record_fault_may, record_fault_counts, record_fault_iff}
 use Rattle.pcap_reader.proofs.Undecided.{in_time_head, in_time_record, in_time_fault}
 use Rattle.pcap_reader.proofs.capture.Capture.read_record.Goals as goal
 
