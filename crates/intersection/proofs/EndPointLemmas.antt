@@ -103,19 +103,21 @@ top_stands q p (interval ∷ list) = by_test (leaves_out interval p)
     (λ h. inr (inr (inr h)))
     (top_stands (int_max q interval.lo) p list)))
 
+-- an end that stands near among the others stands near among all
+near_more : (interval : Interval) (list : List Interval) (p q : ℤ) → leaves_out interval p ≡ true → Near list p q
+    → Near (interval ∷ list) p q
+near_more interval list p q out near = record {
+  stands = inr (inr near.stands);
+  fewer = omega (arith, near.fewer, count_yes interval list p out, at_most_one interval list q);
+}
+
 pub near_below : (list : List Interval) (p : ℤ) → count_leaving_out list p < length list
     → (q : ℤ) × Near list p q × (q ≤ℤ p)
 near_below [] p few = absurd (omega arith)
 near_below (interval ∷ list) p few = by_test (leaves_out interval p)
     (λ out.
-    let rest = near_below list p (omega (arith, count_yes interval list p out)) in (
-      rest.0,
-      record {
-        stands = inr (inr rest.1.stands);
-        fewer = omega (arith, rest.1.fewer, count_yes interval list p out, at_most_one interval list rest.0);
-      },
-      rest.2,
-    ))
+    let rest = near_below list p (omega (arith, count_yes interval list p out)) in
+    (rest.0, near_more interval list p rest.0 out rest.1, rest.2))
     (λ held.
     let q = top interval.lo p list in
     let from : (interval.lo ≤ℤ q) = top_from interval.lo p list in
@@ -203,14 +205,8 @@ pub near_above : (list : List Interval) (p : ℤ) → count_leaving_out list p <
 near_above [] p few = absurd (omega arith)
 near_above (interval ∷ list) p few = by_test (leaves_out interval p)
     (λ out.
-    let rest = near_above list p (omega (arith, count_yes interval list p out)) in (
-      rest.0,
-      record {
-        stands = inr (inr rest.1.stands);
-        fewer = omega (arith, rest.1.fewer, count_yes interval list p out, at_most_one interval list rest.0);
-      },
-      rest.2,
-    ))
+    let rest = near_above list p (omega (arith, count_yes interval list p out)) in
+    (rest.0, near_more interval list p rest.0 out rest.1, rest.2))
     (λ held.
     let q = bottom interval.hi p list in
     let from : (q ≤ℤ interval.hi) = bottom_from interval.hi p list in

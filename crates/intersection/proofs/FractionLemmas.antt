@@ -3,6 +3,7 @@ use Rattle.std.proofs.Common.{◌≡◌, ℕ, zero, suc, ◌*◌, ◌/◌, ◌<�
 use Rattle.std.proofs.lemmas.Int.{ints, by_lt_z}
 use Rattle.std.proofs.lemmas.List.Sums.{sum_by-le-sum_by}
 use Rattle.std.proofs.Math.Nat.{mul-le-mul_right}
+pub use Rattle.intersection.specs.Fineness.{times_le}
 use Rattle.intersection.specs.Interval.{leaves_out}
 use Rattle.intersection.specs.Hull.{count_leaving_out, IsAdmissible, IsHull}
 use Rattle.era_unfold.specs.Ratio.{IsSignedFloor, IsSignedCeiling}
@@ -13,12 +14,6 @@ use Rattle.intersection.specs.declared.kinds.Hull.TheVariants.{Unbounded, Empty,
 
 times : (m n k : ℕ) → m ≤ n → m * k ≤ n * k
 times m n k h = mul-le-mul_right k h
-
-pub times_le : (a b : ℤ) (n : ℕ) → a ≤ℤ b → (a *ℤ pos n) ≤ℤ (b *ℤ pos n)
-times_le (pos x) (pos y) n h = omega (arith, ints, times x y n (omega (arith, ints)))
-times_le (pos x) (negsuc y) n h = absurd (omega (arith, ints))
-times_le (negsuc x) (pos y) n h = omega (arith, ints)
-times_le (negsuc x) (negsuc y) n h = omega (arith, ints, times (suc y) (suc x) n (omega (arith, ints)))
 
 next_times : (a next : ℤ) (n : ℕ) → next ≡ a +ℤ pos 1 → (next *ℤ pos n) ≡ (a *ℤ pos n) +ℤ pos n
 next_times (pos x) (pos y) n h = let is : y ≡ suc x = omega (arith, ints) in rw is (omega (arith, ints))

@@ -2,7 +2,7 @@
 use Rattle.std.proofs.Common.{◌≡◌, ℕ, ℤ, pos, ◌*ℤ◌, ◌<ℤ◌, ◌⊎◌, ◌↔◌, inl, inr, ⊎_elim, true, false, cond, refl, sym, subst, ◌∙◌, arith, int_lt}
 use Rattle.std.proofs.lemmas.Int.{ints, clamps}
 use Rattle.std.specs.Int.{int_max, int_min}
-use Rattle.intersection.proofs.FractionLemmas.{times_le}
+use Rattle.intersection.specs.Fineness.{times_le}
 use Rattle.intersection.specs.Interval.{LeavesOut}
 use Rattle.intersection.specs.Fraction.{LeavesFractionOut}
 use Rattle.intersection.specs.declared.kinds.Interval.{Interval}

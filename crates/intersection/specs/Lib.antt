@@ -3,3 +3,4 @@ pub mod Fraction
 pub mod Hull
 pub mod Ends
 pub mod Marzullo
+pub mod Fineness

@@ -1,37 +1,12 @@
--- Products by the fineness, and the error at the two client moments.
-use Rattle.std.proofs.Common.{◌≡◌, ℕ, suc, ◌+◌, ◌*◌, ℤ, pos, negsuc, ◌+ℤ◌, ◌-ℤ◌, ◌*ℤ◌, ◌≤ℤ◌, unsigned_abs, refl}
+-- The error at the two client moments.
+use Rattle.std.proofs.Common.{◌≡◌, ℕ, ℤ, pos, ◌+ℤ◌, ◌-ℤ◌, ◌*ℤ◌, ◌≤ℤ◌, unsigned_abs, refl}
 use Rattle.std.proofs.Common.{ap, ◌∙◌, arith}
-use borrow.Author.Differences.{up, down}
 use Rattle.std.proofs.lemmas.Int.{ints}
+use Rattle.intersection.specs.Fineness.{times-add}
 use Rattle.pairing.specs.declared.exchange.Exchange.{Exchange}
 use Rattle.sample_interval.specs.Moment.{Moment, error_of, IsInWindow, IsWithinDistance}
 use Rattle.sample_interval.specs.Sample.{least_error, greatest_error}
 use Rattle.sample_interval.specs.Window.{request_start, request_end, reply_start, reply_end}
-
--- a product by a natural number, apart in what is above zero and what is below
-times-parts : (a : ℤ) (n : ℕ) → (a *ℤ pos n) ≡ pos (up a * n) -ℤ pos (down a * n)
-times-parts (pos x) n = omega (arith, ints)
-times-parts (negsuc x) n = omega (arith, ints)
-
--- n times a sum
-pub times-add : (c a b : ℤ) (n : ℕ) → c ≡ a +ℤ b → (c *ℤ pos n) ≡ (a *ℤ pos n) +ℤ (b *ℤ pos n)
-times-add c a b n e =
-    let parts : up c + down a + down b ≡ down c + up a + up b = omega (arith, ints) in
-    let scaled : (up c + down a + down b) * n ≡ (down c + up a + up b) * n = ap (λ (x : ℕ). x * n) parts in
-    rw (times-parts c n, times-parts a n, times-parts b n) (omega (arith, ints))
-
--- a product by a product
-pub times-times : (a : ℤ) (m n : ℕ) → (a *ℤ pos (m * n)) ≡ ((a *ℤ pos m) *ℤ pos n)
-times-times (pos x) m n = omega (arith, ints)
-times-times (negsuc x) m n =
-    let once = times-parts (negsuc x) (m * n) in
-    let inner = times-parts (negsuc x) m in
-    let below : down (negsuc x *ℤ pos m) ≡ suc x * m = omega (arith, ints) in
-    let above : up (negsuc x *ℤ pos m) ≡ 0 = omega (arith, ints) in
-    let outer = times-parts (negsuc x *ℤ pos m) n in
-    let scaled : down (negsuc x *ℤ pos m) * n ≡ suc x * m * n = ap (λ (k : ℕ). k * n) below in
-    let none : up (negsuc x *ℤ pos m) * n ≡ 0 = rw above (omega arith) in
-    omega (arith, ints)
 
 no_less : (low start stamp distance reading time received : ℤ) → start ≡ low +ℤ distance +ℤ stamp →
     start ≤ℤ reading → time ≤ℤ received → pos (unsigned_abs (received -ℤ stamp)) ≤ℤ distance → low ≤ℤ (reading -ℤ time)

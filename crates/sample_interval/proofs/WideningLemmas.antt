@@ -1,11 +1,11 @@
 -- The widening as a least number, and the drift by the clock's own readings.
-use Rattle.std.proofs.Common.{◌≡◌, ℕ, zero, suc, ◌+◌, ◌-◌, ◌*◌, ◌/◌, ◌%◌, min, ◌<◌, ◌≤◌, ◌-ℤ◌, unsigned_abs}
-use Rattle.std.proofs.Common.{◌⊎◌, inl, inr, ⊎_elim, ◌↔◌, refl, arith, subst, ◌∙◌}
+use Rattle.std.proofs.Common.{◌≡◌, ℕ, zero, suc, ◌+◌, ◌-◌, ◌*◌, ◌<◌, ◌≤◌, ◌-ℤ◌, unsigned_abs}
+use Rattle.std.proofs.Common.{◌⊎◌, inl, inr, ⊎_elim, ◌↔◌, refl, sym, arith, subst}
 use Rattle.std.proofs.lemmas.Int.{ints}
-use Rattle.std.proofs.Math.Nat.{mul-le-mul_left, mul-le-mul_right}
+use Rattle.std.proofs.lemmas.Grind.{div_ceil_times}
+use Rattle.std.proofs.Math.Nat.{lt_of_mul-lt-mul_right, mul-le-mul_left, mul-le-mul_right}
 use Rattle.std.specs.Int.{div_ceil}
-use Rattle.era_unfold.specs.Ratio.{ceiling_of}
-use Rattle.era_unfold.proofs.Rounding.{IsCeiling-ceiling_of, div_ceil-is}
+use Rattle.era_unfold.specs.Ratio.{IsCeiling}
 use Rattle.sample_interval.specs.Widening.{IsWidening, widening, billion}
 use Rattle.sample_interval.specs.Moment.{Moment, error_change, DriftsWithin, DriftsWithinByReading}
 
@@ -24,9 +24,24 @@ drift_by_reading ppb a b le h =
     by_reading g ppb e t (unsigned_abs (b.reading -ℤ a.reading)) (omega (arith, ints))
     (subst (λ (x : ℕ). x * e ≤ ppb * t) whole h)
 
-pub IsWidening-widening : (ppb distance : ℕ) → ppb < billion → IsWidening ppb distance (widening ppb distance)
-unfolding widening
-IsWidening-widening ppb distance h = IsCeiling-ceiling_of (ppb * distance) (billion - ppb) (omega arith)
+-- what the quotient that is rounded up is
+IsCeiling-div_ceil : (n d : ℕ) → 0 < d → IsCeiling n d (div_ceil n d)
+IsCeiling-div_ceil n d h =
+    let bounds = div_ceil_times n d h in
+    record {
+      not_below = bounds.0;
+      least = λ m le.
+          let past : div_ceil n d * d < (m + 1) * d = omega (arith, bounds.1) in
+          let below : div_ceil n d < m + 1 = lt_of_mul-lt-mul_right d past in
+          omega arith;
+    }
+
+-- what the code divides
+pub IsWidening-div_ceil : (rate distance q ppb d : ℕ) → ppb < billion → rate ≡ ppb → distance ≡ d →
+    q ≡ div_ceil (rate * distance) (billion - rate) → IsWidening ppb d q
+IsWidening-div_ceil rate distance q ppb d h a b e =
+    let at : q ≡ div_ceil (ppb * d) (billion - ppb) = rw (← a, ← b) e in
+    subst (IsWidening ppb d) (sym at) (IsCeiling-div_ceil (ppb * d) (billion - ppb) (omega arith))
 
 pub IsWidening-one_number : (ppb distance v w : ℕ) → IsWidening ppb distance v → IsWidening ppb distance w → v ≡ w
 IsWidening-one_number ppb distance v w h k =
@@ -34,51 +49,44 @@ IsWidening-one_number ppb distance v w h k =
     let b : w ≤ v = k.least v h.not_below in
     omega arith
 
-pub widening-mono_distance : (ppb near far : ℕ) → ppb < billion → near ≤ far → widening ppb near ≤ widening ppb far
-widening-mono_distance ppb near far h le =
-    let w = IsWidening-widening ppb far h in
-    let more : ppb * near ≤ ppb * far = mul-le-mul_left ppb le in
-    (IsWidening-widening ppb near h).least (widening ppb far) (omega (arith, w.not_below))
-
-pub widening-mono_rate : (slow fast distance : ℕ) → fast < billion → slow ≤ fast →
-    widening slow distance ≤ widening fast distance
-widening-mono_rate slow fast distance h le =
-    let w = IsWidening-widening fast distance h in
-    let less : slow * distance ≤ fast * distance = mul-le-mul_right distance le in
-    let more : widening fast distance * (billion - fast) ≤ widening fast distance * (billion - slow) =
-    mul-le-mul_left (widening fast distance) (omega arith) in
-    (IsWidening-widening slow distance (omega arith)).least (widening fast distance) (omega (arith, w.not_below))
+-- at rates up to a half
+pub IsWidening-le_distance : (ppb distance w : ℕ) → ppb ≤ 500000000 → IsWidening ppb distance w → w ≤ distance
+IsWidening-le_distance ppb distance w h is =
+    let rate : ppb * distance ≤ (billion - ppb) * distance = mul-le-mul_right distance (omega arith) in
+    is.least distance (omega arith)
 
 product_zero : (a b : ℕ) → a * b ≤ 0 → (a ≡ 0) ⊎ (b ≡ 0)
 product_zero zero b h = inl refl
 product_zero (suc a) zero h = inr refl
 product_zero (suc a) (suc b) h = absurd (omega arith)
 
-pub widening-zero : (ppb distance : ℕ) → ppb < billion → (widening ppb distance ≡ 0) ↔ ((ppb ≡ 0) ⊎ (distance ≡ 0))
-widening-zero ppb distance h =
-    let w = IsWidening-widening ppb distance h in (
-      λ e. product_zero ppb distance
-          (let none : ppb * distance ≤ 0 * (billion - ppb) =
-          subst (λ (v : ℕ). ppb * distance ≤ v * (billion - ppb)) e w.not_below in omega arith),
-      ⊎_elim
-          (λ (e : ppb ≡ 0). let least = w.least 0 (rw e (omega arith)) in omega arith)
-          (λ (e : distance ≡ 0). let least = w.least 0 (rw e (omega arith)) in omega arith),
-    )
+-- the law that every distance has its widening
+abbrev pub HaveWidenings : Type 0
+HaveWidenings = (ppb distance : ℕ) → ppb < billion → IsWidening ppb distance (widening ppb distance)
 
--- what the code divides
-pub widening-is : (ppb distance : ℕ) → ppb < billion →
-    ppb * distance / (billion - ppb) + min 1 (ppb * distance % (billion - ppb)) ≡ widening ppb distance
-unfolding widening ceiling_of
-widening-is ppb distance h = div_ceil-is (ppb * distance) (billion - ppb) (omega arith)
+module _ (is : HaveWidenings) where
+  pub widening-mono_distance : (ppb near far : ℕ) → ppb < billion → near ≤ far → widening ppb near ≤ widening ppb far
+  widening-mono_distance ppb near far h le =
+      let w = is ppb far h in
+      let more : ppb * near ≤ ppb * far = mul-le-mul_left ppb le in
+      (is ppb near h).least (widening ppb far) (omega (arith, w.not_below))
 
--- at rates up to a half
-pub widening-le_distance : (ppb distance : ℕ) → ppb ≤ 500000000 → widening ppb distance ≤ distance
-widening-le_distance ppb distance h =
-    let rate : ppb * distance ≤ (billion - ppb) * distance = mul-le-mul_right distance (omega arith) in
-    (IsWidening-widening ppb distance (omega arith)).least distance (omega arith)
+  pub widening-mono_rate : (slow fast distance : ℕ) → fast < billion → slow ≤ fast →
+      widening slow distance ≤ widening fast distance
+  widening-mono_rate slow fast distance h le =
+      let w = is fast distance h in
+      let less : slow * distance ≤ fast * distance = mul-le-mul_right distance le in
+      let more : widening fast distance * (billion - fast) ≤ widening fast distance * (billion - slow) =
+      mul-le-mul_left (widening fast distance) (omega arith) in
+      (is slow distance (omega arith)).least (widening fast distance) (omega (arith, w.not_below))
 
-pub widening-from : (rate distance q ppb d : ℕ) → ppb < billion → rate ≡ ppb → distance ≡ d →
-    q ≡ div_ceil (rate * distance) (billion - rate) → q ≡ widening ppb d
-widening-from rate distance q ppb d h a b e =
-    let at : q ≡ div_ceil (ppb * d) (billion - ppb) = rw (← a, ← b) e in
-    at ∙ widening-is ppb d h
+  pub widening-zero : (ppb distance : ℕ) → ppb < billion → (widening ppb distance ≡ 0) ↔ ((ppb ≡ 0) ⊎ (distance ≡ 0))
+  widening-zero ppb distance h =
+      let w = is ppb distance h in (
+        λ e. product_zero ppb distance
+            (let none : ppb * distance ≤ 0 * (billion - ppb) =
+            subst (λ (v : ℕ). ppb * distance ≤ v * (billion - ppb)) e w.not_below in omega arith),
+        ⊎_elim
+            (λ (e : ppb ≡ 0). let least = w.least 0 (rw e (omega arith)) in omega arith)
+            (λ (e : distance ≡ 0). let least = w.least 0 (rw e (omega arith)) in omega arith),
+      )

@@ -16,6 +16,8 @@ ghost use Rattle.sample_interval.specs.Sample.{least_error, greatest_error, samp
 ghost use Rattle.sample_interval.specs.Widening.{IsWidening, widening, billion};
 ghost use Rattle.sample_interval.specs.Window.{request_start, request_end, reply_start, reply_end};
 
+use era_unfold::laws::ratios_are_rounded_as_little_as_can_be;
+
 /// A drift that is bounded by true time is bounded by the clock's own readings too: from parts in
 /// 10^9 of true time to parts in 10^9 less the rate of what the clock shows.
 pub fn drift_shows_on_the_clock_itself()
@@ -70,7 +72,9 @@ pub fn widening_is_one_number()
         IsWidening ppb distance (widening ppb distance) }
     ensures one { (ppb distance w : ℕ) → ppb < billion →
         IsWidening ppb distance w → w ≡ widening ppb distance }
-{}
+{
+    ratios_are_rounded_as_little_as_can_be();
+}
 
 /// The widening grows with the distance and with the rate, and is zero exactly where one of them
 /// is.
@@ -81,7 +85,9 @@ pub fn widening_grows()
         widening slow distance ≤ widening fast distance }
     ensures zero { (ppb distance : ℕ) → ppb < billion →
         (widening ppb distance ≡ 0) ↔ ((ppb ≡ 0) ⊎ (distance ≡ 0)) }
-{}
+{
+    widening_is_one_number();
+}
 
 /// The offset's interval is rounded outwards as little as can be: to the floor and the ceiling of
 /// half a whole number.

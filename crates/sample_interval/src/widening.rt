@@ -2,6 +2,8 @@
 ghost use Rattle.std.specs.Prelude.{◌≡◌, ◌≤◌, ◌^◌, pos, ◌≤ℤ◌, unsigned_abs};
 ghost use Rattle.sample_interval.specs.Widening.{IsWidening, widening};
 
+use crate::laws::widening_is_one_number;
+
 const PARTS: u128 = 1_000_000_000;
 
 /// The most that the error changes, in ticks and rounded up, while the clock advances by `distance`
@@ -16,6 +18,7 @@ pub fn widen(drift_ppb: u32, distance: i128) -> i128
     ensures least { IsWidening drift_ppb (unsigned_abs distance) (unsigned_abs result) }
     ensures at_most_the_distance { result ≤ℤ distance }
 {
+    widening_is_one_number();
     let rate = u128::from(drift_ppb);
     (rate * distance.unsigned_abs()).div_ceil(PARTS - rate) as i128
 }

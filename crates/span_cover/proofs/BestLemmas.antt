@@ -10,7 +10,7 @@ use Rattle.std.proofs.lemmas.Int.{ints}
 use Rattle.sample_interval.specs.declared.kinds.Sample.{Sample}
 use Rattle.span_cover.specs.Best.{HasNoSample, IsFirstBest, better, best_from, first_best_of, best_of, pair_of}
 use Rattle.span_cover.specs.Piece.{IsPiece, moved_low, moved_high}
-use Rattle.sample_interval.proofs.Kept.{kept}
+use Rattle.span_cover.proofs.PieceLemmas.{kept}
 use mir.Syntax.{w128}
 use Rattle.std.specs.Option.{option_map}
 

@@ -2,24 +2,17 @@
 use Rattle.std.proofs.Common.{◌≡◌, ℕ, ◌-◌, ◌*◌, ◌^◌, ◌<◌, ◌≤◌, ℤ, pos, ◌+ℤ◌, ◌-ℤ◌, ◌*ℤ◌, ◌≤ℤ◌, unsigned_abs}
 use Rattle.std.proofs.Common.{refl, ◌∙◌, arith, to_z, of_z, FitsSigned, negsuc}
 use mir.Syntax.{w128}
-use Rattle.std.specs.Int.{int_max, int_min}
-use Rattle.std.proofs.lemmas.Int.{ints, clamps, to_z-of_z}
-use Rattle.std.proofs.Math.Nat.{mul-le-mul_left, mul-le-mul_right}
-use Rattle.era_unfold.proofs.Rounding.{le_of_products}
-use Rattle.intersection.proofs.FractionLemmas.{times_le}
-use Rattle.sample_interval.proofs.Kept.{kept}
-use Rattle.sample_interval.proofs.MomentLemmas.{times-add}
-use Rattle.sample_interval.proofs.WideningLemmas.{IsWidening-widening, widening-mono_distance}
+use Rattle.std.proofs.lemmas.Int.{ints, clamps, to_z-of_z, fits_signed_from_abs}
+use Rattle.std.proofs.Math.Nat.{le_of_mul-le-mul_right, mul-le-mul_left, mul-le-mul_right}
+use Rattle.intersection.specs.Fineness.{times_le, times-add}
 use Rattle.sample_interval.specs.Moment.{Moment, error_of, error_change, DriftsWithinByReading, IsInWindow}
-use Rattle.sample_interval.specs.Widening.{widening, billion}
+use Rattle.sample_interval.specs.Widening.{IsWidening, widening, billion}
 use Rattle.sample_interval.specs.declared.kinds.Sample.{Sample}
 use Rattle.span_cover.specs.Piece.{IsPiece, farthest, change, moved_low, moved_high}
 
-pub max_of_same : (a b c d : ℤ) → a ≡ c → b ≡ d → int_max a b ≡ int_max c d
-max_of_same a b c d e f = rw (e, f) refl
-
-pub min_of_same : (a b c d : ℤ) → a ≡ c → b ≡ d → int_min a b ≡ int_min c d
-min_of_same a b c d e f = rw (e, f) refl
+-- a number that 128 bits keep as it is
+pub kept : (a : ℤ) → unsigned_abs a < 2 ^ 127 → to_z w128 (of_z w128 a) ≡ a
+kept a h = to_z-of_z w128 a (fits_signed_from_abs w128 a h)
 
 pub farthest-bounds : (from to p q : ℤ) → unsigned_abs from ≤ 2 ^ 72 → unsigned_abs to ≤ 2 ^ 72 → from ≤ℤ to →
     IsPiece p q → (pos 0 ≤ℤ farthest from to p q) × (farthest from to p q ≤ℤ pos (2 ^ 73))
@@ -47,28 +40,33 @@ farthest-narrower : (from to p q inner outer : ℤ) → from ≤ℤ to → p ≤
     unsigned_abs (farthest from to inner outer) ≤ unsigned_abs (farthest from to p q)
 farthest-narrower from to p q inner outer a b c d = omega (arith, ints, clamps)
 
-change-narrower : (from to p q inner outer : ℤ) (ppb : ℕ) → ppb < billion → from ≤ℤ to → p ≤ℤ inner → inner ≤ℤ outer →
-    outer ≤ℤ q → change from to inner outer ppb ≤ℤ change from to p q ppb
-change-narrower from to p q inner outer ppb h a b c d =
-    let less = widening-mono_distance ppb _ _ h (farthest-narrower from to p q inner outer a b c d) in
-    omega (arith, ints)
-
 less_moved : (end near far : ℤ) → near ≤ℤ far → ((end -ℤ far) ≤ℤ (end -ℤ near)) × ((end +ℤ near) ≤ℤ (end +ℤ far))
 less_moved end near far h = (omega (arith, ints), omega (arith, ints))
 
-pub moved_low-narrower : (ppb : ℕ) (sample : Sample) (p q inner outer : ℤ) → ppb < billion →
-    sample.low_from ≤ℤ sample.low_to → p ≤ℤ inner → inner ≤ℤ outer → outer ≤ℤ q →
-    moved_low sample p q ppb ≤ℤ moved_low sample inner outer ppb
-unfolding moved_low
-moved_low-narrower ppb sample p q inner outer h a b c d =
-    (less_moved sample.low _ _ (change-narrower sample.low_from sample.low_to p q inner outer ppb h a b c d)).0
+-- the law that a larger distance has no lesser widening
+abbrev pub Grows : Type 0
+Grows = (ppb near far : ℕ) → ppb < billion → near ≤ far → widening ppb near ≤ widening ppb far
 
-pub moved_high-narrower : (ppb : ℕ) (sample : Sample) (p q inner outer : ℤ) → ppb < billion →
-    sample.high_from ≤ℤ sample.high_to → p ≤ℤ inner → inner ≤ℤ outer → outer ≤ℤ q →
-    moved_high sample inner outer ppb ≤ℤ moved_high sample p q ppb
-unfolding moved_high
-moved_high-narrower ppb sample p q inner outer h a b c d =
-    (less_moved sample.high _ _ (change-narrower sample.high_from sample.high_to p q inner outer ppb h a b c d)).1
+module _ (grows : Grows) where
+  change-narrower : (from to p q inner outer : ℤ) (ppb : ℕ) → ppb < billion → from ≤ℤ to → p ≤ℤ inner → inner ≤ℤ outer →
+      outer ≤ℤ q → change from to inner outer ppb ≤ℤ change from to p q ppb
+  change-narrower from to p q inner outer ppb h a b c d =
+      let less = grows ppb _ _ h (farthest-narrower from to p q inner outer a b c d) in
+      omega (arith, ints)
+
+  pub moved_low-narrower : (ppb : ℕ) (sample : Sample) (p q inner outer : ℤ) → ppb < billion →
+      sample.low_from ≤ℤ sample.low_to → p ≤ℤ inner → inner ≤ℤ outer → outer ≤ℤ q →
+      moved_low sample p q ppb ≤ℤ moved_low sample inner outer ppb
+  unfolding moved_low
+  moved_low-narrower ppb sample p q inner outer h a b c d =
+      (less_moved sample.low _ _ (change-narrower sample.low_from sample.low_to p q inner outer ppb h a b c d)).0
+
+  pub moved_high-narrower : (ppb : ℕ) (sample : Sample) (p q inner outer : ℤ) → ppb < billion →
+      sample.high_from ≤ℤ sample.high_to → p ≤ℤ inner → inner ≤ℤ outer → outer ≤ℤ q →
+      moved_high sample inner outer ppb ≤ℤ moved_high sample p q ppb
+  unfolding moved_high
+  moved_high-narrower ppb sample p q inner outer h a b c d =
+      (less_moved sample.high _ _ (change-narrower sample.high_from sample.high_to p q inner outer ppb h a b c d)).1
 
 -- ---- the error at a reading of the piece
 
@@ -78,7 +76,7 @@ change_within n g ppb e r d w positive drift near wide =
     let far : ppb * r ≤ ppb * (d * n) = mul-le-mul_left ppb near in
     let scaled : ppb * d * n ≤ w * g * n = mul-le-mul_right n wide in
     let product : e * g ≤ w * n * g = omega arith in
-    le_of_products e (w * n) g positive product
+    le_of_mul-le-mul_right product positive
 
 abs_times : (z : ℤ) (n : ℕ) → (z *ℤ pos n) ≤ℤ pos (unsigned_abs z * n)
 abs_times (pos x) n = omega (arith, ints)
@@ -108,7 +106,11 @@ no_more : (moved high before after : ℤ) (wide : ℕ) → moved ≡ high +ℤ p
     unsigned_abs (after -ℤ before) ≤ wide → after ≤ℤ moved
 no_more moved high before after wide a b c = omega (arith, ints)
 
-module _ (n ppb : ℕ) (p q : ℤ) (observed : Moment) (rate : ppb < billion)
+-- the law that every distance has its widening
+abbrev pub HaveWidenings : Type 0
+HaveWidenings = (ppb distance : ℕ) → ppb < billion → IsWidening ppb distance (widening ppb distance)
+
+module _ (widens : HaveWidenings) (n ppb : ℕ) (p q : ℤ) (observed : Moment) (rate : ppb < billion)
     (inside : IsInWindow n p q observed.reading) where
   change_of_error : (from to : ℤ) (a : Moment) → IsInWindow n from to a.reading → DriftsWithinByReading ppb a observed →
       error_change a observed ≤ widening ppb (unsigned_abs (farthest from to p q)) * n
@@ -116,7 +118,7 @@ module _ (n ppb : ℕ) (p q : ℤ) (observed : Moment) (rate : ppb < billion)
       let d : ℕ = unsigned_abs (farthest from to p q) in
       change_within n (billion - ppb) ppb (error_change a observed) (unsigned_abs (observed.reading -ℤ a.reading)) d
       (widening ppb d) (omega arith) drift (apart n from to p q a.reading observed.reading place inside)
-      (IsWidening-widening ppb d rate).not_below
+      (widens ppb d rate).not_below
 
   pub error_no_less : (sample : Sample) (request : Moment) →
       IsInWindow n sample.low_from sample.low_to request.reading → (sample.low *ℤ pos n) ≤ℤ error_of request →

@@ -1,5 +1,5 @@
 //! The best samples of a server.
-ghost use Rattle.std.specs.Prelude.{◌≡◌, ◌≤◌, length, All, IsNone, IfSome, ◌↔◌};
+ghost use Rattle.std.specs.Prelude.{◌≡◌, ℕ, ℤ, ◌≤◌, ◌≤ℤ◌, length, All, IsNone, IfSome, ◌↔◌};
 ghost use Rattle.sample_interval.specs.Sample.{IsLawfulSample};
 ghost use Rattle.span_cover.specs.Piece.{IsPiece};
 ghost use Rattle.span_cover.specs.Best.{best_of, first_best_of, merit, better};
@@ -56,10 +56,46 @@ fn first_best(
     for number in (0..samples.len()).rev() {
         let sample = samples[number];
         if sample.server == server {
-            best = better_of(number as u32, merit_of(&sample, end, p, q, drift_ppb), best);
+            best = first_of(number as u32, &sample, end, p, q, drift_ppb, best);
         }
     }
     best.map(|(number, _)| number)
+}
+
+// The sample, unless a later one has more merit.
+fn first_of(
+    number: u32,
+    sample: &Sample,
+    end: End,
+    p: i128,
+    q: i128,
+    drift_ppb: u32,
+    later: Option<(u32, i128)>,
+) -> Option<(u32, i128)>
+    requires sample { IsLawfulSample sample.now }
+    requires piece { IsPiece p q }
+    requires rate { drift_ppb ≤ 500_000_000 }
+    ensures { result ≡ better number (merit end sample.now p q drift_ppb) later }
+{
+    // To be moved only takes merit away, so that most samples are passed over as they stand.
+    if let Some((_, more)) = later {
+        if unmoved(sample, end) < more {
+            return later;
+        }
+    }
+    better_of(number, merit_of(sample, end, p, q, drift_ppb), later)
+}
+
+// How good the sample would be for this end if it weren't moved for the piece.
+#[tactic(auto, unfolding(crate::specs::Piece::moved_low, crate::specs::Piece::moved_high))]
+fn unmoved(sample: &Sample, end: End) -> i128
+    requires { IsLawfulSample sample.now }
+    ensures { (p q : ℤ) (ppb : ℕ) → merit end sample.now p q ppb ≤ℤ result }
+{
+    match end {
+        End::Low => sample.low,
+        End::High => -sample.high,
+    }
 }
 
 // How good the sample is for this end: more is narrower.

@@ -8,6 +8,8 @@ ghost use Rattle.sample_interval.specs.Widening.{billion};
 ghost use Rattle.span_cover.specs.Best.{IsFirstBest};
 ghost use Rattle.span_cover.specs.Piece.{farthest, moved_low, moved_high, piece_interval_of};
 
+use sample_interval::laws::{widening_grows, widening_is_one_number};
+
 /// At a reading inside the piece, the client's error lies in the piece's interval, where its clock
 /// drifts within the rate and the two samples bound the error at their own moments.
 pub fn error_lies_in_the_interval_of_the_piece()
@@ -18,7 +20,9 @@ pub fn error_lies_in_the_interval_of_the_piece()
         IsInWindow n high.high_from high.high_to reply.reading →
         error_of reply ≤ℤ (high.high *ℤ pos n) → DriftsWithinByReading ppb reply observed →
         HoldsFraction (piece_interval_of low high p q ppb) (error_of observed) n }
-{}
+{
+    widening_is_one_number();
+}
 
 /// A piece inside another has a narrower interval from the same samples.
 pub fn piece_inside_another_is_narrower()
@@ -30,7 +34,9 @@ pub fn piece_inside_another_is_narrower()
         ppb < billion → sample.high_from ≤ℤ sample.high_to →
         p ≤ℤ inner → inner ≤ℤ outer → outer ≤ℤ q →
         moved_high sample inner outer ppb ≤ℤ moved_high sample p q ppb }
-{}
+{
+    widening_grows();
+}
 
 /// No other sample is the first of a server's samples that has the most merit.
 pub fn best_is_one_sample()
