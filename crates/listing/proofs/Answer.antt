@@ -8,8 +8,7 @@ use Rattle.byte_stream.specs.Fault.{CountsFault}
 use Rattle.pcap_reader.specs.declared.fault.CaptureFault.{CaptureFault}
 use Rattle.pcap_reader.specs.declared.fault.CaptureFault.TheVariants as captures
 use Rattle.pcap_reader.specs.Remaining.{Coming, broken_end}
-use Rattle.pcap_reader.specs.Source.{SourceState, IsStep, IsNext, TakesFrom}
-use Rattle.pcap_reader.proofs.Step.{TakesFrom-trans}
+use Rattle.pcap_reader.specs.Source.{SourceState, IsStep, IsNext, TakesFrom, TakesFrom-trans}
 use Rattle.report.specs.declared.fault.Input.{Input}
 use Rattle.report.specs.declared.fault.Input.TheVariants as inputs
 use Rattle.report.specs.declared.fault.Outcome.{Outcome}

@@ -1,6 +1,7 @@
 -- How a listing of known bytes goes on, record by record, and how it ends.
 use Rattle.std.proofs.Common.{◌≡◌, ◌∙◌, ◌++◌, ◌+◌, ℕ, List, [], ◌∷◌, length, take, Option, Some, None, Ok, Err, refl, sym, ap, subst, arith, append_assoc, append-nil, length-append}
 use Rattle.std.specs.Prelude.{IfSome}
+use Rattle.std.specs.Io.KnownBytes.{Appends}
 use Rattle.std.specs.List.{concat}
 use Rattle.std.proofs.lemmas.List.{take-append-le}
 use Rattle.std.proofs.lemmas.List.Folds.{concat-append}
@@ -13,7 +14,6 @@ use Rattle.report.specs.declared.fault.Outcome.TheVariants as outcomes
 use Rattle.report.specs.declared.fault.RunFault.TheVariants as faults
 use Rattle.report.specs.Output.{IsCut}
 use Rattle.report.specs.Reports.{Report, text_of}
-use Rattle.report.proofs.Known.{appends_same}
 use Rattle.listing.specs.PacketLine.{line_of}
 use Rattle.listing.specs.Listing.{lines_of, closing_line, report_on, listing}
 use Rattle.listing.specs.Progress.{HasGiven, HasPassed, texts_of}
@@ -97,6 +97,6 @@ cut_in_lines {before = before} {after = after} {sent = sent} report done others 
     let first = take-append-le sent (concat done) rest (omega (arith, cut.short)) in
     record {
       short = omega (arith, cut.short, ap length text, length-append (concat done) rest);
-      went = appends_same before after (take sent (concat done)) (take sent (text_of report))
-          (rw text (sym first)) cut.went;
+      went = let same : take sent (concat done) ≡ take sent (text_of report) = rw text (sym first) in
+          subst (λ (xs : List ℕ). Appends before after xs) same cut.went;
     }

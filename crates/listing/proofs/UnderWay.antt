@@ -1,10 +1,9 @@
 -- How a listing goes on, call by call.
 use Rattle.std.proofs.Common.{◌≡◌, ◌∙◌, ◌++◌, ◌+◌, ◌<◌, ◌≤◌, ◌^◌, ℕ, List, [], length, Option, Some, None, Ok, refl, sym, ap, subst, arith, append-nil, length-append}
+use Rattle.std.proofs.KnownBytes.{Appends-nil}
 use Rattle.pcap_reader.specs.declared.format.RecordHead.{RecordHead}
-use Rattle.pcap_reader.specs.Source.{SourceState, IsFresh, IsStep}
-use Rattle.pcap_reader.proofs.Step.{TakesFrom-none, TakesFrom-trans}
+use Rattle.pcap_reader.specs.Source.{SourceState, IsFresh, IsStep, TakesFrom-none, TakesFrom-trans}
 use Rattle.report.specs.Output.{SinkState, OutputState, HasPut, IsReady, Puts, fresh_output, put_count}
-use Rattle.report.proofs.OutputLemmas.{put_nothing}
 use Rattle.listing.specs.PacketLine.{line_of}
 use Rattle.listing.specs.Progress.{HasPassed, IsUnderWay, PutsLine, moment, most_line, texts_of}
 use Rattle.listing.proofs.ProgressLemmas.{passed_start, passed_more}
@@ -32,7 +31,14 @@ module _ {start : SourceState} {sink : SinkState} where
     sink_faults = ap (λ (x : OutputState). x.sink.faults) empty;
     done = [];
     packets_are = refl;
-    put = rw empty (put_nothing sink);
+    put = rw empty (record {
+      went = Appends-nil sink.contents;
+      counted = refl;
+      gathered = refl;
+      parts = refl;
+      gone = [];
+      kept = [];
+    });
     passed = passed_start start.remaining start.given fresh.none_given;
   }
 

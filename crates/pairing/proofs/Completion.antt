@@ -17,7 +17,7 @@ use Rattle.pairing.specs.declared.fault.PairFault.TheVariants.{TooManyExchanges,
 use Rattle.pairing.specs.declared.index.Key.{Key}
 use Rattle.pairing.specs.declared.index.Place.{Place}
 use Rattle.pairing.specs.declared.waiting.Waiting.{Waiting}
-use Rattle.pairing.specs.Answer.{AreGiven, IsFromOutside, LeavesSource, answer_of}
+use Rattle.pairing.specs.Answer.{AreGiven, IsFromOutside, LeavesSource, MayAnswer, answer_of, capture_failed, device_failed}
 use Rattle.pairing.specs.Exchange.{AreLawful, most_exchanges}
 use Rattle.pairing.specs.Gathering.{IsGatheredFrom, IsReady, is_accepted}
 use Rattle.pairing.specs.Index.{IsMoment, having, key_of, place_of, same_key}
@@ -27,7 +27,7 @@ use Rattle.pairing.specs.Provenance.{IsRequestAmong}
 use Rattle.pairing.specs.Reading.{IsWhole}
 use Rattle.pairing.specs.Waiting.{IsPlace, waiting_of}
 use Rattle.pairing.proofs.JoinSteps.{length-filter_map}
-use Rattle.pairing.proofs.Limits.{exchanges-lawful, replies-listed, requests-among}
+use Rattle.pairing.proofs.Limits.{replies-lawful, requests-among}
 use Rattle.pairing.proofs.ReadingSteps.{HasRoom-weaker, gathered-room}
 
 place_of-moment : (records : List Record) (requests : List Request) → All (IsRequestAmong records) requests →
@@ -49,7 +49,7 @@ ready claim records look_up waiting counts given g =
     let moments : All (λ (w : Waiting). IsMoment w.moment) (map waiting_of (filter is_accepted replies)) =
     All-map (λ (w : Waiting). IsMoment w.moment) waiting_of (filter is_accepted replies)
     (All-filter is_accepted (λ (reply : Reply). IsMoment (waiting_of reply).moment) replies
-    (λ k d below. let lawful = (replies-listed claim records given k d below).lawful in record {
+    (λ k d below. let lawful = replies-lawful claim records given k d below in record {
       sec = lawful.sec;
       sub = lawful.sub;
     })) in
@@ -108,25 +108,21 @@ own_fault : (claim : ClaimData) (records : List Record) (fault : PairFault) → 
 own_fault claim records fault (inl memory) = inl memory
 own_fault claim records fault (inr refused) = inr (collection-fault claim records fault refused)
 
+-- a fault that is no device's and none of the capture's
+left_as_it_was : (old new : SourceState) (fault : PairFault) → LeavesSource {X = Unit {0}} old (Ok tt) new →
+    MayAnswer fault → device_failed {X = Collected} (Err fault) ≡ false →
+    capture_failed {X = Collected} (Err fault) ≡ false → LeavesSource {X = Collected} old (Err fault) new
+left_as_it_was old new fault leaves may device capture = record {
+  may_answer = may;
+  counts_fault = rw device leaves.counts_fault;
+  failed_iff = rw capture leaves.failed_iff;
+  takes = leaves.takes;
+}
+
 after_own : (old new : SourceState) (fault : PairFault) → LeavesSource {X = Unit {0}} old (Ok tt) new →
-    (fault ≡ Memory) ⊎ (fault ≡ TooManyExchanges) →
-    LeavesSource {X = Collected} old (Err fault) new
-after_own old new fault leaves (inl is) =
-    rw is (record {
-      may_answer = tt;
-      counts_fault = leaves.counts_fault;
-      failed_iff = leaves.failed_iff;
-      takes =
-          leaves.takes;
-    })
-after_own old new fault leaves (inr is) =
-    rw is (record {
-      may_answer = tt;
-      counts_fault = leaves.counts_fault;
-      failed_iff = leaves.failed_iff;
-      takes =
-          leaves.takes;
-    })
+    (fault ≡ Memory) ⊎ (fault ≡ TooManyExchanges) → LeavesSource {X = Collected} old (Err fault) new
+after_own old new fault leaves (inl is) = rw is (left_as_it_was old new Memory leaves tt refl refl)
+after_own old new fault leaves (inr is) = rw is (left_as_it_was old new TooManyExchanges leaves tt refl refl)
 
 -- what is joined leaves the source alone
 pub leaves-whole : (claim : ClaimData) (records : List Record) (old new : SourceState)
@@ -165,12 +161,14 @@ limited-parts xs counts c is = parts (nat_lt most_exchanges (length xs)) refl is
         let same : made ≡ c = cc in
         (ap (λ (d : Collection). d.exchanges) (sym same), not_above most_exchanges (length xs) h)
 
-pub lawful-whole : (claim : ClaimData) (records : List Record) (r : Result Collected PairFault) → AreGiven records →
+pub lawful-whole : (claim : ClaimData) (records : List Record) (r : Result Collected PairFault) →
+    (length (exchanges_of claim records) ≤ most_exchanges →
+    AreLawful (length claim.servers) (exchanges_of claim records)) →
     MatchResult r (λ c. collection_of claim records ≡ Ok (data_of c)) (λ fault. (fault ≡ Memory)
     ⊎ (collection_of claim records ≡ Err fault)) →
     IfOk r (λ c. AreLawful (length claim.servers) c.exchanges.items)
 unfolding collection_of
-lawful-whole claim records (Ok c) given exact =
+lawful-whole claim records (Ok c) lawful exact =
     let parts = limited-parts (exchanges_of claim records) (counts_of claim records) (data_of c) exact in
-    exchanges-lawful claim records c.exchanges.items given parts.0 (rw parts.0 parts.1)
-lawful-whole claim records (Err fault) given exact = tt
+    subst (AreLawful (length claim.servers)) (sym parts.0) (lawful parts.1)
+lawful-whole claim records (Err fault) lawful exact = tt

@@ -39,8 +39,10 @@ none_counted ZeroStamp = refl
 none_counted NoRequest = refl
 none_counted Ambiguous = refl
 
-pub gathered_start : (look_up : Key → Option Place) → Indexes look_up [] → IsGathered 0 [] [] look_up [] zero_counts
-gathered_start look_up indexed = record {
+pub gathered_start : (claim : ClaimData) (look_up : Key → Option Place) → Indexes look_up [] →
+    IsGatheredFrom claim [] look_up [] zero_counts
+unfolding requests_of replies_of
+gathered_start claim look_up indexed = record {
   indexed = indexed;
   waits = refl;
   all_records = refl;

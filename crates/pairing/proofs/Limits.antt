@@ -1,5 +1,5 @@
 -- Every exchange keeps its limits.
-use Rattle.std.proofs.Common.{◌≡◌, ◌∙◌, ℕ, suc, ◌+◌, ◌*◌, ◌^◌, ◌≤◌, ◌<◌, List, [], ◌∷◌, Bool, true, false, Option, Some, None, Result, Ok, Err, refl, sym, ap, subst, length, get_or, arith, map}
+use Rattle.std.proofs.Common.{◌≡◌, ◌∙◌, ℕ, suc, ◌+◌, ◌*◌, ◌^◌, ◌≤◌, ◌<◌, List, [], ◌∷◌, Bool, true, false, Option, Some, None, Result, Ok, Err, refl, sym, ap, length, get_or, arith, map}
 use Rattle.std.specs.Prelude.{All, ℤ, pos, ◌≤ℤ◌, ◌<ℤ◌, IfOk, IfSome, slice_get, unwrap_or, position, if◌then◌else◌}
 use Rattle.std.specs.List.{cons_option, filter_map}
 use Rattle.std.specs.Option.{option_and_then, option_map}
@@ -8,17 +8,14 @@ use Rattle.std.specs.Str.{bytes_eq}
 use Rattle.std.proofs.lemmas.Int.{ints}
 use Rattle.std.proofs.lemmas.List.Elements.{All-nil, All-cons, All-filter, All-map}
 use Rattle.std.proofs.lemmas.List.Quantifiers.{position-Some}
-use Rattle.era_unfold.specs.Stamp.{unfolded}
-use Rattle.era_unfold.specs.Window.{ticks_per_second, window_low, window_high}
-use Rattle.era_unfold.proofs.StampLemmas.{IsUnfolded-unfolded}
-use Rattle.era_unfold.proofs.WindowLemmas.{window_high-to_second, window_low-lt-window_high}
+use Rattle.era_unfold.specs.declared.unit.Unit.{Unit as SubsecondUnit}
+use Rattle.era_unfold.specs.Stamp.{IsUnfolded, unfolded}
+use Rattle.era_unfold.specs.Window.{per_second, ticks_per_second, window_low, window_high}
 use Rattle.pcap_reader.specs.declared.format.RecordHead.{RecordHead}
 use Rattle.pcap_reader.specs.Capture.{Record, IsLawfulHead}
-use Rattle.ntp_packet.specs.Header.{AreBytes, root_delay_of, root_dispersion_of, precision_of, receive_of, root_distance_of, transmit_of}
+use Rattle.byte_stream.specs.Bytes.{IsBytes}
+use Rattle.ntp_packet.specs.Header.{receive_of, root_distance_of, transmit_of}
 use Rattle.ntp_packet.specs.Packet.{Packet, packet_of}
-use Rattle.ntp_packet.proofs.Fields.{field-lt}
-use Rattle.ntp_packet.proofs.PacketHeader.{packet_of-header-bytes}
-use Rattle.ntp_packet.proofs.PrecisionTicks.{distance-least, distance-greatest}
 use Rattle.claim_file.specs.Claim.{ClaimData}
 use Rattle.pairing.specs.declared.exchange.Exchange.{Exchange}
 use Rattle.pairing.specs.declared.refusal.Refusal.{Refusal}
@@ -44,6 +41,17 @@ All-filter_map h P [] each = All-nil P
 All-filter_map h P (x ∷ xs) each =
     All-kept P (h x) (filter_map h xs) (each 0 x (omega arith)) (All-filter_map h P xs (All-tail (λ x. IfSome
     (h x) P) x xs each))
+
+-- the laws of windows, timestamps and packets that the limits stand on
+pub record Laws : Type 0 where
+  pub forward : (unit : SubsecondUnit) (sec sub : ℕ) → window_low unit sec sub < window_high unit sec sub
+  pub ends : (unit : SubsecondUnit) (sec sub : ℕ) → sub < per_second unit →
+      window_high unit sec sub ≤ (sec + 1) * ticks_per_second
+  pub unfolds : (stamp : ℕ) (near : ℤ) → IsUnfolded stamp near (unfolded stamp near)
+  pub header : (frame : List ℕ) → IsBytes frame → IfSome (packet_of frame) (λ packet. IsBytes packet.header)
+  pub least : (bytes : List ℕ) → IsBytes bytes → IfSome (root_distance_of bytes) (λ ticks. pos 1 ≤ℤ ticks)
+  pub greatest : (bytes : List ℕ) → IsBytes bytes →
+      IfSome (root_distance_of bytes) (λ ticks. ticks <ℤ pos (2 ^ 70))
 
 -- ---- requests and replies
 
@@ -88,7 +96,7 @@ replying-within claim p =
     (server_at claim p.datagram.source) refl)
 
 answered_by : (claim : ClaimData) (head : RecordHead) (p : Packet) (server : Option ℕ) → IsLawfulHead head →
-    AreBytes p.header →
+    IsBytes p.header →
     IfSome server (λ s. s < length claim.servers) → IfSome (option_map (reply_from head p) server)
     (IsListedReply claim)
 answered_by claim head p None lawful bytes listed = tt
@@ -100,16 +108,27 @@ answered_by claim head p (Some server) lawful bytes listed = record {
 }
 
 answered_in : (claim : ClaimData) (head : RecordHead) (o : Option Packet) → IsLawfulHead head →
-    IfSome o (λ p. AreBytes p.header) →
+    IfSome o (λ p. IsBytes p.header) →
     IfSome (option_and_then (reply_in claim head) o) (IsListedReply claim)
 answered_in claim head None lawful bytes = tt
 answered_in claim head (Some p) lawful bytes = answered_by claim head p (replying_server claim p) lawful bytes
     (replying-within claim p)
 
-reply_of-listed : (claim : ClaimData) (r : Record) → IsGiven r → IfSome (reply_of claim r) (IsListedReply claim)
+-- a reply has its record's head
+lawful_by : (claim : ClaimData) (head : RecordHead) (p : Packet) (server : Option ℕ) → IsLawfulHead head →
+    IfSome (option_map (reply_from head p) server) (λ reply. IsLawfulHead reply.head)
+lawful_by claim head p None lawful = tt
+lawful_by claim head p (Some server) lawful = lawful
+
+lawful_in : (claim : ClaimData) (head : RecordHead) (o : Option Packet) → IsLawfulHead head →
+    IfSome (option_and_then (reply_in claim head) o) (λ reply. IsLawfulHead reply.head)
+lawful_in claim head None lawful = tt
+lawful_in claim head (Some p) lawful = lawful_by claim head p (replying_server claim p) lawful
+
+reply_of-lawful : (claim : ClaimData) (r : Record) → IsLawfulHead r.head →
+    IfSome (reply_of claim r) (λ reply. IsLawfulHead reply.head)
 unfolding reply_of
-reply_of-listed claim r given = answered_in claim r.head (packet_of r.bytes) given.head
-    (packet_of-header-bytes r.bytes given.bytes)
+reply_of-lawful claim r lawful = lawful_in claim r.head (packet_of r.bytes) lawful
 
 module _ (claim : ClaimData) (records : List Record) (given : AreGiven records) where
   pub requests-among : All (IsRequestAmong records) (requests_of claim records)
@@ -119,10 +138,11 @@ module _ (claim : ClaimData) (records : List Record) (given : AreGiven records) 
       (λ k d below. request_of-among claim records (get_or records k d) (given.each k d below).head
       (given.numbered k d below))
 
-  pub replies-listed : All (IsListedReply claim) (replies_of claim records)
+  pub replies-lawful : All (λ reply. IsLawfulHead reply.head) (replies_of claim records)
   unfolding replies_of
-  replies-listed = All-filter_map (reply_of claim) (IsListedReply claim) records (λ k d below. reply_of-listed claim
-      (get_or records k d) (given.each k d below))
+  replies-lawful =
+      All-filter_map (reply_of claim) (λ reply. IsLawfulHead reply.head) records
+      (λ k d below. reply_of-lawful claim (get_or records k d) (given.each k d below).head)
 
 -- ---- exchanges
 
@@ -131,20 +151,8 @@ record HasWindow (head : RecordHead) : Type 0 where
   pub forward : window_low head.unit head.sec head.sub < window_high head.unit head.sec head.sub
   pub ends : window_high head.unit head.sec head.sub ≤ 2 ^ 64
 
-has_window : (head : RecordHead) → IsLawfulHead head → HasWindow head
-has_window head h = record {
-  forward = window_low-lt-window_high head.unit head.sec head.sub;
-  ends = let ends : window_high head.unit head.sec head.sub ≤ (head.sec + 1) * ticks_per_second =
-      window_high-to_second head.unit head.sec head.sub h.sub in omega (arith, ends, h.sec);
-}
-
 in_range_pos : (k : ℕ) → k ≤ 2 ^ 64 → IsInRange (pos k)
 in_range_pos k h = record { least = omega (arith, ints); greatest = omega (arith, ints) }
-
-in_range_unfolded : (stamp k : ℕ) → k ≤ 2 ^ 64 → IsInRange (unfolded stamp (pos k))
-in_range_unfolded stamp k h =
-    let is = IsUnfolded-unfolded stamp (pos k) in
-    record { least = omega (arith, ints, is.not_before); greatest = omega (arith, ints, is.before) }
 
 distance_positive : (o : Option ℤ) → IfSome o (λ ticks. pos 1 ≤ℤ ticks) → pos 0 ≤ℤ unwrap_or o (pos 0)
 distance_positive None h = omega (arith, ints)
@@ -153,99 +161,6 @@ distance_positive (Some ticks) h = omega (arith, ints)
 distance_below : (o : Option ℤ) → IfSome o (λ ticks. ticks <ℤ pos (2 ^ 70)) → unwrap_or o (pos 0) ≤ℤ pos (2 ^ 70)
 distance_below None h = omega (arith, ints)
 distance_below (Some ticks) h = omega (arith, ints)
-
-module _ (header : List ℕ) (bytes : AreBytes header) where
-  distance-least' : pos 0 ≤ℤ distance_of header
-  unfolding root_distance_of
-  distance-least' = distance_positive (root_distance_of header) (distance-least (root_delay_of header)
-      (root_dispersion_of header) (precision_of header))
-
-  distance-greatest' : distance_of header ≤ℤ pos (2 ^ 70)
-  unfolding root_distance_of
-  distance-greatest' =
-      distance_below (root_distance_of header)
-      (distance-greatest (root_delay_of header) (root_dispersion_of header) (precision_of header)
-      (field-lt 4 4 header bytes) (field-lt 8 4 header bytes))
-
-module _ (claim : ClaimData) (records : List Record) where
-  -- the exchange of a request and a reply
-  exchange_of-among : (q : Request) (reply : Reply) → IsRequestAmong records q → IsListedReply claim reply →
-      IsExchangeAmong claim records (exchange_of q reply)
-  exchange_of-among q reply asked answered =
-      let sent = has_window q.head asked.lawful in
-      let received = has_window reply.head answered.lawful in
-      let least = distance-least' reply.header answered.header in
-      record {
-        lawful = record {
-          listed = answered.listed;
-          t1_low = in_range_pos (window_low q.head.unit q.head.sec q.head.sub) (omega (
-            arith,
-            sent.forward,
-            sent.ends,
-          ));
-          t1_high = in_range_pos (window_high q.head.unit q.head.sec q.head.sub) sent.ends;
-          t1_ordered = omega (arith, ints, sent.forward);
-          t4_low = in_range_pos (window_low reply.head.unit reply.head.sec reply.head.sub) (omega (
-            arith,
-            received.forward,
-            received.ends,
-          ));
-          t4_high = in_range_pos (window_high reply.head.unit reply.head.sec reply.head.sub) received.ends;
-          t4_ordered = omega (arith, ints, received.forward);
-          t2 = in_range_unfolded (receive_of reply.header) (window_low q.head.unit q.head.sec q.head.sub) (omega
-              (arith, sent.forward, sent.ends));
-          t3 = in_range_unfolded (transmit_of reply.header) (window_low q.head.unit q.head.sec q.head.sub) (omega
-              (arith, sent.forward, sent.ends));
-          distance = record {
-            least = omega (arith, ints, least);
-            greatest =
-                distance-greatest' reply.header answered.header;
-          };
-          distance_not_negative = least;
-        };
-        source = asked.source;
-        stands = asked.stands;
-        same_low = ap low_of asked.same_head;
-        same_high = ap high_of asked.same_head;
-      }
-
-  paired-among : (reply : Reply) (requests : List Request) → All (IsRequestAmong records) requests →
-      IsListedReply claim reply →
-      IfOk (paired reply requests) (IsExchangeAmong claim records)
-  paired-among reply [] asked answered = tt
-  paired-among reply (q ∷ []) asked answered = exchange_of-among q reply (asked 0 q (omega arith)) answered
-  paired-among reply (q ∷ other ∷ others) asked answered = tt
-
-  unless_refused-among : (o : Option Refusal) (outcome : Result Exchange Refusal) →
-      IfOk outcome (IsExchangeAmong claim records) →
-      IfOk (unless_refused o outcome) (IsExchangeAmong claim records)
-  unless_refused-among None outcome h = h
-  unless_refused-among (Some refusal) outcome h = tt
-
-  result_ok-among : (outcome : Result Exchange Refusal) → IfOk outcome (IsExchangeAmong claim records) →
-      IfSome (result_ok outcome) (IsExchangeAmong claim records)
-  result_ok-among (Ok x) h = h
-  result_ok-among (Err refusal) h = tt
-
-  outcome-among : (requests : List Request) (reply : Reply) → All (IsRequestAmong records) requests →
-      IsListedReply claim reply →
-      IfSome (result_ok (outcome_of requests reply)) (IsExchangeAmong claim records)
-  outcome-among requests reply asked answered =
-      result_ok-among (outcome_of requests reply)
-      (unless_refused-among (refusal_of reply.header) (paired reply (requests_for reply requests))
-      (paired-among reply (requests_for reply requests) (All-filter (answers reply)
-      (IsRequestAmong records) requests asked) answered))
-
-  pub exchanges-among : AreGiven records → All (IsExchangeAmong claim records) (exchanges_of claim records)
-  unfolding exchanges_of
-  exchanges-among given =
-      let requests = requests_of claim records in
-      let replies = replies_of claim records in
-      let Kept = λ (o : Result Exchange Refusal). IfSome (result_ok o) (IsExchangeAmong claim records) in
-      All-filter_map result_ok (IsExchangeAmong claim records) (map (outcome_of requests) replies)
-      (All-map Kept (outcome_of requests) replies
-      (λ k d below. outcome-among requests (get_or replies k d) (requests-among claim records given)
-      (replies-listed claim records given k d below)))
 
 same_request : (claim : ClaimData) (records : List Record) (x y : Exchange) → IsExchangeAmong claim records x →
     IsExchangeAmong claim records y → SameRequest x y
@@ -257,19 +172,127 @@ same_request claim records x y a b same =
           ∙ ap (λ (r : Record). high_of r.head) sources ∙ sym b.same_high,
     )
 
--- what is collected is lawful
-pub exchanges-lawful : (claim : ClaimData) (records : List Record) (xs : List Exchange) → AreGiven records →
-    xs ≡ exchanges_of claim records → length xs ≤ most_exchanges →
-    AreLawful (length claim.servers) xs
-exchanges-lawful claim records xs given is few =
-    let among = subst (λ (ys : List Exchange). All (IsExchangeAmong claim records) ys) (sym is)
-    (exchanges-among claim records given) in
-    record {
-      few = few;
-      each = λ k d below. (among k d below).lawful;
-      agree = λ i j d less below. same_request claim records _ _ (among i d (omega (
-        arith,
-        less,
-        below,
-      ))) (among j d below);
-    }
+module _ (laws : Laws) where
+  reply_of-listed : (claim : ClaimData) (r : Record) → IsGiven r → IfSome (reply_of claim r) (IsListedReply claim)
+  unfolding reply_of
+  reply_of-listed claim r given =
+      answered_in claim r.head (packet_of r.bytes) given.head (laws.header r.bytes given.bytes)
+
+  replies-listed : (claim : ClaimData) (records : List Record) → AreGiven records →
+      All (IsListedReply claim) (replies_of claim records)
+  unfolding replies_of
+  replies-listed claim records given =
+      All-filter_map (reply_of claim) (IsListedReply claim) records
+      (λ k d below. reply_of-listed claim (get_or records k d) (given.each k d below))
+
+  has_window : (head : RecordHead) → IsLawfulHead head → HasWindow head
+  has_window head h = record {
+    forward = laws.forward head.unit head.sec head.sub;
+    ends = let ends : window_high head.unit head.sec head.sub ≤ (head.sec + 1) * ticks_per_second =
+        laws.ends head.unit head.sec head.sub h.sub in omega (arith, ends, h.sec);
+  }
+
+  in_range_unfolded : (stamp k : ℕ) → k ≤ 2 ^ 64 → IsInRange (unfolded stamp (pos k))
+  in_range_unfolded stamp k h =
+      let is = laws.unfolds stamp (pos k) in
+      record { least = omega (arith, ints, is.not_before); greatest = omega (arith, ints, is.before) }
+
+  module _ (header : List ℕ) (bytes : IsBytes header) where
+    distance-least : pos 0 ≤ℤ distance_of header
+    distance-least = distance_positive (root_distance_of header) (laws.least header bytes)
+
+    distance-greatest : distance_of header ≤ℤ pos (2 ^ 70)
+    distance-greatest = distance_below (root_distance_of header) (laws.greatest header bytes)
+
+  module _ (claim : ClaimData) (records : List Record) where
+    -- the exchange of a request and a reply
+    exchange_of-among : (q : Request) (reply : Reply) → IsRequestAmong records q → IsListedReply claim reply →
+        IsExchangeAmong claim records (exchange_of q reply)
+    exchange_of-among q reply asked answered =
+        let sent = has_window q.head asked.lawful in
+        let received = has_window reply.head answered.lawful in
+        let least = distance-least reply.header answered.header in
+        record {
+          lawful = record {
+            listed = answered.listed;
+            t1_low = in_range_pos (window_low q.head.unit q.head.sec q.head.sub) (omega (
+              arith,
+              sent.forward,
+              sent.ends,
+            ));
+            t1_high = in_range_pos (window_high q.head.unit q.head.sec q.head.sub) sent.ends;
+            t1_ordered = omega (arith, ints, sent.forward);
+            t4_low = in_range_pos (window_low reply.head.unit reply.head.sec reply.head.sub) (omega (
+              arith,
+              received.forward,
+              received.ends,
+            ));
+            t4_high = in_range_pos (window_high reply.head.unit reply.head.sec reply.head.sub) received.ends;
+            t4_ordered = omega (arith, ints, received.forward);
+            t2 = in_range_unfolded (receive_of reply.header) (window_low q.head.unit q.head.sec q.head.sub) (omega
+                (arith, sent.forward, sent.ends));
+            t3 = in_range_unfolded (transmit_of reply.header) (window_low q.head.unit q.head.sec q.head.sub) (omega
+                (arith, sent.forward, sent.ends));
+            distance = record {
+              least = omega (arith, ints, least);
+              greatest =
+                  distance-greatest reply.header answered.header;
+            };
+            distance_not_negative = least;
+          };
+          source = asked.source;
+          stands = asked.stands;
+          same_low = ap low_of asked.same_head;
+          same_high = ap high_of asked.same_head;
+        }
+
+    paired-among : (reply : Reply) (requests : List Request) → All (IsRequestAmong records) requests →
+        IsListedReply claim reply →
+        IfOk (paired reply requests) (IsExchangeAmong claim records)
+    paired-among reply [] asked answered = tt
+    paired-among reply (q ∷ []) asked answered = exchange_of-among q reply (asked 0 q (omega arith)) answered
+    paired-among reply (q ∷ other ∷ others) asked answered = tt
+
+    unless_refused-among : (o : Option Refusal) (outcome : Result Exchange Refusal) →
+        IfOk outcome (IsExchangeAmong claim records) →
+        IfOk (unless_refused o outcome) (IsExchangeAmong claim records)
+    unless_refused-among None outcome h = h
+    unless_refused-among (Some refusal) outcome h = tt
+
+    result_ok-among : (outcome : Result Exchange Refusal) → IfOk outcome (IsExchangeAmong claim records) →
+        IfSome (result_ok outcome) (IsExchangeAmong claim records)
+    result_ok-among (Ok x) h = h
+    result_ok-among (Err refusal) h = tt
+
+    outcome-among : (requests : List Request) (reply : Reply) → All (IsRequestAmong records) requests →
+        IsListedReply claim reply →
+        IfSome (result_ok (outcome_of requests reply)) (IsExchangeAmong claim records)
+    outcome-among requests reply asked answered =
+        result_ok-among (outcome_of requests reply)
+        (unless_refused-among (refusal_of reply.header) (paired reply (requests_for reply requests))
+        (paired-among reply (requests_for reply requests) (All-filter (answers reply)
+        (IsRequestAmong records) requests asked) answered))
+
+    pub exchanges-among : AreGiven records → All (IsExchangeAmong claim records) (exchanges_of claim records)
+    unfolding exchanges_of
+    exchanges-among given =
+        let requests = requests_of claim records in
+        let replies = replies_of claim records in
+        let Kept = λ (o : Result Exchange Refusal). IfSome (result_ok o) (IsExchangeAmong claim records) in
+        All-filter_map result_ok (IsExchangeAmong claim records) (map (outcome_of requests) replies)
+        (All-map Kept (outcome_of requests) replies
+        (λ k d below. outcome-among requests (get_or replies k d) (requests-among claim records given)
+        (replies-listed claim records given k d below)))
+
+  -- what is collected is lawful
+  pub exchanges-lawful : (claim : ClaimData) (records : List Record) → AreGiven records →
+      length (exchanges_of claim records) ≤ most_exchanges →
+      AreLawful (length claim.servers) (exchanges_of claim records)
+  exchanges-lawful claim records given few =
+      let among = exchanges-among claim records given in
+      record {
+        few = few;
+        each = λ k d below. (among k d below).lawful;
+        agree = λ i j d less below.
+            same_request claim records _ _ (among i d (omega (arith, less, below))) (among j d below);
+      }

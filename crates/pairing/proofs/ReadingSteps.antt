@@ -10,9 +10,8 @@ use Rattle.pcap_reader.specs.declared.format.RecordHead.{RecordHead}
 use Rattle.pcap_reader.specs.Capture.{Record, most_records}
 use Rattle.pcap_reader.specs.Fault.{MayAnswer as MayStep}
 use Rattle.pcap_reader.specs.Remaining.{Coming}
-use Rattle.pcap_reader.specs.Source.{SourceState, IsNext, IsStep, read_failed}
-use Rattle.pcap_reader.proofs.Step.{TakesFrom-trans}
-use Rattle.ntp_packet.specs.Header.{AreBytes}
+use Rattle.pcap_reader.specs.Source.{SourceState, IsNext, IsStep, read_failed, TakesFrom-trans}
+use Rattle.byte_stream.specs.Bytes.{IsBytes}
 use Rattle.claim_file.specs.Claim.{ClaimData}
 use Rattle.pairing.specs.declared.counts.Counts.{Counts}
 use Rattle.pairing.specs.declared.fault.PairFault.{PairFault}
@@ -72,7 +71,7 @@ known-push (Some coming) before now done head lent (rest, is, records, fault) ne
 
 -- a call gave a record
 pub read-push : (start before now : SourceState) (done : List Record) (head : RecordHead) → IsRead start before done →
-    IsStep before (Ok (Some head)) now → AreBytes now.lent → IsRead start now (done ++ record {
+    IsStep before (Ok (Some head)) now → IsBytes now.lent → IsRead start now (done ++ record {
       head = head;
       bytes =
           now.lent;

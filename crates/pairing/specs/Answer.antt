@@ -7,7 +7,7 @@ use Rattle.pcap_reader.specs.Capture.{Record, IsLawfulHead, most_records}
 use Rattle.pcap_reader.specs.Fault.{IsRecordFault}
 use Rattle.pcap_reader.specs.Remaining.{Coming}
 use Rattle.pcap_reader.specs.Source.{SourceState, TakesFrom}
-use Rattle.ntp_packet.specs.Header.{AreBytes}
+use Rattle.byte_stream.specs.Bytes.{IsBytes}
 use Rattle.claim_file.specs.Claim.{ClaimData}
 use Rattle.pairing.specs.declared.collected.Collected.{Collected}
 use Rattle.pairing.specs.declared.fault.PairFault.{PairFault}
@@ -60,7 +60,7 @@ pub record LeavesSource {X : Type 0} (old : SourceState) (result : Result X Pair
 -- a record that a source may give
 pub record IsGiven (r : Record) : Type 0 where
   pub head : IsLawfulHead r.head
-  pub bytes : AreBytes r.bytes
+  pub bytes : IsBytes r.bytes
 
 -- the records that a source gave: each stands at its number
 pub record AreGiven (records : List Record) : Type 0 where

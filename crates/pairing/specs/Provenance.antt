@@ -1,7 +1,7 @@
 -- Where requests, replies and exchanges come from.
 use Rattle.std.specs.Prelude.{◌≡◌, ◌<◌, List, length, slice_get, Some}
 use Rattle.pcap_reader.specs.Capture.{Record, IsLawfulHead}
-use Rattle.ntp_packet.specs.Header.{AreBytes}
+use Rattle.byte_stream.specs.Bytes.{IsBytes}
 use Rattle.claim_file.specs.Claim.{ClaimData}
 use Rattle.pairing.specs.declared.exchange.Exchange.{Exchange}
 use Rattle.pairing.specs.Exchange.{IsLawful}
@@ -19,7 +19,7 @@ pub record IsRequestAmong (records : List Record) (q : Request) : Type 0 where
 pub record IsListedReply (claim : ClaimData) (reply : Reply) : Type 0 where
   pub listed : reply.server < length claim.servers
   pub lawful : IsLawfulHead reply.head
-  pub header : AreBytes reply.header
+  pub header : IsBytes reply.header
 
 -- a lawful exchange whose request is one of these records, with its window
 pub record IsExchangeAmong (claim : ClaimData) (records : List Record) (x : Exchange) : Type 0 where

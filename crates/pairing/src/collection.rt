@@ -12,6 +12,7 @@ ghost use Rattle.pairing.specs.Reading.{GathersAll};
 use crate::collected::Collected;
 use crate::fault::PairFault;
 use crate::gathering::Gathering;
+use crate::laws::exchanges_keep_their_limits;
 use crate::message::read_message;
 use claim_file::Claim;
 use pcap_reader::RecordSource;
@@ -69,6 +70,7 @@ pub fn collect_with<S: RecordSource, H: BuildHasher + Drop>(
     requires room { (S.state source.old).fault_count < 2 ^ 64 - 1 }
     ensures { Collects (data_of claim.now) (S.state source.old) result (S.state source.new) }
 {
+    exchanges_keep_their_limits();
     let mut gathering = Gathering::new(alloc, hasher);
     match gather(source, claim, &mut gathering) {
         Ok(()) => gathering.finish(alloc),

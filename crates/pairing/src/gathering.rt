@@ -32,7 +32,6 @@ impl<H: BuildHasher + Drop> Gathering<H> {
     ghost use Rattle.pcap_reader.specs.Capture.{Record};
 
     /// Nothing yet.
-    #[tactic(auto, unfolding(crate::specs::Pairing::requests_of, crate::specs::Pairing::replies_of), using(crate::proofs::GatheringSteps::gathered_start))]
     pub(crate) fn new(alloc: Global, hasher: H) -> Gathering<H>
         ensures { (claim : ClaimData) → IsGatheredFrom claim []
             (get same_key result.index.places) result.waiting.items result.counts }

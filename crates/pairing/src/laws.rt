@@ -6,11 +6,15 @@ ghost use Rattle.pcap_reader.specs.Capture.{Record};
 ghost use Rattle.ntp_packet.specs.Packet.{Packet};
 ghost use Rattle.claim_file.specs.Claim.{ClaimData};
 ghost use Rattle.pairing.specs.declared.refusal.Refusal.TheVariants.{Ambiguous};
+ghost use Rattle.pairing.specs.Answer.{AreGiven};
 ghost use Rattle.pairing.specs.Exchange.{AreLawful, most_exchanges};
 ghost use Rattle.pairing.specs.Message.{IsReplyOf, IsRequestTo, Reply, Request, reply_of, replying_server, request_of, requested_server};
 ghost use Rattle.pairing.specs.Pair.{IsExchangeOf, IsPair};
 ghost use Rattle.pairing.specs.Pairing.{answers, collection_of, counts_of, exchange_of, exchanges_of, outcome_of, requests_for};
 ghost use Rattle.pairing.specs.Refusal.{refusal_of};
+
+use era_unfold::laws::{every_stamp_is_unfolded, window_lies_in_its_second};
+use ntp_packet::laws::{packet_header_is_bytes, root_distance_range};
 
 /// Every reply is counted under exactly one reason, or gives one exchange.
 pub fn every_reply_counts_once()
@@ -38,6 +42,18 @@ pub fn exchanges_are_those_of_the_pairs()
     ensures complete { (claim : ClaimData) (records : List Record) (q : Request) (reply : Reply) →
         IsPair claim records q reply → Contains (exchanges_of claim records) (exchange_of q reply) }
 {}
+
+/// The exchanges of the records that a source gives keep every limit, where they aren't too many.
+pub fn exchanges_keep_their_limits()
+    ensures { (claim : ClaimData) (records : List Record) → AreGiven records →
+        length (exchanges_of claim records) ≤ most_exchanges →
+        AreLawful (length claim.servers) (exchanges_of claim records) }
+{
+    window_lies_in_its_second();
+    every_stamp_is_unfolded();
+    packet_header_is_bytes();
+    root_distance_range();
+}
 
 /// No two exchanges have one reply, where records have different numbers.
 pub fn no_reply_gives_two_exchanges()

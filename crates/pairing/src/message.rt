@@ -2,7 +2,7 @@
 
 ghost use Rattle.std.specs.Prelude.{◌≡◌, ◌<◌, length, position, IfSome};
 ghost use Rattle.std.specs.Str.{bytes_eq};
-ghost use Rattle.ntp_packet.specs.Header.{AreBytes};
+ghost use Rattle.byte_stream.specs.Bytes.{IsBytes};
 ghost use Rattle.ntp_packet.specs.Packet.{packet_shown};
 ghost use Rattle.claim_file.specs.Claim.{IsLawful, data_of};
 ghost use Rattle.pairing.specs.Waiting.{judged, message_in, message_of};
@@ -112,14 +112,14 @@ fn message_in(claim: &Claim, head: &RecordHead, packet: &Packet<'_>) -> Option<M
 }
 
 /// What a record says: a request, a reply, or nothing.
-#[tactic(auto, unfolding(crate::specs::Waiting::message_of, crate::specs::Message::request_of, crate::specs::Message::reply_of))]
+#[tactic(auto, unfolding(crate::specs::Waiting::message_of))]
 pub(crate) fn read_message(claim: &Claim, head: &RecordHead, bytes: &[u8]) -> Option<Message>
     requires { IsLawful (data_of claim.now) }
     ensures message { result
         ≡ message_of (data_of claim.now) (record { head = head.now; bytes = bytes.now }) }
 
     // A reader's bytes are bytes, which bounds what they say.
-    ensures bytes { AreBytes bytes.now }
+    ensures bytes { IsBytes bytes.now }
 {
     message_in(claim, head, &packet(bytes)?)
 }

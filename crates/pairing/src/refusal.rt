@@ -26,7 +26,7 @@ pub(crate) enum Refusal {
 }
 
 /// The root distance of a reply in ticks, or the first reason that its header gives to refuse it.
-#[tactic(auto, unfolding(crate::specs::Refusal::refusal_of, ntp_packet::specs::Header::root_distance_of))]
+#[tactic(auto, unfolding(crate::specs::Refusal::refusal_of))]
 pub(crate) fn accepted_distance(header: &NtpView<'_>) -> Result<i128, Refusal>
     ensures exact { MatchResult result
         (λ distance. (refusal_of header.now ≡ None) × (root_distance_of header.now ≡ Some distance))

@@ -1,4 +1,4 @@
-use Rattle.pcap_reader.proofs.Step.{TakesFrom-trans, TakesFrom-at_most}
+use Rattle.pcap_reader.specs.Source.{TakesFrom-trans, TakesFrom-at_most}
 use Rattle.listing.proofs.Refusal.{made_refused, counts_refused, reports_published, reports_of_bytes, reports_refused_memory}
 use Rattle.listing.proofs.run.run_list.Goals as goal
 

@@ -19,7 +19,8 @@ returns-in-Ok g c =
     let exact = c.finish.ensures claim whole.records whole.gathered in
     record {
       exact = answer-whole claim start.remaining whole.records c.finish.result whole.known exact;
-      lawful = lawful-whole claim whole.records c.finish.result whole.given exact;
+      lawful = lawful-whole claim whole.records c.finish.result
+          (c.exchanges_keep_their_limits.ensures claim whole.records whole.given) exact;
       leaves = leaves-whole claim whole.records start
           (g.S.RecordSource.state c.gather.new.source) c.finish.result c.in-Ok.ensures.leaves exact;
     }

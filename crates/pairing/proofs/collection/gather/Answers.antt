@@ -2,7 +2,7 @@ use Rattle.std.proofs.Common.{◌≡◌, ◌∙◌, ap, subst, Option, Ok, Some,
 use Rattle.pcap_reader.specs.declared.format.RecordHead.{RecordHead}
 use Rattle.pcap_reader.specs.Capture.{most_records}
 use Rattle.pcap_reader.specs.Source.{IsStep}
-use Rattle.ntp_packet.specs.Header.{AreBytes}
+use Rattle.byte_stream.specs.Bytes.{IsBytes}
 use Rattle.claim_file.specs.Claim.{data_of}
 use Rattle.indexmap.specs.IndexMap.{get}
 use Rattle.pairing.specs.declared.message.Message.{Message}
@@ -28,7 +28,7 @@ records-preserved g c =
     let now = g.S.RecordSource.state c.next_record.new.self in
     let step = subst (λ (o : Option RecordHead). IsStep before
     (Ok o) now) c.in-Ok-Some.field-0-is c.in-Ok-Some.ensures in
-    let bytes = subst AreBytes c.bytes.ensures c.read_message-message.ensures.bytes in
+    let bytes = subst IsBytes c.bytes.ensures c.read_message-message.ensures.bytes in
     let claim = data_of c.args.claim.now in
     let done = c.records.invariant.records in
     let head = c.in-Ok-Some.head in

@@ -32,6 +32,11 @@ blank = record {
 abbrev at_index : (Key → Option Place) → Waiting → Result Exchange Refusal
 at_index look_up w = exchange_at (look_up w.key) w
 
+outcome_found : (look_up : Key → Option Place) (w : Waiting) (found : Option Place)
+    (outcome : Result Exchange Refusal) → outcome ≡ exchange_at found w → found ≡ look_up w.key →
+    outcome ≡ at_index look_up w
+outcome_found look_up w found outcome is at = is ∙ ap (λ (p : Option Place). exchange_at p w) at
+
 pub take-requires-clause-room : goal.take-requires-clause-room
 take-requires-clause-room g c =
     let f = at_index (get same_key c.args.index.now.places) in
@@ -54,8 +59,7 @@ returns-in_err-take g c =
     let xs = c.args.waiting.now in
     let i = c.loop-reply.reply-index in
     let item = get_or xs i blank in
-    let outcome : c.outcome.result ≡ f item = c.outcome.ensures
-    ∙ ap (λ (p : Option Place). exchange_at p item) c.find.ensures in
+    let outcome = outcome_found (get same_key c.args.index.now.places) item _ _ c.outcome.ensures c.find.ensures in
     rw (p.1, p.2) (elim c.in_err-take.ensures.fault [
       | inl memory ↦ inl memory
       | inr many ↦ inr (
@@ -73,8 +77,7 @@ loop-reply-preserved g c =
     let xs = c.args.waiting.now in
     let i = c.loop-reply.reply-index in
     let item = get_or xs i blank in
-    let outcome : c.outcome.result ≡ f item = c.outcome.ensures
-    ∙ ap (λ (p : Option Place). exchange_at p item) c.find.ensures in
+    let outcome = outcome_found (get same_key c.args.index.now.places) item _ _ c.outcome.ensures c.find.ensures in
     record {
       joined =
           rw (
