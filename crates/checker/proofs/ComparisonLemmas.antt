@@ -10,7 +10,6 @@ use Rattle.intersection.specs.Hull.{IsAdmissible, IsHull, hull_of}
 use Rattle.intersection.specs.declared.kinds.Interval.{Interval}
 use Rattle.intersection.specs.declared.kinds.Hull.{Hull}
 use Rattle.intersection.specs.declared.kinds.Hull.TheVariants.{Unbounded, Empty, Bounded}
-use Rattle.intersection.proofs.EndPointLemmas.{IsHull-hull_of}
 use Rattle.sample_interval.specs.declared.kinds.Sample.{Sample}
 use Rattle.checker.specs.Comparison.{IsYesOr, IsContradiction}
 use Rattle.checker.specs.Piece.{group_intervals, piece_hull}
@@ -37,7 +36,7 @@ module _ (samples : List Sample) (claim other : ClaimData) (P : Why → Type 0) 
     pub fault : (begin : ℤ) → piece_fault samples claim begin piece ≡ None
         → FaultIs P (piece_fault samples other begin next)
 
-  fails_here : (k : ℕ) (fault : Option Why) (rest : Verdict) → FaultIs P fault
+  pub fails_here : (k : ℕ) (fault : Option Why) (rest : Verdict) → FaultIs P fault
       → IsYesOr P rest → IsYesOr P (verdict_after fault k rest)
   fails_here k fault rest is later = ⊎_elim
       (λ none. rw none later)
@@ -87,6 +86,10 @@ module _ (samples : List Sample) (claim other : ClaimData) (P : Why → Type 0) 
 
 -- ---- hulls
 
+-- the law of the layer below: every list has its hull
+abbrev pub EveryHull : Type 0
+EveryHull = (list : List Interval) (f : ℕ) → IsHull list f (hull_of list f)
+
 within_test : (bound lo hi : ℤ) → neg_ℤ bound ≤ℤ lo → hi ≤ℤ bound → (int_le (neg_ℤ bound) lo && int_le hi bound) ≡ true
 within_test bound lo hi above below = grind (arith, ints)
 
@@ -106,7 +109,7 @@ passes_hull : (bound lo hi : ℤ) → neg_ℤ bound ≤ℤ lo → hi ≤ℤ boun
 passes_hull bound lo hi above below =
     cond-true (int_le (neg_ℤ bound) lo && int_le hi bound) None (Some Exceeds) (within_test bound lo hi above below)
 
-module _ (bound wider : ℤ) (list other : List Interval) (f g : ℕ) (no_less : bound ≤ℤ wider)
+module _ (hulls : EveryHull) (bound wider : ℤ) (list other : List Interval) (f g : ℕ) (no_less : bound ≤ℤ wider)
     (fewer : (point : ℤ) → IsAdmissible other g point → IsAdmissible list f point)
     (longer : f < length list → g < length other) where
   nested_hull : (hull next : Hull) → IsHull list f hull → IsHull other g next → hull_fault bound hull ≡ None
@@ -125,32 +128,34 @@ module _ (bound wider : ℤ) (list other : List Interval) (f g : ℕ) (no_less :
 
   pub hull_follows : hull_fault bound (hull_of list f) ≡ None
       → FaultIs IsContradiction (hull_fault wider (hull_of other g))
-  hull_follows e = nested_hull (hull_of list f) (hull_of other g) (IsHull-hull_of list f) (IsHull-hull_of other g) e
+  hull_follows e = nested_hull (hull_of list f) (hull_of other g) (hulls list f) (hulls other g) e
 
 -- ---- a wider bound, and fewer false groups
 
 no_fault : {P : Type 0} (why : Why) → Some why ≡ None → P
 no_fault why e = absurd cc
 
-parts_narrow : (claim other : ClaimData) (said : Result (List Part) Why) → claim.bound ≤ℤ other.bound
-    → claim.groups ≡ other.groups → other.false_max ≤ claim.false_max → parts_fault claim said ≡ None
+parts_narrow : (hulls : EveryHull) (claim other : ClaimData) (said : Result (List Part) Why)
+    → claim.bound ≤ℤ other.bound → claim.groups ≡ other.groups → other.false_max ≤ claim.false_max
+    → parts_fault claim said ≡ None
     → FaultIs IsContradiction (parts_fault other said)
-parts_narrow claim other (Err why) bound groups few e = absurd cc
-parts_narrow claim other (Ok parts) bound groups few e =
+parts_narrow hulls claim other (Err why) bound groups few e = absurd cc
+parts_narrow hulls claim other (Ok parts) bound groups few e =
     subst (λ (gs : List ℕ). FaultIs IsContradiction (hull_fault other.bound (piece_hull gs other.false_max parts)))
     groups
-    (hull_follows claim.bound other.bound (group_intervals claim.groups parts) (group_intervals claim.groups parts)
+    (hull_follows hulls claim.bound other.bound (group_intervals claim.groups parts)
+    (group_intervals claim.groups parts)
     claim.false_max other.false_max bound (λ point some. omega arith) (λ some. omega arith) e)
 
-pub fewer_false : (samples : List Sample) (claim : ClaimData) (g : ℕ) (certificate : CertificateData)
-    → g ≤ claim.false_max → verdict_of samples claim certificate ≡ Yes
+pub fewer_false : (hulls : EveryHull) (samples : List Sample) (claim : ClaimData) (g : ℕ)
+    (certificate : CertificateData) → g ≤ claim.false_max → verdict_of samples claim certificate ≡ Yes
     → IsYesOr IsContradiction (verdict_of samples (record claim { false_max = g }) certificate)
-fewer_false samples claim g certificate few e =
+fewer_false hulls samples claim g certificate few e =
     let other : ClaimData = record claim { false_max = g } in
     verdict_follows samples claim other IsContradiction refl 0 claim.first certificate.pieces certificate.pieces
     (all_follow samples claim other IsContradiction
     (λ piece. piece_follows samples claim other IsContradiction refl piece piece refl
-    (λ stretch passes. parts_narrow claim other _ (omega (arith, ints)) refl few passes))
+    (λ stretch passes. parts_narrow hulls claim other _ (omega (arith, ints)) refl few passes))
     certificate.pieces)
     e
 

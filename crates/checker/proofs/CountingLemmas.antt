@@ -33,7 +33,7 @@ none_of p (x ∷ xs) k h =
     (rw (parts.0, rest.0) refl, rest.1)
 
 -- a test that no number below n passes
-fails_below : (p : ℕ → Bool) (n k : ℕ) → k < n → list_any p (numbers_below n) ≡ false → p k ≡ false
+pub fails_below : (p : ℕ → Bool) (n k : ℕ) → k < n → list_any p (numbers_below n) ≡ false → p k ≡ false
 fails_below p zero k below h = absurd (omega arith)
 fails_below p (suc n) k below h =
     let parts = none_of p (numbers_below n) n h in

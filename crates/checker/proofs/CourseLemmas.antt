@@ -1,5 +1,5 @@
 -- Courses that fit.
-use Rattle.std.proofs.Common.{◌≡◌, ℕ, zero, suc, ◌+◌, ◌<◌, ℤ, pos, ◌-ℤ◌, ◌+ℤ◌, ◌*ℤ◌, ◌≤ℤ◌, unsigned_abs, Bool, true, false, ◌&&◌, ⊎_elim, List, [], ◌∷◌, length, Some, count_by, refl, ap, ◌∙◌, subst, arith}
+use Rattle.std.proofs.Common.{◌≡◌, ℕ, zero, suc, ◌+◌, ◌<◌, ℤ, pos, ◌-ℤ◌, ◌+ℤ◌, ◌*ℤ◌, ◌≤ℤ◌, unsigned_abs, Bool, true, false, ◌&&◌, ◌⊎◌, inl, inr, ⊎_elim, List, [], ◌∷◌, length, Some, count_by, refl, ap, ◌∙◌, subst, arith}
 use Rattle.std.specs.Prelude.{slice_get, slice_index, ◌==◌}
 use Rattle.std.specs.List.{list_any}
 use Rattle.std.proofs.lemmas.Int.{ints}
@@ -10,7 +10,7 @@ use Rattle.sample_interval.specs.Moment.{Moment, error_of, error_change, DriftsW
 use Rattle.checker.specs.Course.{Fits, IsClientMoment, ReadsInWindows, KeepsRootDistance}
 use Rattle.checker.specs.Groups.{numbers_below, holds_false, false_group_count}
 use Rattle.checker.specs.Traceability.{IsTraceable}
-use Rattle.checker.specs.WorkedCourse.{worked_second, worked_claim, worked_exchange, moment_with, worked_course, lone_course}
+use Rattle.checker.specs.WorkedCourse.{worked_second, worked_claim, worked_exchange, moment_with, served_course, slow_reply, slow_course, slow_claim, lone_course}
 
 -- ---- no false server
 
@@ -48,8 +48,8 @@ reads_back error reading = omega (arith, ints)
 
 -- ---- the worked course
 
-module _ (error reply_reading : ℤ) where
-  client_error : (count : ℕ) (m : Moment) → IsClientMoment (worked_course error reply_reading) count m
+module _ (error reply_reading served : ℤ) where
+  client_error : (count : ℕ) (m : Moment) → IsClientMoment (served_course error reply_reading served) count m
       → error_of m ≡ error
   client_error count m = ⊎_elim
       (λ e. ap error_of e ∙ reads_back error (pos worked_second))
@@ -64,32 +64,64 @@ module _ (error reply_reading : ℤ) where
   -- the readings lie in the windows of the worked exchange
   in_its_windows : pos (worked_second + 85899345) ≤ℤ reply_reading
       → reply_reading ≤ℤ pos (worked_second + 85903641)
-      → ReadsInWindows (pos 0) (worked_course error reply_reading) 0 worked_exchange
+      → ReadsInWindows (pos 0) (served_course error reply_reading served) 0 worked_exchange
   in_its_windows from to = (
     (omega (arith, ints), omega (arith, ints)),
     (omega (arith, ints), omega (arith, ints)),
   )
 
-  keeps_its_distance : KeepsRootDistance (worked_course error reply_reading) 0 worked_exchange
-  keeps_its_distance = (omega (arith, ints), omega (arith, ints))
+  keeps_its_distance : pos (worked_second + 42949672) ≤ℤ served → served ≤ℤ pos (worked_second + 42949674)
+      → KeepsRootDistance (served_course error reply_reading served) 0 worked_exchange
+  keeps_its_distance no_sooner no_later = (omega (arith, ints), omega (arith, ints))
 
   pub worked_fits : pos (worked_second + 85899345) ≤ℤ reply_reading
       → reply_reading ≤ℤ pos (worked_second + 85903641)
-      → (pos worked_second -ℤ error) ≤ℤ pos (worked_second + 42949673)
-      → pos (worked_second + 42949673) ≤ℤ (reply_reading -ℤ error)
-      → Fits worked_claim (worked_exchange ∷ []) (worked_course error reply_reading)
-  worked_fits from to sent_before arrived_after = record {
+      → pos (worked_second + 42949672) ≤ℤ served → served ≤ℤ pos (worked_second + 42949674)
+      → (pos worked_second -ℤ error) ≤ℤ served → served ≤ℤ (reply_reading -ℤ error)
+      → Fits worked_claim (worked_exchange ∷ []) (served_course error reply_reading served)
+  worked_fits from to no_sooner no_later sent_before arrived_after = record {
     some_fineness = omega arith;
     few_false = rw (no_false_group (0 ∷ [])) (omega arith);
     in_windows = λ k x at.
-        subst (λ (y : Exchange). ReadsInWindows (pos 0) (worked_course error reply_reading) k y) (only_one k x at)
-        (in_its_windows from to);
+        subst (λ (y : Exchange). ReadsInWindows (pos 0) (served_course error reply_reading served) k y)
+        (only_one k x at) (in_its_windows from to);
     drift = λ a b at_a at_b. one_error 0 a b error (client_error 1 a at_a) (client_error 1 b at_b);
     ordered = λ k x at true'. (sent_before, omega (arith, ints), arrived_after);
     within_root_distance = λ k x at true'.
-        subst (λ (y : Exchange). KeepsRootDistance (worked_course error reply_reading) k y) (only_one k x at)
-        keeps_its_distance;
+        subst (λ (y : Exchange). KeepsRootDistance (served_course error reply_reading served) k y) (only_one k x at)
+        (keeps_its_distance no_sooner no_later);
   }
+
+-- ---- the slow clock
+
+slow_moment : (count : ℕ) (m : Moment) → IsClientMoment slow_course count m
+    → (m ≡ moment_with (pos 0) (pos worked_second)) ⊎ (m ≡ slow_reply)
+slow_moment count m = ⊎_elim (λ e. inl e) (λ found. found.2)
+
+slow_drift : (a b : Moment) → (a ≡ moment_with (pos 0) (pos worked_second)) ⊎ (a ≡ slow_reply)
+    → (b ≡ moment_with (pos 0) (pos worked_second)) ⊎ (b ≡ slow_reply) → DriftsWithin 500000000 a b
+slow_drift a b (inl p) (inl q) = rw (p, q) (omega (arith, ints))
+slow_drift a b (inl p) (inr q) = rw (p, q) (omega (arith, ints))
+slow_drift a b (inr p) (inl q) = rw (p, q) (omega (arith, ints))
+slow_drift a b (inr p) (inr q) = rw (p, q) (omega (arith, ints))
+
+pub slow_fits : Fits slow_claim (worked_exchange ∷ []) slow_course
+slow_fits =
+    let error = pos 0 in
+    let reading = pos (worked_second + 85899345) in
+    let served = pos (worked_second + 42949673) in
+    record {
+      some_fineness = omega arith;
+      few_false = rw (no_false_group (0 ∷ [])) (omega arith);
+      in_windows = λ k x at.
+          subst (λ (y : Exchange). ReadsInWindows (pos 0) slow_course k y) (only_one error reading served k x at)
+          (in_its_windows error reading served (omega (arith, ints)) (omega (arith, ints)));
+      drift = λ a b at_a at_b. slow_drift a b (slow_moment 1 a at_a) (slow_moment 1 b at_b);
+      ordered = λ k x at true'. (omega (arith, ints), omega (arith, ints), omega (arith, ints));
+      within_root_distance = λ k x at true'.
+          subst (λ (y : Exchange). KeepsRootDistance slow_course k y) (only_one error reading served k x at)
+          (keeps_its_distance error reading served (omega (arith, ints)) (omega (arith, ints)));
+    }
 
 -- ---- no exchange at all
 

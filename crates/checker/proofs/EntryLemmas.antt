@@ -22,7 +22,7 @@ use Rattle.checker.specs.declared.verdict.Verdict.TheVariants.{Yes}
 use Rattle.checker.specs.declared.verdict.Why.{Why}
 use Rattle.checker.specs.declared.verdict.Why.TheVariants.{BadSample, MixedServers, RepeatedServer}
 use Rattle.checker.proofs.PartLemmas.{by_test}
-use Rattle.checker.proofs.ComparisonLemmas.{FaultIs, Follows, verdict_follows, all_follow, piece_follows, hull_follows}
+use Rattle.checker.proofs.ComparisonLemmas.{FaultIs, Follows, verdict_follows, all_follow, piece_follows, EveryHull, hull_follows}
 
 -- the second, where there is a first, leaves out whatever the first leaves out
 abbrev pub Narrows : Option Interval → Option Interval → Type 0
@@ -34,13 +34,13 @@ narrows_itself : (o : Option Interval) → Narrows o o
 narrows_itself None = tt
 narrows_itself (Some i) = λ point out. out
 
-held_ends : (i : Interval) (point : ℤ) → leaves_out i point ≡ false → (i.lo ≤ℤ point) × (point ≤ℤ i.hi)
+pub held_ends : (i : Interval) (point : ℤ) → leaves_out i point ≡ false → (i.lo ≤ℤ point) × (point ≤ℤ i.hi)
 held_ends i point h = (grind (arith, ints), grind (arith, ints))
 
-held_test : (i : Interval) (point : ℤ) → i.lo ≤ℤ point → point ≤ℤ i.hi → leaves_out i point ≡ false
+pub held_test : (i : Interval) (point : ℤ) → i.lo ≤ℤ point → point ≤ℤ i.hi → leaves_out i point ≡ false
 held_test i point low high = grind (arith, ints)
 
-meet_leaves_out : (a b : Interval) (point : ℤ) → leaves_out a point ≡ true → leaves_out (meet_of a b) point ≡ true
+pub meet_leaves_out : (a b : Interval) (point : ℤ) → leaves_out a point ≡ true → leaves_out (meet_of a b) point ≡ true
 meet_leaves_out a b point out = by_test (leaves_out (meet_of a b) point) (λ is. is)
     (λ held. absurd (
     let ends = held_ends (meet_of a b) point held in
@@ -107,7 +107,7 @@ module _ (h next : ℕ → Option Interval) (narrows : (g : ℕ) → Narrows (h 
 abbrev pub ContradictsOrRefuses : Why → Type 0
 ContradictsOrRefuses why = IsContradiction why ⊎ IsRefusedEntry why
 
-module _ (samples : List Sample) (claim : ClaimData) (stretch : Stretch) where
+module _ (hulls : EveryHull) (samples : List Sample) (claim : ClaimData) (stretch : Stretch) where
   abbrev after : List Part → List (ℕ × ℕ) → Result (List Part) Why
   after earlier entries = parts_after samples stretch claim.drift_ppb earlier entries
 
@@ -151,7 +151,7 @@ module _ (samples : List Sample) (claim : ClaimData) (stretch : Stretch) where
       let h = group_interval claim.groups parts in
       let next = group_interval claim.groups (parts ++ part ∷ []) in
       let narrow = more_narrows claim.groups parts part in
-      hull_follows claim.bound claim.bound (filter_map h numbers) (filter_map next numbers) claim.false_max
+      hull_follows hulls claim.bound claim.bound (filter_map h numbers) (filter_map next numbers) claim.false_max
       claim.false_max (omega (arith, ints))
       (λ point few. let more = (narrower_list h next narrow point numbers).0 in omega arith)
       (λ some. let more = (narrower_list h next narrow (pos 0) numbers).1 in omega arith)
@@ -175,7 +175,7 @@ module _ (samples : List Sample) (claim : ClaimData) (stretch : Stretch) where
       (part_from stretch claim.drift_ppb parts (slice_get samples entry.0) (slice_get samples entry.1))
       (refused_by_itself parts (slice_get samples entry.0) (slice_get samples entry.1)) e)
 
-module _ (samples : List Sample) (claim : ClaimData) where
+module _ (hulls : EveryHull) (samples : List Sample) (claim : ClaimData) where
   itself : (piece : PieceData) → Follows samples claim claim ContradictsOrRefuses piece piece
   itself piece = record { upto = refl; fault = λ begin e. inl e }
 
@@ -191,7 +191,7 @@ module _ (samples : List Sample) (claim : ClaimData) where
   one_more_entry certificate more has e =
       let next : PieceData = record has.piece { entries = has.piece.entries ++ has.entry ∷ [] } in
       let follows = piece_follows samples claim claim ContradictsOrRefuses refl has.piece next refl
-      (λ stretch passes. says_more samples claim stretch has.piece.entries has.entry _ refl passes) in
+      (λ stretch passes. says_more hulls samples claim stretch has.piece.entries has.entry _ refl passes) in
       subst (λ (ps : List PieceData). IsYesOr ContradictsOrRefuses (verdict_from samples claim 0 claim.first ps))
       (sym has.with_it)
       (verdict_follows samples claim claim ContradictsOrRefuses refl 0 claim.first

@@ -3,8 +3,12 @@ pub mod GroupLemmas
 pub mod CountingLemmas
 pub mod CoverLemmas
 pub mod VerdictLemmas
+pub mod PieceLemmas
 pub mod TraceabilityLemmas
 pub mod CourseLemmas
 pub mod ComparisonLemmas
 pub mod EntryLemmas
 pub mod OrderLemmas
+pub mod ApartLemmas
+pub mod NarrowLemmas
+pub mod SpanLemmas

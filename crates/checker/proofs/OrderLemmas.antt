@@ -39,7 +39,7 @@ meet_swapped i x y =
     ap (λ (a : ℤ). make a (int_min (int_min i.hi x.hi) y.hi)) low
     ∙ ap (λ (b : ℤ). make (int_max (int_max i.lo y.lo) x.lo) b) high
 
-meet_turned : (x y : Interval) → meet_of x y ≡ meet_of y x
+pub meet_turned : (x y : Interval) → meet_of x y ≡ meet_of y x
 meet_turned x y =
     let low : int_max x.lo y.lo ≡ int_max y.lo x.lo = omega (arith, ints, clamps) in
     let high : int_min x.hi y.hi ≡ int_min y.hi x.hi = omega (arith, ints, clamps) in
@@ -175,11 +175,11 @@ module _ (samples : List Sample) (claim : ClaimData) (stretch : Stretch) where
   begins_at earlier entry entries parts (Err why) is e = absurd cc
   begins_at earlier entry entries parts (Ok part) is e = record { part = part; said = is; rest = e }
 
-  begins : (earlier : List Part) (entry : ℕ × ℕ) (entries : List (ℕ × ℕ)) (parts : List Part)
+  pub begins : (earlier : List Part) (entry : ℕ × ℕ) (entries : List (ℕ × ℕ)) (parts : List Part)
       → after earlier (entry ∷ entries) ≡ Ok parts → Begins earlier entry entries parts
   begins earlier entry entries parts e = begins_at earlier entry entries parts (says earlier entry) refl e
 
-  begin_with : (earlier : List Part) (entry : ℕ × ℕ) (entries : List (ℕ × ℕ)) (part : Part)
+  pub begin_with : (earlier : List Part) (entry : ℕ × ℕ) (entries : List (ℕ × ℕ)) (part : Part)
       → says earlier entry ≡ Ok part → after earlier (entry ∷ entries) ≡ after (earlier ++ part ∷ []) entries
   begin_with earlier entry entries part said =
       ap (λ (r : Result Part Why). unless_refused r (λ p. after (earlier ++ p ∷ []) entries)) said

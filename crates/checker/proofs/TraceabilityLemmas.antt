@@ -4,6 +4,7 @@ use Rattle.std.specs.Prelude.{All, slice_get, IsSomeAnd}
 use Rattle.std.specs.Option.{option_map}
 use Rattle.std.proofs.lemmas.Int.{ints}
 use Rattle.std.proofs.lemmas.Option.{slice_get-map, slice_get_within}
+use Rattle.std.proofs.Math.Nat.{mul-le-mul_right}
 use Rattle.certificate.specs.Certificate.{PieceData, CertificateData}
 use Rattle.claim_file.specs.Claim.{ClaimData, IsLawful}
 use Rattle.intersection.specs.Fraction.{HoldsFraction, IsAdmissibleFraction, HullHoldsFraction}
@@ -11,7 +12,6 @@ use Rattle.intersection.specs.Hull.{IsHull, hull_of}
 use Rattle.intersection.specs.declared.kinds.Interval.{Interval}
 use Rattle.intersection.specs.declared.kinds.Hull.{Hull}
 use Rattle.intersection.specs.declared.kinds.Hull.TheVariants.{Empty, Bounded}
-use Rattle.intersection.proofs.FractionLemmas.{times_le}
 use Rattle.pairing.specs.declared.exchange.Exchange.{Exchange}
 use Rattle.sample_interval.specs.Moment.{Moment, error_of, DriftsWithin, DriftsWithinByReading, IsInWindow, IsWithinDistance}
 use Rattle.sample_interval.specs.Sample.{sample_of, least_error, greatest_error}
@@ -61,6 +61,14 @@ pub record Laws : Type 0 where
   pub hull : (list : List Interval) (f : ℕ) → IsHull list f (hull_of list f)
 
 -- ---- bounds
+
+times_le : (a b : ℤ) (n : ℕ) → a ≤ℤ b → (a *ℤ pos n) ≤ℤ (b *ℤ pos n)
+times_le (pos x) (pos y) n h = let le : x ≤ y = omega (arith, ints) in omega (arith, ints, mul-le-mul_right n le)
+times_le (pos x) (negsuc y) n h = absurd (omega (arith, ints))
+times_le (negsuc x) (pos y) n h = omega (arith, ints)
+times_le (negsuc x) (negsuc y) n h =
+    let le : suc y ≤ suc x = omega (arith, ints) in
+    omega (arith, ints, mul-le-mul_right n le)
 
 neg_times : (b n : ℕ) → (neg_ℤ (pos b) *ℤ pos n) ≡ neg_ℤ (pos (b * n))
 neg_times zero n = omega (arith, ints)

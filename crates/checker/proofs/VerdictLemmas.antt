@@ -21,6 +21,19 @@ use Rattle.checker.specs.declared.verdict.Why.{Why}
 use Rattle.checker.specs.declared.verdict.Why.TheVariants.{Cut, MixedServers, RepeatedServer, Contradiction, Exceeds, Uncovered}
 use Rattle.checker.proofs.PartLemmas.{by_test}
 
+pub empty_hull : (bound : ℤ) (hull : Hull) → hull_fault bound hull ≡ Some Contradiction → hull ≡ Empty
+empty_hull bound Unbounded e = absurd cc
+empty_hull bound Empty e = refl
+empty_hull bound (Bounded lo hi) e = by_test (int_le (neg_ℤ bound) lo && int_le hi bound)
+    (λ inside. absurd (
+    let no : None ≡ Some Contradiction =
+    sym (cond-true (int_le (neg_ℤ bound) lo && int_le hi bound) None (Some Exceeds) inside) ∙ e in
+    cc))
+    (λ outside. absurd (
+    let no : Some Exceeds ≡ Some Contradiction =
+    sym (cond-false (int_le (neg_ℤ bound) lo && int_le hi bound) None (Some Exceeds) outside) ∙ e in
+    cc))
+
 module _ (samples : List Sample) (claim : ClaimData) where
   -- what the entries of a piece say over a stretch, where none is refused, and their hull
   pub record Says (stretch : Stretch) (hull : Hull) : Type 0 where
@@ -110,19 +123,6 @@ module _ (samples : List Sample) (claim : ClaimData) where
       (λ part. parts_after samples stretch claim.drift_ppb (earlier ++ part ∷ []) entries)
       (refused_part stretch earlier (slice_get samples entry.0) (slice_get samples entry.1))
       (λ part e'. refused_parts stretch (earlier ++ part ∷ []) entries e') e
-
-  empty_hull : (bound : ℤ) (hull : Hull) → hull_fault bound hull ≡ Some Contradiction → hull ≡ Empty
-  empty_hull bound Unbounded e = absurd cc
-  empty_hull bound Empty e = refl
-  empty_hull bound (Bounded lo hi) e = by_test (int_le (neg_ℤ bound) lo && int_le hi bound)
-      (λ inside. absurd (
-      let no : None ≡ Some Contradiction =
-      sym (cond-true (int_le (neg_ℤ bound) lo && int_le hi bound) None (Some Exceeds) inside) ∙ e in
-      cc))
-      (λ outside. absurd (
-      let no : Some Exceeds ≡ Some Contradiction =
-      sym (cond-false (int_le (neg_ℤ bound) lo && int_le hi bound) None (Some Exceeds) outside) ∙ e in
-      cc))
 
   empty_parts : (stretch : Stretch) (entries : List (ℕ × ℕ)) (said : Result (List Part) Why)
       → parts_after samples stretch claim.drift_ppb [] entries ≡ said → parts_fault claim said ≡ Some Contradiction

@@ -6,3 +6,4 @@ pub mod Stretch
 pub mod Traceability
 pub mod WorkedCourse
 pub mod Comparison
+pub mod Span

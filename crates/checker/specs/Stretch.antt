@@ -1,7 +1,7 @@
 -- The parts of a span that the pieces of a certificate are.
 --
 -- A piece begins where the piece before it ends, and both hold that reading.
-use Rattle.std.specs.Prelude.{ℕ, ℤ, pos, List, [], ◌∷◌, slice_get, IsSomeAnd}
+use Rattle.std.specs.Prelude.{ℕ, zero, suc, ℤ, pos, List, [], ◌∷◌, slice_get, IsSomeAnd}
 use Rattle.certificate.specs.Certificate.{PieceData, CertificateData}
 use Rattle.claim_file.specs.Claim.{ClaimData}
 use Rattle.sample_interval.specs.Moment.{IsInWindow}
@@ -16,6 +16,12 @@ stretches_from begin (piece ∷ pieces) =
 -- the stretches of a certificate's pieces in the span of a claim
 abbrev pub stretches_of : ClaimData → CertificateData → List Stretch
 stretches_of claim certificate = stretches_from claim.first certificate.pieces
+
+-- where a piece begins, by its number: where the piece before it ends, and the first one here
+abbrev pub begin_of : ℤ → List PieceData → ℕ → ℤ
+begin_of begin pieces zero = begin
+begin_of begin [] (suc k) = begin
+begin_of begin (piece ∷ pieces) (suc k) = begin_of (pos piece.upto) pieces k
 
 -- where the last of them ends
 abbrev pub last_end : ℤ → List PieceData → ℤ

@@ -4,7 +4,7 @@
 -- other one where the piece before it ends. In a piece each entry names the sample for the low end
 -- and the one for the high end of one server's interval. The hull over the groups of servers has to
 -- lie inside the bound, and the last piece has to end where the span does.
-use Rattle.std.specs.Prelude.{ℕ, ◌+◌, ◌==◌, ℤ, pos, neg_ℤ, int_lt, int_le, not, ◌||◌, ◌&&◌, nat_lt, if◌then◌else◌}
+use Rattle.std.specs.Prelude.{◌≡◌, ℕ, ◌+◌, ◌<◌, ◌==◌, ℤ, pos, neg_ℤ, int_lt, int_le, not, ◌||◌, ◌&&◌, nat_lt, if◌then◌else◌}
 use Rattle.std.specs.Prelude.{List, [], ◌∷◌, ◌++◌, slice_get, Option, Some, None, Result, Ok, Err}
 use Rattle.std.specs.List.{list_any}
 use Rattle.std.specs.Ordering.{int_eq}
@@ -15,6 +15,7 @@ use Rattle.intersection.specs.declared.kinds.Hull.TheVariants.{Unbounded, Empty,
 use Rattle.sample_interval.specs.declared.kinds.Sample.{Sample}
 use Rattle.span_cover.specs.Piece.{piece_interval_of}
 use Rattle.checker.specs.Piece.{piece_hull}
+use Rattle.checker.specs.Stretch.{begin_of}
 use Rattle.checker.specs.declared.part.Part.{Part}
 use Rattle.checker.specs.declared.stretch.Stretch.{Stretch}
 use Rattle.checker.specs.declared.verdict.Verdict.{Verdict}
@@ -100,3 +101,9 @@ verdict_from samples claim k begin (piece ∷ pieces) =
 -- the verdict
 abbrev pub verdict_of : List Sample → ClaimData → CertificateData → Verdict
 verdict_of samples claim certificate = verdict_from samples claim 0 claim.first certificate.pieces
+
+-- none of the first n pieces fails a test
+abbrev pub PassBelow : List Sample → ClaimData → CertificateData → ℕ → Type 0
+PassBelow samples claim certificate n =
+    (k : ℕ) (piece : PieceData) → k < n → slice_get certificate.pieces k ≡ Some piece
+    → piece_fault samples claim (begin_of claim.first certificate.pieces k) piece ≡ None

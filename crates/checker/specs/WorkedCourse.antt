@@ -52,17 +52,40 @@ abbrev pub moment_with : ℤ → ℤ → Moment
 moment_with error reading = record { time = reading -ℤ error; reading = reading }
 
 -- a course of whole ticks with no false server, in which the clock is off by one error throughout;
--- it reads the second itself at the request and when it is observed
-abbrev pub worked_course : ℤ → ℤ → Course
-worked_course error reply_reading = record {
+-- it reads the second itself at the request and when it is observed, and the server receives and
+-- sends at one true time
+abbrev pub served_course : ℤ → ℤ → ℤ → Course
+served_course error reply_reading served = record {
   fineness = 1;
   is_false = λ server. false;
   request = λ k. moment_with error (pos worked_second);
-  received = λ k. pos (worked_second + 42949673);
-  sent = λ k. pos (worked_second + 42949673);
+  received = λ k. served;
+  sent = λ k. served;
   reply = λ k. moment_with error reply_reading;
   observation = moment_with error (pos worked_second);
 }
+
+-- the one in which the server's timestamps are true
+abbrev pub worked_course : ℤ → ℤ → Course
+worked_course error reply_reading =
+    served_course error reply_reading (pos (worked_second + 42949673))
+
+-- a clock that runs at half its speed: while true time goes on by 171,798,690 ticks from the
+-- request to the reply, it shows half of that. So its error changes by half of true time, and by
+-- all of what it shows.
+abbrev pub slow_reply : Moment
+slow_reply = record {
+  time = pos (worked_second + 171798690);
+  reading = pos (worked_second + 85899345);
+}
+
+abbrev pub slow_course : Course
+slow_course =
+    record (worked_course (pos 0) (pos (worked_second + 85899345))) { reply = λ k. slow_reply }
+
+-- the claim, with a drift of half
+abbrev pub slow_claim : ClaimData
+slow_claim = record worked_claim { drift_ppb = 500000000 }
 
 -- a course in which nothing happens but that the clock is observed
 abbrev pub lone_course : ℕ → Moment → Course

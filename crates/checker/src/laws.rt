@@ -5,32 +5,41 @@
 //! (`sample_interval`), the error throughout a piece (`span_cover`), how many groups leave it out
 //! (here), the hull of whole points that holds it (`intersection`), the pieces that hold every
 //! reading of the span (here).
-ghost use Rattle.std.specs.Prelude.{◌≡◌, ℕ, ◌+◌, ◌<◌, ◌≤◌, ℤ, pos, ◌≤ℤ◌, ◌⊎◌, Bool, false};
-ghost use Rattle.std.specs.Prelude.{List, [], ◌∷◌, length, All, slice_get, IsSomeAnd};
+ghost use Rattle.std.specs.Prelude.{◌≡◌, ℕ, ◌+◌, ◌<◌, ◌≤◌, ℤ, pos, neg_ℤ, ◌≤ℤ◌, ◌⊎◌, Bool, false};
+ghost use Rattle.std.specs.Prelude.{List, [], ◌∷◌, length, All, slice_get, IsSomeAnd, None, Some, Ok};
 ghost use Rattle.certificate.specs.Certificate.{PieceData, CertificateData};
 ghost use Rattle.claim_file.specs.Claim.{ClaimData, IsLawful};
+ghost use Rattle.intersection.specs.declared.kinds.Hull.TheVariants.{Empty};
 ghost use Rattle.intersection.specs.Fraction.{HoldsFraction, IsAdmissibleFraction};
 ghost use Rattle.sample_interval.specs.Moment.{Moment, IsInWindow};
+ghost use Rattle.sample_interval.specs.Sample.{IsLawfulSample};
 ghost use Rattle.sample_interval.specs.declared.kinds.Sample.{Sample};
 ghost use Rattle.checker.specs.Comparison.{IsYesOr, IsContradiction, IsRefusedEntry, HasOneMoreEntry};
-ghost use Rattle.checker.specs.Comparison.{HasEntriesSwapped};
+ghost use Rattle.checker.specs.Comparison.{HasEntriesSwapped, IsTakenApart};
+ghost use Rattle.checker.specs.Comparison.{AreNarrower, IsOfSamples};
 ghost use Rattle.checker.specs.Course.{Fits};
 ghost use Rattle.checker.specs.Groups.{false_group_count};
-ghost use Rattle.checker.specs.Piece.{group_intervals};
-ghost use Rattle.checker.specs.Stretch.{stretches_from, stretches_of, last_end, SomeHoldsReading};
+ghost use Rattle.checker.specs.Piece.{group_intervals, piece_hull};
+ghost use Rattle.checker.specs.Span.{IsSpanWithin, claim_within, certificate_within};
+ghost use Rattle.checker.specs.Stretch.{begin_of, stretches_from, stretches_of, last_end};
+ghost use Rattle.checker.specs.Stretch.{SomeHoldsReading};
 ghost use Rattle.checker.specs.Traceability.{IsTraceable, IsContradicted};
-ghost use Rattle.checker.specs.Verdict.{verdict_of};
+ghost use Rattle.checker.specs.Verdict.{parts_after, hull_fault, piece_fault, verdict_of};
+ghost use Rattle.checker.specs.Verdict.{PassBelow};
 ghost use Rattle.checker.specs.WorkedCourse.{worked_second, worked_claim, worked_exchange};
-ghost use Rattle.checker.specs.WorkedCourse.{worked_course, lone_course};
+ghost use Rattle.checker.specs.WorkedCourse.{worked_course, served_course, lone_course};
+ghost use Rattle.checker.specs.WorkedCourse.{slow_claim, slow_course};
 ghost use Rattle.checker.specs.declared.part.Part.{Part};
+ghost use Rattle.checker.specs.declared.stretch.Stretch.{Stretch};
 ghost use Rattle.checker.specs.declared.verdict.Verdict.TheVariants.{Yes, No};
+ghost use Rattle.checker.specs.declared.verdict.Why.{Why};
 ghost use Rattle.checker.specs.declared.verdict.Why.TheVariants.{Contradiction};
 
 use intersection::laws::{every_list_has_a_hull, whole_points_are_fine_enough};
 use sample_interval::laws::{
     drift_shows_on_the_clock_itself, error_at_the_reply_is_no_more, error_at_the_request_is_no_less,
 };
-use span_cover::laws::error_lies_in_the_interval_of_the_piece;
+use span_cover::laws::{error_lies_in_the_interval_of_the_piece, piece_inside_another_is_narrower};
 
 /// Where the interval of each server that isn't false holds the error, at most as many groups leave
 /// it out as hold a false server.
@@ -58,8 +67,9 @@ pub fn verdicts_are_traceable()
     ensures yes { (claim : ClaimData) (samples : List Sample) (certificate : CertificateData) →
         IsLawful claim → All (λ sample. sample.server < length claim.servers) samples →
         verdict_of samples claim certificate ≡ Yes → IsTraceable claim samples }
-    ensures contradiction { (claim : ClaimData) (samples : List Sample) (certificate : CertificateData) →
-        IsLawful claim → All (λ sample. sample.server < length claim.servers) samples →
+    ensures contradiction { (claim : ClaimData) (samples : List Sample)
+        (certificate : CertificateData) → IsLawful claim →
+        All (λ sample. sample.server < length claim.servers) samples →
         (k : ℕ) → verdict_of samples claim certificate ≡ No k Contradiction →
         IsSomeAnd (slice_get (stretches_of claim certificate) k)
         (IsContradicted claim samples) }
@@ -73,13 +83,20 @@ pub fn verdicts_are_traceable()
 }
 
 /// Courses that fit are not made up: one server's exchange, of which the capture says that the
-/// clock was off by at most 42,953,969 ticks, fits a course with no error at all, and one with an
-/// error of 42,953,968 ticks.
+/// clock's error was from -42,949,674 to 42,953,969 ticks, fits a course with no error at all, one
+/// with an error of 42,953,968 ticks, and where the server's clock is off by the tick that it
+/// announces, one with each of these two errors. So neither end could be narrower. And a clock that
+/// drifts by half keeps a drift of half, which is counted by true time and not by what it shows.
 pub fn worked_courses_fit()
     ensures exact { Fits worked_claim (worked_exchange ∷ [])
         (worked_course (pos 0) (pos (worked_second + 85899345))) }
     ensures far { Fits worked_claim (worked_exchange ∷ [])
         (worked_course (pos 42953968) (pos (worked_second + 85903641))) }
+    ensures greatest { Fits worked_claim (worked_exchange ∷ []) (served_course (pos 42953969)
+        (pos (worked_second + 85903641)) (pos (worked_second + 42949672))) }
+    ensures slow { Fits slow_claim (worked_exchange ∷ []) slow_course }
+    ensures least { Fits worked_claim (worked_exchange ∷ []) (served_course (neg_ℤ (pos 42949674))
+        (pos (worked_second + 85899345)) (pos (worked_second + 42949674))) }
 {}
 
 /// Without exchanges the clock may be off by anything, so that no certificate is accepted.
@@ -108,7 +125,9 @@ pub fn fewer_false_groups_narrow()
         verdict_of samples claim certificate ≡ Yes →
         IsYesOr IsContradiction
         (verdict_of samples (record claim { false_max = fewer }) certificate) }
-{}
+{
+    every_list_has_a_hull();
+}
 
 /// One more entry in a piece, unless it is refused by itself, leaves a yes as it is or makes it a
 /// contradiction. So an auditor who distrusts a piece may add entries without fear of a wider
@@ -118,7 +137,9 @@ pub fn more_entries_narrow()
         HasOneMoreEntry certificate more → verdict_of samples claim certificate ≡ Yes →
         IsYesOr (λ why. IsContradiction why ⊎ IsRefusedEntry why)
         (verdict_of samples claim more) }
-{}
+{
+    every_list_has_a_hull();
+}
 
 /// Two neighbouring entries of a piece may change places, and so its entries may stand in any
 /// order.
@@ -126,4 +147,70 @@ pub fn order_of_entries_changes_no_yes()
     ensures { (samples : List Sample) (claim : ClaimData) (certificate swapped : CertificateData) →
         HasEntriesSwapped certificate swapped → verdict_of samples claim certificate ≡ Yes →
         verdict_of samples claim swapped ≡ Yes }
+{}
+
+/// Where groups are taken apart, a yes stays yes or becomes a contradiction: what one group says of
+/// a piece is the points that all its servers leave, and apart each of them counts by itself. So
+/// who doubts that servers hang on one reference may count them one by one without fear of a wider
+/// bound.
+pub fn groups_taken_apart_narrow()
+    ensures { (samples : List Sample) (claim : ClaimData) (finer : List ℕ)
+        (certificate : CertificateData) →
+        All (λ sample. sample.server < length claim.groups) samples →
+        IsTakenApart claim.groups finer → verdict_of samples claim certificate ≡ Yes →
+        IsYesOr IsContradiction
+        (verdict_of samples (record claim { groups = finer }) certificate) }
+{
+    every_list_has_a_hull();
+}
+
+/// For a span inside the claim's, the certificate that is cut to it gives yes where the whole one
+/// did for the whole span, or shows a contradiction: a shorter piece has narrower intervals.
+pub fn spans_inside_narrow()
+    ensures { (samples : List Sample) (claim : ClaimData) (certificate : CertificateData)
+        (first last : ℕ) → IsLawful claim → All IsLawfulSample samples →
+        IsSpanWithin claim first last → verdict_of samples claim certificate ≡ Yes →
+        IsYesOr IsContradiction (verdict_of samples (claim_within claim first last)
+        (certificate_within certificate first last)) }
+{
+    piece_inside_another_is_narrower();
+    every_list_has_a_hull();
+}
+
+/// What the entries of a piece say, if none is refused, is said by samples.
+pub fn parts_are_of_samples()
+    ensures { (samples : List Sample) (stretch : Stretch) (ppb : ℕ) (entries : List (ℕ × ℕ))
+        (parts : List Part) → parts_after samples stretch ppb [] entries ≡ Ok parts →
+        All (IsOfSamples samples stretch ppb) parts }
+{}
+
+/// Where the hull over some parts lies in a bound, and each of them has a narrower one among other
+/// parts, the hull over these is empty or lies in the bound too.
+pub fn narrower_parts_narrow()
+    ensures { (groups : List ℕ) (false_max : ℕ) (bound : ℤ) (parts next : List Part) →
+        AreNarrower parts next → hull_fault bound (piece_hull groups false_max parts) ≡ None →
+        (hull_fault bound (piece_hull groups false_max next) ≡ None)
+        ⊎ (piece_hull groups false_max next ≡ Empty) }
+{
+    every_list_has_a_hull();
+}
+
+/// The verdict goes by the pieces: it is yes exactly where there is one, the last ends with the
+/// span and none fails a test; and no for the first that fails one.
+pub fn pieces_give_the_verdict()
+    ensures yes { (samples : List Sample) (claim : ClaimData) (certificate : CertificateData) →
+        0 < length certificate.pieces → last_end claim.first certificate.pieces ≡ claim.last →
+        PassBelow samples claim certificate (length certificate.pieces) →
+        verdict_of samples claim certificate ≡ Yes }
+    ensures each { (samples : List Sample) (claim : ClaimData) (certificate : CertificateData) →
+        verdict_of samples claim certificate ≡ Yes →
+        PassBelow samples claim certificate (length certificate.pieces) }
+    ensures covers { (samples : List Sample) (claim : ClaimData) (certificate : CertificateData) →
+        verdict_of samples claim certificate ≡ Yes → (0 < length certificate.pieces)
+        × (last_end claim.first certificate.pieces ≡ claim.last) }
+    ensures no { (samples : List Sample) (claim : ClaimData) (certificate : CertificateData)
+        (k : ℕ) (piece : PieceData) (why : Why) →
+        slice_get certificate.pieces k ≡ Some piece → PassBelow samples claim certificate k →
+        piece_fault samples claim (begin_of claim.first certificate.pieces k) piece ≡ Some why →
+        verdict_of samples claim certificate ≡ No k why }
 {}

@@ -1,9 +1,10 @@
 //! Settles whether a certificate shows that a clock stayed within a bound of UTC.
 //!
-//! [`check`] tests a certificate piece by piece, and its yes is a theorem: in every course of events that fits the
-//! exchanges and what the claim grants, the error of the client's clock is within the bound over the whole span.
-//! What a course is and when it fits stands in specs/Course. [`piece_hull`] is the hull of a piece's entries over the
-//! groups of servers. Nothing here allocates. [`laws`] has the theorem, its steps, and how verdicts compare.
+//! [`check`] tests a certificate piece by piece, and its yes is a theorem: in every course of
+//! events that fits the exchanges and what the claim grants, the error of the client's clock is
+//! within the bound over the whole span. What a course is and when it fits stands in specs/Course.
+//! [`piece_hull`] is the hull of a piece's entries over the groups of servers. Nothing here
+//! allocates. [`laws`] has the theorem, its steps, and how verdicts compare.
 #![tactic(auto)]
 
 mod entry;

@@ -1,0 +1,111 @@
+-- Narrower intervals of the same servers, and more of them, leave no more points admissible.
+use Rattle.std.proofs.Common.{◌≡◌, ℕ, ◌≤◌, ℤ, Bool, true, cond, ◌&&◌, ◌⊎◌, inl, inr, ⊎_elim, List, [], length, Some, None, Ok, count_by, refl, sym, ap, ◌∙◌, subst, arith}
+use Rattle.std.specs.Prelude.{All, slice_index, ◌==◌}
+use Rattle.std.specs.List.{Any}
+use Rattle.std.proofs.lemmas.Int.{ints}
+use Rattle.std.proofs.lemmas.Bool.{cond-true, cond-false, and_parts, and_from}
+use Rattle.std.proofs.lemmas.List.Folds.{Any-from_list_any}
+use Rattle.std.proofs.lemmas.List.Sums.{sum_by-le-sum_by}
+use Rattle.std.proofs.lemmas.List.Elements.{All-get_or}
+use Rattle.std.proofs.lemmas.Map.Keys.{any_passes_from_place}
+use Rattle.std.proofs.lemmas.Option.{slice_get_read}
+use Rattle.intersection.specs.Interval.{leaves_out}
+use Rattle.intersection.specs.declared.kinds.Interval.{Interval}
+use Rattle.intersection.specs.declared.kinds.Hull.TheVariants.{Empty}
+use Rattle.sample_interval.specs.declared.kinds.Sample.{Sample}
+use Rattle.checker.specs.Comparison.{IsContradiction, IsNarrower, AreNarrower, IsOfSamples}
+use Rattle.checker.specs.Groups.{numbers_below}
+use Rattle.checker.specs.Piece.{group_interval, group_intervals, piece_hull}
+use Rattle.checker.specs.Verdict.{parts_after, hull_fault}
+use Rattle.checker.specs.declared.part.Part.{Part}
+use Rattle.checker.specs.declared.stretch.Stretch.{Stretch}
+use Rattle.checker.proofs.PartLemmas.{by_test, all_parts}
+use Rattle.checker.proofs.ComparisonLemmas.{FaultIs, EveryHull, hull_follows}
+use Rattle.checker.proofs.VerdictLemmas.{empty_hull}
+use Rattle.checker.proofs.ApartLemmas.{IsOfEither, passes, group_passes, counted, meet_leaves_it_out, all_counted}
+
+module _ (p : Interval → Bool) (either : IsOfEither p)
+    (narrower : (part next : Part) → IsNarrower part next → p part.interval ≡ true → p next.interval ≡ true)
+    (groups : List ℕ) (parts next : List Part) (each : AreNarrower parts next) where
+  -- where a group's interval passes, so does its narrower one
+  group_still_passes : (g : ℕ) → passes p (group_interval groups parts g) ≡ true
+      → passes p (group_interval groups next g) ≡ true
+  group_still_passes g holds =
+      let in_group : Part → Bool = λ part. (slice_index groups part.server == g) && p part.interval in
+      let found = Any-from_list_any in_group parts (sym (group_passes p either groups parts g) ∙ holds) in
+      let part = found.1 in
+      let tests = and_parts (slice_index groups part.server == g) (p part.interval) found.4 in
+      let other : Any (IsNarrower part) next =
+      subst (λ (x : Part). Any (IsNarrower x) next) found.3
+      (All-get_or (λ x. Any (IsNarrower x) next) parts found.0 part found.2 each) in
+      let y = other.1 in
+      let at = slice_get_read next (length next) other.0 y refl other.2 (sym other.3) in
+      let same : (slice_index groups y.server == g) ≡ true =
+      ap (λ (s : ℕ). slice_index groups s == g) (sym other.4.server) ∙ tests.0 in
+      group_passes p either groups next g
+      ∙ any_passes_from_place in_group next other.0 y at
+      (and_from (slice_index groups y.server == g) (p y.interval) same (narrower part y other.4 tests.1))
+
+  no_more_at : (g : ℕ) → cond (passes p (group_interval groups parts g)) 1 0
+      ≤ cond (passes p (group_interval groups next g)) 1 0
+  no_more_at g = by_test (passes p (group_interval groups parts g))
+      (λ holds. omega (
+        arith,
+        cond-true {A = ℕ} (passes p (group_interval groups parts g)) 1 0 holds,
+        cond-true {A = ℕ} (passes p (group_interval groups next g)) 1 0 (group_still_passes g holds),
+      ))
+      (λ fails. omega (arith, cond-false {A = ℕ} (passes p (group_interval groups parts g)) 1 0 fails))
+
+  -- so no fewer groups pass
+  no_fewer_groups : count_by p (group_intervals groups parts) ≤ count_by p (group_intervals groups next)
+  no_fewer_groups =
+      let numbers = numbers_below (length groups) in
+      let before = counted p either (group_interval groups parts) numbers in
+      let after = counted p either (group_interval groups next) numbers in
+      let step = sum_by-le-sum_by (λ g. cond (passes p (group_interval groups parts g)) 1 0)
+      (λ g. cond (passes p (group_interval groups next g)) 1 0) numbers no_more_at in
+      omega (arith, before, after, step)
+
+still_left_out : (point : ℤ) (part next : Part) → IsNarrower part next → leaves_out part.interval point ≡ true
+    → leaves_out next.interval point ≡ true
+still_left_out point part next is out = let a = is.low in let b = is.high in grind (arith, ints)
+
+pub narrower_hull : (hulls : EveryHull) (groups : List ℕ) (f : ℕ) (bound : ℤ) (parts next : List Part)
+    → AreNarrower parts next → hull_fault bound (piece_hull groups f parts) ≡ None
+    → FaultIs IsContradiction (hull_fault bound (piece_hull groups f next))
+narrower_hull hulls groups f bound parts next each e =
+    let list = group_intervals groups parts in
+    let other = group_intervals groups next in
+    let longer = no_fewer_groups (λ i. true) (λ a b. refl) (λ part next is h. refl) groups parts next each in
+    hull_follows hulls bound bound list other f f (omega (arith, ints))
+    (λ point few.
+    let counts = no_fewer_groups (λ i. leaves_out i point) (meet_leaves_it_out point) (still_left_out point) groups
+    parts next each in
+    omega arith)
+    (λ some. omega (arith, longer, all_counted list, all_counted other))
+    e
+
+-- the same, and then the hull is empty or lies in the bound
+pub empty_or_inside : (hulls : EveryHull) (groups : List ℕ) (f : ℕ) (bound : ℤ) (parts next : List Part)
+    → AreNarrower parts next → hull_fault bound (piece_hull groups f parts) ≡ None
+    → (hull_fault bound (piece_hull groups f next) ≡ None) ⊎ (piece_hull groups f next ≡ Empty)
+empty_or_inside hulls groups f bound parts next each e = ⊎_elim
+    (λ none. inl none)
+    (λ found. inr (empty_hull bound (piece_hull groups f next) (found.1 ∙ ap Some found.2)))
+    (narrower_hull hulls groups f bound parts next each e)
+
+pub of_samples : (samples : List Sample) (stretch : Stretch) (ppb : ℕ) (entries : List (ℕ × ℕ)) (parts : List Part)
+    → parts_after samples stretch ppb [] entries ≡ Ok parts → All (IsOfSamples samples stretch ppb) parts
+of_samples samples stretch ppb entries parts e =
+    all_parts samples stretch ppb (IsOfSamples samples stretch ppb) entries parts
+    (λ a b low high at_low at_high one. record {
+      low_number = a;
+      high_number = b;
+      low = low;
+      high = high;
+      low_is = at_low;
+      high_is = at_high;
+      one_server = one;
+      is = refl;
+    })
+    e

@@ -1,0 +1,67 @@
+-- A verdict by its pieces: all pass, or there is a first that fails.
+use Rattle.std.proofs.Common.{◌≡◌, ℕ, zero, suc, ◌+◌, ◌<◌, ℤ, pos, ◌&&◌, nat_lt, List, [], ◌∷◌, length, Option, Some, None, refl, ap, ◌∙◌, subst, arith}
+use Rattle.std.specs.Prelude.{slice_get}
+use Rattle.std.specs.Ordering.{int_eq}
+use Rattle.std.proofs.lemmas.Int.{ints}
+use Rattle.std.proofs.lemmas.Bool.{cond-true}
+use Rattle.std.proofs.lemmas.Bool.Decides.{nat_tests}
+use Rattle.certificate.specs.Certificate.{PieceData}
+use Rattle.claim_file.specs.Claim.{ClaimData}
+use Rattle.sample_interval.specs.declared.kinds.Sample.{Sample}
+use Rattle.checker.specs.Stretch.{begin_of, last_end}
+use Rattle.checker.specs.Verdict.{piece_fault, verdict_after, verdict_from}
+use Rattle.checker.specs.declared.verdict.Verdict.{Verdict}
+use Rattle.checker.specs.declared.verdict.Verdict.TheVariants.{Yes, No}
+use Rattle.checker.specs.declared.verdict.Why.{Why}
+use Rattle.checker.specs.declared.verdict.Why.TheVariants.{Uncovered}
+use Rattle.checker.proofs.VerdictLemmas.{yes_step}
+
+module _ (samples : List Sample) (claim : ClaimData) where
+  -- the fault of a piece, by its number
+  abbrev fault_at : ℤ → List PieceData → ℕ → PieceData → Option Why
+  fault_at begin pieces k piece = piece_fault samples claim (begin_of begin pieces k) piece
+
+  passes_on : (m : ℕ) (fault : Option Why) (rest : Verdict) → fault ≡ None → verdict_after fault m rest ≡ rest
+  passes_on m fault rest none = ap (λ (f : Option Why). verdict_after f m rest) none
+
+  pub all_pass : (m : ℕ) (begin : ℤ) (pieces : List PieceData) → 0 < m + length pieces
+      → last_end begin pieces ≡ claim.last
+      → ((k : ℕ) (piece : PieceData) → slice_get pieces k ≡ Some piece → fault_at begin pieces k piece ≡ None)
+      → verdict_from samples claim m begin pieces ≡ Yes
+  all_pass m begin [] some ends each =
+      cond-true (nat_lt 0 m && int_eq begin claim.last) Yes (No m Uncovered)
+      (let counted : 0 < m = omega (arith, some) in grind (arith, ints, nat_tests))
+  all_pass m begin (piece ∷ pieces) some ends each =
+      passes_on m (piece_fault samples claim begin piece) (verdict_from samples claim (m + 1) (pos piece.upto) pieces)
+      (each 0 piece refl)
+      ∙ all_pass (m + 1) (pos piece.upto) pieces (omega arith) ends (λ k next at. each (suc k) next at)
+
+  pub each_passes : (m : ℕ) (begin : ℤ) (pieces : List PieceData) → verdict_from samples claim m begin pieces ≡ Yes
+      → (k : ℕ) (piece : PieceData) → slice_get pieces k ≡ Some piece → fault_at begin pieces k piece ≡ None
+  each_passes m begin [] e k piece at = absurd cc
+  each_passes m begin (first ∷ pieces) e zero piece at =
+      let step = yes_step samples claim m (piece_fault samples claim begin first) _ e in
+      let here : first ≡ piece = cc in
+      subst (λ (p : PieceData). piece_fault samples claim begin p ≡ None) here step.0
+  each_passes m begin (first ∷ pieces) e (suc k) piece at =
+      let step = yes_step samples claim m (piece_fault samples claim begin first) _ e in
+      each_passes (m + 1) (pos first.upto) pieces step.1 k piece at
+
+  pub one_fails : (m n : ℕ) (begin : ℤ) (pieces : List PieceData) (piece : PieceData) (why : Why) (k : ℕ)
+      → n ≡ m + k → slice_get pieces k ≡ Some piece
+      → ((j : ℕ) (earlier : PieceData) → j < k → slice_get pieces j ≡ Some earlier
+      → fault_at begin pieces j earlier ≡ None)
+      → fault_at begin pieces k piece ≡ Some why → verdict_from samples claim m begin pieces ≡ No n why
+  one_fails m n begin [] piece why k is at below fails = absurd cc
+  one_fails m n begin (first ∷ pieces) piece why zero is at below fails =
+      let here : first ≡ piece = cc in
+      let number : m ≡ n = omega arith in
+      let fault : piece_fault samples claim begin first ≡ Some why =
+      ap (λ (p : PieceData). piece_fault samples claim begin p) here ∙ fails in
+      let rest : Verdict = verdict_from samples claim (m + 1) (pos first.upto) pieces in
+      ap (λ (f : Option Why). verdict_after f m rest) fault ∙ ap (λ (i : ℕ). No i why) number
+  one_fails m n begin (first ∷ pieces) piece why (suc k) is at below fails =
+      passes_on m (piece_fault samples claim begin first) (verdict_from samples claim (m + 1) (pos first.upto) pieces)
+      (below 0 first (omega arith) refl)
+      ∙ one_fails (m + 1) n (pos first.upto) pieces piece why k (omega arith) at
+      (λ j earlier less at_j. below (suc j) earlier (omega arith) at_j) fails

@@ -1,0 +1,5 @@
+use Rattle.checker.proofs.NarrowLemmas.{of_samples}
+use Rattle.checker.proofs.laws.parts_are_of_samples.Goals as goal
+
+pub returns : goal.returns
+returns c = of_samples
