@@ -1,0 +1,6 @@
+pub mod Descent
+pub mod Empty
+pub mod Entries
+pub mod Root
+pub mod Spans
+pub mod Steps

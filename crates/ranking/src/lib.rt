@@ -1,0 +1,12 @@
+//! Values under numbers, asked for the greatest and for the first that is at least so much.
+//!
+//! A [`Ranking`] only grows: a number gets a value once. To put a value and to find a number takes
+//! a number of steps that grows with the logarithm of the size, the greatest value takes one, and
+//! memory is taken only by [`Ranking::new`]. [`laws`] has what holds of the definitions.
+#![tactic(auto)]
+
+pub mod laws;
+mod ranking;
+mod tree;
+
+pub use ranking::Ranking;
