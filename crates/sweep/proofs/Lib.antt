@@ -1,0 +1,13 @@
+mod ListLemmas
+mod BoundLemmas
+mod PieceLemmas
+mod SpanLemmas
+mod QueueLemmas
+mod TopLemmas
+mod RankingLemmas
+mod PassageLemmas
+mod MirrorLemmas
+mod ReachLemmas
+mod ChoiceLemmas
+mod FirstBestLemmas
+mod MeritLemmas

@@ -1,0 +1,152 @@
+-- The arrivals of bounds, in order.
+use Rattle.std.proofs.Common.{◌≡◌, ℕ, zero, suc, ◌+◌, ◌-◌, ◌*◌, ◌<◌, ◌≤◌, Bool, false, nat_eq}
+use Rattle.std.proofs.Common.{List, [], ◌∷◌, ◌++◌, length, Some, refl}
+use Rattle.std.proofs.Common.{arith, subst, get_or, ⊎_elim, sym, ◌∙◌, ap}
+use Rattle.std.specs.List.{slice_get, Contains, IsDistinct, AllByRecursion}
+use Rattle.std.specs.List.Sorted.{IsPermutation, IsNonDecreasingBy}
+use Rattle.std.proofs.lemmas.Bool.Decides.{nat_tests}
+use Rattle.std.proofs.lemmas.List.{length-append}
+use Rattle.std.proofs.lemmas.List.Sorted.{Contains-permutation, IsPermutation-sym}
+use Rattle.std.proofs.lemmas.Map.Keys.{IsDistinct-IsPermutation, IsDistinct-head, IsDistinct-tail, IsDistinct-cons}
+use Rattle.std.proofs.lemmas.Option.{slice_get-get_or, slice_get_within, same_Some, get_or_from_slice_get}
+use Rattle.std.proofs.Math.Nat.{mul-le-mul_right}
+use Rattle.sample_interval.specs.Widening.{billion}
+use Rattle.sweep.specs.Bound.{IsLawfulBound}
+use Rattle.sweep.specs.Queue.{IsArrivalOf, IsArrivalAt, AreArrivalsOf, ArriveOnce, IsQueueOf}
+use Rattle.sweep.specs.declared.bound.Bound.{Bound}
+use Rattle.sweep.specs.declared.queue.Arrival.{Arrival}
+use Rattle.sweep.proofs.ListLemmas.{pushed_cases}
+
+abbrev same_place : Arrival → Arrival → Bool
+same_place a b = nat_eq a.place b.place
+
+flips : (a b : Arrival) → same_place a b ≡ same_place b a
+flips a b = grind (arith, nat_tests)
+
+all_by_recursion : {X : Type 0} (P : X → Type 0) (xs : List X) → ((i : ℕ) (x : X) → slice_get xs i ≡ Some x → P x) →
+    AllByRecursion P xs
+all_by_recursion P [] each = tt
+all_by_recursion P (x ∷ xs) each = (each zero x refl, all_by_recursion P xs (λ i y is. each (suc i) y is))
+
+by_recursion_at : {X : Type 0} (P : X → Type 0) (xs : List X) → AllByRecursion P xs → (i : ℕ) (x : X) →
+    slice_get xs i ≡ Some x → P x
+by_recursion_at P [] all i x is = absurd cc
+by_recursion_at P (y ∷ xs) all zero x is = subst P (same_Some y x is) all.0
+by_recursion_at P (y ∷ xs) all (suc i) x is = by_recursion_at P xs all.1 i x is
+
+none_distinct : IsDistinct same_place []
+unfolding IsDistinct
+none_distinct = tt
+
+-- arrivals whose places count up from n are distinct
+counted_distinct : (n : ℕ) (arrivals : List Arrival) →
+    ((i : ℕ) (a : Arrival) → slice_get arrivals i ≡ Some a → a.place ≡ n + i) → IsDistinct same_place arrivals
+counted_distinct n [] count = none_distinct
+counted_distinct n (x ∷ arrivals) count =
+    IsDistinct-cons same_place x arrivals
+    (all_by_recursion (λ a. same_place x a ≡ false) arrivals
+    (λ i a is. differ x.place a.place i (count zero x refl) (count (suc i) a is)))
+    (counted_distinct (n + 1) arrivals (λ i a is. let at = count (suc i) a is in omega arith))
+  where
+    differ : (j k i : ℕ) → j ≡ n + 0 → k ≡ n + suc i → nat_eq j k ≡ false
+    differ j k i a b = grind (arith, nat_tests)
+
+distinct_differ : (queue : List Arrival) → IsDistinct same_place queue → (i j : ℕ) (a b : Arrival) → i < j →
+    slice_get queue i ≡ Some a → slice_get queue j ≡ Some b → same_place a b ≡ false
+distinct_differ [] distinct i j a b less at_i at_j = absurd cc
+distinct_differ (x ∷ queue) distinct zero zero a b less at_i at_j = absurd (omega arith)
+distinct_differ (x ∷ queue) distinct zero (suc j) a b less at_i at_j =
+    subst (λ (y : Arrival). same_place y b ≡ false) (same_Some x a at_i)
+    (by_recursion_at (λ y. same_place x y ≡ false) queue (IsDistinct-head same_place x queue distinct) j b at_j)
+distinct_differ (x ∷ queue) distinct (suc i) zero a b less at_i at_j = absurd (omega arith)
+distinct_differ (x ∷ queue) distinct (suc i) (suc j) a b less at_i at_j =
+    distinct_differ queue (IsDistinct-tail same_place x queue distinct) i j a b (omega arith) at_i at_j
+
+not_same : (j k : ℕ) → nat_eq j k ≡ false → j ≡ k → ⊥
+not_same j k test same = grind (arith, nat_tests)
+
+-- between reads of two kinds
+contains_at : {X : Type 0} (xs : List X) (i : ℕ) (x : X) → slice_get xs i ≡ Some x → Contains xs x
+contains_at xs i x is = (i, slice_get_within xs i x is, get_or_from_slice_get xs i x x is)
+
+at_contains : {X : Type 0} (xs : List X) (x : X) → Contains xs x → (i : ℕ) × (slice_get xs i ≡ Some x)
+at_contains xs x there = (there.0, slice_get-get_or xs there.0 x there.1 ∙ ap Some there.2)
+
+module _ (ppb : ℕ) (bounds : List Bound) (arrivals queue : List Arrival) (are : AreArrivalsOf ppb bounds arrivals)
+    (moved : IsPermutation arrivals queue) (sorted : IsNonDecreasingBy (λ a. a.at) queue) where
+  back : (i : ℕ) (a : Arrival) → slice_get queue i ≡ Some a → (j : ℕ) × (slice_get arrivals j ≡ Some a)
+  back i a is =
+      at_contains arrivals a
+      (Contains-permutation queue arrivals a (IsPermutation-sym arrivals queue moved) (contains_at queue i a is))
+
+  each : (i : ℕ) (a : Arrival) → slice_get queue i ≡ Some a → IsArrivalOf ppb bounds a
+  each i a is = let there = back i a is in (are.each there.0 a there.1).1
+
+  all : (place : ℕ) (bound : Bound) → slice_get bounds place ≡ Some bound →
+      (i : ℕ) × (a : Arrival) × (slice_get queue i ≡ Some a) × (a.place ≡ place)
+  all place bound is =
+      let within = slice_get_within bounds place bound is in
+      let a : Arrival = get_or arrivals place (record { at = 0; height = 0; place = 0 }) in
+      let stands = slice_get-get_or arrivals place (record { at = 0; height = 0; place = 0 })
+      (omega (arith, are.as_many)) in
+      let there = at_contains queue a
+      (Contains-permutation arrivals queue a moved (contains_at arrivals place a stands)) in
+      (there.0, a, there.1, (are.each place a stands).0)
+
+  once : ArriveOnce queue
+  once = record {
+    once = λ i j a b less at_i at_j same.
+        not_same a.place b.place
+        (distinct_differ queue
+        (IsDistinct-IsPermutation same_place flips arrivals queue moved
+        (counted_distinct 0 arrivals (λ k x is. let at = (are.each k x is).0 in omega arith)))
+        i j a b less at_i at_j)
+        same;
+    small = λ i a is. let there = back i a is in (are.each there.0 a there.1).2;
+  }
+
+  in_order : (i j : ℕ) (a b : Arrival) → i ≤ j → slice_get queue i ≡ Some a → slice_get queue j ≡ Some b → a.at ≤ b.at
+  in_order i j a b le at_i at_j =
+      let within = slice_get_within queue j b at_j in
+      let rise = sorted i j a le within in
+      let first : get_or queue i a ≡ a = get_or_from_slice_get queue i a a at_i in
+      let last : get_or queue j a ≡ b = get_or_from_slice_get queue j b a at_j in
+      subst (λ (x : Arrival). a.at ≤ x.at) last (subst (λ (x : Arrival). x.at ≤ (get_or queue j a).at) first rise)
+
+  pub IsQueueOf-sorted : IsQueueOf ppb bounds queue
+  IsQueueOf-sorted = record { each = each; all = all; once = once; in_order = in_order }
+
+-- ---- the arrivals one by one
+pub record ArrivalsSoFar (ppb : ℕ) (bounds : List Bound) (n : ℕ) (arrivals : List Arrival) : Type 0 where
+  pub as_many : length arrivals ≡ n
+  pub each : (i : ℕ) (a : Arrival) → slice_get arrivals i ≡ Some a → IsArrivalAt ppb bounds i a
+
+pub ArrivalsSoFar-more : (ppb : ℕ) (bounds : List Bound) (n : ℕ) (arrivals : List Arrival) (a : Arrival) →
+    ArrivalsSoFar ppb bounds n arrivals → IsArrivalAt ppb bounds n a →
+    ArrivalsSoFar ppb bounds (n + 1) (arrivals ++ a ∷ [])
+ArrivalsSoFar-more ppb bounds n arrivals a so_far here = record {
+  as_many = omega (arith, length-append arrivals (a ∷ []), so_far.as_many);
+  each = λ i x is. ⊎_elim
+      (λ old. so_far.each i x old)
+      (λ new.
+      let same : n ≡ i = sym (new.0 ∙ so_far.as_many) in
+      subst (λ (y : Arrival). IsArrivalAt ppb bounds i y) (sym new.1)
+      (subst (λ (k : ℕ). IsArrivalAt ppb bounds k a) same here))
+      (pushed_cases arrivals a x i is);
+}
+
+-- the arrival that the code makes
+pub arrival_here : (ppb rate place : ℕ) (bounds : List Bound) (bound : Bound) → ppb ≤ 500000000 → rate ≡ ppb →
+    slice_get bounds place ≡ Some bound → IsLawfulBound bound →
+    IsArrivalAt ppb bounds place (record {
+      at = bound.from + bound.to;
+      height = (billion - rate) * bound.end + rate * bound.from;
+      place = place;
+    })
+arrival_here ppb rate place bounds bound slow same stands lawful = (
+  refl,
+  record { bound = bound; stands = stands; at = refl; height = rw same refl },
+  (let scaled : (billion - rate) * bound.end ≤ billion * bound.end = mul-le-mul_right bound.end (omega arith) in
+      let moved : rate * bound.from ≤ 500000000 * bound.from = mul-le-mul_right bound.from (omega arith) in
+      omega (arith, lawful.greatest_end, lawful.in_order, lawful.ends)),
+)

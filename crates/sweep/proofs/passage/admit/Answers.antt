@@ -1,0 +1,45 @@
+use Rattle.std.proofs.Common.{arith, subst, sym, ◌∙◌, ap, ℤ, set, Some, ⊎_elim, get_or, ◌≡◌, ◌≤◌, ◌<◌}
+use Rattle.std.specs.List.{slice_get}
+use Rattle.std.proofs.lemmas.Bool.{cases_lt}
+use Rattle.std.proofs.lemmas.Int.{to_z_pos}
+use Rattle.std.proofs.lemmas.Option.{slice_get-get_or, slice_get_within, same_Some, get_or_from_slice_get}
+use mir.Syntax.{w128}
+use Rattle.sweep.specs.Queue.{HoldsFirst}
+use Rattle.sweep.specs.declared.queue.Arrival.{Arrival}
+use Rattle.sweep.proofs.RankingLemmas.{HoldsFirst-more}
+use Rattle.sweep.proofs.passage.admit.Goals as goal
+
+pub loop-next-preserved : goal.loop-next-preserved
+loop-next-preserved c =
+    let none : Arrival = record { at = 0; height = 0; place = 0 } in
+    let a : Arrival = get_or c.args.queue.now c.loop-next.next none in
+    let here : slice_get c.args.queue.now c.loop-next.next ≡ Some a =
+    slice_get-get_or c.args.queue.now c.loop-next.next none c.loop-next-test.true in
+    let small = c.requires.once.small c.loop-next.next a here in
+    record {
+      from = let from = c.loop-next.invariant.from in omega arith;
+      within = omega arith;
+      holds = subst (HoldsFirst c.args.queue.now _)
+          (sym (c.put.ensures ∙ ap (λ (z : ℤ). set c.loop-next.ranking a.place (Some z))
+          (to_z_pos w128 a.height (omega arith))))
+          (HoldsFirst-more c.args.queue.now c.loop-next.next c.loop-next.ranking c.loop-next.invariant.holds
+          c.requires.once a here);
+      admitted = λ i x le less at. ⊎_elim
+          (λ old. c.loop-next.invariant.admitted i x le old at)
+          (λ new.
+          let same : c.loop-next.next ≡ i = omega arith in
+          let one : a ≡ x = same_Some a x (sym here ∙ ap (slice_get c.args.queue.now) same ∙ at) in
+          let t = c.if-queue-next.true in
+          subst (λ (y : Arrival). y.at ≤ c.args.limit) one t)
+          (cases_lt i c.loop-next.next);
+    }
+
+pub returns-else-queue-next-clause-waiting : goal.returns-else-queue-next-clause-waiting
+returns-else-queue-next-clause-waiting c = λ a at.
+    subst (λ (y : Arrival). c.args.limit < y.at) (get_or_from_slice_get c.args.queue.now c.loop-next.next a _ at)
+    c.if-queue-next.false
+
+pub returns-after-loop-next-clause-waiting : goal.returns-after-loop-next-clause-waiting
+returns-after-loop-next-clause-waiting c = λ a at.
+    let within = slice_get_within c.args.queue.now c.loop-next.next a at in
+    absurd (let end = c.loop-next-test.false in omega arith)

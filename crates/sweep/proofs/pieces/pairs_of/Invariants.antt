@@ -1,0 +1,10 @@
+use Rattle.std.proofs.Common.{◌≡◌, ℕ, ◌<◌, length, Some}
+use Rattle.std.specs.List.{slice_get}
+use Rattle.sweep.proofs.pieces.pairs_of.Given as goal
+
+abbrev pub invariant-loop-k : goal.invariant-loop-k
+invariant-loop-k l = record {
+  as_many : length l.pairs.items ≡ l.k;
+  each : (k low high : ℕ) → k < l.k → slice_get l.lows k ≡ Some low → slice_get l.highs k ≡ Some high →
+      slice_get l.pairs.items k ≡ Some (low, high);
+}

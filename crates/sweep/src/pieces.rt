@@ -1,0 +1,58 @@
+//! The best samples of every piece.
+ghost use Rattle.std.specs.Prelude.{◌≡◌, ◌≤◌, length, All, IsNone, IfOk, IfSome, ◌↔◌};
+ghost use Rattle.sample_interval.specs.Sample.{IsLawfulSample};
+ghost use Rattle.span_cover.specs.Best.{HasNoSample};
+ghost use Rattle.sweep.specs.Pieces.{ArePieces, AreBestOfPieces, ArePairsOf};
+
+use crate::bound::{End, bounds_of};
+use crate::choice::top_numbers;
+use crate::span::spans_of;
+use sample_interval::kinds::Sample;
+use std::alloc::{AllocError, Global};
+
+/// The best samples of a server for each of the consecutive pieces that end at `ends`, the first of
+/// which begins at `first`: entry k is what `span_cover::best` gives for the piece from the end
+/// before `ends[k]` to `ends[k]`. None where the server has no sample. Its one error is that it is
+/// out of memory.
+///
+/// `first` and `ends` are Unix ticks, from 0 to below 2^64, and never fall. The rate is up to
+/// 500,000,000 parts in 10^9, and the samples are at most 1,000,000.
+pub fn best_of_pieces(
+    alloc: Global,
+    samples: &[Sample],
+    server: u8,
+    first: i128,
+    ends: &[i128],
+    drift_ppb: u32,
+) -> Result<Option<Vec<(u32, u32)>>, AllocError>
+    requires samples { All IsLawfulSample samples.now }
+    requires few { length samples.now ≤ 1_000_000 }
+    requires pieces { ArePieces first ends.now }
+    requires rate { drift_ppb ≤ 500_000_000 }
+    ensures none { IfOk result (λ found. IsNone found ↔ HasNoSample samples.now server) }
+    ensures best { IfOk result (λ found. IfSome found
+        (λ chosen. AreBestOfPieces samples.now server first ends.now drift_ppb chosen.items)) }
+{
+    let lows = bounds_of(alloc, samples, server, End::Low)?;
+    if lows.is_empty() {
+        return Ok(None);
+    }
+    let highs = bounds_of(alloc, samples, server, End::High)?;
+    let spans = spans_of(alloc, first, ends)?;
+    let low_numbers = top_numbers(alloc, lows.as_slice(), spans.as_slice(), drift_ppb)?;
+    let high_numbers = top_numbers(alloc, highs.as_slice(), spans.as_slice(), drift_ppb)?;
+    let chosen = pairs_of(alloc, low_numbers.as_slice(), high_numbers.as_slice())?;
+    Ok(Some(chosen))
+}
+
+// What stands at the same place of both.
+fn pairs_of(alloc: Global, lows: &[u32], highs: &[u32]) -> Result<Vec<(u32, u32)>, AllocError>
+    requires { length lows.now ≡ length highs.now }
+    ensures { IfOk result (λ pairs. ArePairsOf lows.now highs.now pairs.items) }
+{
+    let mut pairs = Vec::new(alloc);
+    for k in 0..lows.len() {
+        pairs.push((lows[k], highs[k]))?;
+    }
+    Ok(pairs)
+}
