@@ -1,0 +1,11 @@
+pub mod Kept
+pub mod ListLemmas
+pub mod BestLemmas
+pub mod PieceLemmas
+pub mod TableLemmas
+pub mod EntryLemmas
+pub mod FoundLemmas
+pub mod VerdictLemmas
+pub mod AnswerLemmas
+pub mod NarrowingLemmas
+pub mod RefusalLemmas

@@ -1,0 +1,131 @@
+-- Lists that loops make.
+use Rattle.std.proofs.Common.{◌≡◌, ℕ, zero, suc, ◌+◌, ◌<◌, ◌≤◌, Bool, true, false, List, [], ◌∷◌, ◌++◌, length, take, get_or, Option, Some, None, ⊎_elim, refl, sym, ap, ◌∙◌, add-one, subst, arith}
+use Rattle.std.specs.Prelude.{All, slice_get}
+use Rattle.std.specs.List.{filter_map, cons_option, find, range_with_len}
+use Rattle.std.proofs.lemmas.Bool.{cases_lt}
+use Rattle.std.proofs.lemmas.List.{append-nil, take_more}
+use Rattle.std.proofs.lemmas.List.Elements.{All-nil, All-cons, filter_map-append}
+use Rattle.std.proofs.lemmas.Option.{get_or_from_slice_get, slice_get_within}
+
+pub by_test : {P : Type 0} (b : Bool) → (b ≡ true → P) → (b ≡ false → P) → P
+by_test true f g = f refl
+by_test false f g = g refl
+
+-- what holds of all holds of the one at a place
+pub All-slice_get : {X : Type 0} (P : X → Type 0) (xs : List X) (k : ℕ) (x : X) → All P xs → slice_get xs k ≡ Some x
+    → P x
+All-slice_get P xs k x all is =
+    subst P (get_or_from_slice_get xs k x x is) (all k x (slice_get_within xs k x is))
+
+-- one more element of which h gives something
+pub filter_map_more : {X Y : Type 0} (h : X → Option Y) (xs : List X) (i : ℕ) (d : X) (y : Y) (old new : List Y)
+    → old ≡ filter_map h (take i xs) → i < length xs → h (get_or xs i d) ≡ Some y → new ≡ old ++ y ∷ []
+    → new ≡ filter_map h (take (i + 1) xs)
+filter_map_more h xs i d y old new so_far within gives pushed =
+    pushed ∙ ap (λ ys. ys ++ y ∷ []) so_far
+    ∙ ap (λ o. filter_map h (take i xs) ++ cons_option o []) (sym gives)
+    ∙ sym (filter_map-append h (take i xs) (get_or xs i d ∷ []))
+    ∙ ap (filter_map h) (sym (take_more xs i d within))
+
+-- ---- numbers from one on
+
+pub range_more : (a n j : ℕ) → a + n ≡ j → range_with_len a (n + 1) ≡ range_with_len a n ++ j ∷ []
+range_more a n j e = rw add-one (pushed a n j e)
+  where
+    pushed : (a n j : ℕ) → a + n ≡ j → range_with_len a (suc n) ≡ range_with_len a n ++ j ∷ []
+    pushed a zero j e = ap (λ (k : ℕ). k ∷ []) (let same : a ≡ j = omega (arith, e) in same)
+    pushed a (suc n) j e = ap (λ (ks : List ℕ). a ∷ ks) (pushed (a + 1) n j (omega (arith, e)))
+
+module _ {Y : Type 0} (h : ℕ → Option Y) (n : ℕ) where
+  pub one_more : filter_map h (range_with_len 0 (n + 1)) ≡ filter_map h (range_with_len 0 n) ++ cons_option (h n) []
+  one_more =
+      ap (filter_map h) (range_more 0 n n (omega arith)) ∙ filter_map-append h (range_with_len 0 n) (n ∷ [])
+
+  pub with_one : (y : Y) (old new : List Y) → old ≡ filter_map h (range_with_len 0 n) → h n ≡ Some y
+      → new ≡ old ++ y ∷ [] → new ≡ filter_map h (range_with_len 0 (n + 1))
+  with_one y old new so_far gives pushed =
+      pushed ∙ ap (λ ys. ys ++ y ∷ []) so_far
+      ∙ ap (λ o. filter_map h (range_with_len 0 n) ++ cons_option o []) (sym gives) ∙ sym one_more
+
+  pub without : (old : List Y) → old ≡ filter_map h (range_with_len 0 n) → h n ≡ None
+      → old ≡ filter_map h (range_with_len 0 (n + 1))
+  without old so_far gives =
+      so_far ∙ sym (append-nil (filter_map h (range_with_len 0 n)))
+      ∙ ap (λ o. filter_map h (range_with_len 0 n) ++ cons_option o []) (sym gives) ∙ sym one_more
+
+-- ---- the first that passes a test
+
+module _ (test : ℕ → Bool) where
+  pub find_none : (a n : ℕ) → ((k : ℕ) → a ≤ k → k < a + n → test k ≡ false)
+      → find test (range_with_len a n) ≡ None
+  find_none a zero fails = refl
+  find_none a (suc n) fails =
+      rw (fails a (omega arith) (omega arith))
+      (find_none (a + 1) n (λ k from to. fails k (omega arith) (omega arith)))
+
+  pub find_first : (a n k : ℕ) → a ≤ k → k < a + n → ((j : ℕ) → a ≤ j → j < k → test j ≡ false) → test k ≡ true
+      → find test (range_with_len a n) ≡ Some k
+  find_first a zero k from to fails passes = absurd (omega arith)
+  find_first a (suc n) k from to fails passes = ⊎_elim
+      (λ less. rw (fails a (omega arith) less)
+      (find_first (a + 1) n k (omega arith) (omega arith) (λ j from' to'. fails j (omega arith) to') passes))
+      (λ le.
+      let same : a ≡ k = omega arith in
+      let here : test a ≡ true = subst (λ (x : ℕ). test x ≡ true) (sym same) passes in
+      rw here (ap Some same))
+      (cases_lt a k)
+
+  -- what is found
+  pub record IsFirst (a n k : ℕ) : Type 0 where
+    pub from : a ≤ k
+    pub to : k < a + n
+    pub passes : test k ≡ true
+    pub others_fail : (j : ℕ) → a ≤ j → j < k → test j ≡ false
+
+  pub find_is_first : (a n k : ℕ) → find test (range_with_len a n) ≡ Some k → IsFirst a n k
+  find_is_first a zero k e = absurd cc
+  find_is_first a (suc n) k e = by_test (test a)
+      (λ here.
+      let same : a ≡ k = (let found : Some a ≡ Some k = sym (rw here refl) ∙ e in cc) in
+      record {
+        from = omega arith;
+        to = omega arith;
+        passes = subst (λ (x : ℕ). test x ≡ true) same here;
+        others_fail = λ j from to. absurd (omega arith);
+      })
+      (λ not_here.
+      let rest = find_is_first (a + 1) n k (rw not_here at e) in
+      let from = rest.from in
+      let to = rest.to in
+      record {
+        from = omega arith;
+        to = omega arith;
+        passes = rest.passes;
+        others_fail = λ j from' to'. ⊎_elim
+            (λ less. rest.others_fail j (omega arith) to')
+            (λ le. let same : a ≡ j = omega arith in subst (λ (x : ℕ). test x ≡ false) same not_here)
+            (cases_lt a j);
+      })
+
+  pub find_is_none : (a n : ℕ) → find test (range_with_len a n) ≡ None → (k : ℕ) → a ≤ k → k < a + n
+      → test k ≡ false
+  find_is_none a zero e k from to = absurd (omega arith)
+  find_is_none a (suc n) e k from to = by_test (test a)
+      (λ here. absurd (let found : Some a ≡ None = sym (rw here refl) ∙ e in cc))
+      (λ not_here. ⊎_elim
+      (λ less. find_is_none (a + 1) n (rw not_here at e) k (omega arith) (omega arith))
+      (λ le. let same : a ≡ k = omega arith in subst (λ (x : ℕ). test x ≡ false) same not_here)
+      (cases_lt a k))
+
+-- ---- what holds of whatever h gives
+
+one_given : {Y : Type 0} (P : Y → Type 0) (o : Option Y) (ys : List Y) → ((y : Y) → o ≡ Some y → P y) → All P ys
+    → All P (cons_option o ys)
+one_given P None ys holds all = all
+one_given P (Some y) ys holds all = All-cons P y ys (holds y refl) all
+
+pub All-filter_map : {X Y : Type 0} (h : X → Option Y) (P : Y → Type 0) → ((x : X) (y : Y) → h x ≡ Some y → P y)
+    → (xs : List X) → All P (filter_map h xs)
+All-filter_map h P holds [] = All-nil P
+All-filter_map h P holds (x ∷ xs) =
+    one_given P (h x) (filter_map h xs) (holds x) (All-filter_map h P holds xs)

@@ -1,0 +1,171 @@
+-- The pieces of a span.
+use Rattle.std.proofs.Common.{◌≡◌, ℕ, zero, suc, ◌+◌, ◌-◌, ◌*◌, ◌/◌, ◌%◌, ◌<◌, ◌≤◌, min, max, ◌^◌, ℤ, pos, ◌+ℤ◌, ◌-ℤ◌, ◌≤ℤ◌, ◌<ℤ◌, unsigned_abs, List, [], ◌∷◌, ◌++◌, sym, ap, ◌∙◌, ⊎_elim, arith, to_z, of_z, Fits, w64}
+use mir.Syntax.{w128}
+use Rattle.std.proofs.Math.Nat.{mul-le-mul_right}
+use Rattle.std.proofs.lemmas.Bool.{cases_lt}
+use Rattle.std.proofs.lemmas.Grind.{div_ceil_times}
+use Rattle.std.proofs.lemmas.Int.{ints, clamps}
+use Rattle.std.proofs.lemmas.List.FromFn.{map-range_with_len_more}
+use Rattle.std.proofs.lemmas.Nat.{div-mul-add}
+use Rattle.std.specs.Int.{div_ceil}
+use Rattle.std.specs.Int.Signed.{non_neg, yes_non_neg}
+use Rattle.std.proofs.Math.Dec.{T}
+use Rattle.claim_file.specs.Claim.{ClaimData, IsLawful}
+use Rattle.era_unfold.specs.Ratio.{IsCeiling, ceiling_of}
+use Rattle.era_unfold.specs.Window.{ticks_per_second}
+use Rattle.span_cover.specs.Piece.{IsPiece}
+use Rattle.span_cover.specs.Step.{piece_end_of}
+use Rattle.finder.proofs.Kept.{kept}
+use Rattle.finder.specs.Piece.{IsPieceCount, piece_count_of, piece_begin_of, ends_of, count_of}
+
+-- a quotient that is rounded up by its remainder
+pub div_ceil-ceiling_of : (n d : ℕ) → 0 < d → div_ceil n d ≡ ceiling_of n d
+unfolding ceiling_of
+div_ceil-ceiling_of n d h =
+    let bounds = div_ceil_times n d h in
+    let q : ℕ = n / d + min 1 (n % d) in
+    let rest : n + (d - 1) - q * d < d = omega (arith, bounds.0, bounds.1) in
+    let parts : n + (d - 1) ≡ q * d + (n + (d - 1) - q * d) = omega (arith, bounds.0, bounds.1) in
+    sym (ap (λ x. x / d) parts ∙ div-mul-add q d (n + (d - 1) - q * d) rest)
+
+-- ---- the ends
+
+module _ (first last : ℤ) (in_order : first ≤ℤ last) (step : ℕ) where
+  pub end_from_first : (k : ℕ) → first ≤ℤ piece_end_of first last step k
+  end_from_first k = omega (arith, ints, clamps)
+
+  pub end_to_last : (k : ℕ) → piece_end_of first last step k ≤ℤ last
+  end_to_last k = omega (arith, ints, clamps)
+
+  later : (a b : ℕ) → a ≤ b → (a * step * ticks_per_second) ≤ (b * step * ticks_per_second)
+  later a b le = mul-le-mul_right ticks_per_second (mul-le-mul_right step le)
+
+  pub end_no_earlier : (j k : ℕ) → j ≤ k → piece_end_of first last step j ≤ℤ piece_end_of first last step k
+  end_no_earlier j k le = let more = later (j + 1) (k + 1) (omega arith) in omega (arith, ints, clamps)
+
+  pub begin_from_first : (k : ℕ) → first ≤ℤ piece_begin_of first last step k
+  begin_from_first zero = omega (arith, ints)
+  begin_from_first (suc k) = end_from_first k
+
+  pub begin_before_end : (k : ℕ) → piece_begin_of first last step k ≤ℤ piece_end_of first last step k
+  begin_before_end zero = end_from_first 0
+  begin_before_end (suc k) = end_no_earlier k (suc k) (omega arith)
+
+  pub each_is_piece : pos 0 ≤ℤ first → last <ℤ pos (2 ^ 64) → (k : ℕ)
+      → IsPiece (piece_begin_of first last step k) (piece_end_of first last step k)
+  each_is_piece from_zero in_range k =
+      let begin = begin_from_first k in
+      let end = end_to_last k in
+      record {
+        from_zero = omega (arith, ints);
+        in_order = begin_before_end k;
+        in_range = omega (arith, ints);
+      }
+
+-- ---- the count
+
+-- the last end, where so many steps are no shorter than the span
+reaches : (first last : ℤ) (step n : ℕ) → 0 < n → last ≤ℤ (first +ℤ pos (n * step * ticks_per_second))
+    → piece_end_of first last step (n - 1) ≡ last
+reaches first last step n some far =
+    let same : n - 1 + 1 ≡ n = omega arith in
+    rw same (omega (arith, ints, clamps))
+
+earlier : (first last : ℤ) (step k : ℕ) → (first +ℤ pos ((k + 1) * step * ticks_per_second)) <ℤ last
+    → piece_end_of first last step k <ℤ last
+earlier first last step k near = omega (arith, ints, clamps)
+
+module _ (first last : ℤ) (step c : ℕ) (in_order : first ≤ℤ last)
+    (is : IsCeiling (unsigned_abs (last -ℤ first)) (step * ticks_per_second) c) where
+  far_enough : last ≤ℤ (first +ℤ pos (max 1 c * step * ticks_per_second))
+  far_enough =
+      let whole = is.not_below in
+      let more : c * (step * ticks_per_second) ≤ max 1 c * (step * ticks_per_second) =
+      mul-le-mul_right (step * ticks_per_second) (omega arith) in
+      omega (arith, ints)
+
+  not_yet : (k : ℕ) → k + 1 < max 1 c → (first +ℤ pos ((k + 1) * step * ticks_per_second)) <ℤ last
+  not_yet k before = ⊎_elim
+      (λ less. omega (arith, ints))
+      (λ no_less. absurd (let least = is.least (k + 1) (omega arith) in omega arith))
+      (cases_lt ((k + 1) * (step * ticks_per_second)) (unsigned_abs (last -ℤ first)))
+
+  count_is : IsPieceCount first last step (max 1 c)
+  count_is = record {
+    some = omega arith;
+    ends_with_span = reaches first last step (max 1 c) (omega arith) far_enough;
+    first_to_end = λ k before. earlier first last step k (not_yet k before);
+  }
+
+pub IsPieceCount-piece_count_of : ((n d : ℕ) → 0 < d → IsCeiling n d (ceiling_of n d)) → (first last : ℤ) (step : ℕ)
+    → first ≤ℤ last → 0 < step → IsPieceCount first last step (piece_count_of first last step)
+unfolding piece_count_of
+IsPieceCount-piece_count_of ceilings first last step in_order some =
+    count_is first last step _ in_order (ceilings _ (step * ticks_per_second) (omega arith))
+
+-- the count that the code computes
+pub count_from : (first last : ℤ) (step from length q count : ℕ) → 0 < step → from ≡ step
+    → length ≡ unsigned_abs (last -ℤ first) → q ≡ div_ceil length (from * ticks_per_second) → count ≡ max q 1
+    → count ≡ piece_count_of first last step
+unfolding piece_count_of
+count_from first last step from length q count some a b e f =
+    let whole : q ≡ ceiling_of (unsigned_abs (last -ℤ first)) (step * ticks_per_second) =
+    rw (← a, ← b) (e ∙ div_ceil-ceiling_of length (from * ticks_per_second) (omega arith)) in
+    let turned : max q 1 ≡ max 1 q = omega arith in
+    f ∙ turned ∙ ap (λ (n : ℕ). max 1 n) whole
+
+-- ---- a list of the ends
+
+module _ (first last : ℤ) (step n : ℕ) where
+  pub ends_more : (ends items : List ℤ) (end kept : ℤ) → ends ≡ ends_of first last step n
+      → end ≡ piece_end_of first last step n → kept ≡ end → items ≡ ends ++ kept ∷ []
+      → items ≡ ends_of first last step (n + 1)
+  ends_more ends items end kept a b same e =
+      e ∙ ap (λ (z : ℤ). ends ++ z ∷ []) (same ∙ b)
+      ∙ ap (λ (zs : List ℤ). zs ++ piece_end_of first last step n ∷ []) a
+      ∙ sym (map-range_with_len_more (piece_end_of first last step) 0 n n (omega arith))
+
+-- ---- the pieces of a claim's span
+
+module _ (claim : ClaimData) (lawful : IsLawful claim) (step k : ℕ) where
+  pub piece_of_claim : IsPiece (piece_begin_of claim.first claim.last step k)
+      (piece_end_of claim.first claim.last step k)
+  piece_of_claim = each_is_piece claim.first claim.last lawful.span_forward step lawful.span_begins lawful.span_ends k
+
+  -- an end that the code computes
+  pub end_kept : (end : ℤ)
+      → end ≡ piece_end_of (to_z w128 (of_z w128 claim.first)) (to_z w128 (of_z w128 claim.last)) step k
+      → to_z w128 (of_z w128 end) ≡ piece_end_of claim.first claim.last step k
+  end_kept end is =
+      let begins = lawful.span_begins in
+      let forward = lawful.span_forward in
+      let ends = lawful.span_ends in
+      let first = kept claim.first (omega (arith, ints)) in
+      let last = kept claim.last (omega (arith, ints)) in
+      let e = rw (first, last) at is in
+      let from_first = end_from_first claim.first claim.last forward step k in
+      let to_last = end_to_last claim.first claim.last forward step k in
+      ap (λ (z : ℤ). to_z w128 (of_z w128 z)) e
+      ∙ kept (piece_end_of claim.first claim.last step k) (omega (arith, ints))
+
+  -- it is a number of Unix ticks
+  pub end_fits : (end : ℤ) → end ≡ piece_end_of claim.first claim.last step k
+      → T (non_neg end) × Fits w64 (unsigned_abs end)
+  end_fits end is =
+      let piece = piece_of_claim in
+      let from_zero = piece.from_zero in
+      let in_order = piece.in_order in
+      let in_range = piece.in_range in
+      let from : pos 0 ≤ℤ end = rw is (omega (arith, ints)) in
+      let to : end <ℤ pos (2 ^ 64) = rw is in_range in
+      (yes_non_neg from, record { fits = omega (arith, ints) })
+
+-- the count of pieces that the code computes
+pub count_kept : (claim : ClaimData) → IsLawful claim → (step count : ℕ)
+    → count ≡ piece_count_of (to_z w128 (of_z w128 claim.first)) (to_z w128 (of_z w128 claim.last)) step
+    → count ≡ count_of claim step
+count_kept claim lawful step count is =
+    let begins = lawful.span_begins in
+    let forward = lawful.span_forward in
+    let ends = lawful.span_ends in
+    rw (kept claim.first (omega (arith, ints)), kept claim.last (omega (arith, ints))) at is

@@ -1,0 +1,88 @@
+use Rattle.std.proofs.Common.{◌≡◌, ◌≢◌, ◌<◌, ◌≤◌, inr, ◌∙◌, sym, ap, length, Ok}
+use Rattle.certificate.specs.Certificate.{max_pieces}
+use Rattle.claim_file.specs.Claim.{data_of as claim_data}
+use Rattle.intersection.specs.declared.kinds.Hull.TheVariants.{Empty}
+use Rattle.checker.specs.Traceability.{IsContradicted}
+use Rattle.checker.specs.Verdict.{verdict_of}
+use Rattle.checker.specs.declared.verdict.Verdict.TheVariants.{Yes}
+use Rattle.finder.specs.Found.{IsFirstFailing}
+use Rattle.finder.specs.Piece.{count_of, stretch_at}
+use Rattle.finder.specs.Refusal.{NoneIsAcceptedOver}
+use Rattle.finder.proofs.AnswerLemmas.{IsWhole, found_of_many, found_of_few, whole, whole_few, whole_accepted, if_certificate, if_nothing, failing}
+use Rattle.finder.proofs.PieceLemmas.{count_kept}
+use Rattle.finder.proofs.RefusalLemmas.{Laws, none_accepted, contradicted}
+use Rattle.finder.proofs.found.find.Goals as goal
+
+pub returns-then-count-gt-MAX_PIECES-clause-exact : goal.returns-then-count-gt-MAX_PIECES-clause-exact
+returns-then-count-gt-MAX_PIECES-clause-exact c =
+    let claim = claim_data c.args.claim.now in
+    let count = count_kept claim c.requires.claim c.args.step_s c.piece_count-count.result
+    c.piece_count-count.ensures in
+    let many : max_pieces < count_of claim c.args.step_s = rw count at c.if-count-gt-MAX_PIECES.true in
+    inr (found_of_many c.args.samples.now claim c.args.step_s many)
+
+pub returns-clause-exact : goal.returns-clause-exact
+returns-clause-exact c =
+    let claim = claim_data c.args.claim.now in
+    let count = count_kept claim c.requires.claim c.args.step_s c.piece_count-count.result
+    c.piece_count-count.ensures in
+    let few : count_of claim c.args.step_s ≤ max_pieces = rw count at c.if-count-gt-MAX_PIECES.false in
+    found_of_few c.args.samples.now claim c.args.step_s few ∙ ap Ok (sym c.in_ok-found.ensures)
+
+pub returns-clause-accepted : goal.returns-clause-accepted
+returns-clause-accepted c =
+    let claim = claim_data c.args.claim.now in
+    let samples = c.args.samples.now in
+    let step = c.args.step_s in
+    let lawful = c.requires.claim in
+    let count = c.last_piece_ends_with_the_span.ensures claim.first claim.last step lawful.span_forward
+    c.requires.some_step in
+    if_certificate samples claim step (IsWhole samples claim step) (λ found. verdict_of samples claim found ≡ Yes)
+    c.in_ok-found.found (whole_accepted samples claim step lawful count)
+    (whole samples claim step c.in_ok-found.found c.in_ok-found.ensures)
+
+pub returns-clause-few : goal.returns-clause-few
+returns-clause-few c =
+    let claim = claim_data c.args.claim.now in
+    let samples = c.args.samples.now in
+    let step = c.args.step_s in
+    let count = count_kept claim c.requires.claim step c.piece_count-count.result c.piece_count-count.ensures in
+    let few : count_of claim step ≤ max_pieces = rw count at c.if-count-gt-MAX_PIECES.false in
+    if_certificate samples claim step (IsWhole samples claim step) (λ found. length found.pieces ≤ max_pieces)
+    c.in_ok-found.found (whole_few samples claim step few)
+    (whole samples claim step c.in_ok-found.found c.in_ok-found.ensures)
+
+pub returns-clause-failing : goal.returns-clause-failing
+returns-clause-failing c =
+    failing c.args.samples.now (claim_data c.args.claim.now) c.args.step_s c.in_ok-found.found c.in_ok-found.ensures
+
+pub returns-clause-none_accepted : goal.returns-clause-none_accepted
+returns-clause-none_accepted c =
+    let laws : Laws = record {
+      low = c.piece_inside_another_is_narrower.ensures.low;
+      high = c.piece_inside_another_is_narrower.ensures.high;
+      hull = c.every_list_has_a_hull.ensures;
+    } in
+    let claim = claim_data c.args.claim.now in
+    let samples = c.args.samples.now in
+    let step = c.args.step_s in
+    if_nothing samples claim step (IsFirstFailing samples claim step)
+    (λ k hull. hull ≢ Empty → NoneIsAcceptedOver samples claim (stretch_at claim step k)) c.in_ok-found.found
+    (none_accepted laws samples claim step c.requires.claim c.requires.samples c.requires.listed)
+    (returns-clause-failing c)
+
+pub returns-clause-contradiction : goal.returns-clause-contradiction
+returns-clause-contradiction c =
+    let laws : Laws = record {
+      low = c.piece_inside_another_is_narrower.ensures.low;
+      high = c.piece_inside_another_is_narrower.ensures.high;
+      hull = c.every_list_has_a_hull.ensures;
+    } in
+    let claim = claim_data c.args.claim.now in
+    let samples = c.args.samples.now in
+    let step = c.args.step_s in
+    if_nothing samples claim step (IsFirstFailing samples claim step)
+    (λ k hull. hull ≡ Empty → IsContradicted claim samples (stretch_at claim step k)) c.in_ok-found.found
+    (contradicted laws samples claim step c.requires.claim c.requires.samples c.requires.listed
+    c.verdicts_are_traceable.ensures.contradiction)
+    (returns-clause-failing c)

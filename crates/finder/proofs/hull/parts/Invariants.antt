@@ -1,0 +1,10 @@
+use Rattle.std.proofs.Common.{◌≡◌, ◌≤◌, length, take}
+use Rattle.claim_file.specs.Claim.{data_of}
+use Rattle.finder.specs.Entry.{parts_named}
+use Rattle.finder.proofs.hull.parts.Given as goal
+
+abbrev pub invariant-loop-entry : goal.invariant-loop-entry
+invariant-loop-entry l = record {
+  so_far : l.parts.items ≡ parts_named l.samples (data_of l.claim) l.stretch (take l.entry-index l.entries.items);
+  fits : length l.parts.items ≤ l.entry-index;
+}

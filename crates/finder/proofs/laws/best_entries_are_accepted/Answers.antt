@@ -1,0 +1,8 @@
+use Rattle.finder.proofs.VerdictLemmas.{entries_accepted, entries_fault}
+use Rattle.finder.proofs.laws.best_entries_are_accepted.Goals as goal
+
+pub returns-clause-parts : goal.returns-clause-parts
+returns-clause-parts c = entries_accepted
+
+pub returns-clause-hull : goal.returns-clause-hull
+returns-clause-hull c = entries_fault

@@ -1,0 +1,77 @@
+use Rattle.std.proofs.Common.{ℕ, length, ap, ◌∙◌, arith, rules, ◌≡◌, [], ◌∷◌, ◌++◌}
+use Rattle.std.specs.Prelude.{slice_get}
+use Rattle.std.specs.List.{filter_map, range_with_len}
+use Rattle.std.proofs.lemmas.Grind.{common_steps}
+use Rattle.std.proofs.lemmas.Int.{ints}
+use Rattle.std.proofs.lemmas.List.Elements.{All-push}
+use Rattle.claim_file.specs.Claim.{data_of}
+use Rattle.finder.specs.Entry.{best_over}
+use Rattle.finder.specs.Piece.{stretch_at}
+use Rattle.finder.proofs.BestLemmas.{best_of-none}
+use Rattle.finder.proofs.Kept.{kept}
+use Rattle.finder.proofs.ListLemmas.{without}
+use Rattle.finder.proofs.TableLemmas.{are_pieces_of, best_are, as_many, table_more}
+use Rattle.finder.proofs.table.tables.Goals as goal
+use Rattle.finder.proofs.table.tables.Goals.{in-Some+in_ok-push, in_default}
+
+pub best_of_pieces-requires-clause-pieces : goal.best_of_pieces-requires-clause-pieces
+best_of_pieces-requires-clause-pieces c =
+    let claim = c.requires.claim in
+    let begins = claim.span_begins in
+    let forward = claim.span_forward in
+    let ends = claim.span_ends in
+    let first = kept c.args.claim.now.first (omega (arith, ints)) in
+    let last = kept c.args.claim.now.last (omega (arith, ints)) in
+    are_pieces_of c.args.claim.now.first c.args.claim.now.last c.args.step_s c.args.count _ _ _ c.in_ok-ends.ends.items
+    _ first last first c.as_slice.ensures.value c.in_ok-ends.ensures begins forward ends
+
+pub loop-server-preserved : goal.loop-server-preserved
+loop-server-preserved c =
+    let claim = c.args.claim.now in
+    let server = c.loop-server.server in
+    let lawful = c.requires.claim in
+    let begins = lawful.span_begins in
+    let forward = lawful.span_forward in
+    let ends = lawful.span_ends in
+    let first = kept claim.first (omega (arith, ints)) in
+    let last = kept claim.last (omega (arith, ints)) in
+    let over : ℕ → ℕ → _ = λ (k : ℕ).
+    best_over c.args.samples.now (data_of claim) (stretch_at (data_of claim) c.args.step_s k) in
+    elim c.match-table.branch [
+      | in-Some+in_ok-push w ↦
+          let chosen = w.in-Some.table.items in
+          let are = rw w.in-Some.is at c.in_ok-table.ensures.best in
+          let long = as_many claim.first claim.last c.args.step_s c.args.count _ _ _ c.in_ok-ends.ends.items _
+          first last first c.as_slice.ensures.value c.in_ok-ends.ensures c.args.samples.now server claim.drift_ppb
+          chosen are in
+          let best = best_are claim.first claim.last c.args.step_s c.args.count _ _ _ c.in_ok-ends.ends.items _
+          first last first c.as_slice.ensures.value c.in_ok-ends.ensures c.args.samples.now server claim.drift_ppb
+          chosen are in
+          let old = c.loop-server.tables.items in
+          let pushed : w.push.new.self.items ≡ old ++ w.in-Some.table ∷ [] = search rules in
+          record {
+            few = grind (arith, common_steps);
+            long = rw (w.tables-is, pushed)
+                (All-push (λ t. length t.items ≡ c.args.count) old w.in-Some.table c.loop-server.invariant.long long);
+            best = λ k below. rw (w.tables-is, pushed)
+                (table_more (λ t. slice_get t.items k) (over k) server old w.in-Some.table
+                (c.loop-server.invariant.best k below) (best k below));
+          }
+      | in_default w ↦
+          let none = c.in_ok-table.ensures.none.0 (search (w.in_default.is)) in
+          record {
+            few = grind (arith, common_steps);
+            long = rw w.tables-is c.loop-server.invariant.long;
+            best = λ k below. rw w.tables-is (without (over k) server _ (c.loop-server.invariant.best k below)
+                (best_of-none c.args.samples.now server _ _ claim.drift_ppb none));
+          }
+    ]
+
+pub returns-clause-best : goal.returns-clause-best
+returns-clause-best c k below =
+    let claim = data_of c.args.claim.now in
+    let over = best_over c.args.samples.now claim (stretch_at claim c.args.step_s k) in
+    let some = c.loop-server-test.false in
+    let all : c.loop-server.server ≡ length claim.servers = grind (arith, common_steps) in
+    c.loop-server.invariant.best k below
+    ∙ ap (λ (n : ℕ). filter_map over (range_with_len 0 n)) all

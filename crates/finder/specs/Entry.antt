@@ -1,0 +1,53 @@
+-- The entries of a piece, and the hull that they give.
+--
+-- Each server that has a sample has one entry, in the order of the servers: the samples that make
+-- its interval over the piece narrowest. The hull is taken over the groups of servers, as in a
+-- verdict.
+use Rattle.std.specs.Prelude.{ℕ, ℤ, neg_ℤ, int_le, ◌&&◌, Bool, false, List, length, slice_get, Option, Some, None}
+use Rattle.std.specs.List.{filter_map}
+use Rattle.claim_file.specs.Claim.{ClaimData}
+use Rattle.claim_file.specs.Group.{servers_of}
+use Rattle.intersection.specs.declared.kinds.Hull.{Hull}
+use Rattle.intersection.specs.declared.kinds.Hull.TheVariants.{Unbounded, Empty, Bounded}
+use Rattle.sample_interval.specs.declared.kinds.Sample.{Sample}
+use Rattle.span_cover.specs.Best.{best_of}
+use Rattle.checker.specs.Piece.{piece_hull}
+use Rattle.checker.specs.Verdict.{part_of}
+use Rattle.checker.specs.declared.part.Part.{Part}
+use Rattle.checker.specs.declared.stretch.Stretch.{Stretch}
+
+-- the best samples of a server over a stretch, where it has a sample
+abbrev pub best_over : List Sample → ClaimData → Stretch → ℕ → Option (ℕ × ℕ)
+best_over samples claim stretch server =
+    best_of samples server stretch.begin stretch.end claim.drift_ppb
+
+-- the entries of a piece
+abbrev pub best_entries : List Sample → ClaimData → Stretch → List (ℕ × ℕ)
+best_entries samples claim stretch =
+    filter_map (best_over samples claim stretch) (servers_of (length claim.servers))
+
+-- what an entry says that names these two samples
+abbrev pub part_between : Stretch → ℕ → Option Sample → Option Sample → Option Part
+part_between stretch ppb None high = None
+part_between stretch ppb (Some low) None = None
+part_between stretch ppb (Some low) (Some high) = Some (part_of low high stretch ppb)
+
+abbrev pub part_named : List Sample → ClaimData → Stretch → ℕ × ℕ → Option Part
+part_named samples claim stretch entry =
+    part_between stretch claim.drift_ppb (slice_get samples entry.0) (slice_get samples entry.1)
+
+-- what entries say, in their order
+abbrev pub parts_named : List Sample → ClaimData → Stretch → List (ℕ × ℕ) → List Part
+parts_named samples claim stretch entries = filter_map (part_named samples claim stretch) entries
+
+-- the hull of a piece
+unfoldable pub best_hull : List Sample → ClaimData → Stretch → Hull
+best_hull samples claim stretch =
+    piece_hull claim.groups claim.false_max
+    (parts_named samples claim stretch (best_entries samples claim stretch))
+
+-- a hull lies inside a bound to either side
+abbrev pub is_inside : ℤ → Hull → Bool
+is_inside bound Unbounded = false
+is_inside bound Empty = false
+is_inside bound (Bounded lo hi) = int_le (neg_ℤ bound) lo && int_le hi bound

@@ -1,0 +1,5 @@
+pub mod Fault
+pub mod Piece
+pub mod Entry
+pub mod Found
+pub mod Refusal

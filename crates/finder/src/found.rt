@@ -1,0 +1,143 @@
+//! What is found.
+
+ghost use Rattle.std.specs.Prelude.{◌≡◌, ◌≢◌, ℕ, ◌⊎◌, ◌↔◌, ◌<◌, ◌≤◌, Ok, Err, IfOk, MatchResult, length, All, slice_get};
+ghost use Rattle.std.specs.List.{filter_map};
+ghost use Rattle.certificate.specs.Certificate.{max_pieces};
+ghost use Rattle.claim_file.specs.Claim.{IsLawful, data_of as claim_data};
+ghost use Rattle.sample_interval.specs.Sample.{IsLawfulSample};
+ghost use Rattle.checker.specs.Traceability.{IsContradicted};
+ghost use Rattle.checker.specs.Verdict.{verdict_of};
+ghost use Rattle.finder.specs.Entry.{best_entries};
+ghost use Rattle.finder.specs.Found.{data_of, found_of, found_without, first_failing};
+ghost use Rattle.finder.specs.Found.{IfCertificate, IfNothing, IsFirstFailing};
+ghost use Rattle.finder.specs.Piece.{count_of, stretch_at};
+ghost use Rattle.finder.specs.Refusal.{NoneIsAcceptedOver};
+
+use crate::entry::entries_at;
+use crate::fault::FindFault;
+use crate::hull::{hull_of, is_inside};
+use crate::laws::last_piece_ends_with_the_span;
+use crate::piece::piece_count;
+use crate::table::tables;
+use certificate::{Certificate, Piece};
+use checker::laws::verdicts_are_traceable;
+use checker::{Stretch, Verdict};
+use claim_file::Claim;
+use intersection::kinds::Hull;
+use intersection::laws::every_list_has_a_hull;
+use sample_interval::kinds::Sample;
+use span_cover::laws::piece_inside_another_is_narrower;
+use span_cover::piece_end;
+use std::alloc::{AllocError, Global};
+
+/// The most pieces of a certificate.
+const MAX_PIECES: u64 = 100_000;
+
+/// A certificate, or why there is none.
+#[derive(Debug, Drop)]
+pub enum Found {
+    /// A certificate that the checker accepts.
+    Certificate(Certificate),
+    /// The best samples of a piece don't show that the error is within the bound there.
+    Nothing {
+        /// The number of the first such piece, from 0.
+        piece: u32,
+        /// Its hull, in ticks, over the groups of servers.
+        hull: Hull,
+    },
+}
+
+/// Looks for a certificate of a claim, in pieces of `step_s` seconds, from 1 to 86,400.
+///
+/// The samples are those of all exchanges, in their order, at most 1,000,000. Each piece has one
+/// entry for each server that has a sample, in the order of the servers: the samples that make its
+/// interval there narrowest, of several that agree the first.
+pub fn find(
+    alloc: Global,
+    samples: &[Sample],
+    claim: &Claim,
+    step_s: u32,
+) -> Result<Found, FindFault>
+    requires claim { IsLawful (claim_data claim.now) }
+    requires samples { All IsLawfulSample samples.now }
+    requires few { length samples.now ≤ 1_000_000 }
+    requires listed { All (λ sample. sample.server < length claim.now.servers.items) samples.now }
+    requires some_step { 1 ≤ step_s }
+    requires at_most_a_day { step_s ≤ 86_400 }
+    ensures exact { MatchResult result
+        (λ found. found_of samples.now (claim_data claim.now) step_s ≡ Ok (data_of found))
+        (λ fault. (fault ≡ FindFault.Memory)
+        ⊎ (found_of samples.now (claim_data claim.now) step_s ≡ Err fault)) }
+
+    // The pieces are counted before any memory is taken, so that this fault is never told as
+    // another.
+    ensures too_many { (result ≡ Err FindFault.TooManyPieces)
+        ↔ (max_pieces < count_of (claim_data claim.now) step_s) }
+
+    ensures accepted { IfOk result (λ found. IfCertificate found (λ certificate.
+        verdict_of samples.now (claim_data claim.now) certificate ≡ Verdict.Yes)) }
+    ensures few { IfOk result (λ found. IfCertificate found (λ certificate.
+        length certificate.pieces ≤ max_pieces)) }
+
+    ensures failing { IfOk result (λ found. IfNothing found
+        (IsFirstFailing samples.now (claim_data claim.now) step_s)) }
+
+    // No other certificate is accepted that has a piece over the whole of the one that fails; and
+    // where the samples contradict each other there, no course of events has a reading in it.
+    ensures none_accepted { IfOk result (λ found. IfNothing found (λ piece hull.
+        hull ≢ Hull.Empty → NoneIsAcceptedOver samples.now (claim_data claim.now)
+        (stretch_at (claim_data claim.now) step_s piece))) }
+    ensures contradiction { IfOk result (λ found. IfNothing found (λ piece hull.
+        hull ≡ Hull.Empty → IsContradicted (claim_data claim.now) samples.now
+        (stretch_at (claim_data claim.now) step_s piece))) }
+{
+    last_piece_ends_with_the_span();
+    piece_inside_another_is_narrower();
+    every_list_has_a_hull();
+    verdicts_are_traceable();
+    let count = piece_count(claim.first, claim.last, step_s);
+    if count > MAX_PIECES {
+        return Err(FindFault::TooManyPieces);
+    }
+    let found = find_pieces(alloc, samples, claim, step_s, count as u32)?;
+    Ok(found)
+}
+
+// The pieces up to the first that fails.
+fn find_pieces(
+    alloc: Global,
+    samples: &[Sample],
+    claim: &Claim,
+    step_s: u32,
+    count: u32,
+) -> Result<Found, AllocError>
+    requires claim { IsLawful (claim_data claim.now) }
+    requires samples { All IsLawfulSample samples.now }
+    requires few { length samples.now ≤ 1_000_000 }
+    requires listed { All (λ sample. sample.server < length claim.now.servers.items) samples.now }
+    requires count { count ≡ count_of (claim_data claim.now) step_s }
+    ensures { IfOk result (λ found. data_of found
+        ≡ found_without samples.now (claim_data claim.now) step_s
+        (first_failing samples.now (claim_data claim.now) step_s)) }
+{
+    let tables = tables(alloc, samples, claim, step_s, count)?;
+    let mut pieces = Vec::with_capacity(alloc, count as usize)?;
+    let mut begin = claim.first;
+    for number in 0..count {
+        let end = piece_end(claim.first, claim.last, step_s, number);
+        let entries = entries_at(tables.as_slice(), number as usize);
+        let hull = hull_of(samples, claim, Stretch { begin, end }, &entries);
+        if !is_inside(claim.bound, hull) {
+            return Ok(Found::Nothing {
+                piece: number,
+                hull,
+            });
+        }
+        pieces.push(Piece {
+            upto: end as u64,
+            entries,
+        })?;
+        begin = end;
+    }
+    Ok(Found::Certificate(Certificate { pieces }))
+}

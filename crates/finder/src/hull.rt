@@ -1,0 +1,73 @@
+//! The hull of a piece.
+
+ghost use Rattle.std.specs.Prelude.{◌≡◌, ◌≤◌, ◌<◌, pos, ◌≤ℤ◌, length, All};
+ghost use Rattle.claim_file.specs.Claim.{IsLawful, data_of};
+ghost use Rattle.sample_interval.specs.Sample.{IsLawfulSample};
+ghost use Rattle.span_cover.specs.Piece.{IsPiece};
+ghost use Rattle.checker.specs.Piece.{piece_hull};
+ghost use Rattle.finder.specs.Entry.{parts_named, is_inside};
+
+use arrayvec::ArrayVec;
+use checker::{Part, Stretch, piece_hull};
+use claim_file::Claim;
+use intersection::kinds::Hull;
+use sample_interval::kinds::Sample;
+use span_cover::piece_interval;
+
+/// What the entries of a piece say, in their order.
+fn parts(
+    samples: &[Sample],
+    claim: &Claim,
+    stretch: Stretch,
+    entries: &ArrayVec<(u32, u32), 32>,
+) -> ArrayVec<Part, 32>
+    requires claim { IsLawful (data_of claim.now) }
+    requires samples { All IsLawfulSample samples.now }
+    requires stretch { IsPiece stretch.begin stretch.end }
+    requires low { All (λ entry. entry.0 < length samples.now) entries.now.items }
+    requires high { All (λ entry. entry.1 < length samples.now) entries.now.items }
+    ensures { result.items ≡
+        parts_named samples.now (data_of claim.now) stretch entries.now.items }
+{
+    let mut parts: ArrayVec<Part, 32> = ArrayVec::new();
+    for entry in entries.as_slice() {
+        let low = &samples[entry.0 as usize];
+        let high = &samples[entry.1 as usize];
+        parts.push(Part {
+            server: low.server,
+            interval: piece_interval(low, high, stretch.begin, stretch.end, claim.drift_ppb),
+        });
+    }
+    parts
+}
+
+/// The hull over the groups of servers that have an entry.
+pub(crate) fn hull_of(
+    samples: &[Sample],
+    claim: &Claim,
+    stretch: Stretch,
+    entries: &ArrayVec<(u32, u32), 32>,
+) -> Hull
+    requires claim { IsLawful (data_of claim.now) }
+    requires samples { All IsLawfulSample samples.now }
+    requires listed { All (λ sample. sample.server < length claim.now.servers.items) samples.now }
+    requires stretch { IsPiece stretch.begin stretch.end }
+    requires low { All (λ entry. entry.0 < length samples.now) entries.now.items }
+    requires high { All (λ entry. entry.1 < length samples.now) entries.now.items }
+    ensures { result ≡ piece_hull claim.now.groups.items claim.now.false_max
+        (parts_named samples.now (data_of claim.now) stretch entries.now.items) }
+{
+    let parts = parts(samples, claim, stretch, entries);
+    piece_hull(parts.as_slice(), claim.groups.as_slice(), claim.false_max)
+}
+
+/// Whether the hull shows that the error is no more than the bound to either side.
+pub(crate) fn is_inside(bound: i128, hull: Hull) -> bool
+    requires { pos 0 ≤ℤ bound }
+    ensures { result ≡ is_inside bound hull }
+{
+    match hull {
+        Hull::Bounded { lo, hi } => -bound <= lo && hi <= bound,
+        Hull::Unbounded | Hull::Empty => false,
+    }
+}

@@ -1,0 +1,51 @@
+//! The best samples of each server.
+
+ghost use Rattle.std.specs.Prelude.{◌≡◌, ℕ, ◌≤◌, ◌<◌, length, All, IfOk, slice_get};
+ghost use Rattle.std.specs.List.{filter_map};
+ghost use Rattle.claim_file.specs.Claim.{IsLawful, data_of};
+ghost use Rattle.sample_interval.specs.Sample.{IsLawfulSample};
+ghost use Rattle.finder.specs.Entry.{best_entries};
+ghost use Rattle.finder.specs.Piece.{stretch_at};
+
+use crate::piece::piece_ends;
+use claim_file::Claim;
+use sample_interval::kinds::Sample;
+use std::alloc::{AllocError, Global};
+use sweep::best_of_pieces;
+
+/// For each server that has a sample, in the order of the servers, its best samples in each of the
+/// first `count` pieces.
+pub(crate) fn tables(
+    alloc: Global,
+    samples: &[Sample],
+    claim: &Claim,
+    step_s: u32,
+    count: u32,
+) -> Result<Vec<Vec<(u32, u32)>>, AllocError>
+    requires claim { IsLawful (data_of claim.now) }
+    requires samples { All IsLawfulSample samples.now }
+    requires few { length samples.now ≤ 1_000_000 }
+    ensures few { IfOk result (λ tables. length tables.items ≤ length claim.now.servers.items) }
+    ensures long { IfOk result (λ tables.
+        All (λ table. length table.items ≡ count) tables.items) }
+    ensures best { IfOk result (λ tables. (k : ℕ) → k < count →
+        filter_map (λ table. slice_get table.items k) tables.items
+        ≡ best_entries samples.now (data_of claim.now) (stretch_at (data_of claim.now) step_s k)) }
+{
+    let ends = piece_ends(alloc, claim.first, claim.last, step_s, count)?;
+    let mut tables = Vec::new(alloc);
+    for server in 0..claim.servers.len() {
+        let table = best_of_pieces(
+            alloc,
+            samples,
+            server as u8,
+            claim.first,
+            ends.as_slice(),
+            claim.drift_ppb,
+        )?;
+        if let Some(table) = table {
+            tables.push(table)?;
+        }
+    }
+    Ok(tables)
+}
