@@ -8,14 +8,15 @@ use Rattle.certificate.specs.declared.fault.CertificateFault.{CertificateFault}
 use Rattle.certificate.specs.declared.fault.CertificateFault.TheVariants as certificates
 use Rattle.report.specs.declared.fault.Input.TheVariants as inputs
 use Rattle.report.specs.declared.fault.RunFault.{RunFault}
-use Rattle.report.specs.declared.fault.RunFault.TheVariants.{Capture, Claim, Certificate, Exchanges, TooBig, Device, Write, Memory}
+use Rattle.report.specs.declared.fault.RunFault.TheVariants.{Capture, Claim, Certificate, Exchanges, Pieces, TooBig, Device, Write, Memory}
 
--- each fault's number. The numbers between are kept for inputs that other commands read.
+-- each fault's number. 4 is kept for an input that another command will read.
 abbrev pub number_of : RunFault → ℕ
 number_of (Capture fault) = 1
 number_of (Claim fault) = 2
 number_of (Certificate fault) = 3
 number_of Exchanges = 5
+number_of Pieces = 6
 number_of (TooBig input) = 7
 number_of (Device input) = 8
 number_of (Write sent) = 9

@@ -97,6 +97,7 @@ fault_text (faults.Capture fault) = capture_text fault
 fault_text (faults.Claim fault) = claim_text fault
 fault_text (faults.Certificate fault) = certificate_text fault
 fault_text faults.Exchanges = codes "ntpaudit: exchanges over 1000000"
+fault_text faults.Pieces = codes "ntpaudit: pieces over 100000"
 fault_text (faults.TooBig input) = codes "ntpaudit: too-big " ++ input_word input
 fault_text (faults.Device input) = codes "ntpaudit: device " ++ input_word input
 fault_text (faults.Write sent) = codes "ntpaudit: device output after " ++ decimal sent

@@ -18,6 +18,7 @@ pub fn status(answer: &Result<Outcome, RunFault>) -> u8
             | RunFault::Claim(_)
             | RunFault::Certificate(_)
             | RunFault::Exchanges
+            | RunFault::Pieces
             | RunFault::TooBig(_),
         ) => 2,
         Err(RunFault::Memory) => 3,

@@ -45,6 +45,9 @@ pub enum RunFault {
     /// The capture has over 1,000,000 exchanges.
     #[error("over 1000000 exchanges")]
     Exchanges,
+    /// The claimed span has over 100,000 pieces of the length that is asked for.
+    #[error("over 100000 pieces")]
+    Pieces,
     /// An input is longer than its limit.
     #[error("an input is too big")]
     TooBig(Input),
@@ -61,7 +64,8 @@ pub enum RunFault {
 
 impl RunFault {
     /// The fault's number, from 1 to 10: 1 a capture, 2 a claim, 3 a certificate, 5 too many
-    /// exchanges, 7 to 10 the last four. The others are kept for inputs that other commands read.
+    /// exchanges, 6 too many pieces, 7 to 10 the last four. 4 is kept for an input that another
+    /// command will read.
     pub fn number(&self) -> u8
         ensures { result ≡ number_of self.now }
     {
@@ -70,6 +74,7 @@ impl RunFault {
             RunFault::Claim(_) => 2,
             RunFault::Certificate(_) => 3,
             RunFault::Exchanges => 5,
+            RunFault::Pieces => 6,
             RunFault::TooBig(_) => 7,
             RunFault::Device(_) => 8,
             RunFault::Write(_) => 9,

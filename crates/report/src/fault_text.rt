@@ -135,6 +135,7 @@ pub fn fault_line(alloc: Global, fault: &RunFault) -> Result<String, AllocError>
         RunFault::Claim(fault) => claim_line(alloc, fault),
         RunFault::Certificate(fault) => certificate_line(alloc, fault),
         RunFault::Exchanges => String::from_str(alloc, "ntpaudit: exchanges over 1000000"),
+        RunFault::Pieces => String::from_str(alloc, "ntpaudit: pieces over 100000"),
         RunFault::TooBig(input) => {
             let word = input_word(input);
             format!(in alloc; "ntpaudit: too-big {word}")
