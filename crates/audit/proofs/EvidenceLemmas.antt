@@ -1,23 +1,24 @@
 -- What is read of a claim and of a capture is what their bytes give.
-use Rattle.std.proofs.Common.{◌≡◌, ◌∙◌, ◌≤◌, ◌<◌, ◌⊎◌, ℕ, List, length, Option, Some, None, Result, Ok, Err, refl, sym, ap, subst, inl, inr}
+use Rattle.std.proofs.Common.{◌≡◌, ◌∙◌, ◌≤◌, ◌<◌, ◌++◌, ◌⊎◌, ℕ, List, length, Option, Some, None, Result, Ok, Err, refl, sym, ap, subst, inl, inr, arith, length-append}
+use Rattle.std.proofs.KnownBytes.{Consumes-trans}
 use Rattle.std.proofs.lemmas.Bool.{lt-ltb, le-ltb}
-use Rattle.std.specs.Prelude.{IfSome, MatchResult}
+use Rattle.std.specs.Prelude.{IfSome}
+use Rattle.byte_stream.specs.Intake.{TakesAtMost}
 use Rattle.pcap_reader.specs.declared.fault.CaptureFault.{CaptureFault}
 use Rattle.pcap_reader.specs.declared.fault.CaptureFault.TheVariants as captures
 use Rattle.pcap_reader.specs.Remaining.{Coming, capture_of}
 use Rattle.pcap_reader.specs.Refusal.{IsRefusal}
-use Rattle.pcap_reader.specs.Source.{AllRemains}
+use Rattle.pcap_reader.specs.Source.{AllRemains, Supply, TakesFrom}
 use Rattle.claim_file.specs.declared.claim.Claim.{Claim}
 use Rattle.claim_file.specs.declared.fault.ClaimFault.{ClaimFault}
 use Rattle.claim_file.specs.declared.fault.ClaimFault.TheVariants as claims
 use Rattle.claim_file.specs.Claim.{ClaimData, data_of}
-use Rattle.claim_file.specs.Fault.{Answers}
 use Rattle.claim_file.specs.Reading.{claim_of}
 use Rattle.pairing.specs.declared.collected.Collected.{Collected}
 use Rattle.pairing.specs.declared.fault.PairFault.{PairFault}
 use Rattle.pairing.specs.declared.fault.PairFault.TheVariants as pairs
-use Rattle.pairing.specs.Answer.{answer_of, IsAnswerTo, IsFromOutside as is_pair_from_outside}
-use Rattle.pairing.specs.Pairing.{Collection, data_of as collection_data}
+use Rattle.pairing.specs.Answer.{IsAnswerTo, IsFromOutside as is_pair_from_outside}
+use Rattle.pairing.specs.Pairing.{data_of as collection_data}
 use Rattle.report.specs.declared.fault.Input.TheVariants as inputs
 use Rattle.report.specs.declared.fault.RunFault.{RunFault}
 use Rattle.report.specs.declared.fault.RunFault.TheVariants as faults
@@ -72,6 +73,14 @@ pub claim_refused : (known : Option (List ℕ)) (read : List ℕ) (fault : Claim
 claim_refused None read fault whole exact = tt
 claim_refused (Some bytes) read fault (same, short) exact =
     refused bytes fault short (subst (λ (b : List ℕ). (fault ≡ claims.Memory) ⊎ (claim_of b ≡ Err fault)) same exact)
+
+-- what is taken as a capture is begun and then read is no more than may be taken of a capture
+pub taken_in_all : (a b c : Supply) → TakesFrom a b → TakesFrom b c → TakesAtMost a.most a.unread c.unread
+taken_in_all a b c begun read = (
+  begun.taken ++ read.taken,
+  Consumes-trans a.unread b.unread c.unread begun.taken read.taken begun.consumed read.consumed,
+  omega (arith, length-append begun.taken read.taken, begun.at_most, read.at_most),
+)
 
 module _ (claim : ClaimData) where
   of_capture : (bytes : List ℕ) (c : Result Coming CaptureFault) → capture_of bytes ≡ c →

@@ -4,3 +4,7 @@ pub mod CheckText
 pub mod CertificateLemmas
 pub mod CheckSamples
 pub mod CheckLemmas
+pub mod AuditLemmas
+pub mod SampleLemmas
+pub mod MomentLemmas
+pub mod FindLemmas

@@ -1,7 +1,9 @@
 -- What `check` writes and answers for the bytes of its three inputs: the first refusal in the order
 -- claim, certificate, capture, or the text with the verdict.
-use Rattle.std.specs.Prelude.{◌≡◌, ℕ, List, [], length, nat_lt, Option, Some, None, Result, Ok, Err, if◌then◌else◌}
+use Rattle.std.specs.Prelude.{◌≡◌, ℕ, List, length, nat_lt, Option, Some, None, Result, Ok, Err, if◌then◌else◌, ◌+◌, IfErr}
 use Rattle.byte_stream.specs.Fault.{CountsFault}
+use Rattle.byte_stream.specs.Intake.{TakesAtMost}
+use Rattle.pcap_reader.specs.Limit.{most_taken}
 use Rattle.certificate.specs.declared.fault.CertificateFault.{CertificateFault}
 use Rattle.certificate.specs.Certificate.{CertificateData}
 use Rattle.certificate.specs.Reading.{certificate_of}
@@ -19,9 +21,10 @@ use Rattle.report.specs.declared.fault.Outcome.TheVariants as outcomes
 use Rattle.report.specs.declared.fault.RunFault.{RunFault}
 use Rattle.report.specs.declared.fault.RunFault.TheVariants.{Claim, Certificate, TooBig, Device, Memory}
 use Rattle.report.specs.Output.{SinkState}
-use Rattle.report.specs.Reports.{Report, Devices, whole_text, is_device}
+use Rattle.report.specs.Reports.{Report, Reports, Devices, whole_text, is_device}
+use Rattle.audit.specs.Audit.{FeedState, IsUnwrittenAt, refused}
 use Rattle.audit.specs.CheckReport.{check_text}
-use Rattle.audit.specs.Evidence.{claim_read, capture_read}
+use Rattle.audit.specs.Evidence.{IsOnlyOfClaim, claim_read, capture_read, max_claim}
 
 -- the greatest length of a certificate's text, in bytes
 abbrev pub max_certificate : ℕ
@@ -56,10 +59,6 @@ checked claim certificate collection =
     (check_text claim collection (length certificate.pieces)
     (verdict_on claim certificate collection))
     (outcome_of (verdict_on claim certificate collection))
-
--- the report where an input is refused: no text
-abbrev pub refused : RunFault → Report
-refused fault = record { lines = []; closing = []; answer = Err fault }
 
 -- what the capture gives after the other two
 abbrev pub after_certificate : ClaimData → CertificateData → Result Collection RunFault → Report
@@ -130,3 +129,36 @@ pub record IsTracedTo (claim_bytes capture_bytes : List ℕ) : Type 0 where
   pub collection_is : capture_read claim capture_bytes ≡ Ok collection
   pub within : (course : Course) → Fits claim collection.exchanges course
       → IsObservedIn course claim.first claim.last → IsWithin course claim.bound
+
+-- the inputs and the output of a check at one moment
+pub record CheckState : Type 0 where
+  pub claim : FeedState
+  pub certificate : FeedState
+  pub capture : FeedState
+  pub sink : SinkState
+
+abbrev pub check_state : FeedState → FeedState → FeedState → SinkState → CheckState
+check_state claim certificate capture sink =
+    record { claim = claim; certificate = certificate; capture = capture; sink = sink }
+
+-- What a check promises beside what a yes says: its text and answer, and each device's failures
+-- (`reports`); that nothing is written where it is given up (`unwritten`); that the feeds of later
+-- inputs are as they were after an earlier refusal; and that no more than the limits is taken of
+-- each input.
+pub record Checks {F K : Type 0} (before after : CheckState) (capture capture' : F)
+    (certificate certificate' : K) (answer : Result Outcome RunFault) : Type 0 where
+  pub reports : Reports
+      (check_report before.claim.remaining before.certificate.remaining before.capture.remaining)
+      (check_devices before.claim.faults before.certificate.faults before.capture.faults
+      before.sink)
+      (check_devices after.claim.faults after.certificate.faults after.capture.faults after.sink)
+      answer
+  pub unwritten : IfErr answer (λ fault.
+      IsUnwrittenAt fault before.sink.contents after.sink.contents)
+  pub capture_untouched : IfErr answer (λ fault. IsBeforeCapture fault → capture' ≡ capture)
+  pub certificate_untouched : IfErr answer (λ fault.
+      IsOnlyOfClaim fault → certificate' ≡ certificate)
+  pub claim_at_most : TakesAtMost (max_claim + 1) before.claim.remaining after.claim.remaining
+  pub certificate_at_most : TakesAtMost (max_certificate + 1)
+      before.certificate.remaining after.certificate.remaining
+  pub capture_at_most : TakesAtMost most_taken before.capture.remaining after.capture.remaining

@@ -1,7 +1,13 @@
 pub mod Evidence
 pub mod EvidenceData
+pub mod Audit
 pub mod SampleLine
 pub mod CountsLine
 pub mod CheckReport
 pub mod Check
 pub mod Samples
+pub mod IntervalLine
+pub mod HullLine
+pub mod Moment
+pub mod At
+pub mod Find

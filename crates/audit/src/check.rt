@@ -12,23 +12,23 @@ ghost use Rattle.sample_interval.specs.Sample.{IsLawfulSample};
 ghost use Rattle.checker.specs.Traceability.{samples_of, IsTraceable};
 ghost use Rattle.report.specs.Input.{read_failed};
 ghost use Rattle.report.specs.Publication.{IsMadeFor, IsUnwritten, answer_of};
-ghost use Rattle.report.specs.Reports.{Reports};
 ghost use Rattle.report.specs.State.{sink_state};
 ghost use Rattle.audit.specs.Check as spec;
-ghost use Rattle.audit.specs.Check.{IsTracedTo, IsOfCertificate, IsBeforeCapture, CountsInputs, check_devices, check_report, checked, count_of};
-ghost use Rattle.audit.specs.Evidence.{Reads, IsOnlyOfClaim};
+ghost use Rattle.audit.specs.Check.{IsTracedTo, IsOfCertificate, IsBeforeCapture, Checks, CountsInputs, check_report, check_state, checked, count_of};
+ghost use Rattle.audit.specs.Audit.{feed_state};
+ghost use Rattle.audit.specs.Evidence.{Reads, IsOnlyOfClaim, max_claim};
 
 use crate::check_report::check_text;
 use crate::evidence::{read_capture_from, read_claim_from};
+use crate::sample_list::samples_of;
 use byte_stream::{Feed, Sink};
 use certificate::{Certificate, read_certificate};
 use checker::{Verdict, check};
 use claim_file::Claim;
-use pairing::{Collected, Exchange};
+use pairing::Collected;
 use report::{Input, Made, Outcome, RunFault, publish, read_input};
-use sample_interval::kinds::Sample;
-use sample_interval::sample;
 use std::alloc::{AllocError, Global};
+use std::hash::{BuildHasher, BuildHasherDefault, FoldHasher};
 
 /// The greatest length of a certificate, in bytes.
 const MAX_CERTIFICATE: u64 = 134_217_728;
@@ -52,27 +52,6 @@ fn read_certificate_from<K: Feed>(alloc: Global, feed: &mut K) -> Result<Certifi
         },
         Err(fault) => Err(fault),
     }
-}
-
-/// The samples of exchanges, in their order, with the claimed allowance.
-fn make_samples(
-    alloc: Global,
-    claim: &Claim,
-    exchanges: &[Exchange],
-) -> Result<Vec<Sample>, AllocError>
-    requires lawful { IsLawful (data_of claim.now) }
-    requires exchanges { All (IsLawfulExchange (length claim.now.servers.items)) exchanges.now }
-    ensures exact { IfOk result (λ samples.
-        samples.items ≡ samples_of exchanges.now (data_of claim.now)) }
-    ensures lawful { IfOk result (λ samples. All IsLawfulSample samples.items) }
-    ensures listed { IfOk result (λ samples.
-        All (λ s. s.server < length claim.now.servers.items) samples.items) }
-{
-    let mut samples = Vec::with_capacity(alloc, exchanges.len())?;
-    for exchange in exchanges {
-        samples.push(sample(exchange, claim.reading))?;
-    }
-    Ok(samples)
 }
 
 /// The outcome of a verdict.
@@ -102,7 +81,7 @@ fn make_check(
     ensures traceable { IfOk result (λ made. made.outcome ≡ Outcome.Yes → IsTraceable
         (data_of claim.now) (samples_of collected.now.exchanges.items (data_of claim.now))) }
 {
-    let samples = make_samples(alloc, claim, &collected.exchanges)?;
+    let samples = samples_of(alloc, claim, &collected.exchanges)?;
     let verdict = check(samples.as_slice(), claim, certificate);
     let text = check_text(
         alloc,
@@ -119,11 +98,12 @@ fn make_check(
 
 /// Reads the claim, the certificate and the capture, in that order, and makes the whole text. The
 /// capture's feed is handed back beside it.
-fn check_inputs<C: Feed, F: Feed, K: Feed>(
+fn check_inputs<C: Feed, F: Feed, K: Feed, H: BuildHasher + Drop>(
     alloc: Global,
     claim: &mut C,
     capture: F,
     certificate: &mut K,
+    hasher: H,
 ) -> (F, Result<Made, RunFault>)
     requires claim_room { C.fault_count claim.old < 2 ^ 64 - 1 }
     requires capture_room { F.fault_count capture < 2 ^ 64 - 1 }
@@ -142,6 +122,11 @@ fn check_inputs<C: Feed, F: Feed, K: Feed>(
         IsBeforeCapture fault → result.0 ≡ capture) }
     ensures certificate_untouched { IfErr result.1 (λ fault.
         IsOnlyOfClaim fault → certificate.new ≡ certificate.old) }
+    ensures claim_at_most { TakesAtMost (max_claim + 1)
+        (C.remaining claim.old) (C.remaining claim.new) }
+    ensures certificate_at_most { TakesAtMost (MAX_CERTIFICATE + 1)
+        (K.remaining certificate.old) (K.remaining certificate.new) }
+    ensures capture_at_most { TakesAtMost most_taken (F.remaining capture) (F.remaining result.0) }
 {
     let claim = match read_claim_from(alloc, claim) {
         Ok(claim) => claim,
@@ -151,7 +136,7 @@ fn check_inputs<C: Feed, F: Feed, K: Feed>(
         Ok(certificate) => certificate,
         Err(fault) => return (capture, Err(fault)),
     };
-    let (capture, collected) = read_capture_from(alloc, capture, &claim);
+    let (capture, collected) = read_capture_from(alloc, capture, &claim, hasher);
     match collected {
         Ok(collected) => match make_check(alloc, &claim, &certificate, &collected) {
             Ok(made) => (capture, Ok(made)),
@@ -167,7 +152,44 @@ fn check_inputs<C: Feed, F: Feed, K: Feed>(
 ///
 /// The claim is read first, then the certificate, then the capture; what stands later isn't read
 /// after a refusal. Nothing is written before all of it is made. `Device` comes where a feed
-/// failed, and `Write(n)` where the sink failed after exactly n bytes of the text.
+/// failed, and `Write(n)` where the sink failed after exactly n bytes of the text. The index of
+/// requests hashes by `hasher`: who doesn't trust the capture's writer passes one with a random
+/// key.
+pub fn run_check_with<C: Feed, F: Feed, K: Feed, S: Sink, H: BuildHasher + Drop>(
+    alloc: Global,
+    claim: &mut C,
+    capture: F,
+    certificate: &mut K,
+    out: &mut S,
+    hasher: H,
+) -> (F, Result<Outcome, RunFault>)
+    requires claim_room { C.fault_count claim.old < 2 ^ 64 - 1 }
+    requires capture_room { F.fault_count capture < 2 ^ 64 - 1 }
+    requires certificate_room { K.fault_count certificate.old < 2 ^ 64 - 1 }
+    requires is_open { IsTrue (S.is_open out.old) }
+    requires sink_room { S.fault_count out.old < 2 ^ 64 - 1 }
+    ensures checks { Checks
+        (check_state (feed_state C.remaining C.fault_count claim.old)
+        (feed_state K.remaining K.fault_count certificate.old)
+        (feed_state F.remaining F.fault_count capture)
+        (sink_state S.contents S.is_open S.fault_count out.old))
+        (check_state (feed_state C.remaining C.fault_count claim.new)
+        (feed_state K.remaining K.fault_count certificate.new)
+        (feed_state F.remaining F.fault_count result.0)
+        (sink_state S.contents S.is_open S.fault_count out.new))
+        capture result.0 certificate.old certificate.new result.1 }
+
+    // At a yes the error is within the bound in every course of events that fits the capture.
+    ensures traceable { result.1 ≡ Ok Outcome.Yes →
+        IfSome (C.remaining claim.old) (λ c. IfSome (F.remaining capture) (IsTracedTo c)) }
+{
+    let (capture, made) = check_inputs(alloc, claim, capture, certificate, hasher);
+    let answer = publish(out, &made);
+    (capture, answer)
+}
+
+/// Settles a claim by a capture and a certificate, as `run_check_with` does, with std's hasher of a
+/// fixed key.
 pub fn run_check<C: Feed, F: Feed, K: Feed, S: Sink>(
     alloc: Global,
     claim: &mut C,
@@ -180,22 +202,21 @@ pub fn run_check<C: Feed, F: Feed, K: Feed, S: Sink>(
     requires certificate_room { K.fault_count certificate.old < 2 ^ 64 - 1 }
     requires is_open { IsTrue (S.is_open out.old) }
     requires sink_room { S.fault_count out.old < 2 ^ 64 - 1 }
-    ensures reports { Reports
-        (check_report (C.remaining claim.old) (K.remaining certificate.old) (F.remaining capture))
-        (check_devices (C.fault_count claim.old) (K.fault_count certificate.old)
-        (F.fault_count capture) (sink_state S.contents S.is_open S.fault_count out.old))
-        (check_devices (C.fault_count claim.new) (K.fault_count certificate.new)
-        (F.fault_count result.0) (sink_state S.contents S.is_open S.fault_count out.new)) result.1 }
+    ensures checks { Checks
+        (check_state (feed_state C.remaining C.fault_count claim.old)
+        (feed_state K.remaining K.fault_count certificate.old)
+        (feed_state F.remaining F.fault_count capture)
+        (sink_state S.contents S.is_open S.fault_count out.old))
+        (check_state (feed_state C.remaining C.fault_count claim.new)
+        (feed_state K.remaining K.fault_count certificate.new)
+        (feed_state F.remaining F.fault_count result.0)
+        (sink_state S.contents S.is_open S.fault_count out.new))
+        capture result.0 certificate.old certificate.new result.1 }
 
     // At a yes the error is within the bound in every course of events that fits the capture.
     ensures traceable { result.1 ≡ Ok Outcome.Yes →
         IfSome (C.remaining claim.old) (λ c. IfSome (F.remaining capture) (IsTracedTo c)) }
-    ensures capture_untouched { IfErr result.1 (λ fault.
-        IsBeforeCapture fault → result.0 ≡ capture) }
-    ensures certificate_untouched { IfErr result.1 (λ fault.
-        IsOnlyOfClaim fault → certificate.new ≡ certificate.old) }
 {
-    let (capture, made) = check_inputs(alloc, claim, capture, certificate);
-    let answer = publish(out, &made);
-    (capture, answer)
+    let hasher = BuildHasherDefault::<FoldHasher>::new();
+    run_check_with(alloc, claim, capture, certificate, out, hasher)
 }

@@ -10,7 +10,7 @@ ghost use Rattle.pairing.specs.Pairing.{data_of as collection_data};
 ghost use Rattle.audit.specs.CheckReport as spec;
 ghost use Rattle.audit.specs.CheckReport.{groups_field, source_count, why_word};
 
-use crate::counts_line::write_counts_line;
+use crate::counts_line::add_counts;
 use checker::{Verdict, Why};
 use claim_file::Claim;
 use line_writer::Line;
@@ -258,12 +258,7 @@ pub(crate) fn check_text(
     let mut text = Vec::new(alloc);
     let mut line = Line::new();
     add_claim(&mut text, &mut line, claim)?;
-    write_counts_line(
-        &mut line,
-        &collected.counts,
-        collected.exchanges.len() as u32,
-    );
-    text.extend_from_slice(line.as_bytes())?;
+    add_counts(&mut text, &mut line, collected)?;
     add_advice(&mut text, &mut line, claim, &collected.exchanges)?;
     add_verdict(&mut text, &mut line, pieces, verdict)?;
     Ok(text)

@@ -1,12 +1,14 @@
 //! The line of counts.
 
-ghost use Rattle.std.specs.Prelude.{◌≡◌, ◌+◌, ◌≤◌, ◌++◌, length};
+ghost use Rattle.std.specs.Prelude.{◌≡◌, ◌+◌, ◌≤◌, ◌++◌, IfOk, length};
 ghost use Rattle.line_writer.specs.declared.line.TheConstants.{CAPACITY};
+ghost use Rattle.pairing.specs.Exchange.{most_exchanges};
 ghost use Rattle.audit.specs.CountsLine as spec;
 ghost use Rattle.audit.specs.CountsLine.{named_number, packet_counts, header_counts, pairing_counts};
 
 use line_writer::Line;
-use pairing::Counts;
+use pairing::{Collected, Counts};
+use std::alloc::AllocError;
 
 /// A number after its name, of at most 12 bytes.
 #[tactic(auto, unfolding(crate::specs::CountsLine::named_number))]
@@ -62,11 +64,25 @@ fn put_pairing(line: &mut Line, counts: &Counts)
 
 /// Writes the line of counts in place of what `line` held.
 #[tactic(auto, unfolding(crate::specs::CountsLine::counts_line))]
-pub(crate) fn write_counts_line(line: &mut Line, counts: &Counts, samples: u32)
+fn write_counts_line(line: &mut Line, counts: &Counts, samples: u32)
     ensures { line.new ≡ spec.counts_line counts.now samples }
 {
     line.clear();
     put_pairing(line, counts);
     put_headers(line, counts);
     put_packets(line, counts, samples);
+}
+
+/// Adds the line of counts.
+pub(crate) fn add_counts(
+    text: &mut Vec<u8>,
+    line: &mut Line,
+    collected: &Collected,
+) -> Result<(), AllocError>
+    requires { length collected.now.exchanges.items ≤ most_exchanges }
+    ensures { IfOk result (λ _. text.new.items ≡ text.old.items ++
+        spec.counts_line collected.now.counts (length collected.now.exchanges.items)) }
+{
+    write_counts_line(line, &collected.counts, collected.exchanges.len() as u32);
+    text.extend_from_slice(line.as_bytes())
 }

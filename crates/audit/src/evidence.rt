@@ -15,10 +15,11 @@ ghost use Rattle.audit.specs.EvidenceData.{IsLawfulEvidence, evidence_data};
 
 use byte_stream::Feed;
 use claim_file::{Claim, read_claim};
-use pairing::{Collected, PairFault, collect};
+use pairing::{Collected, PairFault, collect_with};
 use pcap_reader::Capture;
 use report::{Input, RunFault, read_input};
 use std::alloc::Global;
+use std::hash::{BuildHasher, BuildHasherDefault, FoldHasher};
 
 /// The greatest length of a claim, in bytes.
 const MAX_CLAIM: u64 = 65536;
@@ -63,11 +64,13 @@ fn run_fault_of(fault: PairFault) -> RunFault
     }
 }
 
-/// Collects the exchanges of a capture. The feed is handed back beside them.
-pub(crate) fn read_capture_from<F: Feed>(
+/// Collects the exchanges of a capture, with an index of requests that hashes by `hasher`. The feed
+/// is handed back beside them.
+pub(crate) fn read_capture_from<F: Feed, H: BuildHasher + Drop>(
     alloc: Global,
     feed: F,
     claim: &Claim,
+    hasher: H,
 ) -> (F, Result<Collected, RunFault>)
     requires claim { IsLawful (data_of claim.now) }
     requires room { F.fault_count feed < 2 ^ 64 - 1 }
@@ -82,7 +85,7 @@ pub(crate) fn read_capture_from<F: Feed>(
 {
     match Capture::begin(alloc, feed) {
         Ok(mut source) => {
-            let collected = collect(alloc, &mut source, claim);
+            let collected = collect_with(alloc, &mut source, claim, hasher);
             let feed = source.into_feed();
             match collected {
                 Ok(collected) => (feed, Ok(collected)),
@@ -95,6 +98,43 @@ pub(crate) fn read_capture_from<F: Feed>(
 
 /// Reads a claim, and then the capture that is held against it, whose feed is handed back beside
 /// them. After a refusal of the claim nothing is taken of the capture.
+///
+/// The index of requests hashes by `hasher`: who doesn't trust the capture's writer passes one with
+/// a random key.
+pub fn read_evidence_with<C: Feed, F: Feed, H: BuildHasher + Drop>(
+    alloc: Global,
+    claim: &mut C,
+    capture: F,
+    hasher: H,
+) -> (F, Result<Evidence, RunFault>)
+    requires claim_room { C.fault_count claim.old < 2 ^ 64 - 1 }
+    requires capture_room { F.fault_count capture < 2 ^ 64 - 1 }
+    ensures known { IfSome (spec.evidence_read (C.remaining claim.old) (F.remaining capture))
+        (λ expected. Reads evidence_data expected result.1) }
+    ensures lawful { IfOk result.1 IsLawfulEvidence }
+    ensures fault { IfErr result.1 IsOfInputs }
+    ensures claim_faults { CountsFault (is_device Input.Claim (failure_of result.1))
+        (C.fault_count claim.old) (C.fault_count claim.new) }
+    ensures capture_faults { CountsFault (is_device Input.Capture (failure_of result.1))
+        (F.fault_count capture) (F.fault_count result.0) }
+    ensures untouched { IfErr result.1 (λ fault. IsOnlyOfClaim fault → result.0 ≡ capture) }
+    ensures claim_at_most { TakesAtMost (MAX_CLAIM + 1)
+        (C.remaining claim.old) (C.remaining claim.new) }
+    ensures capture_at_most { TakesAtMost most_taken (F.remaining capture) (F.remaining result.0) }
+{
+    match read_claim_from(alloc, claim) {
+        Ok(claim) => {
+            let (capture, collected) = read_capture_from(alloc, capture, &claim, hasher);
+            match collected {
+                Ok(collected) => (capture, Ok(Evidence { claim, collected })),
+                Err(fault) => (capture, Err(fault)),
+            }
+        }
+        Err(fault) => (capture, Err(fault)),
+    }
+}
+
+/// Reads a claim and a capture, as `read_evidence_with` does, with std's hasher of a fixed key.
 pub fn read_evidence<C: Feed, F: Feed>(
     alloc: Global,
     claim: &mut C,
@@ -115,14 +155,6 @@ pub fn read_evidence<C: Feed, F: Feed>(
         (C.remaining claim.old) (C.remaining claim.new) }
     ensures capture_at_most { TakesAtMost most_taken (F.remaining capture) (F.remaining result.0) }
 {
-    match read_claim_from(alloc, claim) {
-        Ok(claim) => {
-            let (capture, collected) = read_capture_from(alloc, capture, &claim);
-            match collected {
-                Ok(collected) => (capture, Ok(Evidence { claim, collected })),
-                Err(fault) => (capture, Err(fault)),
-            }
-        }
-        Err(fault) => (capture, Err(fault)),
-    }
+    let hasher = BuildHasherDefault::<FoldHasher>::new();
+    read_evidence_with(alloc, claim, capture, hasher)
 }

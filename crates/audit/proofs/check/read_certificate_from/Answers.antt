@@ -1,4 +1,4 @@
-use Rattle.std.proofs.Common.{◌≡◌, Err, List, ℕ, sym, subst}
+use Rattle.std.proofs.Common.{Err, List, ℕ, sym, subst}
 use Rattle.std.specs.Prelude.{IfSome}
 use Rattle.certificate.specs.Certificate.{data_of}
 use Rattle.report.specs.declared.fault.RunFault.{RunFault}

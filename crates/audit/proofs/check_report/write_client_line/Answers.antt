@@ -1,4 +1,4 @@
-use Rattle.std.proofs.Common.{rules, ◌≡◌, ◌∙◌, ◌++◌, ap, append_assoc, length}
+use Rattle.std.proofs.Common.{rules, ◌≡◌, ◌∙◌, ap, append_assoc, length}
 use Rattle.claim_file.specs.Claim.{group_count}
 use Rattle.audit.specs.CheckReport.{client_line}
 use Rattle.audit.proofs.check_report.write_client_line.Goals as goal

@@ -1,13 +1,12 @@
-use Rattle.std.proofs.Common.{◌≡◌, Err, List, ℕ, Option, sym, subst}
+use Rattle.std.proofs.Common.{Err, List, ℕ, Option, sym, subst}
 use Rattle.std.specs.Prelude.{IfSome}
 use Rattle.byte_stream.specs.Intake.{TakesAtMost}
 use Rattle.pcap_reader.specs.Limit.{most_taken}
-use Rattle.pcap_reader.proofs.Step.{TakesFrom-trans, TakesFrom-at_most}
 use Rattle.claim_file.specs.Claim.{data_of}
 use Rattle.pairing.specs.Pairing.{data_of as collection_data}
 use Rattle.report.specs.declared.fault.RunFault.{RunFault}
 use Rattle.audit.specs.Evidence.{Reads, capture_read}
-use Rattle.audit.proofs.EvidenceLemmas.{capture_is_read, capture_unread, capture_refused}
+use Rattle.audit.proofs.EvidenceLemmas.{capture_is_read, capture_unread, capture_refused, taken_in_all}
 use Rattle.audit.proofs.evidence.read_capture_from.Goals as goal
 
 pub returns-in-Ok-collected-clause-known : goal.returns-in-Ok-collected-clause-known
@@ -17,10 +16,9 @@ returns-in-Ok-collected-clause-known g c =
 
 pub returns-in-Ok-collected-clause-at_most : goal.returns-in-Ok-collected-clause-at_most
 returns-in-Ok-collected-clause-at_most g c =
-    let both = TakesFrom-trans _ _ _ c.in-Ok.ensures.takes c.collect-collected.ensures.leaves.takes in
     let before = g.F.Feed.remaining c.args.feed in
     subst (λ (after : Option (List ℕ)). TakesAtMost most_taken before after) (sym c.into_feed-feed.ensures.known)
-    (TakesFrom-at_most _ _ both)
+    (taken_in_all _ _ _ c.in-Ok.ensures.takes c.collect_with-collected.ensures.leaves.takes)
 
 pub returns-in-Err-collected-clause-known : goal.returns-in-Err-collected-clause-known
 returns-in-Err-collected-clause-known g c =
@@ -32,10 +30,9 @@ returns-in-Err-collected-clause-known g c =
 
 pub returns-in-Err-collected-clause-at_most : goal.returns-in-Err-collected-clause-at_most
 returns-in-Err-collected-clause-at_most g c =
-    let both = TakesFrom-trans _ _ _ c.in-Ok.ensures.takes c.collect-collected.ensures.leaves.takes in
     let before = g.F.Feed.remaining c.args.feed in
     subst (λ (after : Option (List ℕ)). TakesAtMost most_taken before after) (sym c.into_feed-feed.ensures.known)
-    (TakesFrom-at_most _ _ both)
+    (taken_in_all _ _ _ c.in-Ok.ensures.takes c.collect_with-collected.ensures.leaves.takes)
 
 pub returns-in-Err-clause-known : goal.returns-in-Err-clause-known
 returns-in-Err-clause-known g c =

@@ -1,4 +1,4 @@
-use Rattle.std.proofs.Common.{◌≡◌, ◌++◌, append_assoc}
+use Rattle.std.proofs.Common.{append_assoc}
 use Rattle.audit.specs.SampleLine.{origin_fields}
 use Rattle.audit.proofs.sample_line.put_origin.Goals as goal
 

@@ -1,7 +1,7 @@
-use Rattle.std.proofs.Common.{◌≡◌, ◌∙◌, ◌++◌, ◌^◌, ◌<◌, ℕ, ℤ, List, [], Option, Some, get_or, ap, subst, sym, arith, to_z, of_z, unsigned_abs}
+use Rattle.std.proofs.Common.{◌≡◌, ◌∙◌, ◌++◌, ◌^◌, ◌<◌, ℕ, ℤ, List, [], Option, Some, get_or, ap, subst, sym, arith, unsigned_abs}
 use Rattle.std.proofs.lemmas.Int.{ints, to_z-of_z, fits_signed_from_abs}
 use Rattle.std.proofs.lemmas.Option.{slice_get-get_or}
-use Rattle.std.specs.Prelude.{slice_get, unwrap_or}
+use Rattle.std.specs.Prelude.{unwrap_or}
 use mir.Syntax.{w128}
 use Rattle.claim_file.specs.Claim.{data_of}
 use Rattle.audit.specs.SampleLine.{server_of, error_fields, delay_fields, offset_fields}

@@ -1,4 +1,4 @@
-use Rattle.std.proofs.Common.{◌≡◌, ◌^◌, ◌<◌, ◌++◌, List, ◌∷◌, [], sym, subst, arith, to_z, of_z, unsigned_abs}
+use Rattle.std.proofs.Common.{◌≡◌, ◌^◌, ◌<◌, ◌++◌, List, ◌∷◌, [], sym, subst, arith, unsigned_abs}
 use Rattle.std.proofs.lemmas.Int.{ints, to_z-of_z, fits_signed_from_abs}
 use Rattle.std.proofs.lemmas.List.Elements.{All-push}
 use Rattle.std.specs.Prelude.{All}
@@ -7,7 +7,7 @@ use Rattle.claim_file.specs.Claim.{data_of}
 use Rattle.sample_interval.specs.declared.kinds.Sample.{Sample}
 use Rattle.sample_interval.specs.Sample.{IsLawfulSample}
 use Rattle.audit.proofs.CheckSamples.{sample_more, sample_listed}
-use Rattle.audit.proofs.check.make_samples.Goals as goal
+use Rattle.audit.proofs.sample_list.samples_of.Goals as goal
 
 pub loop-exchange-preserved : goal.loop-exchange-preserved
 loop-exchange-preserved c =

@@ -3,7 +3,7 @@ use Rattle.std.specs.Prelude.{All}
 use Rattle.claim_file.specs.Claim.{data_of}
 use Rattle.checker.specs.Traceability.{samples_of}
 use Rattle.sample_interval.specs.Sample.{IsLawfulSample}
-use Rattle.audit.proofs.check.make_samples.Given as goal
+use Rattle.audit.proofs.sample_list.samples_of.Given as goal
 
 abbrev pub invariant-loop-exchange : goal.invariant-loop-exchange
 invariant-loop-exchange l = record {

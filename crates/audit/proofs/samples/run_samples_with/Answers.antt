@@ -1,0 +1,22 @@
+use Rattle.std.proofs.Common.{rules}
+use Rattle.audit.specs.Samples.{samples_made}
+use Rattle.audit.proofs.AuditLemmas.{audit_facts}
+use Rattle.audit.proofs.samples.run_samples_with.Goals as goal
+
+pub returns : goal.returns
+returns g c =
+    let read = c.read_evidence_with-capture in
+    let facts = audit_facts samples_made _ read.result.1 c.make_samples-made.result _ _ _
+    (record {
+      reads = read.ensures.known;
+      faults = read.ensures.fault;
+      is_made = c.make_samples-made.ensures.made;
+      published = c.publish-answer.ensures;
+    }) _ _ _ _ read.ensures.claim_faults read.ensures.capture_faults in
+    record {
+      reports = facts.0;
+      unwritten = facts.1;
+      capture_untouched = search rules;
+      claim_at_most = read.ensures.claim_at_most;
+      capture_at_most = read.ensures.capture_at_most;
+    }

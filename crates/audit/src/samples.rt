@@ -1,0 +1,117 @@
+//! The engine of `samples`.
+
+ghost use Rattle.std.specs.Prelude.{◌≡◌, ◌+◌, ◌-◌, ◌^◌, ◌<◌, ◌++◌, IfOk, IfErr, IsTrue};
+ghost use Rattle.claim_file.specs.Claim.{data_of};
+ghost use Rattle.report.specs.State.{sink_state};
+ghost use Rattle.audit.specs.Audit.{IsMadeOf, Audits, audit_state, feed_state};
+ghost use Rattle.audit.specs.EvidenceData.{IsLawfulEvidence, evidence_data};
+ghost use Rattle.audit.specs.Samples as spec;
+ghost use Rattle.audit.specs.Samples.{sample_lines, samples_made};
+
+use crate::counts_line::add_counts;
+use crate::evidence::{Evidence, read_evidence_with};
+use crate::sample_line::write_sample_line;
+use byte_stream::{Feed, Sink};
+use line_writer::Line;
+use report::{Made, Outcome, RunFault, publish};
+use std::alloc::{AllocError, Global};
+use std::hash::{BuildHasher, BuildHasherDefault, FoldHasher};
+
+/// The line of each sample, in the order of the exchanges.
+fn add_samples(text: &mut Vec<u8>, line: &mut Line, evidence: &Evidence) -> Result<(), AllocError>
+    requires { IsLawfulEvidence evidence.now }
+    ensures { IfOk result (λ _. text.new.items ≡ text.old.items ++
+        sample_lines (data_of evidence.now.claim) 0 evidence.now.collected.exchanges.items) }
+{
+    for (number, exchange) in evidence.collected.exchanges.iter().enumerate() {
+        write_sample_line(line, &evidence.claim, number as u32, exchange);
+        text.extend_from_slice(line.as_bytes())?;
+    }
+    Ok(())
+}
+
+/// The whole text.
+#[tactic(auto, unfolding(crate::specs::Samples::samples_text))]
+fn samples_text(alloc: Global, evidence: &Evidence) -> Result<Vec<u8>, AllocError>
+    requires { IsLawfulEvidence evidence.now }
+    ensures { IfOk result (λ text. text.items ≡ spec.samples_text (evidence_data evidence.now)) }
+{
+    let mut text = Vec::new(alloc);
+    let mut line = Line::new();
+    add_samples(&mut text, &mut line, evidence)?;
+    add_counts(&mut text, &mut line, &evidence.collected)?;
+    Ok(text)
+}
+
+/// What the run comes to: the refusal of its inputs, or the whole text.
+fn make_samples(alloc: Global, evidence: &Result<Evidence, RunFault>) -> Result<Made, RunFault>
+    requires lawful { IfOk evidence.now IsLawfulEvidence }
+    ensures made { IsMadeOf samples_made evidence.now result }
+{
+    match evidence {
+        Ok(evidence) => match samples_text(alloc, evidence) {
+            Ok(text) => Ok(Made {
+                text,
+                outcome: Outcome::Yes,
+            }),
+            Err(AllocError) => Err(RunFault::Memory),
+        },
+        Err(fault) => Err(*fault),
+    }
+}
+
+/// Shows what each exchange of a capture says of the clock of the claim's client: a line for each
+/// sample, and the counts. The text goes to `out`, and the capture's feed is handed back.
+///
+/// The claim is read first, then the capture, which isn't read after a refusal. Nothing is written
+/// before all of it is made. `Device` comes where a feed failed, and `Write(n)` where the sink
+/// failed after exactly n bytes of the text. The index of requests hashes by `hasher`: who doesn't
+/// trust the capture's writer passes one with a random key.
+pub fn run_samples_with<C: Feed, F: Feed, S: Sink, H: BuildHasher + Drop>(
+    alloc: Global,
+    claim: &mut C,
+    capture: F,
+    out: &mut S,
+    hasher: H,
+) -> (F, Result<Outcome, RunFault>)
+    requires claim_room { C.fault_count claim.old < 2 ^ 64 - 1 }
+    requires capture_room { F.fault_count capture < 2 ^ 64 - 1 }
+    requires is_open { IsTrue (S.is_open out.old) }
+    requires sink_room { S.fault_count out.old < 2 ^ 64 - 1 }
+    ensures { Audits samples_made
+        (audit_state (feed_state C.remaining C.fault_count claim.old)
+        (feed_state F.remaining F.fault_count capture)
+        (sink_state S.contents S.is_open S.fault_count out.old))
+        (audit_state (feed_state C.remaining C.fault_count claim.new)
+        (feed_state F.remaining F.fault_count result.0)
+        (sink_state S.contents S.is_open S.fault_count out.new)) capture result.0 result.1 }
+{
+    let (capture, evidence) = read_evidence_with(alloc, claim, capture, hasher);
+    let made = make_samples(alloc, &evidence);
+    let answer = publish(out, &made);
+    (capture, answer)
+}
+
+/// Shows what each exchange says of the clock, as `run_samples_with` does, with std's hasher of a
+/// fixed key.
+pub fn run_samples<C: Feed, F: Feed, S: Sink>(
+    alloc: Global,
+    claim: &mut C,
+    capture: F,
+    out: &mut S,
+) -> (F, Result<Outcome, RunFault>)
+    requires claim_room { C.fault_count claim.old < 2 ^ 64 - 1 }
+    requires capture_room { F.fault_count capture < 2 ^ 64 - 1 }
+    requires is_open { IsTrue (S.is_open out.old) }
+    requires sink_room { S.fault_count out.old < 2 ^ 64 - 1 }
+    ensures { Audits samples_made
+        (audit_state (feed_state C.remaining C.fault_count claim.old)
+        (feed_state F.remaining F.fault_count capture)
+        (sink_state S.contents S.is_open S.fault_count out.old))
+        (audit_state (feed_state C.remaining C.fault_count claim.new)
+        (feed_state F.remaining F.fault_count result.0)
+        (sink_state S.contents S.is_open S.fault_count out.new)) capture result.0 result.1 }
+{
+    let hasher = BuildHasherDefault::<FoldHasher>::new();
+    run_samples_with(alloc, claim, capture, out, hasher)
+}
