@@ -1,69 +1,61 @@
-//! What a command line asks for.
+//! The process's command line, read.
 
-use clap::{Arg, ArgMatches, Command, Error, error};
+use crate::commands::program;
+use crate::request::{CheckPaths, EvidencePaths, Question, Request, Step};
+use claim_file::read_time;
+use clap::{ArgMatches, Error, error};
 use std::alloc::{AllocError, Global};
 use std::env;
 use std::io::ErrorKind;
 
-/// The paths of the files that a check reads.
-#[derive(Drop)]
-pub(crate) struct CheckPaths {
-    /// The claim's.
-    pub(crate) claim: String,
-    /// The capture's.
-    pub(crate) capture: String,
-    /// The certificate's.
-    pub(crate) certificate: String,
-}
-
-/// What a command line asks for.
-#[derive(Drop)]
-pub(crate) enum Request {
-    /// List a capture: the file of this path, or standard input.
-    List(Option<String>),
-    /// Settle a claim by a capture and a certificate.
-    Check(CheckPaths),
-    /// Show this text: help, or the version.
-    Show(String),
-    /// The command line is refused, for the reason in this text.
-    Refuse(String),
-}
-
-/// The command `list`.
-fn list_command<'a>(alloc: Global) -> Result<Command<'a>, AllocError> {
-    let capture = Arg::new(alloc, "CAPTURE").help(
-        "The capture, a classic pcap file; standard input where it's left out",
-    );
-    Command::new(alloc, "list")
-        .about("Print one line for each NTP packet of a capture")
-        .arg(capture)
-}
-
-/// The command `check`.
-fn check_command<'a>(alloc: Global) -> Result<Command<'a>, AllocError> {
-    let claim = Arg::new(alloc, "CLAIM").help("The claim, a JSON file");
-    let capture = Arg::new(alloc, "CAPTURE").help("The capture, a classic pcap file");
-    let certificate = Arg::new(alloc, "CERTIFICATE").help("The certificate, a JSON file");
-    Command::new(alloc, "check")
-        .about("Settle a claim by a capture and a certificate: yes (status 0), or no and why (1)")
-        .arg(claim.required(true))?
-        .arg(capture.required(true))?
-        .arg(certificate.required(true))
-}
-
-/// The program's commands and operands.
-fn command<'a>(alloc: Global) -> Result<Command<'a>, AllocError> {
-    Command::new(alloc, "ntpaudit")
-        .version("0.1.0")
-        .about("What a packet capture of NTP shows of a clock")
-        .subcommand_required(true)
-        .subcommand(list_command(alloc)?)?
-        .subcommand(check_command(alloc)?)
-}
-
 /// The text of an operand, empty where it was left out.
 fn operand(alloc: Global, matches: &ArgMatches, name: &str) -> Result<String, AllocError> {
     String::from_str(alloc, matches.get_str(name).unwrap_or(""))
+}
+
+/// The paths of a claim and a capture.
+fn evidence_paths(alloc: Global, matches: &ArgMatches) -> Result<EvidencePaths, AllocError> {
+    Ok(EvidencePaths {
+        claim: operand(alloc, matches, "CLAIM")?,
+        capture: operand(alloc, matches, "CAPTURE")?,
+    })
+}
+
+/// What `list` asks for.
+fn list_request(alloc: Global, matches: &ArgMatches) -> Result<Request, AllocError> {
+    match matches.get_str("CAPTURE") {
+        Some(path) => Ok(Request::List(Some(String::from_str(alloc, path)?))),
+        None => Ok(Request::List(None)),
+    }
+}
+
+/// A question on the claim and the capture that are named.
+fn ask(alloc: Global, matches: &ArgMatches, question: Question) -> Result<Request, AllocError> {
+    Ok(Request::Ask(evidence_paths(alloc, matches)?, question))
+}
+
+/// What `at` asks for: its TIME is read before anything else is done.
+fn at_request(alloc: Global, matches: &ArgMatches) -> Result<Request, AllocError> {
+    match read_time(matches.get_str("TIME").unwrap_or("")) {
+        Some(second) => ask(alloc, matches, Question::At(second)),
+        None => Ok(Request::RefuseTime),
+    }
+}
+
+/// What `check` asks for.
+fn check_request(alloc: Global, matches: &ArgMatches) -> Result<Request, AllocError> {
+    Ok(Request::Check(CheckPaths {
+        evidence: evidence_paths(alloc, matches)?,
+        certificate: operand(alloc, matches, "CERTIFICATE")?,
+    }))
+}
+
+/// What `find` asks for.
+fn find_request(alloc: Global, matches: &ArgMatches) -> Result<Request, AllocError> {
+    match matches.get_one::<u32>("step").and_then(Step::new) {
+        Some(step) => ask(alloc, matches, Question::Find(step)),
+        None => Ok(Request::Refuse(String::from_str(alloc, "no step\n")?)),
+    }
 }
 
 /// What a refusal of the command line, or a call for help, asks for.
@@ -94,22 +86,16 @@ pub(crate) fn read_command_line(rt: &HostRuntime) -> Result<Request, AllocError>
     for word in arguments {
         words.push(word)?;
     }
-    let matches = match command(alloc)?.try_get_matches_from(words.as_slice()) {
+    let matches = match program(alloc)?.try_get_matches_from(words.as_slice()) {
         Ok(matches) => matches,
         Err(error) => return request_of(alloc, &error),
     };
-    if let Some(check) = matches.subcommand_matches("check") {
-        return Ok(Request::Check(CheckPaths {
-            claim: operand(alloc, check, "CLAIM")?,
-            capture: operand(alloc, check, "CAPTURE")?,
-            certificate: operand(alloc, check, "CERTIFICATE")?,
-        }));
-    }
-    let Some(list) = matches.subcommand_matches("list") else {
-        return Ok(Request::Refuse(String::from_str(alloc, "no command\n")?));
-    };
-    match list.get_str("CAPTURE") {
-        Some(path) => Ok(Request::List(Some(String::from_str(alloc, path)?))),
-        None => Ok(Request::List(None)),
+    match matches.subcommand() {
+        Some(("list", list)) => list_request(alloc, list),
+        Some(("samples", samples)) => ask(alloc, samples, Question::Samples),
+        Some(("at", at)) => at_request(alloc, at),
+        Some(("check", check)) => check_request(alloc, check),
+        Some(("find", find)) => find_request(alloc, find),
+        _ => Ok(Request::Refuse(String::from_str(alloc, "no command\n")?)),
     }
 }

@@ -1,80 +1,54 @@
 //! ntpaudit: what a packet capture of NTP shows of a clock.
 //!
 //! The program reads its command line, opens its files and calls the engine of its command. What an
-//! engine writes and answers is said by its contract in its own crate; how an answer is told stands
-//! in the crate `report`.
+//! engine writes and answers is said by its contract in its own crate, and how that is told by the
+//! contracts of the crate `answer`.
 #![tactic(auto)]
 
 ghost use Rattle.std.specs.Prelude.{◌-◌, ◌^◌, ◌<◌, IsTrue};
 
-mod answer;
 mod command_line;
+mod commands;
+mod files;
+mod request;
 
-use crate::answer::{answer, answer_check, refuse, show};
-use crate::command_line::{CheckPaths, Request, read_command_line};
-pub use audit::run_check;
+use crate::command_line::read_command_line;
+use crate::files::{ask_files, check_files, list_file};
+use crate::request::Request;
+use answer::{refuse, refuse_time, show};
+pub use audit::{
+    run_at, run_at_with, run_check, run_check_with, run_find, run_find_with, run_samples,
+    run_samples_with,
+};
 pub use byte_stream::{Sink, SinkFault, TestSink, WriteSink};
 pub use listing::run_list;
-use pcap_reader::ReadFeed;
 use report::tell;
 pub use report::{Input, Outcome, RunFault, fault_line, read_input, status};
 use std::alloc::AllocError;
-use std::fs;
+use std::hash::{BuildHasher, BuildHasherDefault, FoldHasher, RandomState};
 use std::process::ExitCode;
 
-/// Opens the three files of a check, all before anything is read, and settles the claim. The result
-/// is the exit status.
-fn check_files<K: Sink, E: Sink>(
+/// Runs the command of a request, and answers the exit status. What is read of a capture is hashed
+/// by `hasher`, on which no answer depends.
+fn run<K: Sink, E: Sink, H: BuildHasher + Drop>(
     rt: &HostRuntime,
-    paths: &CheckPaths,
+    request: Request,
     out: &mut K,
     err: &mut E,
+    hasher: H,
 ) -> u8
     requires out_is_open { IsTrue (K.is_open out.old) }
     requires out_room { K.fault_count out.old < 2 ^ 64 - 1 }
     requires err_is_open { IsTrue (E.is_open err.old) }
     requires err_room { E.fault_count err.old < 2 ^ 64 - 1 }
 {
-    let alloc = rt.alloc();
-    let Ok(claim) = fs::open(rt, paths.claim.as_str()) else {
-        return tell(alloc, &Err(RunFault::Device(Input::Claim)), err);
-    };
-    let Ok(certificate) = fs::open(rt, paths.certificate.as_str()) else {
-        return tell(alloc, &Err(RunFault::Device(Input::Certificate)), err);
-    };
-    let Ok(capture) = fs::open(rt, paths.capture.as_str()) else {
-        return tell(alloc, &Err(RunFault::Device(Input::Capture)), err);
-    };
-    let mut claim = ReadFeed::new(claim);
-    let mut certificate = ReadFeed::new(certificate);
-    answer_check(
-        alloc,
-        &mut claim,
-        ReadFeed::new(capture),
-        &mut certificate,
-        out,
-        err,
-    )
-    .1
-}
-
-/// Runs the command of a request, and answers the exit status.
-fn run<K: Sink, E: Sink>(rt: &HostRuntime, request: Request, out: &mut K, err: &mut E) -> u8
-    requires out_is_open { IsTrue (K.is_open out.old) }
-    requires out_room { K.fault_count out.old < 2 ^ 64 - 1 }
-    requires err_is_open { IsTrue (E.is_open err.old) }
-    requires err_room { E.fault_count err.old < 2 ^ 64 - 1 }
-{
-    let alloc = rt.alloc();
     match request {
-        Request::List(None) => answer(alloc, ReadFeed::new(rt.stdin()), out, err).1,
-        Request::List(Some(path)) => match fs::open(rt, path.as_str()) {
-            Ok(file) => answer(alloc, ReadFeed::new(file), out, err).1,
-            Err(_) => tell(alloc, &Err(RunFault::Device(Input::Capture)), err),
-        },
-        Request::Check(paths) => check_files(rt, &paths, out, err),
-        Request::Show(text) => show(alloc, text, out, err),
+        Request::List(path) => list_file(rt, &path, out, err),
+        Request::Ask(paths, question) => ask_files(rt, &paths, question, out, err, hasher),
+        Request::Check(paths) => check_files(rt, &paths, out, err, hasher),
+        Request::Show(text) => show(rt.alloc(), text, out, err),
         Request::Refuse(text) => refuse(text, err),
+        Request::RefuseTime => refuse_time(rt.alloc(), err),
     }
 }
 
@@ -82,7 +56,15 @@ fn main(rt: HostRuntime) -> ExitCode {
     let mut out = WriteSink::new(rt.stdout());
     let mut err = WriteSink::new(rt.stderr());
     let code = match read_command_line(&rt) {
-        Ok(request) => run(&rt, request, &mut out, &mut err),
+        // A random key, so that nobody can write a capture whose packets collide. Where the system
+        // has no random bytes a fixed key has to do: it slows such a capture down, no more.
+        Ok(request) => match RandomState::new(&rt) {
+            Ok(hasher) => run(&rt, request, &mut out, &mut err, hasher),
+            Err(_) => {
+                let hasher = BuildHasherDefault::<FoldHasher>::new();
+                run(&rt, request, &mut out, &mut err, hasher)
+            }
+        },
         Err(AllocError) => tell(rt.alloc(), &Err(RunFault::Memory), &mut err),
     };
     ExitCode::from(code)
