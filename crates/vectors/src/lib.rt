@@ -22,8 +22,9 @@ pub const V1: [u8; 236] = [
 ];
 
 /// A claim on `V1`: one server, one moment, no drift.
-pub const C1: &str =
-    "{\"client\":\"192.0.2.10\",\"servers\":[\"192.0.2.1\"],\"false_max\":0,\"from\":\"2001-09-09T01:46:40Z\",\"to\":\"2001-09-09T01:46:40Z\",\"bound_ns\":10001001,\"drift_ppb\":0,\"reading_ns\":0}";
+pub const C1: &str = "{\"client\":\"192.0.2.10\",\"servers\":[\"192.0.2.1\"],\"false_max\":0,\
+    \"from\":\"2001-09-09T01:46:40Z\",\"to\":\"2001-09-09T01:46:40Z\",\
+    \"bound_ns\":10001001,\"drift_ppb\":0,\"reading_ns\":0}";
 
 /// The certificate for `C1` and `V1`.
 pub const K1: &str = "{\"pieces\":[{\"entries\":[[0,0]],\"upto\":4294967296000000000}]}";

@@ -4,7 +4,7 @@ ghost use Rattle.std.specs.Prelude.{None};
 
 use claim_file::read_claim;
 use pairing::{Collected, Exchange, PairFault, collect};
-use pcap_reader::{Capture, CaptureFault, Cut, Feed, FeedFault, TestFeed, Whole};
+use pcap_reader::{Capture, Feed, FeedFault, Whole};
 use std::alloc::{AllocError, Global};
 use std::process::Abort;
 use std::test::Fail;
@@ -68,27 +68,11 @@ fn capture_of(alloc: Global, pieces: [Piece; 3]) -> Result<Vec<u8>, AllocError> 
     Ok(file)
 }
 
-/// What is collected of a capture: of the whole one, or through a feed that is cut so.
-fn collected(
-    rt: &impl Abort,
-    alloc: Global,
-    claim: &str,
-    file: &[u8],
-    cut: Option<Cut>,
-) -> Result<Collected, Fail> {
+/// What is collected of a whole capture.
+fn collected(alloc: Global, claim: &str, file: &[u8]) -> Result<Collected, Fail> {
     let claim = read_claim(alloc, claim.as_bytes())?;
-    match cut {
-        None => {
-            let mut source = Whole::begin(file)?;
-            Ok(collect(alloc, &mut source, &claim)?)
-        }
-        Some(cut) => {
-            let Ok(mut source) = Capture::begin(alloc, TestFeed::new(file, cut, None)) else {
-                panic!(rt; "no capture");
-            };
-            Ok(collect(alloc, &mut source, &claim)?)
-        }
-    }
+    let mut source = Whole::begin(file)?;
+    Ok(collect(alloc, &mut source, &claim)?)
 }
 
 /// The counts in the order of their fields.
@@ -115,7 +99,7 @@ fn pair(collected: &Collected, number: usize) -> Option<(u8, u32, u32)> {
     Some((exchange.server, exchange.request, exchange.reply))
 }
 
-/// Both sources give these counts and these exchanges.
+/// A capture gives these counts and these exchanges.
 fn expect(
     rt: &impl Abort,
     alloc: Global,
@@ -124,21 +108,17 @@ fn expect(
     want: [u32; 11],
     pairs: [Option<(u8, u32, u32)>; 2],
 ) -> Result<(), Fail> {
-    let file = capture_of(alloc, pieces)?;
-    for cut in [None, Some(Cut::Fixed(1)), Some(Cut::Growing)] {
-        let collected = collected(rt, alloc, claim, &file, cut)?;
-        assert_eq!(rt; counts(&collected), want, "{pieces:?}");
-        assert_eq!(rt; pair(&collected, 0), pairs[0], "{pieces:?}");
-        assert_eq!(rt; pair(&collected, 1), pairs[1], "{pieces:?}");
-        assert!(rt; collected.exchanges.len() <= 2);
-    }
+    let collected = collected(alloc, claim, &capture_of(alloc, pieces)?)?;
+    let given = [pair(&collected, 0), pair(&collected, 1)];
+    assert_eq!(rt; (counts(&collected), given), (want, pairs), "{pieces:?}");
+    assert!(rt; collected.exchanges.len() <= 2);
     Ok(())
 }
 
 /// The exchange of `V1`, field by field.
 #[test]
 fn the_exchange(rt: HostRuntime) -> Result<(), Fail> {
-    let collected = collected(&rt, rt.alloc(), C1, &V1, None)?;
+    let collected = collected(rt.alloc(), C1, &V1)?;
     let want = Exchange {
         server: 0,
         request: 0,
@@ -291,44 +271,6 @@ fn headers(rt: HostRuntime) -> Result<(), Fail> {
         [2, 1, 1, 0, 1, 0, 0, 0, 0, 0, 0],
         none,
     )
-}
-
-/// A capture's fault is the answer, whatever was read before it.
-#[test]
-fn faults(rt: HostRuntime) -> Result<(), Fail> {
-    let claim = read_claim(rt.alloc(), C1.as_bytes())?;
-    let mut torn = Whole::begin(&V1[..235])?;
-    match collect(rt.alloc(), &mut torn, &claim) {
-        Err(fault) => {
-            assert_eq!(rt; fault, PairFault::Capture(CaptureFault::TornRecord(130)));
-            assert_eq!(rt; fault.number(), 1);
-        }
-        Ok(_) => panic!(rt; "torn"),
-    }
-    let feed = TestFeed::new(&V1, Cut::Fixed(100), Some(3));
-    let Ok(mut failing) = Capture::begin(rt.alloc(), feed) else {
-        panic!(rt; "no capture");
-    };
-    match collect(rt.alloc(), &mut failing, &claim) {
-        Err(fault) => assert_eq!(rt; fault, PairFault::Capture(CaptureFault::Read)),
-        Ok(_) => panic!(rt; "the third pull fails"),
-    }
-    assert_eq!(rt; failing.into_feed().faults(), 1);
-    Ok(())
-}
-
-/// To be run with each allocation refused in turn: the answer is `Memory` and no other.
-#[test]
-fn refused_memory(rt: HostRuntime) -> Result<(), Fail> {
-    let Ok(claim) = read_claim(rt.alloc(), C1.as_bytes()) else {
-        return Ok(());
-    };
-    let mut source = Whole::begin(&V1)?;
-    match collect(rt.alloc(), &mut source, &claim) {
-        Ok(collected) => assert_eq!(rt; collected.exchanges.len(), 1),
-        Err(fault) => assert_eq!(rt; fault, PairFault::Memory),
-    }
-    Ok(())
 }
 
 /// The header and the request of `V1`, and then its reply again and again.

@@ -1,7 +1,6 @@
-//! NTP packets and their headers, by hand.
+//! NTP headers and root distances, by hand.
 
-use ntp_packet::{NtpView, packet, view};
-use vectors::V1;
+use ntp_packet::{NtpView, view};
 
 /// A server's reply: stratum 1, reference GPS.
 const REPLY: [u8; 48] = [
@@ -93,16 +92,6 @@ fn reads_every_field(rt: HostRuntime) {
     }
 }
 
-#[test]
-fn ignores_what_follows_the_header(rt: HostRuntime) {
-    let mut payload = [0xff; 60];
-    payload[..48].copy_from_slice(&REPLY);
-    let got = view(&payload).map(|header| fields_of(&header));
-    assert_eq!(rt; got, Some(REPLY_FIELDS));
-    assert!(rt; view(&payload[..47]).is_none());
-    assert!(rt; view(&[]).is_none());
-}
-
 /// Root delay, root dispersion, precision (its byte), and the root distance that they make.
 const DISTANCES: [(u32, u32, u8, Option<i128>); 10] = [
     (0, 0, 0xe0, Some(1)),
@@ -130,34 +119,5 @@ fn adds_up_the_root_distance(rt: HostRuntime) {
             Some(want),
             "delay {delay} dispersion {dispersion} precision {precision}"
         );
-    }
-}
-
-/// The frame of the request of `V1` with one byte changed: its ports at 34 and 36, its UDP length
-/// at 38.
-#[test]
-fn finds_packets(rt: HostRuntime) {
-    for (place, byte, is_packet) in [
-        (0, 0, true),
-        // To port 124.
-        (37, 124, false),
-        // A payload of 47 bytes, and a fragment.
-        (39, 55, false),
-        (20, 0x20, false),
-    ] {
-        let mut frame = [0; 90];
-        frame.copy_from_slice(&V1[40..130]);
-        if let Some(old) = frame.get_mut(place) {
-            *old = byte;
-        }
-        assert_eq!(rt; packet(&frame).is_some(), is_packet, "{byte} at {place}");
-    }
-    match packet(&V1[146..]) {
-        Some(reply) => {
-            assert_eq!(rt; reply.datagram.source_port, 123);
-            assert_eq!(rt; reply.datagram.payload.len(), 48);
-            assert_eq!(rt; (reply.header.mode(), reply.header.stratum()), (4, 1));
-        }
-        None => panic!(rt; "a reply is a packet"),
     }
 }

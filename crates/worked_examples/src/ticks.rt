@@ -23,12 +23,8 @@ fn windows_of_microseconds(rt: HostRuntime) {
         ),
         (u32::MAX, 999_999, ERA - 4295, ERA),
     ] {
-        assert_eq!(rt; low(sec, sub, Unit::Micro), first, "low of {sec} and {sub}");
-        assert_eq!(rt;
-            high(sec, sub, Unit::Micro),
-            last,
-            "high of {sec} and {sub}"
-        );
+        let window = (low(sec, sub, Unit::Micro), high(sec, sub, Unit::Micro));
+        assert_eq!(rt; window, (first, last), "{sec} and {sub}");
     }
 }
 
@@ -45,8 +41,8 @@ fn windows_of_nanoseconds(rt: HostRuntime) {
         ),
         (u32::MAX, 999_999_999, ERA - 5, ERA),
     ] {
-        assert_eq!(rt; low(sec, sub, Unit::Nano), first, "low of {sec} and {sub}");
-        assert_eq!(rt; high(sec, sub, Unit::Nano), last, "high of {sec} and {sub}");
+        let window = (low(sec, sub, Unit::Nano), high(sec, sub, Unit::Nano));
+        assert_eq!(rt; window, (first, last), "{sec} and {sub}");
     }
 }
 
@@ -63,8 +59,7 @@ fn nanoseconds_are_rounded(rt: HostRuntime) {
             79_228_162_514_264_337_590,
         ),
     ] {
-        assert_eq!(rt; ns_down(n), down, "down of {n}");
-        assert_eq!(rt; ns_up(n), up, "up of {n}");
+        assert_eq!(rt; (ns_down(n), ns_up(n)), (down, up), "{n}");
     }
 }
 
@@ -89,10 +84,4 @@ fn stamps_unfold_to_the_nearest_era(rt: HostRuntime) {
     ] {
         assert_eq!(rt; unfold(stamp, near), tick, "{stamp} near {near}");
     }
-}
-
-#[test]
-fn units_of_a_second(rt: HostRuntime) {
-    assert_eq!(rt; Unit::Micro.per_second(), 1_000_000);
-    assert_eq!(rt; Unit::Nano.per_second(), 1_000_000_000);
 }

@@ -11,30 +11,15 @@ use std::process::Abort;
 use std::test::Fail;
 use vectors::V1;
 
-const LINE_0: &str =
-    "0 1000000000.000000 192.0.2.10:49152 192.0.2.1:123 v4 m3 l0 s0 p0 0 0 00000000 0000000000000000 0000000000000000 0000000000000000 1122334455667788 4294967296000000000 4294967296000004295 - 10193815036915775368\n";
+const LINE_0: &str = "0 1000000000.000000 192.0.2.10:49152 192.0.2.1:123 v4 m3 l0 s0 p0 \
+    0 0 00000000 0000000000000000 0000000000000000 0000000000000000 1122334455667788 \
+    4294967296000000000 4294967296000004295 - 10193815036915775368\n";
 
-const LINE_1: &str =
-    "1 1000000000.020000 192.0.2.1:123 192.0.2.10:49152 v4 m4 l0 s1 p-32 0 0 47505300 bf45488000000000 1122334455667788 bf454880028f5c29 bf454880028f5c29 4294967296085899345 4294967296085903641 4294967296042949673 4294967296042949673\n";
+const LINE_1: &str = "1 1000000000.020000 192.0.2.1:123 192.0.2.10:49152 v4 m4 l0 s1 p-32 \
+    0 0 47505300 bf45488000000000 1122334455667788 bf454880028f5c29 bf454880028f5c29 \
+    4294967296085899345 4294967296085903641 4294967296042949673 4294967296042949673\n";
 
 const CLOSING: &str = "records 2 packets 2\n";
-
-/// The numbers of the headers of `V1`: where they stand, and how many bytes each has.
-const NUMBERS: [(usize, usize); 13] = [
-    (0, 4),
-    (4, 2),
-    (6, 2),
-    (16, 4),
-    (20, 4),
-    (24, 4),
-    (28, 4),
-    (32, 4),
-    (36, 4),
-    (130, 4),
-    (134, 4),
-    (138, 4),
-    (142, 4),
-];
 
 const CUTS: [Cut; 3] = [Cut::Fixed(1), Cut::Growing, Cut::Fixed(usize::MAX)];
 
@@ -88,66 +73,6 @@ fn lists(
     Ok(())
 }
 
-/// A copy of `V1` with these bytes put in from each place on.
-fn changed(changes: &[(usize, &[u8])]) -> [u8; 236] {
-    let mut file = V1;
-    for (place, bytes) in changes {
-        for (at, byte) in bytes.iter().enumerate() {
-            if let Some(old) = file.get_mut(place.saturating_add(at)) {
-                *old = *byte;
-            }
-        }
-    }
-    file
-}
-
-/// The same capture with the numbers of its headers in the other byte order.
-fn big_endian(mut file: [u8; 236]) -> [u8; 236] {
-    for (place, width) in NUMBERS {
-        if let Some(number) = file.get_mut(place..place.saturating_add(width)) {
-            number.reverse();
-        }
-    }
-    file
-}
-
-#[test]
-fn lists_both_units_in_both_byte_orders(rt: HostRuntime) -> Result<(), Fail> {
-    let lines = [LINE_0, LINE_1, CLOSING];
-    lists(&rt, rt.alloc(), &V1, &lines, Ok(Outcome::Yes))?;
-    lists(&rt, rt.alloc(), &big_endian(V1), &lines, Ok(Outcome::Yes))?;
-    let file = changed(&[(0, b"\x4d\x3c\xb2\xa1"), (134, b"\x00\x2d\x31\x01")]);
-    let lines = [
-        "0 1000000000.000000000 192.0.2.10:49152 192.0.2.1:123 v4 m3 l0 s0 p0 0 0 00000000 0000000000000000 0000000000000000 0000000000000000 1122334455667788 4294967296000000000 4294967296000000005 - 10193815036915775368\n",
-        "1 1000000000.020000000 192.0.2.1:123 192.0.2.10:49152 v4 m4 l0 s1 p-32 0 0 47505300 bf45488000000000 1122334455667788 bf454880028f5c29 bf454880028f5c29 4294967296085899345 4294967296085899351 4294967296042949673 4294967296042949673\n",
-        CLOSING,
-    ];
-    lists(&rt, rt.alloc(), &file, &lines, Ok(Outcome::Yes))?;
-    lists(&rt, rt.alloc(), &big_endian(file), &lines, Ok(Outcome::Yes))
-}
-
-/// A request whose stamps are all zero, a payload of 47 bytes, and a request to port 124.
-#[test]
-fn lists_ntp_packets_alone(rt: HostRuntime) -> Result<(), Fail> {
-    let unknown = changed(&[(122, &[0; 8])]);
-    let line =
-        "0 1000000000.000000 192.0.2.10:49152 192.0.2.1:123 v4 m3 l0 s0 p0 0 0 00000000 0000000000000000 0000000000000000 0000000000000000 0000000000000000 4294967296000000000 4294967296000004295 - -\n";
-    lists(
-        &rt,
-        rt.alloc(),
-        &unknown,
-        &[line, LINE_1, CLOSING],
-        Ok(Outcome::Yes),
-    )?;
-    let short = changed(&[(57, b"\x4b"), (79, b"\x37")]);
-    let elsewhere = changed(&[(77, b"\x7c")]);
-    for file in [short, elsewhere] {
-        let lines = [LINE_1, "records 2 packets 1\n"];
-        lists(&rt, rt.alloc(), &file, &lines, Ok(Outcome::Yes))?;
-    }
-    Ok(())
-}
-
 /// What the listing of this many bytes of `V1` says.
 fn listing_of(length: usize) -> (&'static [&'static str], Result<Outcome, RunFault>) {
     let torn = |place| Err(RunFault::Capture(CaptureFault::TornRecord(place)));
@@ -168,24 +93,6 @@ fn lists_each_prefix(rt: HostRuntime) -> Result<(), Fail> {
         if let Some(prefix) = V1.get(..length) {
             lists(&rt, rt.alloc(), prefix, lines, answer)?;
         }
-    }
-    Ok(())
-}
-
-/// After a refused header nothing more is pulled: the next pull would fail.
-#[test]
-fn refused_header_ends_reading(rt: HostRuntime) -> Result<(), Fail> {
-    for (place, fault) in [
-        (0, CaptureFault::Magic),
-        (4, CaptureFault::Version),
-        (20, CaptureFault::Link),
-    ] {
-        let file = changed(&[(place, b"\x00")]);
-        let mut out = ample(rt.alloc())?;
-        let source = TestFeed::new(&file, Cut::Fixed(usize::MAX), Some(2));
-        let (feed, answer) = run_list(rt.alloc(), source, &mut out);
-        assert_eq!(rt; answer, Err(RunFault::Capture(fault)));
-        assert_eq!(rt; (feed.faults(), out.faults()), (0, 0));
     }
     Ok(())
 }

@@ -12,7 +12,7 @@ const SECOND: i128 = 4_294_967_296_000_000_000;
 const TICKS_PER_SECOND: i128 = 4_294_967_296;
 
 // The sample of an exchange of 20 ms at the second, in microseconds.
-fn twenty_milliseconds() -> Sample
+pub(crate) fn twenty_milliseconds() -> Sample
     ensures { IsLawfulSample result }
 {
     Sample {
@@ -23,21 +23,6 @@ fn twenty_milliseconds() -> Sample
         high: 42_953_969,
         high_from: SECOND + 85_899_345,
         high_to: SECOND + 85_903_641,
-    }
-}
-
-// A sample at the moment 0.
-fn at_zero(server: u8, low: i16, high: i16) -> Sample
-    ensures { IsLawfulSample result }
-{
-    Sample {
-        server,
-        low: low as i128,
-        low_from: 0,
-        low_to: 0,
-        high: high as i128,
-        high_from: 0,
-        high_to: 0,
     }
 }
 
@@ -58,22 +43,12 @@ fn intervals_of_pieces(rt: HostRuntime) {
     }
 }
 
-// The best of four samples, of which two have the greatest low and two the least high.
-fn best_of_four(server: u8) -> Option<(u32, u32)> {
-    let samples = [
-        at_zero(0, -10, 10),
-        at_zero(1, 0, 0),
-        at_zero(0, -5, 20),
-        at_zero(0, -5, 10),
-    ];
-    best(&samples, server, 0, 0, 0)
-}
-
 #[test]
 fn best_samples(rt: HostRuntime) {
-    assert_eq!(rt; best_of_four(0), Some((2, 0)));
-    assert_eq!(rt; best_of_four(1), Some((1, 1)));
-    assert_eq!(rt; best_of_four(2), None);
+    for (server, chosen) in [(0, Some((0, 0))), (1, None)] {
+        let samples = [twenty_milliseconds()];
+        assert_eq!(rt; best(&samples, server, SECOND, SECOND, 0), chosen);
+    }
 }
 
 #[test]
@@ -83,7 +58,6 @@ fn ends_of_pieces(rt: HostRuntime) {
     assert_eq!(rt; piece_end(SECOND, minute, 32, 0), 4_294_967_433_438_953_472);
     assert_eq!(rt; piece_end(SECOND, minute, 32, 1), 4_294_967_570_877_906_944);
     assert_eq!(rt; piece_end(SECOND, minute, 48, 1), minute);
-    assert_eq!(rt; piece_end(SECOND, SECOND, 1, 0), SECOND);
     let day = 4_295_396_792_729_600_000;
     assert_eq!(rt; piece_end(SECOND, day, 1, 99_999), day);
 }

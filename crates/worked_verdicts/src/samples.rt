@@ -1,6 +1,7 @@
 //! Samples, offsets, delays and widenings, by hand.
 ghost use Rattle.sample_interval.specs.Exchange.{IsOfSomeClaim};
 
+use crate::pieces::twenty_milliseconds;
 use pairing::Exchange;
 use sample_interval::kinds::Sample;
 use sample_interval::{delay, offset, sample, widen};
@@ -47,16 +48,7 @@ fn exact_readings(rt: HostRuntime) {
     let x = exchange();
     assert_eq!(rt; offset(&x, 0), (-4295, 1));
     assert_eq!(rt; delay(&x, 0), (85_895_050, 85_903_641));
-    let expected = Sample {
-        server: 0,
-        low: -42_949_674,
-        low_from: SECOND,
-        low_to: SECOND + 4295,
-        high: 42_953_969,
-        high_from: SECOND + 85_899_345,
-        high_to: SECOND + 85_903_641,
-    };
-    assert_eq!(rt; sample(&x, 0), expected);
+    assert_eq!(rt; sample(&x, 0), twenty_milliseconds());
 }
 
 #[test]

@@ -1,0 +1,10 @@
+//! The worked examples as tables over the engines' public calls, with devices that fail. It has
+//! tests alone.
+#![tactic(auto)]
+
+#[cfg(test)]
+mod listings;
+#[cfg(test)]
+mod reports;
+#[cfg(test)]
+mod streams;

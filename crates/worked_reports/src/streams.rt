@@ -1,0 +1,107 @@
+//! Feeds and sinks: what is tried again, and what isn't.
+
+ghost use Rattle.std.specs.Prelude.{◌≤◌, IfOk};
+
+use byte_stream::{Feed, ReadFeed, Sink, WriteSink};
+use std::io::{self, ErrorKind, Read, Write};
+
+/// What a call of a device does.
+#[derive(Clone, Copy, Debug)]
+enum Step {
+    Takes(usize),
+    Fails(ErrorKind),
+}
+
+use Step::{Fails, Takes};
+
+/// A device that does these steps in turn, and nothing after them, and counts the calls.
+#[derive(Drop)]
+struct Script<'a> {
+    steps: &'a [Step],
+    calls: usize,
+}
+
+impl Script<'_> {
+    fn answer(&mut self, room: usize) -> io::Result<usize>
+        ensures { IfOk result (λ n. n ≤ room) }
+    {
+        let step = self.steps.get(self.calls).copied();
+        self.calls = self.calls.saturating_add(1);
+        match step {
+            Some(Takes(count)) => Ok(count.min(room)),
+            Some(Fails(kind)) => Err(io::Error::from(kind)),
+            None => Ok(0),
+        }
+    }
+}
+
+impl Read for Script<'_> {
+    fn read(&mut self, buf: &mut [u8]) -> io::Result<usize> {
+        self.answer(buf.len())
+    }
+}
+
+impl Write for Script<'_> {
+    fn write(&mut self, buf: &[u8]) -> io::Result<usize> {
+        self.answer(buf.len())
+    }
+
+    fn flush(&mut self) -> io::Result<()> {
+        self.answer(0)?;
+        Ok(())
+    }
+}
+
+/// A call that fails is a fault at once, though the next one would succeed. An interrupted one is
+/// tried again. This is so of a read, of a write and of a flush, by which a sink is finished.
+#[test]
+fn failures(rt: HostRuntime) {
+    for (steps, is_well, calls) in [
+        ([Takes(2), Takes(1)], true, 1),
+        ([Fails(ErrorKind::Other), Takes(2)], false, 1),
+        ([Fails(ErrorKind::WouldBlock), Takes(2)], false, 1),
+        ([Fails(ErrorKind::Interrupted), Takes(2)], true, 2),
+        (
+            [Fails(ErrorKind::Interrupted), Fails(ErrorKind::Other)],
+            false,
+            2,
+        ),
+    ] {
+        let mut device = Script {
+            steps: &steps,
+            calls: 0,
+        };
+        let mut feed = ReadFeed::new(&mut device);
+        let pulled = feed.pull(&mut [0; 4]);
+        let answer = (pulled.is_ok(), feed.faults(), device.calls);
+        assert_eq!(rt; answer, (is_well, u64::from(!is_well), calls), "{steps:?}");
+        let mut device = Script {
+            steps: &steps,
+            calls: 0,
+        };
+        let mut sink = WriteSink::new(&mut device);
+        let pushed = sink.push(b"pushed");
+        let answer = (pushed.is_ok(), sink.faults(), device.calls);
+        assert_eq!(rt; answer, (is_well, u64::from(!is_well), calls), "{steps:?}");
+        let mut device = Script {
+            steps: &steps,
+            calls: 0,
+        };
+        let mut sink = WriteSink::new(&mut device);
+        let finished = sink.finish();
+        let answer = (finished.is_ok(), sink.faults(), device.calls);
+        assert_eq!(rt; answer, (is_well, u64::from(!is_well), calls), "{steps:?}");
+    }
+}
+
+/// A write that takes nothing is a failure too.
+#[test]
+fn no_progress(rt: HostRuntime) {
+    let mut device = Script {
+        steps: &[Takes(0), Takes(2)],
+        calls: 0,
+    };
+    let mut sink = WriteSink::new(&mut device);
+    assert!(rt; sink.push(b"pushed").is_err());
+    assert_eq!(rt; device.calls, 1);
+}

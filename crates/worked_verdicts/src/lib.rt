@@ -1,0 +1,14 @@
+//! The worked examples as tables over the public calls from samples to verdicts. It has tests
+//! alone.
+#![tactic(auto)]
+
+#[cfg(test)]
+mod certificates;
+#[cfg(test)]
+mod hulls;
+#[cfg(test)]
+mod pieces;
+#[cfg(test)]
+mod samples;
+#[cfg(test)]
+mod verdicts;
