@@ -1,11 +1,11 @@
 #!/usr/bin/env python3
 """Writes a capture for measurements: NTP requests and replies among other traffic, the same bytes at every run.
 
-  make_capture.py FILE [--records N | --bytes N] [--big-frames | --only-ntp]
+  make_capture.py FILE [--records N | --bytes N] [--big-frames | --only-ntp] [--interval N]
 
 Of each eight records four are NTP packets, two are TCP segments, one is a DNS query and one an ARP request. With
 --big-frames the TCP segments have 60,000 bytes, as a host with segmentation offload records them. With --only-ntp
-there are requests and replies alone. It ends after N
+there are requests and replies alone. --interval N lets N microseconds more pass after each exchange. It ends after N
 records (2,000,000 if nothing is said) or with the record that reaches N bytes, and prints what the listing's closing
 line has to say. Classic format, little-endian, microseconds.
 """
@@ -52,7 +52,7 @@ def other_frames(has_big):
     ]
 
 
-def frames(has_big):
+def frames(has_big, interval=0):
     """Endlessly the time in microseconds, the frame, and whether it is an NTP packet."""
     client, server, others = (192, 0, 2, 100), (192, 0, 2, 1), other_frames(has_big)
     reference = struct.pack(">II", START + SECONDS_TO_1970 - 30, 0)
@@ -78,7 +78,7 @@ def frames(has_big):
         yield moment, reply, True
         moment += 5 + (state >> 12) % 60
         yield moment, others[2 * exchange % 4 + 1], False
-        moment += 5
+        moment += 5 + interval
         exchange += 1
 
 
@@ -91,6 +91,7 @@ def main():
     kind = words.add_mutually_exclusive_group()
     kind.add_argument("--big-frames", action="store_true")
     kind.add_argument("--only-ntp", action="store_true")
+    words.add_argument("--interval", type=int, default=0)
     given = words.parse_args()
     most_records = MOST_RECORDS if given.bytes else given.records
     if not 0 <= most_records <= MOST_RECORDS:
@@ -98,7 +99,7 @@ def main():
     records, packets, size = 0, 0, 24
     with open(given.file, "wb", buffering=1 << 20) as out:
         out.write(struct.pack("<IHHiIII", 0xA1B2C3D4, 2, 4, 0, 0, 262_144, 1))
-        for moment, frame, is_ntp in frames(given.big_frames):
+        for moment, frame, is_ntp in frames(given.big_frames, given.interval):
             if given.only_ntp and not is_ntp:
                 continue
             if records == most_records or given.bytes and size >= given.bytes:
