@@ -6,7 +6,7 @@ use Rattle.std.proofs.lemmas.Int.{ints, by_lt_z}
 use Rattle.std.proofs.lemmas.List.{get_or_default, get_or-drop, length-drop, length-map, map-set}
 use Rattle.std.proofs.lemmas.Option.{slice_get-map, slice_get_within, slice_get-get_or, none-some, same_Some}
 use Rattle.ranking.specs.declared.tree.TheConstants.{NOTHING}
-use Rattle.ranking.specs.Ranking.{IsHeld, IsFree}
+use Rattle.ranking.specs.Ranking.{IsHeld}
 use Rattle.ranking.specs.Tree.{value_of, entry_of, entries_of}
 
 -- what an index reads
@@ -26,12 +26,6 @@ entry_is leaf value is =
     let same = same_Some leaf value (sym (entry_some leaf something) ∙ is) in
     (same, subst (λ v. NOTHING <ℤ v) same something))
     (λ nothing. absurd (none-some value (sym (entry_none leaf nothing) ∙ is)))
-
-entry_is_none : (leaf : ℤ) → entry_of leaf ≡ None → leaf ≤ℤ NOTHING
-entry_is_none leaf is =
-    by_lt_z NOTHING leaf
-    (λ something. absurd (none-some leaf (sym is ∙ entry_some leaf something)))
-    (λ nothing. nothing)
 
 module _ (nodes : List ℤ) (leaves number : ℕ) where
   -- each leaf that is there shows its value
@@ -60,15 +54,6 @@ module _ (nodes : List ℤ) (leaves number : ℕ) where
   pub held_at : leaves + number < length nodes → NOTHING <ℤ value_of nodes (leaves + number) →
       IsHeld (entries_of nodes leaves) number (value_of nodes (leaves + number))
   held_at within something = shown within ∙ ap Some (entry_some (value_of nodes (leaves + number)) something)
-
-  pub free_at : IsFree (entries_of nodes leaves) number →
-      (leaves + number < length nodes) × (value_of nodes (leaves + number) ≤ℤ NOTHING)
-  free_at free =
-      let within = inside None free in (
-        within,
-        entry_is_none (value_of nodes (leaves + number))
-            (same_Some (entry_of (value_of nodes (leaves + number))) None (sym (shown within) ∙ free)),
-      )
 
 -- one leaf written
 pub entries_set : (nodes after : List ℤ) (leaves number : ℕ) (value : ℤ) → NOTHING <ℤ value →

@@ -1,6 +1,6 @@
 //! The set of values that only grows.
 
-ghost use Rattle.std.specs.Prelude.{◌≡◌, ◌<ℤ◌, length, replicate, slice_set, Some, None, IfOk, IfNone, IfSome};
+ghost use Rattle.std.specs.Prelude.{◌≡◌, ◌<ℤ◌, replicate, slice_set, Some, None, IfOk, IfNone, IfSome};
 ghost use Rattle.ranking.specs.Ranking.{IsFree, HoldsNothing, IsGreatest, AllBelow, IsLeastNumber};
 
 use crate::tree;
@@ -47,13 +47,6 @@ impl Ranking {
         ensures { self.new ≡ slice_set self.old number (Some value) }
     {
         tree::put(&mut self.nodes, self.leaves, number as usize, value);
-    }
-
-    /// Takes all values away.
-    pub fn clear(&mut self)
-        ensures { self.new ≡ replicate (length self.old) None }
-    {
-        self.nodes.fill(NOTHING);
     }
 
     /// The greatest value, or none where there is no value.
