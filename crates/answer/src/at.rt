@@ -1,6 +1,7 @@
 //! The answer of `at`.
 
-ghost use Rattle.std.specs.Prelude.{◌-◌, ◌^◌, ◌<◌, IsTrue};
+ghost use Rattle.std.specs.Prelude.{◌-◌, ◌^◌, ◌<◌};
+ghost use Rattle.report.specs.Output.{IsWritable};
 ghost use Rattle.report.specs.State.{sink_state};
 ghost use Rattle.report.specs.Telling.{Answers};
 ghost use Rattle.audit.specs.At.{at_report};
@@ -25,10 +26,8 @@ pub fn answer_at<C: Feed, F: Feed, K: Sink, E: Sink, H: BuildHasher + Drop>(
 ) -> (F, u8)
     requires claim_room { C.fault_count claim.old < 2 ^ 64 - 1 }
     requires capture_room { F.fault_count capture < 2 ^ 64 - 1 }
-    requires out_is_open { IsTrue (K.is_open out.old) }
-    requires out_room { K.fault_count out.old < 2 ^ 64 - 1 }
-    requires err_is_open { IsTrue (E.is_open err.old) }
-    requires err_room { E.fault_count err.old < 2 ^ 64 - 1 }
+    requires out { IsWritable (sink_state K.contents K.is_open K.fault_count out.old) }
+    requires err { IsWritable (sink_state E.contents E.is_open E.fault_count err.old) }
     ensures { Answers (at_report second (C.remaining claim.old) (F.remaining capture))
         (audit_devices (C.fault_count claim.old) (F.fault_count capture)
         (sink_state K.contents K.is_open K.fault_count out.old))
@@ -38,5 +37,5 @@ pub fn answer_at<C: Feed, F: Feed, K: Sink, E: Sink, H: BuildHasher + Drop>(
         (sink_state E.contents E.is_open E.fault_count err.new) result.1 }
 {
     let (capture, answer) = run_at_with(alloc, claim, capture, second, out, hasher);
-    (capture, tell(alloc, &answer, err))
+    (capture, tell(&answer, err))
 }

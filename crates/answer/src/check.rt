@@ -1,6 +1,7 @@
 //! The answer of `check`.
 
-ghost use Rattle.std.specs.Prelude.{◌-◌, ◌^◌, ◌<◌, IsTrue};
+ghost use Rattle.std.specs.Prelude.{◌-◌, ◌^◌, ◌<◌};
+ghost use Rattle.report.specs.Output.{IsWritable};
 ghost use Rattle.report.specs.State.{sink_state};
 ghost use Rattle.report.specs.Telling.{Answers};
 ghost use Rattle.audit.specs.Check.{check_report, check_devices};
@@ -25,10 +26,8 @@ pub fn answer_check<C: Feed, F: Feed, T: Feed, K: Sink, E: Sink, H: BuildHasher 
     requires claim_room { C.fault_count claim.old < 2 ^ 64 - 1 }
     requires capture_room { F.fault_count capture < 2 ^ 64 - 1 }
     requires certificate_room { T.fault_count certificate.old < 2 ^ 64 - 1 }
-    requires out_is_open { IsTrue (K.is_open out.old) }
-    requires out_room { K.fault_count out.old < 2 ^ 64 - 1 }
-    requires err_is_open { IsTrue (E.is_open err.old) }
-    requires err_room { E.fault_count err.old < 2 ^ 64 - 1 }
+    requires out { IsWritable (sink_state K.contents K.is_open K.fault_count out.old) }
+    requires err { IsWritable (sink_state E.contents E.is_open E.fault_count err.old) }
     ensures { Answers
         (check_report (C.remaining claim.old) (T.remaining certificate.old) (F.remaining capture))
         (check_devices (C.fault_count claim.old) (T.fault_count certificate.old)
@@ -39,5 +38,5 @@ pub fn answer_check<C: Feed, F: Feed, T: Feed, K: Sink, E: Sink, H: BuildHasher 
         (sink_state E.contents E.is_open E.fault_count err.new) result.1 }
 {
     let (capture, answer) = run_check_with(alloc, claim, capture, certificate, out, hasher);
-    (capture, tell(alloc, &answer, err))
+    (capture, tell(&answer, err))
 }

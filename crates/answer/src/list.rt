@@ -1,7 +1,8 @@
 //! The answer of `list`.
 
-ghost use Rattle.std.specs.Prelude.{◌-◌, ◌^◌, ◌<◌, IsTrue};
+ghost use Rattle.std.specs.Prelude.{◌-◌, ◌^◌, ◌<◌};
 ghost use Rattle.std.specs.Option.{option_map};
+ghost use Rattle.report.specs.Output.{IsWritable};
 ghost use Rattle.report.specs.State.{sink_state};
 ghost use Rattle.report.specs.Telling.{Answers};
 ghost use Rattle.listing.specs.Listing.{list_report, list_devices};
@@ -19,10 +20,8 @@ pub fn answer_list<F: Feed, K: Sink, E: Sink>(
     err: &mut E,
 ) -> (F, u8)
     requires capture_room { F.fault_count capture < 2 ^ 64 - 1 }
-    requires out_is_open { IsTrue (K.is_open out.old) }
-    requires out_room { K.fault_count out.old < 2 ^ 64 - 1 }
-    requires err_is_open { IsTrue (E.is_open err.old) }
-    requires err_room { E.fault_count err.old < 2 ^ 64 - 1 }
+    requires out { IsWritable (sink_state K.contents K.is_open K.fault_count out.old) }
+    requires err { IsWritable (sink_state E.contents E.is_open E.fault_count err.old) }
     ensures { Answers (option_map list_report (F.remaining capture))
         (list_devices (F.fault_count capture)
         (sink_state K.contents K.is_open K.fault_count out.old))
@@ -32,6 +31,6 @@ pub fn answer_list<F: Feed, K: Sink, E: Sink>(
         (sink_state E.contents E.is_open E.fault_count err.new) result.1 }
 {
     let (feed, answer) = run_list(alloc, capture, out);
-    let code = tell(alloc, &answer, err);
+    let code = tell(&answer, err);
     (feed, code)
 }

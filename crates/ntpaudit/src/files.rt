@@ -1,6 +1,8 @@
 //! The files that a command line names, opened, and each command's answer over them.
 
-ghost use Rattle.std.specs.Prelude.{◌≡◌, ◌-◌, ◌^◌, ◌<◌, IfOk, IsTrue};
+ghost use Rattle.std.specs.Prelude.{◌≡◌, IfOk};
+ghost use Rattle.report.specs.Output.{IsWritable};
+ghost use Rattle.report.specs.State.{sink_state};
 
 use crate::request::{CheckPaths, EvidencePaths, Question};
 use answer::{answer_at, answer_check, answer_find, answer_list, answer_samples};
@@ -74,17 +76,15 @@ pub(crate) fn list_file<K: Sink, E: Sink>(
     out: &mut K,
     err: &mut E,
 ) -> u8
-    requires out_is_open { IsTrue (K.is_open out.old) }
-    requires out_room { K.fault_count out.old < 2 ^ 64 - 1 }
-    requires err_is_open { IsTrue (E.is_open err.old) }
-    requires err_room { E.fault_count err.old < 2 ^ 64 - 1 }
+    requires out { IsWritable (sink_state K.contents K.is_open K.fault_count out.old) }
+    requires err { IsWritable (sink_state E.contents E.is_open E.fault_count err.old) }
 {
     let alloc = rt.alloc();
     match path {
         None => answer_list(alloc, ReadFeed::new(rt.stdin()), out, err).1,
         Some(path) => match open(rt, path.as_str(), Input::Capture) {
             Ok(capture) => answer_list(alloc, capture, out, err).1,
-            Err(fault) => tell(alloc, &Err(fault), err),
+            Err(fault) => tell(&Err(fault), err),
         },
     }
 }
@@ -99,15 +99,13 @@ pub(crate) fn ask_files<K: Sink, E: Sink, H: BuildHasher + Drop>(
     err: &mut E,
     hasher: H,
 ) -> u8
-    requires out_is_open { IsTrue (K.is_open out.old) }
-    requires out_room { K.fault_count out.old < 2 ^ 64 - 1 }
-    requires err_is_open { IsTrue (E.is_open err.old) }
-    requires err_room { E.fault_count err.old < 2 ^ 64 - 1 }
+    requires out { IsWritable (sink_state K.contents K.is_open K.fault_count out.old) }
+    requires err { IsWritable (sink_state E.contents E.is_open E.fault_count err.old) }
 {
     let alloc = rt.alloc();
     let EvidenceFiles { mut claim, capture } = match open_evidence(rt, paths) {
         Ok(files) => files,
-        Err(fault) => return tell(alloc, &Err(fault), err),
+        Err(fault) => return tell(&Err(fault), err),
     };
     let claim = &mut claim;
     match question {
@@ -128,10 +126,8 @@ pub(crate) fn check_files<K: Sink, E: Sink, H: BuildHasher + Drop>(
     err: &mut E,
     hasher: H,
 ) -> u8
-    requires out_is_open { IsTrue (K.is_open out.old) }
-    requires out_room { K.fault_count out.old < 2 ^ 64 - 1 }
-    requires err_is_open { IsTrue (E.is_open err.old) }
-    requires err_room { E.fault_count err.old < 2 ^ 64 - 1 }
+    requires out { IsWritable (sink_state K.contents K.is_open K.fault_count out.old) }
+    requires err { IsWritable (sink_state E.contents E.is_open E.fault_count err.old) }
 {
     let alloc = rt.alloc();
     match open_check(rt, paths) {
@@ -153,6 +149,6 @@ pub(crate) fn check_files<K: Sink, E: Sink, H: BuildHasher + Drop>(
             )
             .1
         }
-        Err(fault) => tell(alloc, &Err(fault), err),
+        Err(fault) => tell(&Err(fault), err),
     }
 }

@@ -5,7 +5,8 @@
 //! contracts of the crate `answer`.
 #![tactic(auto)]
 
-ghost use Rattle.std.specs.Prelude.{◌-◌, ◌^◌, ◌<◌, IsTrue};
+ghost use Rattle.report.specs.Output.{IsWritable};
+ghost use Rattle.report.specs.State.{sink_state};
 
 mod command_line;
 mod commands;
@@ -37,18 +38,16 @@ fn run<K: Sink, E: Sink, H: BuildHasher + Drop>(
     err: &mut E,
     hasher: H,
 ) -> u8
-    requires out_is_open { IsTrue (K.is_open out.old) }
-    requires out_room { K.fault_count out.old < 2 ^ 64 - 1 }
-    requires err_is_open { IsTrue (E.is_open err.old) }
-    requires err_room { E.fault_count err.old < 2 ^ 64 - 1 }
+    requires out { IsWritable (sink_state K.contents K.is_open K.fault_count out.old) }
+    requires err { IsWritable (sink_state E.contents E.is_open E.fault_count err.old) }
 {
     match request {
         Request::List(path) => list_file(rt, &path, out, err),
         Request::Ask(paths, question) => ask_files(rt, &paths, question, out, err, hasher),
         Request::Check(paths) => check_files(rt, &paths, out, err, hasher),
-        Request::Show(text) => show(rt.alloc(), text, out, err),
+        Request::Show(text) => show(text, out, err),
         Request::Refuse(text) => refuse(text, err),
-        Request::RefuseTime => refuse_time(rt.alloc(), err),
+        Request::RefuseTime => refuse_time(err),
     }
 }
 
@@ -65,7 +64,7 @@ fn main(rt: HostRuntime) -> ExitCode {
                 run(&rt, request, &mut out, &mut err, hasher)
             }
         },
-        Err(AllocError) => tell(rt.alloc(), &Err(RunFault::Memory), &mut err),
+        Err(AllocError) => tell(&Err(RunFault::Memory), &mut err),
     };
     ExitCode::from(code)
 }

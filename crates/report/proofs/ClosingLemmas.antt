@@ -4,8 +4,7 @@ use Rattle.std.proofs.Math.Seq.{take-length}
 use Rattle.std.proofs.lemmas.List.{append-nil}
 use Rattle.std.specs.List.{concat}
 use Rattle.std.specs.Io.KnownBytes.{Appends, Keeps}
-use Rattle.byte_stream.specs.Fault.{CountsFault}
-use Rattle.byte_stream.proofs.Fault.{CountsFault-after}
+use Rattle.byte_stream.specs.Fault.{CountsFault, CountsFault-after}
 use Rattle.report.specs.declared.fault.Input.{Input}
 use Rattle.report.specs.declared.fault.Outcome.{Outcome}
 use Rattle.report.specs.declared.fault.RunFault.{RunFault}

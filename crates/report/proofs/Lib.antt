@@ -1,3 +1,4 @@
 pub mod Known
 pub mod OutputLemmas
 pub mod ClosingLemmas
+pub mod FaultTextLemmas

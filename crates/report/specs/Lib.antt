@@ -6,5 +6,6 @@ pub mod Closing
 pub mod ExitStatus
 pub mod FaultText
 pub mod Input
+pub mod Delivery
 pub mod Publication
 pub mod Telling

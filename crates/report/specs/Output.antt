@@ -14,6 +14,12 @@ pub record SinkState : Type 0 where
   pub is_open : Bool
   pub faults : ℕ
 
+-- A sink may be pushed to and finished: it's open, and the count of its faults has room for one
+-- more.
+pub record IsWritable (sink : SinkState) : Type 0 where
+  pub is_open : IsTrue sink.is_open
+  pub room : sink.faults < 2 ^ 64 - 1
+
 -- an output at one moment: its sink, the text that is gathered, and how many bytes have gone out
 pub record OutputState : Type 0 where
   pub sink : SinkState

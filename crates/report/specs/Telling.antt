@@ -1,9 +1,9 @@
 -- How an answer is told beside its status: a fault by its line, and an outcome by nothing.
-use Rattle.std.specs.Prelude.{◌≡◌, ◌+◌, ◌⊎◌, ℕ, List, [], ◌++◌, codes, Option, Result, Ok, Err}
-use Rattle.std.specs.Io.KnownBytes.{Appends, Keeps}
+use Rattle.std.specs.Prelude.{◌≡◌, ℕ, List, [], ◌++◌, codes, Option, Result, Ok, Err}
 use Rattle.report.specs.declared.fault.Outcome.{Outcome}
 use Rattle.report.specs.declared.fault.RunFault.{RunFault}
-use Rattle.report.specs.Output.{SinkState, IsCut}
+use Rattle.report.specs.Delivery.{IsDelivered}
+use Rattle.report.specs.Output.{SinkState}
 use Rattle.report.specs.ExitStatus.{status_of}
 use Rattle.report.specs.FaultText.{fault_text}
 use Rattle.report.specs.Reports.{Report, Devices, Reports}
@@ -13,14 +13,10 @@ abbrev pub told_text : Result Outcome RunFault → List ℕ
 told_text (Ok outcome) = []
 told_text (Err fault) = fault_text fault ++ codes "\n"
 
--- The sink was told the answer: it has got the whole line, or nothing where memory for the line was
--- refused, or a first part of it where the sink failed.
+-- The sink was told the answer: it has got the whole line and was finished, or it failed, and has
+-- got a first part of it. For want of memory no line is left out.
 abbrev pub Tells : Result Outcome RunFault → SinkState → SinkState → Type 0
-Tells answer before after =
-    Appends before.contents after.contents (told_text answer)
-    ⊎ (Keeps before.contents after.contents ⊎
-    ((gone : ℕ) × IsCut (told_text answer) before.contents after.contents gone
-    × (after.faults ≡ before.faults + 1)))
+Tells answer before after = IsDelivered (told_text answer) before after
 
 -- What a caller of a whole command sees: there is one answer, of which the report stands in the
 -- output's sink, the fault's line in the sink for errors, and the status in the result.

@@ -6,6 +6,7 @@
 //! promise.
 #![tactic(auto)]
 
+mod delivery;
 mod exit_status;
 mod fault;
 mod fault_text;
@@ -14,6 +15,7 @@ mod output;
 mod publication;
 mod telling;
 
+pub use delivery::deliver;
 pub use exit_status::status;
 pub use fault::{Input, Outcome, RunFault};
 pub use fault_text::fault_line;

@@ -1,9 +1,8 @@
 //! Text on its way to a sink.
 
-ghost use Rattle.std.specs.Prelude.{◌≡◌, ◌+◌, ◌-◌, ◌^◌, ◌<◌, ◌≤◌, ℕ, [], ◌∷◌, ◌++◌, length, take, IsTrue, OnOk, IfOk, IfErr, is_ok, is_err, vec_capacity};
-ghost use Rattle.std.specs.Io.KnownBytes.{Appends};
-ghost use Rattle.byte_stream.specs.Fault.{CountsFault};
+ghost use Rattle.std.specs.Prelude.{◌≡◌, ◌+◌, ◌≤◌, [], ◌∷◌, length, OnOk, IfOk, vec_capacity, Ok, Err};
 
+use crate::delivery::push_all;
 use crate::fault::{Outcome, RunFault};
 use byte_stream::Sink;
 use std::alloc::{AllocError, Global};
@@ -39,29 +38,6 @@ pub fn output_buffer(alloc: Global) -> Result<Vec<u8>, AllocError>
     ensures { IfOk result (λ buffer. OUTPUT_CAPACITY ≤ vec_capacity buffer) }
 {
     Vec::with_capacity(alloc, OUTPUT_CAPACITY)
-}
-
-/// Pushes all the bytes, or answers how many went out before the sink failed.
-pub(crate) fn push_all<K: Sink>(out: &mut K, bytes: &[u8]) -> Result<(), usize>
-    requires is_open { IsTrue (K.is_open out.old) }
-    requires room { K.fault_count out.old < 2 ^ 64 - 1 }
-    ensures ok { OnOk result (Appends (K.contents out.old) (K.contents out.new) bytes.now) }
-    ensures cut { IfErr result (λ gone. gone < length bytes.now) }
-    ensures err { IfErr result (λ gone.
-        Appends (K.contents out.old) (K.contents out.new) (take gone bytes.now)) }
-    ensures stays_open { K.is_open out.new ≡ is_ok result }
-    ensures counts_fault { CountsFault (is_err result)
-        (K.fault_count out.old) (K.fault_count out.new) }
-{
-    let mut gone = 0;
-    while gone < bytes.len() {
-        let (_, rest) = bytes.split_at(gone);
-        match out.push(rest) {
-            Ok(n) => gone += n,
-            Err(_) => return Err(gone),
-        }
-    }
-    Ok(())
 }
 
 impl<'a, K: Sink> Output<'a, K> {

@@ -4,8 +4,8 @@ ghost use Rattle.std.specs.Prelude.{◌-◌, ◌^◌, ◌<◌, IsTrue};
 ghost use Rattle.report.specs.Publication.{IsUnwritten, Publishes};
 ghost use Rattle.report.specs.State.{sink_state};
 
+use crate::delivery::deliver;
 use crate::fault::{Outcome, RunFault};
-use crate::output::push_all;
 use byte_stream::Sink;
 
 /// The whole text of a run, and its outcome.
@@ -30,16 +30,10 @@ pub fn publish<K: Sink>(out: &mut K, made: &Result<Made, RunFault>) -> Result<Ou
         (sink_state K.contents K.is_open K.fault_count out.new) made.now result }
 {
     match made {
-        Ok(made) => {
-            let text = made.text.as_slice();
-            match push_all(out, text) {
-                Ok(()) => match out.finish() {
-                    Ok(()) => Ok(made.outcome),
-                    Err(_) => Err(RunFault::Write(text.len() as u64)),
-                },
-                Err(gone) => Err(RunFault::Write(gone as u64)),
-            }
-        }
+        Ok(made) => match deliver(made.text.as_slice(), out) {
+            Ok(()) => Ok(made.outcome),
+            Err(sent) => Err(RunFault::Write(sent as u64)),
+        },
         Err(fault) => {
             let _ = out.finish();
             Err(*fault)

@@ -1,34 +1,42 @@
 //! How an answer is told.
 
-ghost use Rattle.std.specs.Prelude.{◌≡◌, ◌-◌, ◌^◌, ◌<◌, IsTrue};
+ghost use Rattle.std.specs.Prelude.{◌≡◌, ◌+◌, ◌≤◌, ◌++◌, length};
+ghost use Rattle.line_writer.specs.declared.line.TheConstants.{CAPACITY};
 ghost use Rattle.report.specs.ExitStatus.{status_of};
+ghost use Rattle.report.specs.Output.{IsWritable};
 ghost use Rattle.report.specs.State.{sink_state};
-ghost use Rattle.report.specs.Telling.{Tells};
+ghost use Rattle.report.specs.Telling.{Tells, told_text};
 
+use crate::delivery::deliver;
 use crate::exit_status::status;
 use crate::fault::{Outcome, RunFault};
-use crate::fault_text::fault_line;
-use crate::output::push_all;
+use crate::fault_text::put_fault;
 use byte_stream::Sink;
-use std::alloc::Global;
+use line_writer::Line;
 
-/// Tells an answer: a fault by its line and a line feed, an outcome by nothing. The result is its
-/// exit status.
+/// Writes the line that tells an answer, with its line feed: none for an outcome.
+fn put_answer(line: &mut Line, answer: &Result<Outcome, RunFault>)
+    requires { length line.old + 70 ≤ CAPACITY }
+    ensures { line.new ≡ told_text answer.now ++ line.old }
+{
+    if let Err(fault) = answer {
+        line.put_byte(b'\n');
+        put_fault(line, fault);
+    }
+}
+
+/// Tells an answer: a fault by its line and a line feed, an outcome by nothing, and finishes the
+/// sink. The result is the answer's exit status, whatever the sink does.
 ///
-/// A line for which memory is refused isn't told.
-pub fn tell<E: Sink>(alloc: Global, answer: &Result<Outcome, RunFault>, err: &mut E) -> u8
-    requires is_open { IsTrue (E.is_open err.old) }
-    requires room { E.fault_count err.old < 2 ^ 64 - 1 }
+/// It takes no memory: a line is told that `Memory` is the fault of, too.
+pub fn tell<E: Sink>(answer: &Result<Outcome, RunFault>, err: &mut E) -> u8
+    requires { IsWritable (sink_state E.contents E.is_open E.fault_count err.old) }
     ensures tells { Tells answer.now (sink_state E.contents E.is_open E.fault_count err.old)
         (sink_state E.contents E.is_open E.fault_count err.new) }
     ensures status { result ≡ status_of answer.now }
 {
-    if let Err(fault) = answer {
-        if let Ok(mut line) = fault_line(alloc, fault) {
-            if line.push_str("\n").is_ok() {
-                let _ = push_all(err, line.as_bytes());
-            }
-        }
-    }
+    let mut line = Line::new();
+    put_answer(&mut line, answer);
+    let _ = deliver(line.as_bytes(), err);
     status(answer)
 }

@@ -1,6 +1,6 @@
 use Rattle.std.proofs.Common.{◌≡◌, ◌≤◌, ◌-◌, length, take, IsTrue}
 use Rattle.std.specs.Io.KnownBytes.{Appends}
-use Rattle.report.proofs.output.push_all.Given as goal
+use Rattle.report.proofs.delivery.push_all.Given as goal
 
 abbrev pub invariant-loop-gone : goal.invariant-loop-gone
 invariant-loop-gone g l = record {
