@@ -1,18 +1,24 @@
 -- How far a listing has come.
-use Rattle.std.specs.Prelude.{◌≡◌, ◌+◌, ◌*◌, ◌≤◌, ℕ, List, [], ◌∷◌, ◌++◌, length, Option, Some, None, Ok, IfSome, false, Result, Err}
+use Rattle.std.specs.Prelude.{◌≡◌, ◌+◌, ◌-◌, ◌*◌, ◌^◌, ◌<◌, ◌≤◌, ℕ, List, [], ◌∷◌, ◌++◌, length, Option, Some, None, Ok, IfSome, false, Result, Err}
 use Rattle.std.specs.Option.{option_map}
 use Rattle.byte_stream.specs.Fault.{CountsFault}
 use Rattle.pcap_reader.specs.Capture.{most_records}
 use Rattle.pcap_reader.specs.Remaining.{Coming}
-use Rattle.pcap_reader.specs.Source.{SourceState, TakesFrom}
+use Rattle.pcap_reader.specs.Source.{SourceState, IsFresh, TakesFrom}
 use Rattle.report.specs.declared.fault.Input.{Input}
 use Rattle.report.specs.declared.fault.Outcome.{Outcome}
 use Rattle.report.specs.declared.fault.RunFault.{RunFault}
 use Rattle.report.specs.declared.fault.RunFault.TheVariants.{Memory}
 use Rattle.report.specs.Closing.{HasRun, CanClose, stops_of}
-use Rattle.report.specs.Output.{SinkState, OutputState, HasPut, IsReady, Puts, put_count}
+use Rattle.report.specs.Output.{SinkState, OutputState, HasPut, IsReady, IsWritable, Puts, put_count}
 use Rattle.report.specs.Reports.{Reports, is_device, only_capture}
 use Rattle.listing.specs.Listing.{lines_of, listing, list_devices}
+
+-- A source may be listed on a sink: it has given nothing, and both may be used.
+pub record CanList (source : SourceState) (sink : SinkState) : Type 0 where
+  pub fresh : IsFresh source
+  pub source_room : source.fault_count < 2 ^ 64 - 1
+  pub writable : IsWritable sink
 
 -- Of a capture some records were given, and these are the lines of those that hold an NTP packet.
 pub record HasGiven (whole rest : Coming) (done : List (List ℕ)) (records : ℕ) : Type 0 where

@@ -1,6 +1,6 @@
 //! The engine of `list`.
 
-ghost use Rattle.std.specs.Prelude.{◌≡◌, ◌-◌, ◌^◌, ◌+◌, ◌<◌, ◌≤◌, [], ◌∷◌, OnOk, IsTrue, vec_capacity, Err};
+ghost use Rattle.std.specs.Prelude.{◌≡◌, ◌-◌, ◌^◌, ◌+◌, ◌<◌, ◌≤◌, [], ◌∷◌, OnOk, vec_capacity, Err};
 ghost use Rattle.report.specs.declared.output.TheConstants.{OUTPUT_CAPACITY};
 ghost use Rattle.std.specs.Option.{option_map};
 ghost use Rattle.pcap_reader.specs.Source.{IsFresh, TakesFrom};
@@ -8,7 +8,7 @@ ghost use Rattle.report.specs.Output.{IsReady, Puts, put_count, fresh_output};
 ghost use Rattle.report.specs.State.{output_state, sink_state, sink_name};
 ghost use Rattle.report.specs.Reports.{Reports};
 ghost use Rattle.listing.specs.Listing.{closing_line, listing, list_devices};
-ghost use Rattle.listing.specs.Progress.{HasListed, Lists, moment, most_line};
+ghost use Rattle.listing.specs.Progress.{CanList, HasListed, Lists, moment, most_line};
 
 use crate::record::list_record;
 use byte_stream::Sink;
@@ -112,10 +112,8 @@ pub(crate) fn list_in<S: RecordSource, K: Sink>(
     buffer: &mut Vec<u8>,
     out: &mut K,
 ) -> Result<Outcome, RunFault>
-    requires fresh { IsFresh (S.state source.old) }
-    requires source_room { (S.state source.old).fault_count < 2 ^ 64 - 1 }
-    requires is_open { IsTrue (K.is_open out.old) }
-    requires sink_room { K.fault_count out.old < 2 ^ 64 - 1 }
+    requires can_list { CanList (S.state source.old)
+        (sink_state K.contents K.is_open K.fault_count out.old) }
     requires capacity { OUTPUT_CAPACITY ≤ vec_capacity buffer.old }
     ensures { Lists (S.state source.old) (S.state source.new)
         (sink_state K.contents K.is_open K.fault_count out.old)
@@ -138,10 +136,8 @@ pub fn list_from<S: RecordSource, K: Sink>(
     source: &mut S,
     out: &mut K,
 ) -> Result<Outcome, RunFault>
-    requires fresh { IsFresh (S.state source.old) }
-    requires source_room { (S.state source.old).fault_count < 2 ^ 64 - 1 }
-    requires is_open { IsTrue (K.is_open out.old) }
-    requires sink_room { K.fault_count out.old < 2 ^ 64 - 1 }
+    requires { CanList (S.state source.old)
+        (sink_state K.contents K.is_open K.fault_count out.old) }
     ensures reports { Reports (option_map listing (S.state source.old).remaining)
         (list_devices (S.state source.old).fault_count
         (sink_state K.contents K.is_open K.fault_count out.old))

@@ -1,11 +1,12 @@
 //! The run of `list` over a feed and a sink.
 
-ghost use Rattle.std.specs.Prelude.{◌≡◌, ◌-◌, ◌^◌, ◌<◌, IsTrue, IfSome, Err};
+ghost use Rattle.std.specs.Prelude.{◌≡◌, ◌-◌, ◌^◌, ◌<◌, IfSome, Err};
 ghost use Rattle.std.specs.Option.{option_map};
 ghost use Rattle.byte_stream.specs.Intake.{TakesAtMost};
 ghost use Rattle.pcap_reader.specs.declared.fault.CaptureFault.{CaptureFault};
 ghost use Rattle.pcap_reader.specs.Limit.{most_taken, buffer_size};
 ghost use Rattle.pcap_reader.specs.Remaining.{capture_of};
+ghost use Rattle.report.specs.Output.{IsWritable};
 ghost use Rattle.report.specs.Reports.{Reports};
 ghost use Rattle.report.specs.State.{sink_state};
 ghost use Rattle.listing.specs.Listing.{list_report, list_devices};
@@ -33,8 +34,7 @@ pub fn run_list<F: Feed, K: Sink>(
     out: &mut K,
 ) -> (F, Result<Outcome, RunFault>)
     requires feed_room { F.fault_count capture < 2 ^ 64 - 1 }
-    requires is_open { IsTrue (K.is_open out.old) }
-    requires sink_room { K.fault_count out.old < 2 ^ 64 - 1 }
+    requires sink { IsWritable (sink_state K.contents K.is_open K.fault_count out.old) }
     ensures reports { Reports (option_map list_report (F.remaining capture))
         (list_devices (F.fault_count capture)
         (sink_state K.contents K.is_open K.fault_count out.old))
