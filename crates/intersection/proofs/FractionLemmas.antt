@@ -3,7 +3,7 @@ use Rattle.std.proofs.Common.{◌≡◌, ℕ, zero, suc, ◌*◌, ◌/◌, ◌<�
 use Rattle.std.proofs.lemmas.Int.{ints, by_lt_z}
 use Rattle.std.proofs.lemmas.List.Sums.{sum_by-le-sum_by}
 use Rattle.std.proofs.Math.Nat.{mul-le-mul_right}
-pub use Rattle.intersection.specs.Fineness.{times_le}
+use Rattle.intersection.specs.Fineness.{times_le}
 use Rattle.intersection.specs.Interval.{leaves_out}
 use Rattle.intersection.specs.Hull.{count_leaving_out, IsAdmissible, IsHull}
 use Rattle.era_unfold.specs.Ratio.{IsSignedFloor, IsSignedCeiling}

@@ -6,7 +6,6 @@ use Rattle.pcap_reader.specs.declared.format.RecordHead.{RecordHead}
 use Rattle.pcap_reader.specs.declared.fault.CaptureFault.{CaptureFault}
 use Rattle.pcap_reader.specs.declared.fault.CaptureFault.TheVariants.{Read, Failed}
 use Rattle.pcap_reader.specs.Fault.{IsRecordFault, MayAnswer}
-pub use Rattle.pcap_reader.specs.Source.{TakesFrom-none, TakesFrom-trans, TakesFrom-at_most}
 use Rattle.pcap_reader.specs.Source.{read_failed}
 
 -- a record's fault is one that may be answered
