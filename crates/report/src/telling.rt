@@ -28,7 +28,7 @@ fn put_answer(line: &mut Line, answer: &Result<Outcome, RunFault>)
 /// Tells an answer: a fault by its line and a line feed, an outcome by nothing, and finishes the
 /// sink. The result is the answer's exit status, whatever the sink does.
 ///
-/// It takes no memory: a line is told that `Memory` is the fault of, too.
+/// It takes no memory, so that a run that is out of memory is told too.
 pub fn tell<E: Sink>(answer: &Result<Outcome, RunFault>, err: &mut E) -> u8
     requires { IsWritable (sink_state E.contents E.is_open E.fault_count err.old) }
     ensures tells { Tells answer.now (sink_state E.contents E.is_open E.fault_count err.old)
