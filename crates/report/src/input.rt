@@ -3,6 +3,7 @@
 ghost use Rattle.std.specs.Prelude.{◌≡◌, ◌+◌, ◌-◌, ◌^◌, ◌<◌, Ok, Err, IfOk, IfErr, IfSome, MatchResult, length};
 ghost use Rattle.byte_stream.specs.Fault.{CountsFault};
 ghost use Rattle.byte_stream.specs.Intake.{TakesAtMost};
+ghost use Rattle.report.specs.declared.fault.RunFault.TheVariants.{Memory};
 ghost use Rattle.report.specs.Input.{ReadsWhole, IsInputFault, read_failed};
 
 use crate::fault::{Input, RunFault};
@@ -15,7 +16,8 @@ const CHUNK: usize = 65536;
 /// All bytes of an input, where they are no more than `limit`.
 ///
 /// `TooBig(which)` comes where there are more, after one byte past the limit; `Device(which)`
-/// exactly where the feed failed, and `Memory` where memory was refused.
+/// exactly where the feed failed, and `Memory` where memory was refused before any byte past the
+/// limit was taken.
 pub fn read_input<F: Feed>(
     alloc: Global,
     feed: &mut F,
@@ -30,6 +32,8 @@ pub fn read_input<F: Feed>(
     ensures counts_fault { CountsFault (read_failed result)
         (F.fault_count feed.old) (F.fault_count feed.new) }
     ensures at_most { TakesAtMost (limit + 1) (F.remaining feed.old) (F.remaining feed.new) }
+    ensures memory { result ≡ Err Memory →
+        TakesAtMost limit (F.remaining feed.old) (F.remaining feed.new) }
 {
     let mut chunk = make_chunk(alloc)?;
     let mut read = Vec::new(alloc);
@@ -43,10 +47,10 @@ pub fn read_input<F: Feed>(
         if n == 0 {
             return Ok(read);
         }
-        read.extend_from_slice(&front[..n])?;
         if n as u64 > room {
             return Err(RunFault::TooBig(which));
         }
+        read.extend_from_slice(&front[..n])?;
     }
 }
 
