@@ -8,7 +8,8 @@ use Rattle.std.proofs.lemmas.Bool.{cases_lt}
 use Rattle.std.proofs.lemmas.Bool.Decides.{nat_tests}
 use Rattle.std.proofs.lemmas.Int.{ints}
 use Rattle.sample_interval.specs.declared.kinds.Sample.{Sample}
-use Rattle.span_cover.specs.Best.{HasNoSample, IsFirstBest, better, best_from, first_best_of, best_of, pair_of}
+use Rattle.span_cover.specs.Best.{HasNoSample, IsFirstBest, IsBestLow, IsBestHigh}
+use Rattle.span_cover.specs.Best.{better, best_from, first_best_of, best_of, pair_of}
 use Rattle.span_cover.specs.Piece.{IsPiece, moved_low, moved_high}
 use Rattle.span_cover.proofs.PieceLemmas.{kept}
 use mir.Syntax.{w128}
@@ -31,10 +32,10 @@ same_from_test a b h = grind (arith, nat_tests)
 other_from_test : (a b : ℕ) → nat_eq a b ≡ false → a ≢ b
 other_from_test a b h = grind (arith, nat_tests)
 
-less_from_test : (a b : ℤ) → int_lt a b ≡ true → a <ℤ b
+pub less_from_test : (a b : ℤ) → int_lt a b ≡ true → a <ℤ b
 less_from_test a b h = grind (arith, ints)
 
-not_less_from_test : (a b : ℤ) → int_lt a b ≡ false → b ≤ℤ a
+pub not_less_from_test : (a b : ℤ) → int_lt a b ≡ false → b ≤ℤ a
 not_less_from_test a b h = grind (arith, ints)
 
 same_some : (s t : Sample) → ◌≡◌ {A = Option Sample} (Some s) (Some t) → s ≡ t
@@ -169,6 +170,23 @@ module _ (merit : Sample → ℤ) (server number : ℕ) (samples : List Sample) 
       result ≡ best_from merit server (number - 1) (drop (number - 1) samples)
   best_from-step some within same weight best result w b r = r ∙ rw (w, b) (sym (best_from-same some within same))
 
+-- ---- no two samples are the first best
+module _ (merit : Sample → ℤ) (samples : List Sample) (server : ℕ) where
+  not_before : (j k : ℕ) → IsFirstBest merit samples server j → IsFirstBest merit samples server k → k ≤ j
+  not_before j k of_j of_k = ⊎_elim
+      (λ less. absurd (
+      let behind = of_k.first j of_j.sample of_j.stands of_j.of_server less in
+      let most = of_j.greatest k of_k.sample of_k.stands of_k.of_server in
+      omega (arith, ints)))
+      (λ le. le)
+      (cases_lt j k)
+
+  pub IsFirstBest-one : (j k : ℕ) → IsFirstBest merit samples server j → IsFirstBest merit samples server k → j ≡ k
+  IsFirstBest-one j k of_j of_k =
+      let up = not_before j k of_j of_k in
+      let down = not_before k j of_k of_j in
+      omega arith
+
 -- ---- the first best of a list
 module _ (merit : Sample → ℤ) (samples : List Sample) (server : ℕ) where
   first_chosen : (b : Option (ℕ × ℤ)) → Chosen merit server 0 samples b →
@@ -189,6 +207,23 @@ module _ (merit : Sample → ℤ) (samples : List Sample) (server : ℕ) where
   pub first_of_server : (k : ℕ) → first_best_of merit samples server ≡ Some k → IsFirstBest merit samples server k
   first_of_server k is =
       subst (λ (o : Option ℕ). MatchOption o (HasNoSample samples server) (IsFirstBest merit samples server)) is first
+
+  -- whoever has the first best has what the function gives
+  pub first_best_of-is : (k : ℕ) → IsFirstBest merit samples server k → first_best_of merit samples server ≡ Some k
+  first_best_of-is k is =
+      elim (first_best_of merit samples server) as
+      (λ (o : Option ℕ). MatchOption o (HasNoSample samples server) (IsFirstBest merit samples server) → o ≡ Some k) [
+        | None ↦ λ none. absurd (none k is.sample is.stands is.of_server)
+        | Some j ↦ λ found. ap Some (IsFirstBest-one merit samples server j k found is)
+      ] first
+
+  pub first_best_of-none : HasNoSample samples server → first_best_of merit samples server ≡ None
+  first_best_of-none none =
+      elim (first_best_of merit samples server) as
+      (λ (o : Option ℕ). MatchOption o (HasNoSample samples server) (IsFirstBest merit samples server) → o ≡ None) [
+        | None ↦ λ none. refl
+        | Some j ↦ λ found. absurd (none j found.sample found.stands found.of_server)
+      ] first
 
   pub some_sample : (k : ℕ) → IsFirstBest merit samples server k → ¬ HasNoSample samples server
   some_sample k best none = none k best.sample best.stands best.of_server
@@ -221,19 +256,38 @@ module _ (samples : List Sample) (server : ℕ) (p q : ℤ) (ppb : ℕ) (piece :
       first_best_of (λ s. neg_ℤ (moved_high s p q ppb)) samples server ≡ o
   high_known o e = passed_on (λ p q. first_best_of (λ s. neg_ℤ (moved_high s p q ppb)) samples server) p q o piece e
 
--- ---- no two samples are the first best
-module _ (merit : Sample → ℤ) (samples : List Sample) (server : ℕ) where
-  not_before : (j k : ℕ) → IsFirstBest merit samples server j → IsFirstBest merit samples server k → k ≤ j
-  not_before j k of_j of_k = ⊎_elim
-      (λ less. absurd (
-      let behind = of_k.first j of_j.sample of_j.stands of_j.of_server less in
-      let most = of_j.greatest k of_k.sample of_k.stands of_k.of_server in
-      omega (arith, ints)))
-      (λ le. le)
-      (cases_lt j k)
+-- ---- both ends
+module _ (samples : List Sample) (server : ℕ) (p q : ℤ) (ppb : ℕ) where
+  pub best_of-best : (low high : ℕ) → IsBestLow samples server p q ppb low → IsBestHigh samples server p q ppb high →
+      best_of samples server p q ppb ≡ Some (low, high)
+  best_of-best low high a b =
+      best_of-is samples server p q ppb (Some low) (Some high)
+      (first_best_of-is (λ s. moved_low s p q ppb) samples server low a)
+      (first_best_of-is (λ s. neg_ℤ (moved_high s p q ppb)) samples server high b)
 
-  pub IsFirstBest-one : (j k : ℕ) → IsFirstBest merit samples server j → IsFirstBest merit samples server k → j ≡ k
-  IsFirstBest-one j k of_j of_k =
-      let up = not_before j k of_j of_k in
-      let down = not_before k j of_k of_j in
-      omega arith
+  pub best_of-none : HasNoSample samples server → best_of samples server p q ppb ≡ None
+  best_of-none none =
+      best_of-is samples server p q ppb None None
+      (first_best_of-none (λ s. moved_low s p q ppb) samples server none)
+      (first_best_of-none (λ s. neg_ℤ (moved_high s p q ppb)) samples server none)
+
+  -- the numbers that the function gives
+  abbrev pub AreBest : ℕ × ℕ → Type 0
+  AreBest best = IsBestLow samples server p q ppb best.0 × IsBestHigh samples server p q ppb best.1
+
+  pub best_numbers : MatchOption (best_of samples server p q ppb) (HasNoSample samples server) AreBest
+  unfolding best_of
+  best_numbers =
+      elim (first_best_of (λ s. moved_low s p q ppb) samples server) as
+      (λ (low : Option ℕ). MatchOption low (HasNoSample samples server) (IsBestLow samples server p q ppb) →
+      MatchOption (pair_of low (first_best_of (λ s. neg_ℤ (moved_high s p q ppb)) samples server))
+      (HasNoSample samples server) AreBest) [
+        | None ↦ λ none. none
+        | Some low ↦ λ is_low.
+            elim (first_best_of (λ s. neg_ℤ (moved_high s p q ppb)) samples server) as
+            (λ (high : Option ℕ). MatchOption high (HasNoSample samples server) (IsBestHigh samples server p q ppb) →
+            MatchOption (pair_of (Some low) high) (HasNoSample samples server) AreBest) [
+              | None ↦ λ none. none
+              | Some high ↦ λ is_high. (is_low, is_high)
+            ] (first (λ s. neg_ℤ (moved_high s p q ppb)) samples server)
+      ] (first (λ s. moved_low s p q ppb) samples server)

@@ -1,3 +1,4 @@
 pub mod Piece
 pub mod Best
 pub mod Step
+pub mod Gathering

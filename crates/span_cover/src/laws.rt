@@ -1,11 +1,11 @@
 //! What holds of the definitions. A law is a function that does nothing: its contract is the law,
 //! for every number.
-ghost use Rattle.std.specs.Prelude.{◌≡◌, List, ℕ, ◌<◌, ◌≤◌, ℤ, pos, ◌-ℤ◌, ◌*ℤ◌, ◌≤ℤ◌, unsigned_abs};
+ghost use Rattle.std.specs.Prelude.{◌≡◌, List, Some, None, ℕ, ◌<◌, ◌≤◌, ℤ, pos, ◌-ℤ◌, ◌*ℤ◌, ◌≤ℤ◌, unsigned_abs};
 ghost use Rattle.intersection.specs.Fraction.{HoldsFraction};
 ghost use Rattle.sample_interval.specs.declared.kinds.Sample.{Sample};
 ghost use Rattle.sample_interval.specs.Moment.{Moment, error_of, DriftsWithinByReading, IsInWindow};
 ghost use Rattle.sample_interval.specs.Widening.{billion};
-ghost use Rattle.span_cover.specs.Best.{IsFirstBest};
+ghost use Rattle.span_cover.specs.Best.{IsFirstBest, IsBestLow, IsBestHigh, HasNoSample, best_of};
 ghost use Rattle.span_cover.specs.Piece.{farthest, moved_low, moved_high, piece_interval_of};
 
 use sample_interval::laws::{widening_grows, widening_is_one_number};
@@ -42,6 +42,16 @@ pub fn piece_inside_another_is_narrower()
 pub fn best_is_one_sample()
     ensures { (merit : Sample → ℤ) (samples : List Sample) (server j k : ℕ) →
         IsFirstBest merit samples server j → IsFirstBest merit samples server k → j ≡ k }
+{}
+
+/// Whoever has the first of a server's samples with the greatest moved low, and the first with the
+/// least moved high, has its best samples, however they were found.
+pub fn first_best_of_both_ends_are_the_best()
+    ensures some { (samples : List Sample) (server : ℕ) (p q : ℤ) (ppb low high : ℕ) →
+        IsBestLow samples server p q ppb low → IsBestHigh samples server p q ppb high →
+        best_of samples server p q ppb ≡ Some (low, high) }
+    ensures none { (samples : List Sample) (server : ℕ) (p q : ℤ) (ppb : ℕ) →
+        HasNoSample samples server → best_of samples server p q ppb ≡ None }
 {}
 
 /// No reading of a piece is further from one of a place than the greatest distance.

@@ -1,0 +1,8 @@
+use Rattle.std.proofs.Common.{refl, arith}
+use Rattle.std.proofs.lemmas.Int.{ints}
+use Rattle.span_cover.proofs.GatheringLemmas.{none_taken}
+use Rattle.span_cover.proofs.gathering.BestSamples.new.Goals as goal
+
+pub returns : goal.returns
+returns c =
+    none_taken c.args.p c.args.q c.args.drift_ppb _ (omega (arith, ints)) (omega (arith, ints)) refl refl
