@@ -35,11 +35,6 @@ place_of [] = None
 place_of (q ∷ []) = Some (One (moment_of q.head))
 place_of (q ∷ other ∷ others) = Some Several
 
--- what stands at a key after one more request
-abbrev pub place_after : Option Place → RecordHead → Place
-place_after None head = One (moment_of head)
-place_after (Some place) head = Several
-
 -- the requests with this key
 abbrev pub having : Key → List Request → List Request
 having k requests = filter (λ q. same_key k (key_of q)) requests

@@ -3,7 +3,7 @@
 ghost use Rattle.std.specs.Prelude.{◌≡◌, [], ◌∷◌, ◌++◌, List, OnOk};
 ghost use Rattle.indexmap.specs.IndexMap.{get};
 ghost use Rattle.pcap_reader.specs.declared.format.RecordHead.{RecordHead as Head};
-ghost use Rattle.pairing.specs.Index.{Indexes, moment_of, place_after, request_at, same_key};
+ghost use Rattle.pairing.specs.Index.{Indexes, moment_of, request_at, same_key};
 ghost use Rattle.pairing.specs.Message.{Request};
 
 use era_unfold::Unit;
@@ -59,18 +59,6 @@ pub(crate) enum Place {
     Several,
 }
 
-impl Place {
-    /// What stands at a key after the request that a record holds, and what stood there before.
-    fn after(before: Option<Place>, head: &RecordHead) -> Place
-        ensures { result ≡ place_after before head.now }
-    {
-        match before {
-            None => Place::One(Moment::new(head)),
-            Some(_) => Place::Several,
-        }
-    }
-}
-
 /// Each key's requests, as far as the capture was read.
 #[derive(Drop)]
 pub(crate) struct Index<H: BuildHasher> {
@@ -93,8 +81,10 @@ impl<H: BuildHasher + Drop> Index<H> {
             OnOk result (Indexes (get same_key self.new.places)
             (requests ++ request_at key head.now ∷ [])) }
     {
-        let place = Place::after(self.find(key), head);
-        self.places.insert(key, place)?;
+        let before = self.places.insert(key, Place::One(Moment::new(head)))?;
+        if before.is_some() {
+            self.places.insert(key, Place::Several)?;
+        }
         Ok(())
     }
 
