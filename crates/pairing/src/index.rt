@@ -88,10 +88,22 @@ impl<H: BuildHasher + Drop> Index<H> {
         Ok(())
     }
 
-    /// What the requests with a key are.
-    pub(crate) fn find(&self, key: Key) -> Option<Place>
+    /// What the requests with a key are. `guess` is the place where the key is looked for first, and
+    /// then the one after the key, if it was found.
+    ///
+    /// Keys stand in the order of their first requests. Replies mostly come in that order too, so the
+    /// next reply's key is mostly the next one: with no hash, and with no jump to a far place in memory.
+    pub(crate) fn find_near(&self, key: Key, guess: &mut usize) -> Option<Place>
         ensures { result ≡ get same_key self.now.places key }
     {
-        self.places.get(&key).copied()
+        let (found, place) = match self.places.get_index(*guess) {
+            Some((noted, place)) if *noted == key => (*guess, place),
+            _ => {
+                let (found, _, place) = self.places.get_full(&key)?;
+                (found, place)
+            }
+        };
+        *guess = found.saturating_add(1);
+        Some(*place)
     }
 }

@@ -39,8 +39,10 @@ pub(crate) fn join<H: BuildHasher + Drop>(
         exchanges: Vec::new(alloc),
         counts,
     };
+    let mut guess = 0;
     for reply in waiting {
-        collected.take(reply.outcome(index.find(reply.key)))?;
+        let found = index.find_near(reply.key, &mut guess);
+        collected.take(reply.outcome(found))?;
     }
     Ok(collected)
 }
