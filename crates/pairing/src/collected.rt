@@ -26,6 +26,7 @@ impl Collected {
     ghost use Rattle.pairing.specs.Counts.{HasRoom, with_outcome};
 
     /// Takes in what becomes of one more reply.
+    #[inline(always)]
     pub(crate) fn take(&mut self, outcome: Result<Exchange, Refusal>) -> Result<(), PairFault>
         requires room { HasRoom self.old.counts 1 }
         requires few { vec_len self.old.exchanges ≤ most_exchanges }

@@ -59,6 +59,7 @@ impl Waiting {
     }
 
     /// The exchange with the request of this moment (RFC 5905, section 8).
+    #[inline(always)]
     fn exchange(&self, request: Moment) -> Exchange
         requires reply { IsMoment self.now.moment }
         requires request { IsMoment request }
@@ -89,6 +90,7 @@ impl Waiting {
     }
 
     /// The exchange with the one and only request, or why there is none.
+    #[inline(always)]
     pub(crate) fn outcome(&self, found: Option<Place>) -> Result<Exchange, Refusal>
         requires reply { IsMoment self.now.moment }
         requires request { IsPlace found }
