@@ -10,6 +10,12 @@
 pub struct Exchange {
     /// The server's number in the claim.
     pub server: u8,
+    /// The leap indicator, 0 to 2.
+    pub leap: u8,
+    /// The stratum, 1 to 15.
+    pub stratum: u8,
+    /// The reference identifier.
+    pub reference: [u8; 4],
     /// The number of the request's record.
     pub request: u32,
     /// The number of the reply's record.
@@ -28,10 +34,4 @@ pub struct Exchange {
     pub t3: i128,
     /// The announced root distance, in ticks.
     pub distance: i128,
-    /// The leap indicator, 0 to 2.
-    pub leap: u8,
-    /// The stratum, 1 to 15.
-    pub stratum: u8,
-    /// The reference identifier.
-    pub reference: [u8; 4],
 }
