@@ -1,4 +1,3 @@
-pub mod IndexSteps
 pub mod JoinSteps
 pub mod GatheringSteps
 pub mod Exactness

@@ -1,9 +1,10 @@
 -- Exchanges are those of the pairs.
-use Rattle.std.proofs.Common.{◌≡◌, ◌∙◌, ℕ, zero, suc, ◌<◌, List, [], ◌∷◌, true, Option, Some, None, Ok, refl, sym, ap, subst, length, get_or, arith, map}
+use Rattle.std.proofs.Common.{◌≡◌, ◌∙◌, ◌==◌, ◌&&◌, ℕ, zero, suc, ◌<◌, List, [], ◌∷◌, true, Option, Some, None, Ok, refl, sym, ap, subst, length, get_or, arith, map}
 use Rattle.std.specs.Prelude.{All, AllPairs, Contains, IfSome, ◌≢◌}
 use Rattle.std.specs.List.{cons_option, filter_map}
 use Rattle.std.specs.Option.{option_and_then, option_map}
 use Rattle.std.specs.Result.{result_ok}
+use Rattle.std.proofs.lemmas.Bool.Decides.{nat_tests}
 use Rattle.std.proofs.lemmas.List.Elements.{All-contains_itself, filter_passes}
 use Rattle.std.proofs.lemmas.List.Kept.{AllPairs-cons}
 use Rattle.pcap_reader.specs.declared.format.RecordHead.{RecordHead}
@@ -17,13 +18,15 @@ use Rattle.pairing.specs.Message.{Request, Reply, reply_from, reply_in, reply_of
 use Rattle.pairing.specs.Pair.{IsExchangeOf, IsPair, NameEachOther}
 use Rattle.pairing.specs.Pairing.{requests_of, replies_of, answers, requests_for, exchange_of, outcome_of, paired, unless_refused, exchanges_of}
 use Rattle.pairing.specs.Refusal.{refusal_of}
-use Rattle.pairing.proofs.IndexSteps.{three_same}
 use Rattle.pairing.proofs.Limits.{All-filter_map}
 
 filter_map-map : {X Y Z : Type 0} (g : Y → Option Z) (f : X → Y) (xs : List X) →
     filter_map g (map f xs) ≡ filter_map (λ x. g (f x)) xs
 filter_map-map g f [] = refl
 filter_map-map g f (x ∷ xs) = ap (cons_option (g (f x))) (filter_map-map g f xs)
+
+three_same : (a b c d e f : ℕ) → (a == b && (c == d && e == f)) ≡ true → (a ≡ b) × (c ≡ d) × (e ≡ f)
+three_same a b c d e f h = grind (arith, nat_tests)
 
 -- a request that a reply may be one to has its server, port and timestamp
 names : (reply : Reply) (requests : List Request) (q : Request) → requests_for reply requests ≡ q ∷ [] →
