@@ -1,6 +1,7 @@
 -- What is collected is what the definition says.
 use Rattle.std.proofs.Common.{◌≡◌, ◌∙◌, ℕ, ◌+◌, List, [], ◌∷◌, Bool, true, false, Option, Some, None, Result, Ok, Err, refl, sym, ap, length, arith, ◌<◌, ◌≤◌, inl, inr, zero-add, map, vec_len}
-use Rattle.std.specs.Prelude.{filter, count_by, is_none, nat_lt, MatchResult, ◌⊎◌, if◌then◌else◌}
+use Rattle.ntp_packet.specs.Header.{precision_of, precision_ticks_of, root_delay_of, root_dispersion_of, root_distance_of}
+use Rattle.std.specs.Prelude.{◌*◌, pos, unsigned_abs, unwrap_or, int_lt, filter, count_by, is_none, nat_lt, MatchResult, ◌⊎◌, if◌then◌else◌}
 use Rattle.std.specs.List.{cons_option, filter_map}
 use Rattle.std.specs.Result.{result_ok}
 use Rattle.std.proofs.lemmas.Bool.Decides.{nat_tests}
@@ -22,7 +23,7 @@ use Rattle.pairing.specs.Exchange.{most_exchanges}
 use Rattle.pairing.specs.Gathering.{IsGatheredFrom, is_accepted, is_early, is_for}
 use Rattle.pairing.specs.Index.{Indexes, place_of}
 use Rattle.pairing.specs.Message.{Request, Reply}
-use Rattle.pairing.specs.Pairing.{Collection, collection_of, data_of, requests_of, replies_of, requests_for, outcome_of, outcomes_of, paired, unless_refused, is_refused, refused_for, is_warning, exchanges_of, counts_of}
+use Rattle.pairing.specs.Pairing.{Collection, collection_of, data_of, requests_of, replies_of, requests_for, outcome_of, outcomes_of, paired, unless_refused, distance_of, exchange_of, is_refused, refused_for, is_warning, exchanges_of, counts_of}
 use Rattle.pairing.specs.Refusal.{refusal_of}
 use Rattle.pairing.specs.Waiting.{exchange_at, outcomes_at, waiting_of}
 
@@ -33,11 +34,23 @@ count_by-cons p x xs =
     let f = λ (y : _). if p y then 1 else 0 in
     sum_by-append f (x ∷ []) xs ∙ ap (λ n. n + count_by p xs) (zero-add (f x))
 
+kept : (has_none : Bool) (n : ℕ) → let o = if has_none then None else Some (pos n) in
+    pos (unsigned_abs (unwrap_or o (pos 0))) ≡ unwrap_or o (pos 0)
+kept true n = refl
+kept false n = refl
+
+-- a root distance isn't negative
+distance-kept : (header : List ℕ) → pos (unsigned_abs (distance_of header)) ≡ distance_of header
+unfolding root_distance_of
+distance-kept header =
+    kept (int_lt (pos 16) (precision_of header)) (root_delay_of header * 32768 + root_dispersion_of header * 65536
+    + precision_ticks_of (precision_of header))
+
 -- the place of the requests that a reply may be one to says what becomes of it
 by_place : (reply : Reply) (requests : List Request) →
     exchange_at (place_of requests) (waiting_of reply) ≡ paired reply requests
 by_place reply [] = refl
-by_place reply (q ∷ []) = refl
+by_place reply (q ∷ []) = ap (λ d. Ok (record (exchange_of q reply) { distance = d })) (distance-kept reply.header)
 by_place reply (q ∷ other ∷ others) = refl
 
 module _ (requests : List Request) (look_up : Key → Option Place) (indexed : Indexes look_up requests) where

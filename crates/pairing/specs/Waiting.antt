@@ -1,5 +1,5 @@
 -- A reply that waits for its request: what of it makes up the exchange.
-use Rattle.std.specs.Prelude.{ℤ, pos, List, map, Option, Some, None, Result, Ok, Err}
+use Rattle.std.specs.Prelude.{ℤ, pos, unsigned_abs, List, map, Option, Some, None, Result, Ok, Err}
 use Rattle.std.specs.Option.{option_and_then, option_map}
 use Rattle.claim_file.specs.Claim.{ClaimData}
 use Rattle.ntp_packet.specs.Packet.{Packet, packet_of}
@@ -30,7 +30,7 @@ waiting_of reply = record {
   moment = moment_of reply.head;
   receive = receive_of reply.header;
   transmit = transmit_of reply.header;
-  distance = distance_of reply.header;
+  distance = unsigned_abs (distance_of reply.header);
   leap = leap_of reply.header;
   stratum = stratum_of reply.header;
   reference = reference_id_of reply.header;
@@ -55,7 +55,7 @@ exchange_from request w = record {
   t4_high = high_at w.moment;
   t2 = unfolded w.receive (low_at request);
   t3 = unfolded w.transmit (low_at request);
-  distance = w.distance;
+  distance = pos w.distance;
   leap = w.leap;
   stratum = w.stratum;
   reference = w.reference;

@@ -1,7 +1,8 @@
 //! Why a reply gives no exchange.
 
-ghost use Rattle.std.specs.Prelude.{◌≡◌, None, Some, MatchResult};
-ghost use Rattle.ntp_packet.specs.Header.{root_distance_of};
+ghost use Rattle.std.specs.Prelude.{◌≡◌, ◌<ℤ◌, ◌↔◌, pos, None, Some, IsNone, MatchResult};
+ghost use Rattle.std.specs.Option.{option_map};
+ghost use Rattle.ntp_packet.specs.Header.{precision_of, root_distance_of};
 ghost use Rattle.pairing.specs.Refusal.{refusal_of};
 
 use ntp_packet::NtpView;
@@ -25,11 +26,24 @@ pub(crate) enum Refusal {
     Ambiguous,
 }
 
+/// The root distance that a header announces, in ticks. It is below 2^50, since root delay and root
+/// dispersion have 32 bits each, and the precision is at most 16.
+pub(crate) fn announced_distance(header: &NtpView<'_>) -> Option<u64>
+    ensures distance { option_map pos result ≡ root_distance_of header.now }
+    ensures none { IsNone result ↔ (pos 16 <ℤ precision_of header.now) }
+{
+    // They are read for their ranges alone.
+    let (_delay, _dispersion) = (header.root_delay(), header.root_dispersion());
+    let distance = header.root_distance()?;
+    Some(distance as u64)
+}
+
 /// The root distance of a reply in ticks, or the first reason that its header gives to refuse it.
 #[tactic(auto, unfolding(crate::specs::Refusal::refusal_of))]
-pub(crate) fn accepted_distance(header: &NtpView<'_>) -> Result<i128, Refusal>
+pub(crate) fn accepted_distance(header: &NtpView<'_>) -> Result<u64, Refusal>
     ensures exact { MatchResult result
-        (λ distance. (refusal_of header.now ≡ None) × (root_distance_of header.now ≡ Some distance))
+        (λ distance. (refusal_of header.now ≡ None)
+        × (root_distance_of header.now ≡ Some (pos distance)))
         (λ refusal. refusal_of header.now ≡ Some refusal) }
 {
     if header.version() != 4 {
@@ -41,7 +55,7 @@ pub(crate) fn accepted_distance(header: &NtpView<'_>) -> Result<i128, Refusal>
     if !(1..=15).contains(&header.stratum()) {
         return Err(Refusal::Stratum);
     }
-    let Some(distance) = header.root_distance() else {
+    let Some(distance) = announced_distance(header) else {
         return Err(Refusal::Precision);
     };
     if header.origin() == 0 || header.receive() == 0 || header.transmit() == 0 {

@@ -1,6 +1,6 @@
 //! Replies that wait for their requests.
 
-ghost use Rattle.std.specs.Prelude.{◌≡◌};
+ghost use Rattle.std.specs.Prelude.{◌≡◌, pos};
 ghost use Rattle.ntp_packet.specs.Packet.{packet_shown};
 ghost use Rattle.pairing.specs.Index.{IsMoment};
 ghost use Rattle.pairing.specs.Message.{reply_from};
@@ -25,8 +25,8 @@ pub(crate) struct Waiting {
     pub receive: u64,
     /// The transmit timestamp.
     pub transmit: u64,
-    /// The root distance, in ticks.
-    pub distance: i128,
+    /// The root distance, in ticks: in 64 bits, so that a waiting reply takes 64 bytes.
+    pub distance: u64,
     /// The leap indicator.
     pub leap: u8,
     /// The stratum.
@@ -37,8 +37,8 @@ pub(crate) struct Waiting {
 
 impl Waiting {
     /// A reply of this server, with the root distance that it announces.
-    pub(crate) fn new(server: u8, head: &RecordHead, packet: &Packet<'_>, distance: i128) -> Waiting
-        requires { distance ≡ distance_of packet.now.header }
+    pub(crate) fn new(server: u8, head: &RecordHead, packet: &Packet<'_>, distance: u64) -> Waiting
+        requires { pos distance ≡ distance_of packet.now.header }
         ensures { result ≡ waiting_of (reply_from head.now (packet_shown packet.now) server) }
     {
         let header = &packet.header;
@@ -82,7 +82,7 @@ impl Waiting {
             t4_high: high(sec, sub, unit),
             t2: unfold(self.receive, t1_low),
             t3: unfold(self.transmit, t1_low),
-            distance: self.distance,
+            distance: i128::from(self.distance),
             leap: self.leap,
             stratum: self.stratum,
             reference: self.reference,

@@ -1,5 +1,5 @@
 use Rattle.std.proofs.Common.{◌≡◌, ◌∙◌, ◌<◌, ap, sym, subst, inl, inr, length, map, take, get_or, length-take, arith}
-use Rattle.std.specs.Prelude.{Result, [], Option, IsOk, pos}
+use Rattle.std.specs.Prelude.{Result, [], Option, IsOk}
 use Rattle.std.proofs.lemmas.List.{length-map}
 use Rattle.std.proofs.lemmas.Result.{err_from_is_err_and}
 use Rattle.indexmap.specs.IndexMap.{get}
@@ -22,7 +22,7 @@ blank = record {
   moment = record { number = 0; sec = 0; sub = 0; unit = Micro };
   receive = 0;
   transmit = 0;
-  distance = pos 0;
+  distance = 0;
   leap = 0;
   stratum = 0;
   reference = [];
