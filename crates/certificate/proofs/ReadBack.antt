@@ -1,7 +1,7 @@
 -- What was written is read again.
-use Rattle.std.proofs.Common.{◌≡◌, ℕ, zero, suc, ◌+◌, ◌<◌, ◌≤◌, ◌^◌, List, [], ◌∷◌, length, map, true, nat_le, Some, None, Result, Ok, refl, sym, ap, ◌∙◌, arith, get_or, Err, if◌then◌else◌, subst, String, Global, string_bytes}
+use Rattle.std.proofs.Common.{◌≡◌, ℕ, zero, suc, ◌+◌, ◌<◌, ◌≤◌, ◌^◌, List, [], ◌∷◌, length, map, true, nat_le, Some, None, Ok, refl, ap, ◌∙◌, arith, get_or, if◌then◌else◌, String, Global, string_bytes}
 use Rattle.std.proofs.lemmas.Bool.Decides.{Decides-ltb, nat_tests}
-use Rattle.std.specs.Prelude.{All, IfOk}
+use Rattle.std.specs.Prelude.{All}
 use Rattle.serde_json.specs.Data.{Data, depth, items_depth}
 use Rattle.serde_json.specs.Events.{items_len}
 use Rattle.serde_json.specs.View.{items_of}
@@ -10,11 +10,10 @@ use Rattle.std.proofs.Math.Logic.{∥∥₁_elim}
 use Rattle.std.proofs.lemmas.Str.{is_utf8-from_IsUtf8}
 use Rattle.std.specs.Str.{is_utf8}
 use Rattle.json_text.specs.Step.{given}
-use Rattle.json_text.specs.Text.{parsed}
 use Rattle.certificate.specs.declared.fault.CertificateFault.TheVariants.{Json}
 use Rattle.serde_json.specs.Read.{read}
 use Rattle.certificate.specs.declared.certificate.Piece.{Piece}
-use Rattle.certificate.specs.Certificate.{PieceData, CertificateData, NamesSamples, IsReadable, piece_data, max_pieces}
+use Rattle.certificate.specs.Certificate.{PieceData, CertificateData, NamesSamples, IsReadable, IsHeld, piece_data, max_pieces}
 use Rattle.certificate.specs.Reading.{sample_of, entry_of, entries_of, piece_of, pieces_from, certificate_from, certificate_of}
 use Rattle.certificate.specs.Writing.{number_value, entry_value, piece_value, certificate_value}
 
@@ -86,30 +85,24 @@ piece-depth piece = let entries = items_depth-map entry_value 1 (λ e. omega ari
 pub certificate-depth : (certificate : CertificateData) → depth (certificate_value certificate) ≤ 127
 certificate-depth certificate = let pieces = items_depth-map piece_value 3 piece-depth certificate.pieces in omega arith
 
--- pieces that can be read, as they stand in memory
-pub readable_pieces : (pieces : List Piece) →
-    ((k : ℕ) (d : Piece) → k < length pieces → IsReadable (piece_data (get_or pieces k d))) →
-    All IsReadable (map piece_data pieces)
-readable_pieces [] each k d less = absurd (omega arith)
-readable_pieces (p ∷ ps) each zero d less = each 0 p (omega arith)
-readable_pieces (p ∷ ps) each (suc k) d less =
-    readable_pieces ps (λ j e within. each (suc j) e (omega arith)) k d (omega arith)
+-- pieces as they stand in memory
+pub held_pieces : (pieces : List Piece) →
+    ((k : ℕ) (d : Piece) → k < length pieces → IsHeld (piece_data (get_or pieces k d))) →
+    All IsHeld (map piece_data pieces)
+held_pieces [] each k d less = absurd (omega arith)
+held_pieces (p ∷ ps) each zero d less = each 0 p (omega arith)
+held_pieces (p ∷ ps) each (suc k) d less =
+    held_pieces ps (λ j e within. each (suc j) e (omega arith)) k d (omega arith)
 
--- a string is UTF-8, so what is read of it is parsed
-parsed_string : (text : String Global) (value : Data) → read (string_bytes text) ≡ Some value →
-    parsed (string_bytes text) ≡ Some value
-parsed_string text value is =
-    let valid : is_utf8 (string_bytes text) ≡ true =
-    ∥∥₁_elim text.ok (Bool-set _ _) (λ u. is_utf8-from_IsUtf8 (string_bytes text) u) in
-    ap (λ b. if b then read (string_bytes text) else None) valid ∙ is
+-- a string is UTF-8
+pub is_utf8-string : (text : String Global) → is_utf8 (string_bytes text) ≡ true
+is_utf8-string text = ∥∥₁_elim text.ok (Bool-set _ _) (λ u. is_utf8-from_IsUtf8 (string_bytes text) u)
 
 -- what a text of this value says
-pub reads_back : {E : Type 0} (answer : Result (String Global) E) (value : Data) (certificate : CertificateData) →
-    value ≡ certificate_value certificate → All IsReadable certificate.pieces →
-    IfOk answer (λ text. depth value ≤ 127 → read (string_bytes text) ≡ Some value) →
-    IfOk answer (λ text. length certificate.pieces ≤ max_pieces → certificate_of (string_bytes text) ≡ Ok certificate)
-reads_back (Err e) value certificate is readable again = tt
-reads_back (Ok text) value certificate is readable again = λ few.
-    let shallow = subst (λ d. depth d ≤ 127) (sym is) (certificate-depth certificate) in
-    ap (λ o. given Json o certificate_from) (parsed_string text value (again shallow))
-    ∙ ap certificate_from is ∙ certificate_from-value certificate few readable
+pub certificate_of-read : (bytes : List ℕ) (certificate : CertificateData) → is_utf8 bytes ≡ true →
+    read bytes ≡ Some (certificate_value certificate) → length certificate.pieces ≤ max_pieces →
+    All IsHeld certificate.pieces → certificate_of bytes ≡ Ok certificate
+certificate_of-read bytes certificate valid is few held =
+    ap (λ b. given Json (if b then read bytes else None) certificate_from) valid
+    ∙ ap (λ o. given Json o certificate_from) is
+    ∙ certificate_from-value certificate few (λ k d less. (held k d less).readable)

@@ -4,7 +4,7 @@ use Rattle.std.specs.List.{join_with_byte}
 use Rattle.serde_json.proofs.OnLiterals.{serde_json_on_literals}
 use Rattle.serde_json.specs.Data.{Data}
 use Rattle.serde_json.specs.View.{items_of}
-use Rattle.serde_json.specs.Written.{compact_text, items_text, has_float, items_have_float}
+use Rattle.serde_json.specs.Written.{compact_text, items_text}
 use Rattle.certificate.specs.Certificate.{PieceData, CertificateData}
 use Rattle.certificate.specs.Writing.{comma, entry_text, piece_text, certificate_text, entry_value, piece_value, certificate_value}
 
@@ -31,15 +31,3 @@ pub certificate_text-value : (certificate : CertificateData) →
 unfolding serde_json_on_literals
 certificate_text-value certificate =
     rw (items_text-map piece_value piece_text piece_text-value certificate.pieces) (simp append_assoc)
-
--- no number of it is a float
-items-no_float : {X : Type 0} (value : X → Data) → ((x : X) → has_float (value x) ≡ false) → (xs : List X) →
-    items_have_float (items_of (map value xs)) ≡ false
-items-no_float value none [] = refl
-items-no_float value none (x ∷ xs) = rw (none x) (items-no_float value none xs)
-
-piece-no_float : (piece : PieceData) → has_float (piece_value piece) ≡ false
-piece-no_float piece = rw (items-no_float entry_value (λ e. refl) piece.entries) refl
-
-pub certificate-no_float : (certificate : CertificateData) → has_float (certificate_value certificate) ≡ false
-certificate-no_float certificate = rw (items-no_float piece_value piece-no_float certificate.pieces) refl

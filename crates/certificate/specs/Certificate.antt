@@ -33,6 +33,11 @@ pub record IsReadable (piece : PieceData) : Type 0 where
   pub few : length piece.entries ≤ 32
   pub named : All NamesSamples piece.entries
 
+-- a piece as a program holds it: it can be read, and its end is a number of 64 bits
+pub record IsHeld (piece : PieceData) : Type 0 where
+  pub readable : IsReadable piece
+  pub end : piece.upto < 2 ^ 64
+
 -- the most pieces of a certificate that is read, and the most entries of a piece
 abbrev pub max_pieces : ℕ
 max_pieces = 100000

@@ -1,6 +1,6 @@
 -- The text that writes a certificate: compact, with the names of an object in the order of their
 -- bytes and numbers in decimal.
-use Rattle.std.specs.Prelude.{ℕ, List, ◌++◌, map, codes, decimal}
+use Rattle.std.specs.Prelude.{ℕ, List, [], ◌∷◌, ◌++◌, map, codes, decimal, nat_lt, if◌then◌else◌}
 use Rattle.std.specs.List.{join_with_byte}
 use Rattle.serde_json.specs.Data.{Data, unsigned, number, array, object, item, no_items, member, no_members}
 use Rattle.serde_json.specs.View.{items_of}
@@ -9,6 +9,10 @@ use Rattle.certificate.specs.Certificate.{CertificateData, PieceData}
 -- the byte of a comma
 abbrev pub comma : ℕ
 comma = 44
+
+-- the comma before the element of this index, unless it is the first
+abbrev pub comma_before : ℕ → List ℕ
+comma_before index = if nat_lt 0 index then comma ∷ [] else []
 
 abbrev pub entry_text : ℕ × ℕ → List ℕ
 entry_text (low, high) = codes "[" ++ decimal low ++ codes "," ++ decimal high ++ codes "]"

@@ -1,14 +1,14 @@
 //! The text that writes a certificate.
 
-ghost use Rattle.std.specs.Prelude.{◌≡◌, ◌≤◌, IfOk, OnOk, Ok, length, map, All, string_bytes};
-ghost use Rattle.serde_json.specs.Data.{array};
-ghost use Rattle.serde_json.specs.View.{view, items_of};
-ghost use Rattle.certificate.specs.Certificate.{NamesSamples, IsReadable, data_of, piece_data, max_pieces};
+ghost use Rattle.std.specs.Prelude.{◌≡◌, ℕ, ◌≤◌, ◌++◌, IfOk, OnOk, Ok, length, map, All, string_bytes, decimal};
+ghost use Rattle.std.specs.List.{join_with_byte};
+ghost use Rattle.certificate.specs.Certificate.{NamesSamples, IsHeld, data_of, piece_data, max_pieces};
 ghost use Rattle.certificate.specs.Reading.{certificate_of};
 ghost use Rattle.certificate.specs.Writing as spec;
+ghost use Rattle.certificate.specs.Writing.{comma, comma_before};
 
 use crate::certificate::{Certificate, Piece};
-use serde_json::{Value, json};
+use itoa::Buffer;
 use std::alloc::{AllocError, Global};
 
 /// The text of a certificate: compact, with `entries` before `upto` and numbers in decimal.
@@ -20,59 +20,79 @@ pub fn write_certificate(alloc: Global, certificate: &Certificate) -> Result<Str
     ensures reads_back { IfOk result (λ text. length certificate.now.pieces.items ≤ max_pieces →
         certificate_of (string_bytes text) ≡ Ok (data_of certificate.now)) }
 {
-    let value = certificate_value(alloc, certificate)?;
-    value.to_string(alloc)
+    let mut text = String::new(alloc);
+    text.push_str("{\"pieces\":[")?;
+    push_pieces(&mut text, &certificate.pieces)?;
+    text.push_str("]}")?;
+    Ok(text)
 }
 
-/// A certificate as a JSON object.
-fn certificate_value(alloc: Global, certificate: &Certificate) -> Result<Value, AllocError>
-    ensures value { IfOk result (λ value. view value
-        ≡ spec.certificate_value (data_of certificate.now)) }
-    ensures readable { OnOk result (All IsReadable (data_of certificate.now).pieces) }
+/// Writes the pieces, with commas between them.
+fn push_pieces(text: &mut String, pieces: &[Piece]) -> Result<(), AllocError>
+    ensures text { OnOk result (string_bytes text.new ≡ string_bytes text.old
+        ++ join_with_byte comma (map spec.piece_text (map piece_data pieces.now))) }
+    ensures held { OnOk result (All IsHeld (map piece_data pieces.now)) }
 {
-    let pieces = pieces_value(alloc, &certificate.pieces)?;
-    json!(in alloc; {"pieces": pieces})
-}
-
-/// The pieces as a JSON array.
-fn pieces_value(alloc: Global, pieces: &[Piece]) -> Result<Value, AllocError>
-    ensures value { IfOk result (λ value. view value
-        ≡ array (items_of (map spec.piece_value (map piece_data pieces.now)))) }
-    ensures readable { OnOk result (All IsReadable (map piece_data pieces.now)) }
-{
-    let mut values = Vec::new(alloc);
-    for piece in pieces {
-        values.push(piece_value(alloc, piece)?)?;
+    for (index, piece) in pieces.iter().enumerate() {
+        push_comma(text, index)?;
+        push_piece(text, piece)?;
     }
-    Ok(Value::Array(values))
+    Ok(())
 }
 
-/// A piece as a JSON object.
-fn piece_value(alloc: Global, piece: &Piece) -> Result<Value, AllocError>
-    ensures value { IfOk result (λ value. view value ≡ spec.piece_value (piece_data piece.now)) }
-    ensures readable { OnOk result (IsReadable (piece_data piece.now)) }
+/// Writes a piece.
+fn push_piece(text: &mut String, piece: &Piece) -> Result<(), AllocError>
+    ensures text { OnOk result (string_bytes text.new
+        ≡ string_bytes text.old ++ spec.piece_text (piece_data piece.now)) }
+    ensures held { OnOk result (IsHeld (piece_data piece.now)) }
 {
-    let entries = entries_value(alloc, &piece.entries)?;
-    json!(in alloc; {"entries": entries, "upto": piece.upto})
+    text.push_str("{\"entries\":[")?;
+    push_entries(text, &piece.entries)?;
+    text.push_str("],\"upto\":")?;
+    push_number(text, piece.upto)?;
+    text.push_str("}")?;
+    Ok(())
 }
 
-/// The entries of a piece as a JSON array.
-fn entries_value(alloc: Global, entries: &[(u32, u32)]) -> Result<Value, AllocError>
-    ensures value { IfOk result (λ value. view value
-        ≡ array (items_of (map spec.entry_value entries.now))) }
+/// Writes the entries of a piece, with commas between them.
+fn push_entries(text: &mut String, entries: &[(u32, u32)]) -> Result<(), AllocError>
+    ensures text { OnOk result (string_bytes text.new
+        ≡ string_bytes text.old ++ join_with_byte comma (map spec.entry_text entries.now)) }
     ensures named { OnOk result (All NamesSamples entries.now) }
 {
-    let mut values = Vec::new(alloc);
-    for entry in entries {
-        values.push(entry_value(alloc, *entry)?)?;
+    for (index, entry) in entries.iter().enumerate() {
+        push_comma(text, index)?;
+        push_entry(text, *entry)?;
     }
-    Ok(Value::Array(values))
+    Ok(())
 }
 
-/// An entry as a JSON array.
-fn entry_value(alloc: Global, entry: (u32, u32)) -> Result<Value, AllocError>
-    ensures value { IfOk result (λ value. view value ≡ spec.entry_value entry) }
+/// Writes an entry.
+fn push_entry(text: &mut String, entry: (u32, u32)) -> Result<(), AllocError>
+    ensures text { OnOk result (string_bytes text.new
+        ≡ string_bytes text.old ++ spec.entry_text entry) }
     ensures named { NamesSamples entry }
 {
-    json!(in alloc; [entry.0, entry.1])
+    text.push_str("[")?;
+    push_number(text, u64::from(entry.0))?;
+    text.push_str(",")?;
+    push_number(text, u64::from(entry.1))?;
+    text.push_str("]")
+}
+
+/// Writes a comma before every element but the first.
+fn push_comma(text: &mut String, index: usize) -> Result<(), AllocError>
+    ensures { OnOk result (string_bytes text.new ≡ string_bytes text.old ++ comma_before index) }
+{
+    if index > 0 {
+        text.push_str(",")?;
+    }
+    Ok(())
+}
+
+/// Writes a number in decimal.
+fn push_number(text: &mut String, number: u64) -> Result<(), AllocError>
+    ensures { OnOk result (string_bytes text.new ≡ string_bytes text.old ++ decimal number) }
+{
+    text.push_str(Buffer::new().format(number))
 }

@@ -1,0 +1,31 @@
+-- Elements with commas between them, one more at a time.
+use Rattle.std.proofs.Common.{◌≡◌, ℕ, suc, ◌+◌, ◌<◌, List, [], ◌∷◌, ◌++◌, length, map, take, get_or, refl, sym, ap, ◌∙◌, arith, append_assoc, lt-ltb}
+use Rattle.std.proofs.lemmas.List.{take_more, map-append, length-map, length-take-le}
+use Rattle.std.specs.List.{join_with_byte}
+use Rattle.certificate.specs.Writing.{comma, comma_before}
+
+comma_later : (index : ℕ) → comma_before (suc index) ≡ comma ∷ []
+comma_later index = rw (lt-ltb 0 (suc index) (omega arith)) refl
+
+joined_push : (parts : List (List ℕ)) (part : List ℕ) →
+    join_with_byte comma (parts ++ part ∷ []) ≡ join_with_byte comma parts ++ (comma_before (length parts) ++ part)
+joined_push [] part = refl
+joined_push (first ∷ []) part = ap (λ t. first ++ (t ++ part)) (sym (comma_later 0))
+joined_push (first ∷ second ∷ rest) part =
+    ap (λ t. first ++ comma ∷ t) (joined_push (second ∷ rest) part)
+    ∙ ap (λ t. first ++ comma ∷ (join_with_byte comma (second ∷ rest) ++ (t ++ part)))
+    (comma_later (length rest) ∙ sym (comma_later (suc (length rest))))
+    ∙ sym (append_assoc first (comma ∷ join_with_byte comma (second ∷ rest))
+    (comma_before (length (first ∷ second ∷ rest)) ++ part))
+
+-- the text of the elements up to the one at this index
+pub joined_more : {X : Type 0} (text : X → List ℕ) (xs : List X) (index : ℕ) (d : X) → index < length xs →
+    join_with_byte comma (map text (take (index + 1) xs))
+    ≡ join_with_byte comma (map text (take index xs)) ++ (comma_before index ++ text (get_or xs index d))
+joined_more text xs index d within =
+    let few = take index xs in
+    let count : length (map text few) ≡ index = length-map few text ∙ length-take-le index xs (omega arith) in
+    ap (λ l. join_with_byte comma (map text l)) (take_more xs index d within)
+    ∙ ap (join_with_byte comma) (map-append text few (get_or xs index d ∷ []))
+    ∙ joined_push (map text few) (text (get_or xs index d))
+    ∙ ap (λ n. join_with_byte comma (map text few) ++ (comma_before n ++ text (get_or xs index d))) count

@@ -1,0 +1,15 @@
+use Rattle.std.proofs.Common.{◌<◌, length, arith, ◌∙◌, append_assoc}
+use Rattle.std.proofs.lemmas.Grind.{common_steps}
+use Rattle.certificate.specs.Writing.{entry_text}
+use Rattle.certificate.proofs.Joined.{joined_more}
+use Rattle.certificate.proofs.writing.push_entries.Goals as goal
+
+pub loop-index-preserved : goal.loop-index-preserved
+loop-index-preserved c =
+    let within : c.loop-index.index < length c.args.entries.now = omega arith in
+    let more = joined_more entry_text c.args.entries.now c.loop-index.index (0, 0) within in
+    record {
+      written = c.in_ok-push_entry.ensures.text
+          ∙ rw (c.in_ok-push_comma.ensures, c.loop-index.invariant.written, more) (simp append_assoc);
+      named = grind (arith, common_steps);
+    }

@@ -1,0 +1,13 @@
+use Rattle.std.proofs.Common.{◌≡◌, ◌<◌, ℕ, ◌++◌, map, take, get_or, string_bytes}
+use Rattle.std.specs.List.{join_with_byte}
+use Rattle.certificate.specs.declared.certificate.Piece.{Piece}
+use Rattle.certificate.specs.Certificate.{IsHeld, piece_data}
+use Rattle.certificate.specs.Writing.{comma, piece_text}
+use Rattle.certificate.proofs.writing.push_pieces.Given as goal
+
+abbrev pub invariant-loop-index : goal.invariant-loop-index
+invariant-loop-index l = record {
+  written : string_bytes l.text
+      ≡ string_bytes l.fn.text ++ join_with_byte comma (map piece_text (map piece_data (take l.index l.pieces)));
+  held : (k : ℕ) (d : Piece) → k < l.index → IsHeld (piece_data (get_or l.pieces k d));
+}
