@@ -1,5 +1,5 @@
 -- Elements with commas between them, one more at a time.
-use Rattle.std.proofs.Common.{◌≡◌, ℕ, suc, ◌+◌, ◌<◌, List, [], ◌∷◌, ◌++◌, length, map, take, get_or, refl, sym, ap, ◌∙◌, arith, append_assoc, lt-ltb}
+use Rattle.std.proofs.Common.{◌≡◌, ℕ, suc, ◌+◌, ◌<◌, List, [], ◌∷◌, ◌++◌, length, map, take, get_or, refl, sym, ap, ◌∙◌, arith, append_assoc, length-append, lt-ltb}
 use Rattle.std.proofs.lemmas.List.{take_more, map-append, length-map, length-take-le}
 use Rattle.std.specs.List.{join_with_byte}
 use Rattle.certificate.specs.Writing.{comma, comma_before}
@@ -29,3 +29,19 @@ joined_more text xs index d within =
     ∙ ap (join_with_byte comma) (map-append text few (get_or xs index d ∷ []))
     ∙ joined_push (map text few) (text (get_or xs index d))
     ∙ ap (λ n. join_with_byte comma (map text few) ++ (comma_before n ++ text (get_or xs index d))) count
+
+-- the elements that were read of a text, as many as the index, and what follows them
+pub record IsReadUpTo {X : Type 0} (text : X → List ℕ) (whole rest : List ℕ) (xs : List X) (index : ℕ) : Type 0 where
+  pub read : whole ≡ join_with_byte comma (map text xs) ++ rest
+  pub counted : length xs ≡ index
+
+-- one more is read, after its comma
+pub joined_read : {X : Type 0} (text : X → List ℕ) {whole rest : List ℕ} {xs : List X} {index : ℕ} (x : X)
+    (more : List ℕ) → IsReadUpTo text whole rest xs index → rest ≡ comma_before index ++ text x ++ more →
+    IsReadUpTo text whole more (xs ++ x ∷ []) (index + 1)
+joined_read text {whole} {rest} {xs} {index} x more before next = record {
+  read = before.read ∙ ap (λ l. join_with_byte comma (map text xs) ++ l) next
+      ∙ rw (map-append text xs (x ∷ []), joined_push (map text xs) (text x), length-map xs text, before.counted)
+      (simp append_assoc);
+  counted = length-append xs (x ∷ []) ∙ ap (λ n. n + 1) before.counted;
+}

@@ -1,6 +1,10 @@
+pub mod CompactRead
+pub mod Digits
 pub mod Joined
 pub mod Limits
 pub mod Pairs
 pub mod ReadBack
+pub mod Ascii
+pub mod LineFeed
 pub mod TextRead
 pub mod Texts

@@ -1,8 +1,9 @@
 -- The text of a certificate, read as JSON, is the certificate's value.
-use Rattle.std.proofs.Common.{◌≡◌, ℕ, suc, ◌<◌, ◌≤◌, ◌^◌, List, [], ◌∷◌, map, Option, Some, option_and_then, append-nil, refl, sym, ap, ◌∙◌, arith, decimal}
+use Rattle.std.proofs.Common.{◌≡◌, ℕ, suc, ◌<◌, ◌≤◌, ◌^◌, List, [], ◌∷◌, ◌++◌, map, Option, Some, option_and_then, append-nil, refl, sym, ap, ◌∙◌, arith, decimal}
 use Rattle.std.specs.Prelude.{All}
 use Rattle.json.specs.Json as json
 use Rattle.json.specs.Lex.{tokens}
+use Rattle.json.specs.Print.{print, ArePrintable}
 use Rattle.json.specs.Token.{Token}
 use Rattle.json.specs.Tree as tree
 use Rattle.json.proofs.Printed.Decimals.{IsNumber-decimal}
@@ -17,6 +18,7 @@ use Rattle.serde_json.specs.View.{items_of}
 use Rattle.serde_json.specs.Written.{outline, items_outline, blank, blank_items}
 use Rattle.certificate.specs.Certificate.{PieceData, CertificateData, IsHeld, NamesSamples}
 use Rattle.certificate.specs.Writing.{number_value, entry_value, piece_value, certificate_value, certificate_text}
+use Rattle.certificate.proofs.LineFeed.{line_feed, tokens-line_feed}
 use Rattle.certificate.proofs.ReadBack.{certificate-depth}
 use Rattle.certificate.proofs.Texts.{certificate_text-value}
 
@@ -115,12 +117,30 @@ read_tokens value text known shallow same =
     ap whole (ap (json.value max_depth) (same ∙ sym (append-nil (tree.json_tokens (outline value))))
     ∙ value-json_tokens (outline value) max_depth [] short) ∙ known.reads
 
+-- the tokens of the text
+abbrev tokens_of : CertificateData → List Token
+tokens_of certificate = tree.json_tokens (outline (certificate_value certificate))
+
+printed : (certificate : CertificateData) → certificate_text certificate ≡ print (tokens_of certificate)
+printed certificate = sym (print-outline (certificate_value certificate) ∙ certificate_text-value certificate)
+
+printable : (certificate : CertificateData) → All IsHeld certificate.pieces → ArePrintable (tokens_of certificate)
+printable certificate held =
+    ArePrintable-json_tokens (outline (certificate_value certificate)) (outlined_certificate certificate held).numbers
+
 pub read-certificate_text : (certificate : CertificateData) → All IsHeld certificate.pieces →
     read (certificate_text certificate) ≡ Some (certificate_value certificate)
 read-certificate_text certificate held =
-    let value = certificate_value certificate in
-    let known = outlined_certificate certificate held in
-    let printed = sym (print-outline value ∙ certificate_text-value certificate) in
-    read_tokens value (certificate_text certificate) known (certificate-depth certificate)
-    (ap tokens printed
-    ∙ tokens-print (tree.json_tokens (outline value)) (ArePrintable-json_tokens (outline value) known.numbers))
+    read_tokens (certificate_value certificate) (certificate_text certificate)
+    (outlined_certificate certificate held) (certificate-depth certificate)
+    (ap tokens (printed certificate) ∙ tokens-print (tokens_of certificate) (printable certificate held))
+
+-- the same with a line feed after it
+pub read-certificate_line : (certificate : CertificateData) → All IsHeld certificate.pieces →
+    read (certificate_text certificate ++ line_feed) ≡ Some (certificate_value certificate)
+read-certificate_line certificate held =
+    let ts = tokens_of certificate in
+    let known = printable certificate held in
+    read_tokens (certificate_value certificate) (certificate_text certificate ++ line_feed)
+    (outlined_certificate certificate held) (certificate-depth certificate)
+    (ap (λ l. tokens (l ++ line_feed)) (printed certificate) ∙ tokens-line_feed ts known ∙ tokens-print ts known)

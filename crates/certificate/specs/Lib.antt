@@ -1,4 +1,5 @@
 pub mod Certificate
+pub mod Compact
 pub mod Fault
 pub mod Reading
 pub mod Writing

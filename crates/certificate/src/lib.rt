@@ -3,9 +3,11 @@
 #![tactic(auto)]
 
 mod certificate;
+mod compact;
 mod fault;
 pub mod laws;
 mod reading;
+mod scanner;
 mod writing;
 
 pub use certificate::{Certificate, Piece};

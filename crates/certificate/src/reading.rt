@@ -8,15 +8,16 @@ ghost use Rattle.certificate.specs.Fault.{Answers, Gives};
 ghost use Rattle.certificate.specs.Reading as spec;
 
 use crate::certificate::{Certificate, Piece};
+use crate::compact::read_compact;
 use crate::fault::CertificateFault;
 use arrayvec::ArrayVec;
 use json_text::{items_at, members_among, parse, unsigned_at, unsigned_of};
 use serde_json::Value;
 use std::alloc::Global;
 
-const MAX_PIECES: usize = 100_000;
+pub(crate) const MAX_PIECES: usize = 100_000;
 
-const MAX_ENTRIES: usize = 32;
+pub(crate) const MAX_ENTRIES: usize = 32;
 
 /// The certificate that the bytes of a JSON text say, or the first fault that it has: at most
 /// 100,000 pieces, each with at most 32 entries.
@@ -24,8 +25,18 @@ pub fn read_certificate(alloc: Global, bytes: &[u8]) -> Result<Certificate, Cert
     ensures exact { Answers result data_of (spec.certificate_of bytes.now) }
     ensures few { IfOk result (λ certificate. length certificate.pieces.items ≤ max_pieces) }
 {
-    let value = parse(alloc, bytes)?.ok_or(CertificateFault::Json)?;
-    let items = top(&value).ok_or(CertificateFault::Top)?;
+    if let Some(certificate) = read_compact(alloc, bytes)? {
+        return Ok(certificate);
+    }
+    read_value(alloc, &parse(alloc, bytes)?.ok_or(CertificateFault::Json)?)
+}
+
+/// The certificate that a JSON value says.
+fn read_value(alloc: Global, value: &Value) -> Result<Certificate, CertificateFault>
+    ensures exact { Answers result data_of (spec.certificate_from (view value.now)) }
+    ensures few { IfOk result (λ certificate. length certificate.pieces.items ≤ max_pieces) }
+{
+    let items = top(value).ok_or(CertificateFault::Top)?;
     if !is_at_most(items, MAX_PIECES) {
         return Err(CertificateFault::TooManyPieces);
     }

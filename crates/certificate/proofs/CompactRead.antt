@@ -1,0 +1,40 @@
+-- What the text of a certificate says, with or without a line feed after it.
+use Rattle.std.proofs.Common.{◌≡◌, inl, inr, ℕ, ◌≤◌, List, ◌++◌, length, map, true, Ok, refl, ap, ◌∙◌, append_assoc}
+use Rattle.std.proofs.lemmas.Str.{IsUtf8-from_ascii, is_utf8-from_IsUtf8}
+use Rattle.std.specs.List.{join_with_byte}
+use Rattle.std.specs.Prelude.{All, codes}
+use Rattle.std.specs.Str.{IsAscii, is_utf8}
+use Rattle.certificate.specs.Certificate.{CertificateData, IsHeld, max_pieces}
+use Rattle.certificate.specs.Compact.{IsEnding}
+use Rattle.certificate.specs.Reading.{certificate_of}
+use Rattle.certificate.specs.Writing.{comma, piece_text, certificate_text}
+use Rattle.certificate.proofs.Ascii.{ascii_certificate, ascii_line}
+use Rattle.certificate.proofs.LineFeed.{line_feed}
+use Rattle.certificate.proofs.ReadBack.{certificate_of-read}
+use Rattle.certificate.proofs.TextRead.{read-certificate_text, read-certificate_line}
+
+is_utf8-ascii : (bytes : List ℕ) → IsAscii bytes → is_utf8 bytes ≡ true
+is_utf8-ascii bytes small = is_utf8-from_IsUtf8 bytes (IsUtf8-from_ascii bytes small)
+
+module _ (certificate : CertificateData) (few : length certificate.pieces ≤ max_pieces)
+    (held : All IsHeld certificate.pieces) where
+  certificate_of-text : certificate_of (certificate_text certificate) ≡ Ok certificate
+  certificate_of-text =
+      certificate_of-read (certificate_text certificate) certificate
+      (is_utf8-ascii (certificate_text certificate) (ascii_certificate certificate held))
+      (read-certificate_text certificate held) few held
+
+  certificate_of-line : certificate_of (certificate_text certificate ++ line_feed) ≡ Ok certificate
+  certificate_of-line =
+      certificate_of-read (certificate_text certificate ++ line_feed) certificate
+      (is_utf8-ascii (certificate_text certificate ++ line_feed) (ascii_line certificate held))
+      (read-certificate_line certificate held) few held
+
+  -- what was read up to its end
+  pub certificate_of-compact : (bytes rest : List ℕ) →
+      bytes ≡ codes "{\"pieces\":[" ++ join_with_byte comma (map piece_text certificate.pieces) ++ rest →
+      IsEnding rest → certificate_of bytes ≡ Ok certificate
+  certificate_of-compact bytes rest is (inl plain) =
+      ap certificate_of (is ∙ rw plain refl) ∙ certificate_of-text
+  certificate_of-compact bytes rest is (inr line) =
+      ap certificate_of (is ∙ rw line (simp append_assoc)) ∙ certificate_of-line

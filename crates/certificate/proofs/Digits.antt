@@ -1,0 +1,34 @@
+-- A number in decimal, a digit more at a time.
+use Rattle.std.proofs.Common.{◌≡◌, ℕ, ◌+◌, ◌*◌, ◌^◌, ◌<◌, ◌≤◌, List, [], ◌∷◌, ◌++◌, arith, sym, ap, ap₂, ◌∙◌, append_assoc}
+use Rattle.std.proofs.lemmas.Fmt.{decimal_digit, decimal_step}
+use Rattle.std.proofs.lemmas.Nat.{div-mul-add}
+use Rattle.std.proofs.Math.Nat.{mul-add-mod_self_right, mod-eq_of_lt}
+use Rattle.std.specs.Fmt.{decimal}
+
+-- the first digit is read
+pub first_digit : (text more : List ℕ) (n digit : ℕ) → n ≡ digit → digit < 10 → text ≡ (48 + digit) ∷ more →
+    text ≡ decimal n ++ more
+first_digit text more n digit same small read =
+    read ∙ ap (λ l. l ++ more) (sym (decimal_digit digit small) ∙ ap decimal (sym same))
+
+digit_more : (n digit : ℕ) → 0 < n → digit < 10 → n * 10 + digit < 2 ^ 64 →
+    decimal (n * 10 + digit) ≡ decimal n ++ (48 + digit) ∷ []
+digit_more n digit some small fits =
+    let ten : 10 ≤ n * 10 + digit = omega arith in
+    decimal_step (n * 10 + digit) ten fits
+    ∙ ap₂ (λ a b. decimal a ++ (48 + b) ∷ []) (div-mul-add n 10 digit small)
+    (mul-add-mod_self_right n 10 digit ∙ mod-eq_of_lt small)
+
+-- the digits before this one, and what follows them
+pub record IsRead (text rest : List ℕ) (n : ℕ) : Type 0 where
+  pub read : text ≡ decimal n ++ rest
+  pub some : 0 < n
+
+-- a digit more is read
+pub next_digit : (text rest more : List ℕ) (n digit : ℕ) → IsRead text rest n → rest ≡ (48 + digit) ∷ more →
+    (digit < 10) × (n * 10 + digit < 2 ^ 64) → IsRead text more (n * 10 + digit)
+next_digit text rest more n digit before next (small, fits) = record {
+  read = before.read ∙ ap (λ l. decimal n ++ l) next ∙ sym (append_assoc (decimal n) ((48 + digit) ∷ []) more)
+      ∙ ap (λ l. l ++ more) (sym (digit_more n digit before.some small fits));
+  some = omega (arith, before.some);
+}

@@ -1,0 +1,20 @@
+use Rattle.std.proofs.Common.{◌+◌, sym, subst}
+use Rattle.std.proofs.lemmas.List.Elements.{All-push}
+use Rattle.std.specs.Prelude.{All}
+use Rattle.certificate.specs.Certificate.{NamesSamples}
+use Rattle.certificate.specs.Writing.{entry_text}
+use Rattle.certificate.proofs.Joined.{IsReadUpTo, joined_read}
+use Rattle.certificate.proofs.compact.entries.Goals as goal
+
+pub loop-index-preserved : goal.loop-index-preserved
+loop-index-preserved c =
+    let before = c.loop-index.invariant in
+    let entry = c.in_ok-next_entry.field-0 in
+    let rest = c.next_entry.new.scanner in
+    let more = sym c.push.ensures.items in
+    record {
+      read = subst (λ xs. IsReadUpTo entry_text c.args.scanner.now rest xs (c.loop-index.index + 1)) more
+          (joined_read entry_text entry rest before.read c.in_ok-next_entry.ensures.text);
+      named = subst (λ xs. All NamesSamples xs) more
+          (All-push NamesSamples c.loop-index.entries.items entry before.named c.in_ok-next_entry.ensures.named);
+    }

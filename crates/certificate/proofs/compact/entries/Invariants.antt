@@ -1,0 +1,11 @@
+use Rattle.std.specs.Prelude.{All}
+use Rattle.certificate.specs.Certificate.{NamesSamples}
+use Rattle.certificate.specs.Writing.{entry_text}
+use Rattle.certificate.proofs.Joined.{IsReadUpTo}
+use Rattle.certificate.proofs.compact.entries.Given as goal
+
+abbrev pub invariant-loop-index : goal.invariant-loop-index
+invariant-loop-index l = record {
+  read : IsReadUpTo entry_text l.fn.scanner l.scanner l.entries.items l.index;
+  named : All NamesSamples l.entries.items;
+}

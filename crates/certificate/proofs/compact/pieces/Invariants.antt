@@ -1,0 +1,12 @@
+use Rattle.std.proofs.Common.{map}
+use Rattle.std.specs.Prelude.{All}
+use Rattle.certificate.specs.Certificate.{IsHeld, piece_data}
+use Rattle.certificate.specs.Writing.{piece_text}
+use Rattle.certificate.proofs.Joined.{IsReadUpTo}
+use Rattle.certificate.proofs.compact.pieces.Given as goal
+
+abbrev pub invariant-loop-index : goal.invariant-loop-index
+invariant-loop-index l = record {
+  read : IsReadUpTo piece_text l.fn.scanner l.scanner (map piece_data l.pieces.items) l.index;
+  held : All IsHeld (map piece_data l.pieces.items);
+}
