@@ -1,10 +1,10 @@
+pub mod Ascii
 pub mod CompactRead
 pub mod Digits
 pub mod Joined
 pub mod Limits
+pub mod LineFeed
 pub mod Pairs
 pub mod ReadBack
-pub mod Ascii
-pub mod LineFeed
 pub mod TextRead
 pub mod Texts

@@ -2,6 +2,12 @@
 
 use arrayvec::ArrayVec;
 
+/// How many pieces a certificate that is read may have.
+pub(crate) const MAX_PIECES: usize = 100_000;
+
+/// How many entries a piece may have.
+pub(crate) const MAX_ENTRIES: usize = 32;
+
 /// One piece of the span.
 #[derive(Debug, Drop)]
 pub struct Piece {

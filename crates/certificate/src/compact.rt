@@ -9,14 +9,13 @@ ghost use Rattle.certificate.specs.Compact.{IsEnding};
 ghost use Rattle.certificate.specs.Reading.{certificate_of};
 ghost use Rattle.certificate.specs.Writing.{comma, comma_before, entry_text, piece_text};
 
-use crate::certificate::{Certificate, Piece};
-use crate::reading::{MAX_ENTRIES, MAX_PIECES};
+use crate::certificate::{Certificate, MAX_ENTRIES, MAX_PIECES, Piece};
 use crate::scanner::Scanner;
 use arrayvec::ArrayVec;
 use std::alloc::{AllocError, Global};
 
 /// The certificate that a text says, where the text is the one that `write_certificate` writes of
-/// it, with or without a line feed after it. None where it isn't.
+/// it, with or without a line feed after it. None leaves open what the text says.
 pub(crate) fn read_compact(alloc: Global, text: &[u8]) -> Result<Option<Certificate>, AllocError>
     ensures exact { IfOk result (λ found. IfSome found (λ certificate.
         certificate_of text.now ≡ Ok (data_of certificate))) }

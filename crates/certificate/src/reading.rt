@@ -7,17 +7,13 @@ ghost use Rattle.certificate.specs.Certificate.{data_of, piece_data, max_pieces}
 ghost use Rattle.certificate.specs.Fault.{Answers, Gives};
 ghost use Rattle.certificate.specs.Reading as spec;
 
-use crate::certificate::{Certificate, Piece};
+use crate::certificate::{Certificate, MAX_ENTRIES, MAX_PIECES, Piece};
 use crate::compact::read_compact;
 use crate::fault::CertificateFault;
 use arrayvec::ArrayVec;
 use json_text::{items_at, members_among, parse, unsigned_at, unsigned_of};
 use serde_json::Value;
 use std::alloc::Global;
-
-pub(crate) const MAX_PIECES: usize = 100_000;
-
-pub(crate) const MAX_ENTRIES: usize = 32;
 
 /// The certificate that the bytes of a JSON text say, or the first fault that it has: at most
 /// 100,000 pieces, each with at most 32 entries.

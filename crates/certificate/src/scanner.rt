@@ -1,6 +1,6 @@
 //! A text, read from its beginning.
 
-ghost use Rattle.std.specs.Prelude.{◌≡◌, ◌+◌, ◌<◌, ◌∷◌, ◌++◌, decimal, OnSome, IfNone, IfSome, IsTrue};
+ghost use Rattle.std.specs.Prelude.{◌≡◌, ◌+◌, ◌<◌, ◌∷◌, ◌++◌, decimal, OnSome, IfNone, IfSome, IsTrue, Some, slice_get, ◌↔◌};
 
 use std::marker::Model;
 
@@ -41,7 +41,9 @@ impl<'t> Scanner<'t> {
 
     /// Whether this byte comes next.
     #[inline]
-    pub(crate) fn is_next(&self, byte: u8) -> bool {
+    pub(crate) fn is_next(&self, byte: u8) -> bool
+        ensures { IsTrue result ↔ (slice_get self.now 0 ≡ Some byte) }
+    {
         self.rest.first() == Some(&byte)
     }
 
