@@ -94,7 +94,8 @@ lex_line_feed c (t ∷ ts) h =
     ∙ ap (λ l. separator c t ++ l) (append_assoc (token_text t) rest line_feed))
     ∙ lex_separator some (token_text t ++ (rest ++ line_feed))
     ∙ ap (λ l. before ++ l)
-    (lex_token t (rest ++ line_feed) h.0 (λ e. ap (λ b. ends_word (print_from b ts ++ line_feed)) e ∙ value_ends_there ts)
+    (lex_token t (rest ++ line_feed) h.0
+    (λ e. ap (λ b. ends_word (print_from b ts ++ line_feed)) e ∙ value_ends_there ts)
     ∙ ap (λ l. token_lexemes t ++ l) (lex_line_feed (ends t) ts h.1)
     ∙ sym (lex_token t rest h.0 (λ e. ap (λ b. ends_word (print_from b ts)) e ∙ value_ends ts)))
     ∙ sym (lex_separator some (token_text t ++ rest))
