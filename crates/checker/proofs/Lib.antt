@@ -1,4 +1,5 @@
 pub mod PartLemmas
+pub mod SourceLemmas
 pub mod GroupLemmas
 pub mod CountingLemmas
 pub mod CoverLemmas

@@ -4,6 +4,7 @@ pub mod Piece
 pub mod Verdict
 pub mod Stretch
 pub mod Traceability
+pub mod Source
 pub mod WorkedCourse
 pub mod Comparison
 pub mod Span

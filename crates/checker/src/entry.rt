@@ -1,35 +1,37 @@
 //! The entries of a piece.
 
-ghost use Rattle.std.specs.Prelude.{◌≡◌, ◌≤◌, ◌==◌, [], All, Ok, Err, MatchResult, slice_get};
+ghost use Rattle.std.specs.Prelude.{◌≡◌, ◌≤◌, ◌==◌, [], Ok, Err, MatchResult, slice_get};
 ghost use Rattle.std.specs.List.{list_any};
-ghost use Rattle.sample_interval.specs.Sample.{IsLawfulSample};
 ghost use Rattle.span_cover.specs.Piece.{IsPiece};
+ghost use Rattle.checker.specs.Source.{samples_in, IsLawfulSource};
 ghost use Rattle.checker.specs.Verdict.{part_from, parts_after};
 
 use crate::part::Part;
+use crate::source::{SampleSource, sample_at};
 use crate::stretch::Stretch;
 use crate::verdict::Why;
 use arrayvec::ArrayVec;
-use sample_interval::kinds::Sample;
 use span_cover::piece_interval;
 
 /// What the entries of a piece say, in their order, or the first reason to refuse one.
 pub(crate) fn parts(
-    samples: &[Sample],
+    source: &SampleSource,
     stretch: Stretch,
     drift_ppb: u32,
     entries: &ArrayVec<(u32, u32), 32>,
 ) -> Result<ArrayVec<Part, 32>, Why>
-    requires samples { All IsLawfulSample samples.now }
+    requires source { IsLawfulSource source.now }
     requires stretch { IsPiece stretch.begin stretch.end }
     requires rate { drift_ppb ≤ 500_000_000 }
     ensures { MatchResult result
-        (λ parts. parts_after samples.now stretch drift_ppb [] entries.now.items ≡ Ok parts.items)
-        (λ why. parts_after samples.now stretch drift_ppb [] entries.now.items ≡ Err why) }
+        (λ parts. parts_after (samples_in source.now) stretch drift_ppb [] entries.now.items
+        ≡ Ok parts.items)
+        (λ why. parts_after (samples_in source.now) stretch drift_ppb [] entries.now.items
+        ≡ Err why) }
 {
     let mut parts: ArrayVec<Part, 32> = ArrayVec::new();
     for entry in entries.as_slice() {
-        let part = part(samples, stretch, drift_ppb, *entry, parts.as_slice())?;
+        let part = part(source, stretch, drift_ppb, *entry, parts.as_slice())?;
         parts.push(part);
     }
     Ok(parts)
@@ -37,23 +39,24 @@ pub(crate) fn parts(
 
 /// What one entry says, after others of its piece.
 fn part(
-    samples: &[Sample],
+    source: &SampleSource,
     stretch: Stretch,
     drift_ppb: u32,
     entry: (u32, u32),
     earlier: &[Part],
 ) -> Result<Part, Why>
-    requires samples { All IsLawfulSample samples.now }
+    requires source { IsLawfulSource source.now }
     requires stretch { IsPiece stretch.begin stretch.end }
     requires rate { drift_ppb ≤ 500_000_000 }
     ensures { result ≡
         part_from stretch drift_ppb earlier.now
-        (slice_get samples.now entry.0) (slice_get samples.now entry.1) }
+        (slice_get (samples_in source.now) entry.0)
+        (slice_get (samples_in source.now) entry.1) }
 {
-    let Some(low) = samples.get(entry.0 as usize) else {
+    let Some(low) = sample_at(source, entry.0) else {
         return Err(Why::BadSample);
     };
-    let Some(high) = samples.get(entry.1 as usize) else {
+    let Some(high) = sample_at(source, entry.1) else {
         return Err(Why::BadSample);
     };
     let server = low.server;
@@ -65,7 +68,7 @@ fn part(
     }
     Ok(Part {
         server,
-        interval: piece_interval(low, high, stretch.begin, stretch.end, drift_ppb),
+        interval: piece_interval(&low, &high, stretch.begin, stretch.end, drift_ppb),
     })
 }
 

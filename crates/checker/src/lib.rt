@@ -12,10 +12,11 @@ mod group;
 pub mod laws;
 mod part;
 mod piece;
+mod source;
 mod stretch;
 mod verdict;
 
 pub use group::piece_hull;
 pub use part::Part;
 pub use stretch::Stretch;
-pub use verdict::{Verdict, Why, check};
+pub use verdict::{Verdict, Why, check, check_exchanges};

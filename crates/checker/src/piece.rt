@@ -3,26 +3,28 @@
 ghost use Rattle.std.specs.Prelude.{◌≡◌, ◌≤◌, ◌<◌, ◌^◌, pos, ◌≤ℤ◌, ◌<ℤ◌, length, All};
 ghost use Rattle.claim_file.specs.Claim.{IsLawful, data_of};
 ghost use Rattle.certificate.specs.Certificate.{piece_data};
-ghost use Rattle.sample_interval.specs.Sample.{IsLawfulSample};
+ghost use Rattle.checker.specs.Source.{samples_in, IsLawfulSource};
 ghost use Rattle.checker.specs.Verdict.{hull_fault, piece_fault};
 
 use crate::entry::parts;
 use crate::group::piece_hull;
+use crate::source::SampleSource;
 use crate::stretch::Stretch;
 use crate::verdict::Why;
 use certificate::Piece;
 use claim_file::Claim;
 use intersection::kinds::Hull;
-use sample_interval::kinds::Sample;
 
 /// The first test that fails in a piece that begins at `begin`.
-pub fn piece_fault(samples: &[Sample], claim: &Claim, begin: i128, piece: &Piece) -> Option<Why>
+pub fn piece_fault(source: &SampleSource, claim: &Claim, begin: i128, piece: &Piece) -> Option<Why>
     requires claim { IsLawful (data_of claim.now) }
-    requires samples { All IsLawfulSample samples.now }
-    requires listed { All (λ sample. sample.server < length claim.now.servers.items) samples.now }
+    requires source { IsLawfulSource source.now }
+    requires listed { All (λ sample. sample.server < length claim.now.servers.items)
+        (samples_in source.now) }
     requires from_1970 { pos 0 ≤ℤ begin }
     requires in_range { begin <ℤ pos (2 ^ 64) }
-    ensures { result ≡ piece_fault samples.now (data_of claim.now) begin (piece_data piece.now) }
+    ensures { result ≡
+        piece_fault (samples_in source.now) (data_of claim.now) begin (piece_data piece.now) }
 {
     let stretch = Stretch {
         begin,
@@ -31,7 +33,7 @@ pub fn piece_fault(samples: &[Sample], claim: &Claim, begin: i128, piece: &Piece
     if stretch.end < begin || claim.last < stretch.end {
         return Some(Why::Cut);
     }
-    match parts(samples, stretch, claim.drift_ppb, &piece.entries) {
+    match parts(source, stretch, claim.drift_ppb, &piece.entries) {
         Ok(parts) => hull_fault(
             piece_hull(parts.as_slice(), claim.groups.as_slice(), claim.false_max),
             claim.bound,

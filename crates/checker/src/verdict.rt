@@ -3,15 +3,19 @@
 ghost use Rattle.std.specs.Prelude.{◌≡◌, ℕ, ◌≤◌, ◌<◌, length, All, vec_len, slice_get, IsSomeAnd};
 ghost use Rattle.claim_file.specs.Claim.{IsLawful, data_of as claim_data};
 ghost use Rattle.certificate.specs.Certificate.{data_of as certificate_data, max_pieces};
+ghost use Rattle.pairing.specs.Exchange.{IsLawful as IsLawfulExchange};
 ghost use Rattle.sample_interval.specs.Sample.{IsLawfulSample};
+ghost use Rattle.checker.specs.Source.{samples_in, IsLawfulSource};
 ghost use Rattle.checker.specs.Stretch.{stretches_of};
-ghost use Rattle.checker.specs.Traceability.{IsTraceable, IsContradicted};
+ghost use Rattle.checker.specs.Traceability.{samples_of, IsTraceable, IsContradicted};
 ghost use Rattle.checker.specs.Verdict.{verdict_of};
 
 use crate::laws::verdicts_are_traceable;
 use crate::piece::piece_fault;
+use crate::source::SampleSource;
 use certificate::Certificate;
 use claim_file::Claim;
+use pairing::Exchange;
 use sample_interval::kinds::Sample;
 
 /// Why a certificate isn't accepted: the first test that fails in its piece.
@@ -95,21 +99,46 @@ pub fn check(samples: &[Sample], claim: &Claim, certificate: &Certificate) -> Ve
         (IsContradicted (claim_data claim.now) samples.now) }
 {
     verdicts_are_traceable();
-    first_fault(samples, claim, certificate)
+    first_fault(&SampleSource::Listed(samples), claim, certificate)
+}
+
+/// Whether the certificate shows that of exchanges: `check` of their samples with the claim's
+/// allowance, each made where it is asked for, so that no list of them is kept.
+pub fn check_exchanges(exchanges: &[Exchange], claim: &Claim, certificate: &Certificate) -> Verdict
+    requires claim { IsLawful (claim_data claim.now) }
+    requires exchanges { All (IsLawfulExchange (length claim.now.servers.items)) exchanges.now }
+    requires pieces { vec_len certificate.now.pieces ≤ max_pieces }
+    ensures exact { result ≡ verdict_of (samples_of exchanges.now (claim_data claim.now))
+        (claim_data claim.now) (certificate_data certificate.now) }
+
+    // In every course of events that fits exchanges with these samples, the error is within the
+    // bound over the span.
+    ensures yes { result ≡ Verdict.Yes → IsTraceable (claim_data claim.now)
+        (samples_of exchanges.now (claim_data claim.now)) }
+
+    // In no such course does the clock show a reading of the piece.
+    ensures contradiction { (k : ℕ) → result ≡ Verdict.No k Why.Contradiction →
+        IsSomeAnd (slice_get
+        (stretches_of (claim_data claim.now) (certificate_data certificate.now)) k)
+        (IsContradicted (claim_data claim.now) (samples_of exchanges.now (claim_data claim.now))) }
+{
+    verdicts_are_traceable();
+    first_fault(&SampleSource::Made(exchanges, claim), claim, certificate)
 }
 
 // The verdict, piece by piece.
-fn first_fault(samples: &[Sample], claim: &Claim, certificate: &Certificate) -> Verdict
+fn first_fault(source: &SampleSource, claim: &Claim, certificate: &Certificate) -> Verdict
     requires claim { IsLawful (claim_data claim.now) }
-    requires samples { All IsLawfulSample samples.now }
-    requires listed { All (λ sample. sample.server < length claim.now.servers.items) samples.now }
+    requires source { IsLawfulSource source.now }
+    requires listed { All (λ sample. sample.server < length claim.now.servers.items)
+        (samples_in source.now) }
     requires pieces { vec_len certificate.now.pieces ≤ max_pieces }
-    ensures { result ≡
-        verdict_of samples.now (claim_data claim.now) (certificate_data certificate.now) }
+    ensures { result ≡ verdict_of (samples_in source.now)
+        (claim_data claim.now) (certificate_data certificate.now) }
 {
     let mut begin = claim.first;
     for (number, piece) in certificate.pieces.iter().enumerate() {
-        if let Some(why) = piece_fault(samples, claim, begin, piece) {
+        if let Some(why) = piece_fault(source, claim, begin, piece) {
             return Verdict::No {
                 piece: number as u32,
                 why,

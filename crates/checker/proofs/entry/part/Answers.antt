@@ -3,24 +3,20 @@ use Rattle.std.specs.Int.{w128}
 use Rattle.std.proofs.lemmas.Int.{to_z-of_z}
 use Rattle.span_cover.specs.Piece.{piece_interval_of}
 use Rattle.intersection.specs.declared.kinds.Interval.{Interval}
-use Rattle.checker.proofs.PartLemmas.{accepted, found_at}
+use Rattle.checker.proofs.PartLemmas.{accepted}
 use Rattle.checker.proofs.entry.part.Goals as goal
 
 pub returns : goal.returns
 returns c =
     let begins : FitsSigned w128 c.args.stretch.begin = search rules in
     let ends : FitsSigned w128 c.args.stretch.end = search rules in
+    let low = c.in-Some.low in
+    let high = c.in-Some-sample_at.high in
     let interval : c.piece_interval.result
-    ≡ piece_interval_of c.in-Some.low.now c.in-Some-get.high.now c.args.stretch.begin c.args.stretch.end
-    c.args.drift_ppb =
+    ≡ piece_interval_of low high c.args.stretch.begin c.args.stretch.end c.args.drift_ppb =
     rw (to_z-of_z w128 c.args.stretch.begin begins, to_z-of_z w128 c.args.stretch.end ends)
     at c.piece_interval.ensures in
-    let samples = c.args.samples.now in
-    let low = c.in-Some.low.now in
-    let high = c.in-Some-get.high.now in
-    let at_low = found_at samples c.args.entry.0 low c.in-Some.ensures.lookup.0 c.in-Some.ensures.lookup.1 in
-    let at_high =
-    found_at samples c.args.entry.1 high c.in-Some-get.ensures.lookup.0 c.in-Some-get.ensures.lookup.1 in
     ap (λ (i : Interval). Ok (record { server = low.server; interval = i })) interval
     ∙ sym (accepted c.args.stretch c.args.drift_ppb c.args.earlier.now low high _ _
-    at_low at_high c.if-server-high.false (sym c.names_server.ensures ∙ c.if-names_server.false))
+    (sym c.in-Some.ensures.exact) (sym c.in-Some-sample_at.ensures.exact) c.if-server-high.false
+    (sym c.names_server.ensures ∙ c.if-names_server.false))
