@@ -13,28 +13,30 @@ use crate::verdict::Why;
 use arrayvec::ArrayVec;
 use span_cover::piece_interval;
 
-/// What the entries of a piece say, in their order, or the first reason to refuse one.
-pub(crate) fn parts(
+/// Puts what the entries of a piece say into `parts`, in their order, or answers the first reason to
+/// refuse one. (It isn't given back as a value, which would be copied for each piece.)
+pub(crate) fn add_parts(
+    parts: &mut ArrayVec<Part, 32>,
     source: &SampleSource,
     stretch: Stretch,
     drift_ppb: u32,
     entries: &ArrayVec<(u32, u32), 32>,
-) -> Result<ArrayVec<Part, 32>, Why>
+) -> Result<(), Why>
+    requires empty { parts.old.items ≡ [] }
     requires source { IsLawfulSource source.now }
     requires stretch { IsPiece stretch.begin stretch.end }
     requires rate { drift_ppb ≤ 500_000_000 }
     ensures { MatchResult result
-        (λ parts. parts_after (samples_in source.now) stretch drift_ppb [] entries.now.items
-        ≡ Ok parts.items)
+        (λ _. parts_after (samples_in source.now) stretch drift_ppb [] entries.now.items
+        ≡ Ok parts.new.items)
         (λ why. parts_after (samples_in source.now) stretch drift_ppb [] entries.now.items
         ≡ Err why) }
 {
-    let mut parts: ArrayVec<Part, 32> = ArrayVec::new();
     for entry in entries.as_slice() {
         let part = part(source, stretch, drift_ppb, *entry, parts.as_slice())?;
         parts.push(part);
     }
-    Ok(parts)
+    Ok(())
 }
 
 /// What one entry says, after others of its piece.

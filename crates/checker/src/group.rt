@@ -1,7 +1,7 @@
 //! The intervals of groups of servers.
 
 ghost use Rattle.std.specs.Prelude.{◌≡◌, ◌<◌, ◌≤◌, length, All};
-ghost use Rattle.checker.specs.Piece.{group_interval, group_intervals, piece_hull};
+ghost use Rattle.checker.specs.Piece.{group_interval, piece_hull};
 
 use crate::part::Part;
 use arrayvec::ArrayVec;
@@ -14,22 +14,13 @@ pub fn piece_hull(parts: &[Part], groups: &[u8], false_max: u8) -> Hull
     requires listed { All (λ part. part.server < length groups.now) parts.now }
     ensures { result ≡ piece_hull groups.now false_max parts.now }
 {
-    hull(&group_intervals(parts, groups), false_max)
-}
-
-/// The intervals of the groups that have an entry, in the order of the groups.
-fn group_intervals(parts: &[Part], groups: &[u8]) -> ArrayVec<Interval, 32>
-    requires groups { length groups.now ≤ 32 }
-    requires listed { All (λ part. part.server < length groups.now) parts.now }
-    ensures { result.items ≡ group_intervals groups.now parts.now }
-{
-    let mut intervals = ArrayVec::new();
+    let mut intervals: ArrayVec<Interval, 32> = ArrayVec::new();
     for group in 0..groups.len() {
         if let Some(interval) = group_interval(parts, groups, group) {
             intervals.push(interval);
         }
     }
-    intervals
+    hull(&intervals, false_max)
 }
 
 /// The interval of a group, where it has an entry.

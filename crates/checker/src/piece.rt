@@ -6,11 +6,12 @@ ghost use Rattle.certificate.specs.Certificate.{piece_data};
 ghost use Rattle.checker.specs.Source.{samples_in, IsLawfulSource};
 ghost use Rattle.checker.specs.Verdict.{hull_fault, piece_fault};
 
-use crate::entry::parts;
+use crate::entry::add_parts;
 use crate::group::piece_hull;
 use crate::source::SampleSource;
 use crate::stretch::Stretch;
 use crate::verdict::Why;
+use arrayvec::ArrayVec;
 use certificate::Piece;
 use claim_file::Claim;
 use intersection::kinds::Hull;
@@ -33,8 +34,9 @@ pub fn piece_fault(source: &SampleSource, claim: &Claim, begin: i128, piece: &Pi
     if stretch.end < begin || claim.last < stretch.end {
         return Some(Why::Cut);
     }
-    match parts(source, stretch, claim.drift_ppb, &piece.entries) {
-        Ok(parts) => hull_fault(
+    let mut parts = ArrayVec::new();
+    match add_parts(&mut parts, source, stretch, claim.drift_ppb, &piece.entries) {
+        Ok(()) => hull_fault(
             piece_hull(parts.as_slice(), claim.groups.as_slice(), claim.false_max),
             claim.bound,
         ),

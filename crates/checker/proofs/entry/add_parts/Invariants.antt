@@ -1,7 +1,7 @@
 use Rattle.std.proofs.Common.{◌≡◌, ◌≤◌, [], length, drop}
 use Rattle.checker.specs.Source.{samples_in}
 use Rattle.checker.specs.Verdict.{parts_after}
-use Rattle.checker.proofs.entry.parts.Given as goal
+use Rattle.checker.proofs.entry.add_parts.Given as goal
 
 abbrev pub invariant-loop-entry : goal.invariant-loop-entry
 invariant-loop-entry l = record {

@@ -2,7 +2,7 @@ use Rattle.std.proofs.Common.{◌≡◌, ◌≤◌, length}
 use Rattle.std.specs.Prelude.{filter_map}
 use Rattle.checker.specs.Groups.{numbers_below}
 use Rattle.checker.specs.Piece.{group_interval}
-use Rattle.checker.proofs.group.group_intervals.Given as goal
+use Rattle.checker.proofs.group.piece_hull.Given as goal
 
 abbrev pub invariant-loop-group : goal.invariant-loop-group
 invariant-loop-group l = record {
