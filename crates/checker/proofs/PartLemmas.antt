@@ -1,11 +1,11 @@
 -- What the entries of a piece say, each by itself.
-use Rattle.std.proofs.Common.{◌≡◌, ℕ, ◌<◌, Bool, true, false, cond, not, List, [], ◌∷◌, ◌++◌, Option, Some, None, Result, Ok, Err, length, get_or, nat_lt, refl, sym, ◌∙◌, subst, arith}
+use Rattle.std.proofs.Common.{◌≡◌, ℕ, ◌<◌, Bool, true, false, cond, not, List, [], ◌∷◌, ◌++◌, Option, Some, None, Result, Ok, Err, length, refl, sym, ◌∙◌, subst, arith}
 use Rattle.std.specs.Prelude.{All, slice_get, ◌==◌}
 use Rattle.std.specs.List.{list_any}
 use Rattle.std.proofs.lemmas.Bool.{cond-false}
 use Rattle.std.proofs.lemmas.Bool.Decides.{nat_tests}
 use Rattle.std.proofs.lemmas.List.Elements.{All-push, All-nil}
-use Rattle.std.proofs.lemmas.Option.{get_or_from_slice_get, slice_get_within, slice_get_read}
+use Rattle.std.proofs.lemmas.Option.{get_or_from_slice_get, slice_get_within}
 use Rattle.sample_interval.specs.declared.kinds.Sample.{Sample}
 use Rattle.checker.specs.Verdict.{part_of, part_from, parts_after, unless_refused}
 use Rattle.checker.specs.declared.part.Part.{Part}
@@ -26,13 +26,6 @@ pub All-slice_get : {X : Type 0} (P : X → Type 0) (xs : List X) (k : ℕ) (x :
     → P x
 All-slice_get P xs k x all is =
     subst P (get_or_from_slice_get xs k x x is) (all k x (slice_get_within xs k x is))
-
--- what stands at a place that was looked up
-pub found_at : (samples : List Sample) (k : ℕ) (sample : Sample) → true ≡ nat_lt k (length samples)
-    → sample ≡ get_or samples k sample → slice_get samples k ≡ Some sample
-found_at samples k sample inside is =
-    let below : k < length samples = grind (arith, nat_tests) in
-    slice_get_read samples (length samples) k sample refl below is
 
 -- the tests on two samples pass
 test_fails : (a b : ℕ) → a ≡ b → not (a == b) ≡ false

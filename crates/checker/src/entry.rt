@@ -13,8 +13,8 @@ use crate::verdict::Why;
 use arrayvec::ArrayVec;
 use span_cover::piece_interval;
 
-/// Puts what the entries of a piece say into `parts`, in their order, or answers the first reason to
-/// refuse one. (It isn't given back as a value, which would be copied for each piece.)
+/// Puts what the entries of a piece say into `parts`, in their order, or answers the first reason
+/// to refuse one. (As a value it would be copied for each piece.)
 pub(crate) fn add_parts(
     parts: &mut ArrayVec<Part, 32>,
     source: &SampleSource,

@@ -4,8 +4,8 @@
 //! events that fits the exchanges and what the claim grants, the error of the client's clock is
 //! within the bound over the whole span. What a course is and when it fits stands in specs/Course.
 //! [`check_exchanges`] is the same of exchanges, without a list of their samples. [`piece_hull`]
-//! is the hull of a piece's entries over the groups of servers. Nothing here allocates. [`laws`] has
-//! the theorem, its steps, and how verdicts compare.
+//! is the hull of a piece's entries over the groups of servers. Nothing here allocates. [`laws`]
+//! has the theorem, its steps, and how verdicts compare.
 #![tactic(auto)]
 
 mod entry;

@@ -32,9 +32,9 @@ pub record IsGatheredOver (p q : ℤ) (ppb : ℕ) : Type 0 where
   pub rate : ppb ≤ 500_000_000
 
 -- these are the samples that were taken, for this piece and rate
-pub record Gathered (samples : List Sample) (p q : ℤ) (ppb : ℕ) (gathering : Gathering) : Type 0 where
-  pub from : gathering.p ≡ p
-  pub to : gathering.q ≡ q
-  pub rate : gathering.drift_ppb ≡ ppb
+pub record Gathered (samples : List Sample) (p q : ℤ) (ppb : ℕ) (best : Gathering) : Type 0 where
+  pub from : best.p ≡ p
+  pub to : best.q ≡ q
+  pub rate : best.drift_ppb ≡ ppb
   pub entries : (server : ℕ) → server < 32 →
-      slice_get gathering.intervals server ≡ Some (best_interval samples server p q ppb)
+      slice_get best.intervals server ≡ Some (best_interval samples server p q ppb)

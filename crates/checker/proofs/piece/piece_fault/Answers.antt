@@ -8,5 +8,6 @@ piece_hull-requires-clause-listed c =
     let listed =
     listed_parts (samples_in c.args.source.now) _ c.args.claim.now.drift_ppb (length c.args.claim.now.servers.items)
     c.args.piece.now.entries.items c.add_parts.new.parts.items c.requires.listed c.in-Ok.ensures in
-    listed_again c.as_slice.result.now c.add_parts.new.parts.items c.as_slice-in-Ok.result.now _ c.as_slice.ensures.value
+    listed_again c.as_slice.result.now c.add_parts.new.parts.items c.as_slice-in-Ok.result.now _
+    c.as_slice.ensures.value
     (ap length c.as_slice-in-Ok.ensures.value ∙ c.requires.claim.group_for_each) listed

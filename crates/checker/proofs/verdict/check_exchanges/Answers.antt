@@ -15,11 +15,13 @@ returns-clause-yes c e =
     c.verdicts_are_traceable.ensures.yes (claim_data c.args.claim.now)
     (samples_of c.args.exchanges.now (claim_data c.args.claim.now)) (certificate_data c.args.certificate.now)
     c.requires.claim
-    (listed_samples c.args.exchanges.now (claim_data c.args.claim.now) _ c.requires.exchanges) (sym c.first_fault.ensures ∙ e)
+    (listed_samples c.args.exchanges.now (claim_data c.args.claim.now) _ c.requires.exchanges)
+    (sym c.first_fault.ensures ∙ e)
 
 pub returns-clause-contradiction : goal.returns-clause-contradiction
 returns-clause-contradiction c k e =
     c.verdicts_are_traceable.ensures.contradiction (claim_data c.args.claim.now)
     (samples_of c.args.exchanges.now (claim_data c.args.claim.now)) (certificate_data c.args.certificate.now)
     c.requires.claim
-    (listed_samples c.args.exchanges.now (claim_data c.args.claim.now) _ c.requires.exchanges) k (sym c.first_fault.ensures ∙ e)
+    (listed_samples c.args.exchanges.now (claim_data c.args.claim.now) _ c.requires.exchanges) k
+    (sym c.first_fault.ensures ∙ e)
