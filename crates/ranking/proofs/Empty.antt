@@ -5,6 +5,9 @@ use Rattle.std.proofs.lemmas.Bool.{cases_lt}
 use Rattle.std.proofs.lemmas.Int.{ints}
 use Rattle.std.proofs.lemmas.List.{get_or-replicate, get_or_past, length-replicate, drop-replicate}
 use Rattle.ranking.specs.declared.tree.TheConstants.{NOTHING}
+use Rattle.ranking.proofs.Entries.{leaf_of}
+use Rattle.ranking.specs.Lead.{IsLead}
+use Rattle.ranking.specs.declared.lead.Lead.{Lead}
 use Rattle.ranking.specs.Tree.{IsFirstLeaf, IsTree, value_of, entry_of, entries_of}
 
 no_value : (n i : ℕ) → value_of (replicate n NOTHING) i ≡ NOTHING
@@ -37,3 +40,10 @@ no_entries (suc n) = ap (λ entries. None ∷ entries) (no_entries n)
 
 pub empty_entries : (n leaves : ℕ) → entries_of (replicate n NOTHING) leaves ≡ replicate (n - leaves) None
 empty_entries n leaves = ap (map entry_of) (drop-replicate leaves n NOTHING) ∙ no_entries (n - leaves)
+
+-- where nothing is held, any number may lead
+pub empty_lead : (n leaves : ℕ) (lead : Lead) → IsLead (entries_of (replicate n NOTHING) leaves) lead
+empty_lead n leaves lead number value other held =
+    let leaf = leaf_of (replicate n NOTHING) leaves number value held in
+    let nothing = no_value n (leaves + number) in
+    absurd (omega (arith, ints))

@@ -6,7 +6,7 @@ use Rattle.std.proofs.lemmas.Int.{ints, by_lt_z}
 use Rattle.std.proofs.lemmas.List.{get_or_default, get_or-drop, length-drop, length-map, map-set}
 use Rattle.std.proofs.lemmas.Option.{slice_get-map, slice_get_within, slice_get-get_or, none-some, same_Some}
 use Rattle.ranking.specs.declared.tree.TheConstants.{NOTHING}
-use Rattle.ranking.specs.Ranking.{IsHeld}
+use Rattle.ranking.specs.Ranking.{IsHeld, IsFree}
 use Rattle.ranking.specs.Tree.{value_of, entry_of, entries_of}
 
 -- what an index reads
@@ -54,6 +54,15 @@ module _ (nodes : List ℤ) (leaves number : ℕ) where
   pub held_at : leaves + number < length nodes → NOTHING <ℤ value_of nodes (leaves + number) →
       IsHeld (entries_of nodes leaves) number (value_of nodes (leaves + number))
   held_at within something = shown within ∙ ap Some (entry_some (value_of nodes (leaves + number)) something)
+
+  -- where nothing was put, the leaf has no value
+  pub free_leaf : IsFree (entries_of nodes leaves) number → value_of nodes (leaves + number) ≤ℤ NOTHING
+  free_leaf free =
+      by_lt_z NOTHING (value_of nodes (leaves + number))
+      (λ something.
+      absurd (none-some (value_of nodes (leaves + number))
+      (same_Some None (Some (value_of nodes (leaves + number))) (sym free ∙ held_at (inside None free) something))))
+      (λ nothing. nothing)
 
 -- one leaf written
 pub entries_set : (nodes after : List ℤ) (leaves number : ℕ) (value : ℤ) → NOTHING <ℤ value →

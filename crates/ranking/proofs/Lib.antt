@@ -1,6 +1,7 @@
 pub mod Descent
 pub mod Empty
 pub mod Entries
+pub mod Leading
 pub mod Root
 pub mod Spans
 pub mod Steps

@@ -6,6 +6,7 @@
 #![tactic(auto)]
 
 pub mod laws;
+mod lead;
 mod ranking;
 mod tree;
 

@@ -3,6 +3,7 @@
 ghost use Rattle.std.specs.Prelude.{◌≡◌, ◌<ℤ◌, replicate, slice_set, Some, None, IfOk, IfNone, IfSome};
 ghost use Rattle.ranking.specs.Ranking.{IsFree, HoldsNothing, IsGreatest, AllBelow, IsLeastNumber};
 
+use crate::lead::Lead;
 use crate::tree;
 use crate::tree::NOTHING;
 use std::alloc::{AllocError, Global};
@@ -17,17 +18,20 @@ pub struct Ranking {
     nodes: Vec<i128>,
     /// Where the leaves begin: the node of number 0.
     leaves: usize,
+    /// Which number alone may have more than the others.
+    lead: Lead,
 }
 
 impl Model for Ranking {
     ghost use Rattle.std.specs.Prelude.{ℤ, List, Option};
-    ghost use Rattle.ranking.specs.Tree.{entries_of, IsTree};
+    ghost use Rattle.ranking.specs.Lead.{IsRanking};
+    ghost use Rattle.ranking.specs.Tree.{entries_of};
 
     ghost Value = { List (Option ℤ) };
 
     ghost view = { λ r. entries_of r.nodes.items r.leaves };
 
-    ghost invariant = { λ r. IsTree r.nodes.items r.leaves };
+    ghost invariant = { λ r. IsRanking r.nodes.items r.leaves r.lead };
 }
 
 impl Ranking {
@@ -37,7 +41,15 @@ impl Ranking {
     {
         let leaves = tree::first_leaf(size);
         let nodes = vec![in alloc; NOTHING; leaves + size as usize]?;
-        Ok(Ranking { nodes, leaves })
+        let lead = Lead {
+            number: 0,
+            rival: NOTHING,
+        };
+        Ok(Ranking {
+            nodes,
+            leaves,
+            lead,
+        })
     }
 
     /// Puts a value at a number that has none. It takes no memory.
@@ -46,6 +58,8 @@ impl Ranking {
         requires above_least { i128.MIN <ℤ value }
         ensures { self.new ≡ slice_set self.old number (Some value) }
     {
+        let greatest = tree::root(&self.nodes);
+        self.lead = self.lead.after(number, value, greatest);
         tree::put(&mut self.nodes, self.leaves, number as usize, value);
     }
 
@@ -67,6 +81,10 @@ impl Ranking {
         let at_least = at_least.max(NOTHING + 1);
         if tree::root(&self.nodes) < at_least {
             return None;
+        }
+        // Mostly one number alone has so much, and then it's known.
+        if self.lead.rival < at_least {
+            return Some(self.lead.number);
         }
         Some(tree::first_number(&self.nodes, self.leaves, at_least) as u32)
     }

@@ -13,7 +13,7 @@ returns-then-root-gt-NOTHING-clause-greatest c =
     let something : NOTHING <ℤ c.root-root.result = grind (arith, ints) in
     let is = c.root-root.ensures ∙ ap (λ nodes. value_of nodes 0) c.deref.ensures.value in
     rw (to_z-of_z w128 c.root-root.result fits, is, ← c.self.view_is)
-    (greatest_is c.self.inside.nodes.items c.self.inside.leaves c.self.invariant (rw (← is) something))
+    (greatest_is c.self.inside.nodes.items c.self.inside.leaves c.self.invariant.tree (rw (← is) something))
 
 pub returns-else-root-gt-NOTHING-clause-none : goal.returns-else-root-gt-NOTHING-clause-none
 returns-else-root-gt-NOTHING-clause-none c =
@@ -21,4 +21,4 @@ returns-else-root-gt-NOTHING-clause-none c =
     let empty : c.root-root.result ≤ℤ NOTHING = grind (arith, ints) in
     let is = c.root-root.ensures ∙ ap (λ nodes. value_of nodes 0) c.deref.ensures.value in
     rw (← c.self.view_is)
-    (holds_nothing c.self.inside.nodes.items c.self.inside.leaves c.self.invariant (rw (← is) empty))
+    (holds_nothing c.self.inside.nodes.items c.self.inside.leaves c.self.invariant.tree (rw (← is) empty))

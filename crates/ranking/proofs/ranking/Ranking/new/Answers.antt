@@ -1,14 +1,18 @@
 use Rattle.std.proofs.Common.{◌≡◌, ◌∙◌, arith, rules, ◌+◌, ◌-◌, replicate}
 use Rattle.ranking.specs.declared.tree.TheConstants.{NOTHING}
-use Rattle.ranking.proofs.Empty.{empty_entries, empty_tree}
+use Rattle.ranking.proofs.Empty.{empty_entries, empty_lead, empty_tree}
 use Rattle.ranking.proofs.ranking.Ranking.new.Goals as goal
 
 pub invariant_of-result : goal.invariant_of-result
 invariant_of-result c =
     let leaves = c.first_leaf-leaves.result in
     let items : c.in_ok-nodes.nodes.items ≡ replicate (leaves + c.args.size) NOTHING = search rules in
-    rw items (empty_tree (leaves + c.args.size) leaves c.first_leaf-leaves.ensures.level
-    (omega arith) (omega arith) (omega arith) (omega arith) (omega arith))
+    rw items (record {
+      tree =
+          empty_tree (leaves + c.args.size) leaves c.first_leaf-leaves.ensures.level
+          (omega arith) (omega arith) (omega arith) (omega arith) (omega arith);
+      leads = empty_lead (leaves + c.args.size) leaves (record { number = 0; rival = NOTHING });
+    })
 
 pub returns : goal.returns
 returns c =

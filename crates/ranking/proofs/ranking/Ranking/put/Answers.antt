@@ -1,7 +1,38 @@
-use Rattle.std.proofs.Common.{◌≡◌, rules, set, drop}
+use Rattle.std.proofs.Common.{◌≡◌, ◌∙◌, ap, rules, set, drop, arith}
+use Rattle.std.proofs.lemmas.Int.{ints, to_z-of_z}
 use Rattle.std.proofs.lemmas.List.{with_items_is}
-use Rattle.ranking.proofs.Entries.{entries_set}
+use mir.Syntax.{w128}
+use mir.Val.{SFits}
+use Rattle.ranking.specs.Ranking.{IsFree}
+use Rattle.ranking.specs.Tree.{entries_of, value_of}
+use Rattle.ranking.proofs.Entries.{entries_set, free_leaf}
+use Rattle.ranking.proofs.Root.{at_most_root}
 use Rattle.ranking.proofs.ranking.Ranking.put.Goals as goal
+
+pub put-requires-clause-grows : goal.put-requires-clause-grows
+put-requires-clause-grows c =
+    let free : IsFree (entries_of c.self.inside.nodes.items c.self.inside.leaves) c.args.number =
+    rw c.self.view_is c.requires.free in
+    let nothing = free_leaf c.self.inside.nodes.items c.self.inside.leaves c.args.number free in
+    let something = c.requires.above_least in
+    rw (to_z-of_z w128 c.args.value c.ranges.value, c.deref_mut.ensures.value) (omega (arith, ints))
+
+pub invariant_of-self : goal.invariant_of-self
+invariant_of-self c =
+    let nodes = c.self.inside.nodes.items in
+    let leaves = c.self.inside.leaves in
+    let items = with_items_is c.self.inside.nodes c.put.new.nodes (search rules) in
+    let leaf : drop leaves c.put.new.nodes ≡ set (drop leaves nodes) c.args.number c.args.value = search rules in
+    let entries = entries_set nodes c.put.new.nodes leaves c.args.number c.args.value c.requires.above_least leaf in
+    let fits : SFits w128 c.root-greatest.result = search rules in
+    let is = c.root-greatest.ensures ∙ ap (λ nodes. value_of nodes 0) c.deref.ensures.value in
+    let leads = rw (to_z-of_z w128 c.args.value c.ranges.value) at c.after-self-inside.ensures in
+    rw items (record {
+      tree = c.put.ensures.is_tree;
+      leads = rw entries (leads (entries_of nodes leaves)
+          (rw (to_z-of_z w128 c.root-greatest.result fits, is) (at_most_root nodes leaves c.self.invariant.tree))
+          c.self.invariant.leads);
+    })
 
 pub returns : goal.returns
 returns c =
