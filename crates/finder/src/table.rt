@@ -11,7 +11,7 @@ use crate::piece::piece_ends;
 use claim_file::Claim;
 use sample_interval::kinds::Sample;
 use std::alloc::{AllocError, Global};
-use sweep::best_of_pieces;
+use sweep::{best_of_pieces, servers_of};
 
 /// For each server that has a sample, in the order of the servers, its best samples in each of the
 /// first `count` pieces.
@@ -33,11 +33,13 @@ pub(crate) fn tables(
         ≡ best_entries samples.now (data_of claim.now) (stretch_at (data_of claim.now) step_s k)) }
 {
     let ends = piece_ends(alloc, claim.first, claim.last, step_s, count)?;
+    let servers = servers_of(alloc, samples)?;
     let mut tables = Vec::new(alloc);
     for server in 0..claim.servers.len() {
         let table = best_of_pieces(
             alloc,
             samples,
+            servers.as_slice(),
             server as u8,
             claim.first,
             ends.as_slice(),

@@ -1,11 +1,11 @@
 -- The bounds of a server's samples.
-use Rattle.std.proofs.Common.{◌≡◌, ℕ, ◌+◌, ◌<◌, ◌≤◌, ◌^◌, ℤ, List, [], ◌∷◌, ◌++◌, length, Some}
+use Rattle.std.proofs.Common.{◌≡◌, ℕ, ◌+◌, ◌<◌, ◌≤◌, ◌^◌, ℤ, List, [], ◌∷◌, ◌++◌, length, map, Some}
 use Rattle.std.proofs.Common.{arith, subst, get_or, ⊎_elim, sym, ◌∙◌, ap, neg_ℤ, unsigned_abs, ◌≢◌, ◌≤ℤ◌}
 use Rattle.std.specs.List.{slice_get, All}
 use Rattle.std.proofs.lemmas.Bool.{cases_lt}
 use Rattle.std.proofs.lemmas.Int.{ints}
-use Rattle.std.proofs.lemmas.List.{length-append}
-use Rattle.std.proofs.lemmas.Option.{slice_get-get_or, slice_get_within, same_Some}
+use Rattle.std.proofs.lemmas.List.{length-append, length-map, get_or-map}
+use Rattle.std.proofs.lemmas.Option.{slice_get-get_or, slice_get_within, same_Some, get_or_from_slice_get}
 use Rattle.sample_interval.specs.Sample.{IsLawfulSample}
 use Rattle.sample_interval.specs.declared.kinds.Sample.{Sample}
 use Rattle.span_cover.specs.Best.{HasNoSample}
@@ -32,6 +32,18 @@ lawful_bound Low sample bound s is =
 lawful_bound High sample bound s is =
     lawful_end (neg_ℤ sample.high) sample.high_from sample.high_to bound (omega (arith, ints, s.high)) s.high_from
     s.high_place_in_order s.high_to is
+
+-- ---- the server of each sample, in a list of its own
+module _ (samples : List Sample) (servers : List ℕ) (are : servers ≡ map (λ sample. sample.server) samples) where
+  pub as_many_servers : length servers ≡ length samples
+  as_many_servers = rw are (length-map samples (λ sample. sample.server))
+
+  pub server_at : (number : ℕ) (sample : Sample) (d : ℕ) → slice_get samples number ≡ Some sample →
+      get_or servers number d ≡ sample.server
+  server_at number sample d is =
+      let within = slice_get_within samples number sample is in
+      rw are (get_or-map (λ sample. sample.server) samples number sample d within
+      ∙ ap (λ s. s.server) (get_or_from_slice_get samples number sample sample is))
 
 -- the bounds of the samples below number n
 pub record BoundsSoFar (end : End) (samples : List Sample) (server n : ℕ) (bounds : List Bound) : Type 0 where

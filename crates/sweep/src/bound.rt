@@ -28,21 +28,35 @@ pub struct Bound {
     pub to: u128,
 }
 
+/// The server of each sample, in their order. The ends of each server's samples are looked for in
+/// this list: it is a hundred times shorter than that of the samples.
+pub fn servers_of(alloc: Global, samples: &[Sample]) -> Result<Vec<u8>, AllocError>
+    ensures { IfOk result (λ servers. servers.items ≡ map (λ sample. sample.server) samples.now) }
+{
+    let mut servers = Vec::with_capacity(alloc, samples.len())?;
+    for sample in samples {
+        servers.push(sample.server)?;
+    }
+    Ok(servers)
+}
+
 /// The ends of the server's samples, in the order of their numbers.
 pub fn bounds_of(
     alloc: Global,
     samples: &[Sample],
+    servers: &[u8],
     server: u8,
     end: End,
 ) -> Result<Vec<Bound>, AllocError>
     requires samples { All IsLawfulSample samples.now }
     requires few { length samples.now ≤ 1_000_000 }
+    requires servers { servers.now ≡ map (λ sample. sample.server) samples.now }
     ensures { IfOk result (λ bounds. AreBoundsOf end samples.now server bounds.items) }
 {
     let mut bounds = Vec::new(alloc);
-    for (number, sample) in samples.iter().enumerate() {
-        if sample.server == server {
-            bounds.push(bound_of(number as u32, sample, end))?;
+    for (number, of) in servers.iter().enumerate() {
+        if *of == server {
+            bounds.push(bound_of(number as u32, &samples[number], end))?;
         }
     }
     Ok(bounds)
@@ -75,7 +89,7 @@ pub fn mirrored_bounds(alloc: Global, bounds: &[Bound]) -> Result<Vec<Bound>, Al
     requires { All IsLawfulBound bounds.now }
     ensures { IfOk result (λ mirrored. mirrored.items ≡ map mirrored_bound bounds.now) }
 {
-    let mut mirrored = Vec::new(alloc);
+    let mut mirrored = Vec::with_capacity(alloc, bounds.len())?;
     for bound in bounds {
         mirrored.push(Bound {
             number: bound.number,

@@ -30,7 +30,7 @@ pub fn top_numbers(
     widening_is_one_number();
     let early = early_tops(alloc, bounds, spans, drift_ppb)?;
     let late = late_tops(alloc, bounds, spans, drift_ppb)?;
-    let mut numbers = Vec::new(alloc);
+    let mut numbers = Vec::with_capacity(alloc, spans.len())?;
     for k in 0..spans.len() {
         let top = higher(early[k], late[spans.len() - 1 - k]).unwrap();
         numbers.push(bounds[top.place as usize].number)?;

@@ -21,4 +21,5 @@ mod span;
 mod tick;
 mod top;
 
+pub use bound::servers_of;
 pub use pieces::best_of_pieces;

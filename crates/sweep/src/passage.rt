@@ -29,7 +29,7 @@ pub fn early_tops(
 {
     let queue = queue_of(alloc, bounds, drift_ppb)?;
     let mut ranking = Ranking::new(alloc, bounds.len() as u32)?;
-    let mut tops = Vec::new(alloc);
+    let mut tops = Vec::with_capacity(alloc, spans.len())?;
     let mut next = 0;
     for span in spans {
         next = admit(&mut ranking, &queue, next, span.begin + span.end);

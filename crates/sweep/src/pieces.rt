@@ -1,5 +1,5 @@
 //! The best samples of every piece.
-ghost use Rattle.std.specs.Prelude.{◌≡◌, ◌≤◌, length, All, IsNone, IfOk, IfSome, ◌↔◌};
+ghost use Rattle.std.specs.Prelude.{◌≡◌, ◌≤◌, length, All, IsNone, IfOk, IfSome, ◌↔◌, map};
 ghost use Rattle.sample_interval.specs.Sample.{IsLawfulSample};
 ghost use Rattle.span_cover.specs.Best.{HasNoSample};
 ghost use Rattle.sweep.specs.Pieces.{ArePieces, AreBestOfPieces, ArePairsOf};
@@ -15,11 +15,13 @@ use std::alloc::{AllocError, Global};
 /// before `ends[k]` to `ends[k]`. None where the server has no sample. Its one error is that it is
 /// out of memory.
 ///
-/// `first` and `ends` are Unix ticks, from 0 to below 2^64, and never fall. The rate is up to
+/// `servers` has the server of each sample, as [`servers_of`](crate::servers_of) makes it once for
+/// all of them. `first` and `ends` are Unix ticks, from 0 to below 2^64, and never fall. The rate is up to
 /// 500,000,000 parts in 10^9, and the samples are at most 1,000,000.
 pub fn best_of_pieces(
     alloc: Global,
     samples: &[Sample],
+    servers: &[u8],
     server: u8,
     first: i128,
     ends: &[i128],
@@ -27,17 +29,18 @@ pub fn best_of_pieces(
 ) -> Result<Option<Vec<(u32, u32)>>, AllocError>
     requires samples { All IsLawfulSample samples.now }
     requires few { length samples.now ≤ 1_000_000 }
+    requires servers { servers.now ≡ map (λ sample. sample.server) samples.now }
     requires pieces { ArePieces first ends.now }
     requires rate { drift_ppb ≤ 500_000_000 }
     ensures none { IfOk result (λ found. IsNone found ↔ HasNoSample samples.now server) }
     ensures best { IfOk result (λ found. IfSome found
         (λ chosen. AreBestOfPieces samples.now server first ends.now drift_ppb chosen.items)) }
 {
-    let lows = bounds_of(alloc, samples, server, End::Low)?;
+    let lows = bounds_of(alloc, samples, servers, server, End::Low)?;
     if lows.is_empty() {
         return Ok(None);
     }
-    let highs = bounds_of(alloc, samples, server, End::High)?;
+    let highs = bounds_of(alloc, samples, servers, server, End::High)?;
     let spans = spans_of(alloc, first, ends)?;
     let low_numbers = top_numbers(alloc, lows.as_slice(), spans.as_slice(), drift_ppb)?;
     let high_numbers = top_numbers(alloc, highs.as_slice(), spans.as_slice(), drift_ppb)?;
@@ -50,7 +53,7 @@ fn pairs_of(alloc: Global, lows: &[u32], highs: &[u32]) -> Result<Vec<(u32, u32)
     requires { length lows.now ≡ length highs.now }
     ensures { IfOk result (λ pairs. ArePairsOf lows.now highs.now pairs.items) }
 {
-    let mut pairs = Vec::new(alloc);
+    let mut pairs = Vec::with_capacity(alloc, lows.len())?;
     for k in 0..lows.len() {
         pairs.push((lows[k], highs[k]))?;
     }

@@ -39,7 +39,7 @@ fn arrivals_of(alloc: Global, bounds: &[Bound], drift_ppb: u32) -> Result<Vec<Ar
     ensures { IfOk result (λ arrivals. AreArrivalsOf drift_ppb bounds.now arrivals.items) }
 {
     let rate = u128::from(drift_ppb);
-    let mut arrivals = Vec::new(alloc);
+    let mut arrivals = Vec::with_capacity(alloc, bounds.len())?;
     for (place, bound) in bounds.iter().enumerate() {
         arrivals.push(Arrival {
             at: bound.from + bound.to,

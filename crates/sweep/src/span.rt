@@ -20,7 +20,7 @@ pub fn spans_of(alloc: Global, first: i128, ends: &[i128]) -> Result<Vec<Span>, 
     requires { ArePieces first ends.now }
     ensures { IfOk result (λ spans. AreSpansOf first ends.now spans.items) }
 {
-    let mut spans = Vec::new(alloc);
+    let mut spans = Vec::with_capacity(alloc, ends.len())?;
     let mut begin = first;
     for reading in ends {
         let end = from_origin(*reading);
@@ -38,7 +38,7 @@ pub fn mirrored_spans(alloc: Global, spans: &[Span]) -> Result<Vec<Span>, AllocE
     requires { All IsLawfulSpan spans.now }
     ensures { IfOk result (λ mirrored. mirrored.items ≡ reverse (map mirrored_span spans.now)) }
 {
-    let mut mirrored = Vec::new(alloc);
+    let mut mirrored = Vec::with_capacity(alloc, spans.len())?;
     for span in spans {
         mirrored.push(Span {
             begin: mirrored_tick(span.end),

@@ -6,9 +6,9 @@ use Rattle.sweep.proofs.passage.early_tops.Goals as goal
 pub loop-span-init : goal.loop-span-init
 loop-span-init c =
     subst (λ (held : List (Option ℤ)). TopsSoFar c.args.drift_ppb c.args.bounds.now c.args.spans.now
-    c.in_ok-queue.queue.items 0 0 held c.new-tops.result.items) (sym c.in_ok-ranking.ensures)
+    c.in_ok-queue.queue.items 0 0 held c.in_ok-tops.tops.items) (sym c.in_ok-ranking.ensures)
     (subst (TopsSoFar c.args.drift_ppb c.args.bounds.now c.args.spans.now c.in_ok-queue.queue.items 0 0 _)
-    (sym c.new-tops.ensures.items)
+    (sym c.in_ok-tops.ensures.items)
     (TopsSoFar-none c.args.drift_ppb c.args.bounds.now c.args.spans.now c.in_ok-queue.queue.items c.in_ok-queue.ensures
     _ refl))
 
