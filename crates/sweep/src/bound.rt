@@ -40,26 +40,29 @@ pub fn servers_of(alloc: Global, samples: &[Sample]) -> Result<Vec<u8>, AllocErr
     Ok(servers)
 }
 
-/// The ends of the server's samples, in the order of their numbers.
+/// The low ends of the server's samples, and the high ends, in the order of their numbers.
 pub fn bounds_of(
     alloc: Global,
     samples: &[Sample],
     servers: &[u8],
     server: u8,
-    end: End,
-) -> Result<Vec<Bound>, AllocError>
+) -> Result<(Vec<Bound>, Vec<Bound>), AllocError>
     requires samples { All IsLawfulSample samples.now }
     requires few { length samples.now ≤ 1_000_000 }
     requires servers { servers.now ≡ map (λ sample. sample.server) samples.now }
-    ensures { IfOk result (λ bounds. AreBoundsOf end samples.now server bounds.items) }
+    ensures lows { IfOk result (λ bounds. AreBoundsOf End.Low samples.now server bounds.0.items) }
+    ensures highs { IfOk result (λ bounds. AreBoundsOf End.High samples.now server bounds.1.items) }
 {
-    let mut bounds = Vec::new(alloc);
+    let mut lows = Vec::new(alloc);
+    let mut highs = Vec::new(alloc);
     for (number, of) in servers.iter().enumerate() {
         if *of == server {
-            bounds.push(bound_of(number as u32, &samples[number], end))?;
+            let sample = &samples[number];
+            lows.push(bound_of(number as u32, sample, End::Low))?;
+            highs.push(bound_of(number as u32, sample, End::High))?;
         }
     }
-    Ok(bounds)
+    Ok((lows, highs))
 }
 
 // The end of one sample.

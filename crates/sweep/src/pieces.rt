@@ -4,7 +4,7 @@ ghost use Rattle.sample_interval.specs.Sample.{IsLawfulSample};
 ghost use Rattle.span_cover.specs.Best.{HasNoSample};
 ghost use Rattle.sweep.specs.Pieces.{ArePieces, AreBestOfPieces, ArePairsOf};
 
-use crate::bound::{End, bounds_of};
+use crate::bound::bounds_of;
 use crate::choice::top_numbers;
 use crate::span::spans_of;
 use sample_interval::kinds::Sample;
@@ -36,11 +36,10 @@ pub fn best_of_pieces(
     ensures best { IfOk result (λ found. IfSome found
         (λ chosen. AreBestOfPieces samples.now server first ends.now drift_ppb chosen.items)) }
 {
-    let lows = bounds_of(alloc, samples, servers, server, End::Low)?;
+    let (lows, highs) = bounds_of(alloc, samples, servers, server)?;
     if lows.is_empty() {
         return Ok(None);
     }
-    let highs = bounds_of(alloc, samples, servers, server, End::High)?;
     let spans = spans_of(alloc, first, ends)?;
     let low_numbers = top_numbers(alloc, lows.as_slice(), spans.as_slice(), drift_ppb)?;
     let high_numbers = top_numbers(alloc, highs.as_slice(), spans.as_slice(), drift_ppb)?;

@@ -1,10 +1,11 @@
-use Rattle.std.proofs.Common.{◌≡◌, ◌<◌, length, arith, subst, sym, ap, ◌∙◌, Vec, Global}
+use Rattle.std.proofs.Common.{◌<◌, length, arith, subst, sym, ap, ◌∙◌, Vec, Global}
 use Rattle.std.proofs.lemmas.Option.{slice_get-get_or}
 use Rattle.sweep.specs.declared.bound.Bound.{Bound}
+use Rattle.sweep.specs.declared.bound.End.TheVariants.{Low, High}
 use Rattle.sweep.proofs.BoundLemmas.{as_many_servers, server_at}
 use Rattle.sweep.proofs.BoundLemmas.{BoundsSoFar, BoundsSoFar-more, BoundsSoFar-other, BoundsSoFar-all}
 use Rattle.sweep.proofs.bound.bounds_of.Goals as goal
-use Rattle.sweep.proofs.bound.bounds_of.Goals.{then-of-server+in_ok-push, else-of-server}
+use Rattle.sweep.proofs.bound.bounds_of.Goals.{then-of-server+in_ok-push+in_ok-push-2, else-of-server}
 
 pub bounds-samples-number : goal.bounds-samples-number
 bounds-samples-number c =
@@ -16,26 +17,47 @@ loop-number-preserved c =
     let samples = c.args.samples.now in
     let servers = c.args.servers.now in
     let number = c.loop-number.number in
+    let lows = c.loop-number.invariant.lows in
+    let highs = c.loop-number.invariant.highs in
     let as_many = as_many_servers samples servers c.requires.servers in
     let within : number < length samples = omega arith in
     let here = slice_get-get_or samples number _ within in
     let of = server_at samples servers c.requires.servers number _ _ here in
     elim c.if-of-server.branch [
-      | then-of-server+in_ok-push w ↦
-          subst (BoundsSoFar c.args.end samples c.args.server _)
-          (sym (ap (λ (v : Vec Bound Global). v.items) w.bounds-is ∙ w.in_ok-push.ensures.items))
-          (BoundsSoFar-more c.args.end samples c.args.server number c.loop-number.bounds.items
-          c.loop-number.invariant _ w.bound_of.result here (sym of ∙ w.if-of-server.true)
-          (c.requires.samples number _ within) w.bound_of.ensures.number w.bound_of.ensures.is)
+      | then-of-server+in_ok-push+in_ok-push-2 w ↦
+          let own = sym of ∙ w.if-of-server.true in
+          let lawful = c.requires.samples number _ within in
+          record {
+            lows = subst (BoundsSoFar Low samples c.args.server _)
+                (sym (ap (λ (v : Vec Bound Global). v.items) w.lows-is ∙ w.in_ok-push.ensures.items))
+                (BoundsSoFar-more Low samples c.args.server number c.loop-number.lows.items lows _ w.bound_of.result
+                here own lawful w.bound_of.ensures.number w.bound_of.ensures.is);
+            highs = subst (BoundsSoFar High samples c.args.server _)
+                (sym (ap (λ (v : Vec Bound Global). v.items) w.highs-is ∙ w.in_ok-push-2.ensures.items))
+                (BoundsSoFar-more High samples c.args.server number c.loop-number.highs.items highs _ w.bound_of-then-of-server.result
+                here own lawful w.bound_of-then-of-server.ensures.number w.bound_of-then-of-server.ensures.is);
+          }
       | else-of-server w ↦
-          subst (BoundsSoFar c.args.end samples c.args.server _)
-          (sym (ap (λ (v : Vec Bound Global). v.items) w.bounds-is))
-          (BoundsSoFar-other c.args.end samples c.args.server number c.loop-number.bounds.items
-          c.loop-number.invariant _ here (λ same. w.if-of-server.false (of ∙ same)))
+          record {
+            lows = subst (BoundsSoFar Low samples c.args.server _)
+                (sym (ap (λ (v : Vec Bound Global). v.items) w.lows-is))
+                (BoundsSoFar-other Low samples c.args.server number c.loop-number.lows.items lows _ here
+                (λ same. w.if-of-server.false (of ∙ same)));
+            highs = subst (BoundsSoFar High samples c.args.server _)
+                (sym (ap (λ (v : Vec Bound Global). v.items) w.highs-is))
+                (BoundsSoFar-other High samples c.args.server number c.loop-number.highs.items highs _ here
+                (λ same. w.if-of-server.false (of ∙ same)));
+          }
     ]
 
-pub returns : goal.returns
-returns c =
+pub returns-clause-lows : goal.returns-clause-lows
+returns-clause-lows c =
     let as_many = as_many_servers c.args.samples.now c.args.servers.now c.requires.servers in
-    BoundsSoFar-all c.args.end c.args.samples.now c.args.server c.loop-number.number c.loop-number.bounds.items
-    c.loop-number.invariant (omega arith)
+    BoundsSoFar-all Low c.args.samples.now c.args.server c.loop-number.number c.loop-number.lows.items
+    c.loop-number.invariant.lows (omega arith)
+
+pub returns-clause-highs : goal.returns-clause-highs
+returns-clause-highs c =
+    let as_many = as_many_servers c.args.samples.now c.args.servers.now c.requires.servers in
+    BoundsSoFar-all High c.args.samples.now c.args.server c.loop-number.number c.loop-number.highs.items
+    c.loop-number.invariant.highs (omega arith)

@@ -21,7 +21,7 @@ pub top_numbers-requires-clause-bounds : goal.top_numbers-requires-clause-bounds
 top_numbers-requires-clause-bounds c =
     let P : List Bound → Type 0 = All IsLawfulBound in
     subst P (sym c.as_slice.ensures.value)
-    (lawful_bounds Low c.args.samples.now c.args.server c.in_ok-lows.lows.items c.in_ok-lows.ensures)
+    (lawful_bounds Low c.args.samples.now c.args.server c.in_ok-lows.lows.items c.in_ok-lows.ensures.lows)
 
 pub top_numbers-requires-clause-in_order : goal.top_numbers-requires-clause-in_order
 top_numbers-requires-clause-in_order c =
@@ -32,14 +32,14 @@ pub top_numbers-requires-2-clause-bounds : goal.top_numbers-requires-2-clause-bo
 top_numbers-requires-2-clause-bounds c =
     let P : List Bound → Type 0 = All IsLawfulBound in
     subst P (sym c.as_slice-3.ensures.value)
-    (lawful_bounds High c.args.samples.now c.args.server c.in_ok-highs.highs.items c.in_ok-highs.ensures)
+    (lawful_bounds High c.args.samples.now c.args.server c.in_ok-lows.highs.items c.in_ok-lows.ensures.highs)
 
 pub top_numbers-requires-2-clause-some : goal.top_numbers-requires-2-clause-some
 top_numbers-requires-2-clause-some c =
     let some : 0 < length c.in_ok-lows.lows.items = search rules in
     subst (λ (b : List Bound). 0 < length b) (sym c.as_slice-3.ensures.value)
-    (some_bound High c.args.samples.now c.args.server c.in_ok-highs.highs.items c.in_ok-highs.ensures
-    (some_sample Low c.args.samples.now c.args.server c.in_ok-lows.lows.items c.in_ok-lows.ensures some))
+    (some_bound High c.args.samples.now c.args.server c.in_ok-lows.highs.items c.in_ok-lows.ensures.highs
+    (some_sample Low c.args.samples.now c.args.server c.in_ok-lows.lows.items c.in_ok-lows.ensures.lows some))
 
 pub top_numbers-requires-2-clause-in_order : goal.top_numbers-requires-2-clause-in_order
 top_numbers-requires-2-clause-in_order c =
@@ -51,21 +51,21 @@ returns-clause-none c = (
   λ none. absurd cc,
   λ none. absurd
       (let some : 0 < length c.in_ok-lows.lows.items = search rules in
-      some_sample Low c.args.samples.now c.args.server c.in_ok-lows.lows.items c.in_ok-lows.ensures some none),
+      some_sample Low c.args.samples.now c.args.server c.in_ok-lows.lows.items c.in_ok-lows.ensures.lows some none),
 )
 
 pub returns-clause-best : goal.returns-clause-best
 returns-clause-best c =
     AreBestOfPieces-tops c.args.samples.now c.args.server c.args.first c.args.ends.now c.args.drift_ppb
-    c.in_ok-lows.lows.items c.in_ok-highs.highs.items c.in_ok-spans.spans.items
+    c.in_ok-lows.lows.items c.in_ok-lows.highs.items c.in_ok-spans.spans.items
     c.in_ok-low_numbers.low_numbers.items c.in_ok-high_numbers.high_numbers.items c.in_ok-chosen.chosen.items
-    c.in_ok-lows.ensures c.in_ok-highs.ensures
+    c.in_ok-lows.ensures.lows c.in_ok-lows.ensures.highs
     (subst (λ (first : ℤ). AreSpansOf first c.args.ends.now c.in_ok-spans.spans.items)
     (to_z-of_z w128 c.args.first c.ranges.first) c.in_ok-spans.ensures)
     (AreTopNumbers-lent c.args.drift_ppb _ c.in_ok-lows.lows.items _ c.in_ok-spans.spans.items
     c.in_ok-low_numbers.low_numbers.items c.as_slice.ensures.value c.as_slice-2.ensures.value
     c.in_ok-low_numbers.ensures)
-    (AreTopNumbers-lent c.args.drift_ppb _ c.in_ok-highs.highs.items _ c.in_ok-spans.spans.items
+    (AreTopNumbers-lent c.args.drift_ppb _ c.in_ok-lows.highs.items _ c.in_ok-spans.spans.items
     c.in_ok-high_numbers.high_numbers.items c.as_slice-3.ensures.value c.as_slice-4.ensures.value
     c.in_ok-high_numbers.ensures)
     (ArePairsOf-lent _ c.in_ok-low_numbers.low_numbers.items _ c.in_ok-high_numbers.high_numbers.items
