@@ -7,5 +7,4 @@ pub mod EntryLemmas
 pub mod FoundLemmas
 pub mod VerdictLemmas
 pub mod AnswerLemmas
-pub mod NarrowingLemmas
 pub mod RefusalLemmas

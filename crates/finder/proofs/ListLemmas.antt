@@ -41,12 +41,6 @@ module _ {Y : Type 0} (h : ℕ → Option Y) (n : ℕ) where
   one_more =
       ap (filter_map h) (range_more 0 n n (omega arith)) ∙ filter_map-append h (range_with_len 0 n) (n ∷ [])
 
-  pub with_one : (y : Y) (old new : List Y) → old ≡ filter_map h (range_with_len 0 n) → h n ≡ Some y
-      → new ≡ old ++ y ∷ [] → new ≡ filter_map h (range_with_len 0 (n + 1))
-  with_one y old new so_far gives pushed =
-      pushed ∙ ap (λ ys. ys ++ y ∷ []) so_far
-      ∙ ap (λ o. filter_map h (range_with_len 0 n) ++ cons_option o []) (sym gives) ∙ sym one_more
-
   pub without : (old : List Y) → old ≡ filter_map h (range_with_len 0 n) → h n ≡ None
       → old ≡ filter_map h (range_with_len 0 (n + 1))
   without old so_far gives =

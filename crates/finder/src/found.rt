@@ -20,11 +20,10 @@ use crate::laws::last_piece_ends_with_the_span;
 use crate::piece::piece_count;
 use crate::table::tables;
 use certificate::{Certificate, Piece};
-use checker::laws::verdicts_are_traceable;
+use checker::laws::{narrower_parts_narrow, parts_are_of_samples, verdicts_are_traceable};
 use checker::{Stretch, Verdict};
 use claim_file::Claim;
 use intersection::kinds::Hull;
-use intersection::laws::every_list_has_a_hull;
 use sample_interval::kinds::Sample;
 use span_cover::laws::piece_inside_another_is_narrower;
 use span_cover::piece_end;
@@ -93,7 +92,8 @@ pub fn find(
 {
     last_piece_ends_with_the_span();
     piece_inside_another_is_narrower();
-    every_list_has_a_hull();
+    parts_are_of_samples();
+    narrower_parts_narrow();
     verdicts_are_traceable();
     let count = piece_count(claim.first, claim.last, step_s);
     if count > MAX_PIECES {

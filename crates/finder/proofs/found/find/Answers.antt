@@ -61,7 +61,8 @@ returns-clause-none_accepted c =
     let laws : Laws = record {
       low = c.piece_inside_another_is_narrower.ensures.low;
       high = c.piece_inside_another_is_narrower.ensures.high;
-      hull = c.every_list_has_a_hull.ensures;
+      said = c.parts_are_of_samples.ensures;
+      narrow = c.narrower_parts_narrow.ensures;
     } in
     let claim = claim_data c.args.claim.now in
     let samples = c.args.samples.now in
@@ -76,7 +77,8 @@ returns-clause-contradiction c =
     let laws : Laws = record {
       low = c.piece_inside_another_is_narrower.ensures.low;
       high = c.piece_inside_another_is_narrower.ensures.high;
-      hull = c.every_list_has_a_hull.ensures;
+      said = c.parts_are_of_samples.ensures;
+      narrow = c.narrower_parts_narrow.ensures;
     } in
     let claim = claim_data c.args.claim.now in
     let samples = c.args.samples.now in
