@@ -7,6 +7,7 @@ use Rattle.std.proofs.lemmas.List.{get_or-replicate, get_or_past, length-replica
 use Rattle.ranking.specs.declared.tree.TheConstants.{NOTHING}
 use Rattle.ranking.proofs.Entries.{leaf_of}
 use Rattle.ranking.specs.Lead.{IsLead}
+use Rattle.ranking.specs.Ranking.{HoldsNothing}
 use Rattle.ranking.specs.declared.lead.Lead.{Lead}
 use Rattle.ranking.specs.Tree.{IsFirstLeaf, IsTree, value_of, entry_of, entries_of}
 
@@ -43,7 +44,14 @@ empty_entries n leaves = ap (map entry_of) (drop-replicate leaves n NOTHING) ∙
 
 -- where nothing is held, any number may lead
 pub empty_lead : (n leaves : ℕ) (lead : Lead) → IsLead (entries_of (replicate n NOTHING) leaves) lead
-empty_lead n leaves lead number value other held =
-    let leaf = leaf_of (replicate n NOTHING) leaves number value held in
-    let nothing = no_value n (leaves + number) in
-    absurd (omega (arith, ints))
+empty_lead n leaves lead =
+    record {
+      most = λ number value held. absurd (none number value held);
+      before = λ number value earlier held. absurd (none number value held);
+    }
+  where
+    none : HoldsNothing (entries_of (replicate n NOTHING) leaves)
+    none number value held =
+        let leaf = leaf_of (replicate n NOTHING) leaves number value held in
+        let nothing = no_value n (leaves + number) in
+        omega (arith, ints)

@@ -1,32 +1,123 @@
--- The one number that may have more than any other.
-use Rattle.std.proofs.Common.{ℕ, ℤ, ◌≤ℤ◌, ◌<ℤ◌, List, inl, inr}
-use Rattle.std.proofs.Common.{subst, arith}
-use Rattle.std.specs.Prelude.{Option}
-use Rattle.std.proofs.lemmas.Bool.{cases_eq}
+-- The number that leads, and what becomes of it when a value is put.
+use Rattle.std.proofs.Common.{◌≡◌, ◌≢◌, ℕ, zero, suc, ◌<◌, ℤ, ◌≤ℤ◌, ◌<ℤ◌, List, ◌∷◌, [], ◌⊎◌, inl, inr, set}
+use Rattle.std.proofs.Common.{refl, sym, ap, subst, ◌∙◌, arith}
+use Rattle.std.specs.Prelude.{Option, Some, None, slice_get}
 use Rattle.std.proofs.lemmas.Int.{ints}
-use Rattle.ranking.specs.Lead.{IsLead}
+use Rattle.std.proofs.lemmas.Option.{same_Some, none-some}
+use Rattle.ranking.specs.declared.tree.TheConstants.{NOTHING}
+use Rattle.ranking.specs.Lead.{IsLead, IsBoundOf}
+use Rattle.ranking.specs.Ranking.{IsHeld, IsFree, IsGreatest, HasAtLeast, IsLeastNumber}
 use Rattle.ranking.specs.declared.lead.Lead.{Lead}
-use Rattle.ranking.specs.Ranking.{IsHeld, IsGreatest, IsLeastNumber}
 
--- where all others have less than the limit, and some number has as much, it's the leader
+-- what stands in a list that was written once was written or stood there before
+written_cases : (held : List (Option ℤ)) (i j : ℕ) (written entry : Option ℤ) →
+    slice_get (set held i written) j ≡ Some entry →
+    ((j ≡ i) × (entry ≡ written)) ⊎ (slice_get held j ≡ Some entry)
+written_cases [] i j written entry is = inr is
+written_cases (e ∷ held) zero zero written entry is = inl (refl, sym (same_Some written entry is))
+written_cases (e ∷ held) zero (suc j) written entry is = inr is
+written_cases (e ∷ held) (suc i) zero written entry is = inr is
+written_cases (e ∷ held) (suc i) (suc j) written entry is =
+    elim (written_cases held i j written entry is) [
+      | inl here ↦ inl (ap suc here.0, here.1)
+      | inr there ↦ inr there
+    ]
+
+written_here : (held : List (Option ℤ)) (i : ℕ) (written old : Option ℤ) → slice_get held i ≡ Some old →
+    slice_get (set held i written) i ≡ Some written
+written_here [] i written old is = absurd cc
+written_here (e ∷ held) zero written old is = refl
+written_here (e ∷ held) (suc i) written old is = written_here held i written old is
+
+written_there : (held : List (Option ℤ)) (i j : ℕ) (written : Option ℤ) → j ≢ i →
+    slice_get (set held i written) j ≡ slice_get held j
+written_there [] i j written other = refl
+written_there (e ∷ held) zero zero written other = absurd (other refl)
+written_there (e ∷ held) zero (suc j) written other = refl
+written_there (e ∷ held) (suc i) zero written other = refl
+written_there (e ∷ held) (suc i) (suc j) written other = written_there held i j written (λ same. other (ap suc same))
+
+module _ (held : List (Option ℤ)) (number : ℕ) (value greatest : ℤ) (something : NOTHING <ℤ value)
+    (free : IsFree held number) (bound : IsBoundOf held greatest) where
+  abbrev pub after : List (Option ℤ)
+  after = set held number (Some value)
+
+  -- what holds of the new value, and of the others at the other numbers
+  each : (P : ℕ → ℤ → Type 0) → P number value → ((n : ℕ) (v : ℤ) → IsHeld held n v → P n v) →
+      (n : ℕ) (v : ℤ) → IsHeld after n v → P n v
+  each P new old n v is =
+      elim (written_cases held number n (Some value) (Some v) is) [
+        | inl here ↦
+            subst (λ (m : ℕ). P m v) (sym here.0)
+            (subst (λ (w : ℤ). P number w) (sym (same_Some v value here.1)) new)
+        | inr there ↦ old n v there
+      ]
+
+  still : (n : ℕ) (least : ℤ) → HasAtLeast held least n → HasAtLeast after least n
+  still n least has = record {
+    value = has.value;
+    is_held =
+        written_there held number n (Some value)
+        (λ same. none-some has.value
+        (same_Some None (Some has.value) (sym free ∙ subst (λ (m : ℕ). IsHeld held m has.value) same has.is_held)))
+        ∙ has.is_held;
+    at_least = has.at_least;
+  }
+
+  here : (least : ℤ) → least ≤ℤ value → HasAtLeast after least number
+  here least under = record {
+    value = value;
+    is_held = written_here held number (Some value) None free;
+    at_least = under;
+  }
+
+  -- a value above all others leads
+  pub new_leads : greatest ≤ℤ value → (rival : ℤ) → ((n : ℕ) (v : ℤ) → n < number → IsHeld held n v → v ≤ℤ rival) →
+      IsLead after (record { number = number; rival = rival })
+  new_leads above rival before = record {
+    most = each (λ n v. HasAtLeast after v number) (here value (omega (arith, ints)))
+        (λ n v is. let less = bound.at_most n v is in here v (omega (arith, ints)));
+    before = λ n v earlier is.
+        each (λ m w. m < number → w ≤ℤ rival) (λ less. absurd (omega arith)) (λ m w was less. before m w less was)
+        n v is earlier;
+  }
+
+  -- a value below another doesn't
+  pub old_leads : (lead : Lead) → IsLead held lead → value ≤ℤ greatest → (rival : ℤ) → lead.rival ≤ℤ rival →
+      (number < lead.number → value ≤ℤ rival) → IsLead after (record { number = lead.number; rival = rival })
+  old_leads lead is_lead below rival more follows =
+      let top = bound.reached (omega (arith, ints)) in
+      let reaches = is_lead.most top.reached.0 greatest top.reached.1 in
+      let still_there = still lead.number greatest reaches in
+      record {
+        most = each (λ n v. HasAtLeast after v lead.number)
+            (record {
+              value = still_there.value;
+              is_held = still_there.is_held;
+              at_least = let enough = still_there.at_least in omega (arith, ints);
+            })
+            (λ n v is. still lead.number v (is_lead.most n v is));
+        before = λ n v earlier is.
+            each (λ m w. m < lead.number → w ≤ℤ rival) follows
+            (λ m w was less. let under = is_lead.before m w less was in omega (arith, ints)) n v is earlier;
+      }
+
+-- where the numbers before the lead have less than the limit, and some number has as much, it's the lead
 module _ (held : List (Option ℤ)) (lead : Lead) (greatest least limit : ℤ) (is_lead : IsLead held lead)
     (alone : lead.rival <ℤ limit) (most : IsGreatest held greatest) where
   pub leader_is : limit ≤ℤ greatest → least ≤ℤ limit →
       ((number : ℕ) (value : ℤ) → IsHeld held number value → least ≤ℤ value → limit ≤ℤ value) →
       IsLeastNumber held least lead.number
-  leader_is enough above bound = record {
-    reaches = record {
-      value = greatest;
-      is_held = elim (cases_eq most.reached.0 lead.number) [
-        | inl same ↦ subst (λ number. IsHeld held number greatest) same most.reached.1
-        | inr other ↦
-            let less = is_lead most.reached.0 greatest other most.reached.1 in
-            absurd (omega (arith, ints))
-      ];
-      at_least = omega (arith, ints);
-    };
-    first = λ other earlier has.
-        let less = is_lead other has.value (λ same. omega arith) has.is_held in
-        let limited = bound other has.value has.is_held has.at_least in
-        omega (arith, ints);
-  }
+  leader_is enough above bound =
+      let has = is_lead.most most.reached.0 greatest most.reached.1 in
+      record {
+        reaches = record {
+          value = has.value;
+          is_held = has.is_held;
+          at_least = let reaches = has.at_least in omega (arith, ints);
+        };
+        first = λ other earlier less.
+            let under = is_lead.before other less.value earlier less.is_held in
+            let limited = bound other less.value less.is_held less.at_least in
+            omega (arith, ints);
+      }

@@ -1,14 +1,23 @@
--- What a ranking remembers beside its tree: one number, and a bound on what every other number has.
--- Where so much is asked for that the bound is less, that number alone can have it.
-use Rattle.std.specs.Prelude.{◌≢◌, ℕ, ℤ, ◌≤ℤ◌, List, Option}
-use Rattle.ranking.specs.Ranking.{IsHeld}
+-- What a ranking remembers beside its tree: the first of the numbers that have the greatest value,
+-- and a bound on what the numbers before it have. Where more than the bound is asked for, and not
+-- more than the greatest value, that number is the least that has so much.
+use Rattle.std.specs.Prelude.{ℕ, ◌<◌, ℤ, ◌≤ℤ◌, ◌<ℤ◌, List, Option}
+use Rattle.ranking.specs.Ranking.{IsHeld, IsGreatest, HasAtLeast}
 use Rattle.ranking.specs.Tree.{IsTree, entries_of}
 use Rattle.ranking.specs.declared.lead.Lead.{Lead}
+use Rattle.ranking.specs.declared.tree.TheConstants.{NOTHING}
 
--- no other number has more than the rival
-abbrev pub IsLead : List (Option ℤ) → Lead → Type 0
-IsLead held lead = (number : ℕ) (value : ℤ) → number ≢ lead.number → IsHeld held number value →
-    value ≤ℤ lead.rival
+pub record IsLead (held : List (Option ℤ)) (lead : Lead) : Type 0 where
+  -- no number has more
+  pub most : (number : ℕ) (value : ℤ) → IsHeld held number value → HasAtLeast held value lead.number
+  -- no number before it has more than the rival
+  pub before : (number : ℕ) (value : ℤ) → number < lead.number → IsHeld held number value →
+      value ≤ℤ lead.rival
+
+-- the greatest value, or none where there is no value
+pub record IsBoundOf (held : List (Option ℤ)) (greatest : ℤ) : Type 0 where
+  pub at_most : (number : ℕ) (value : ℤ) → IsHeld held number value → value ≤ℤ greatest
+  pub reached : NOTHING <ℤ greatest → IsGreatest held greatest
 
 pub record IsRanking (nodes : List ℤ) (leaves : ℕ) (lead : Lead) : Type 0 where
   pub tree : IsTree nodes leaves

@@ -18,7 +18,7 @@ pub struct Ranking {
     nodes: Vec<i128>,
     /// Where the leaves begin: the node of number 0.
     leaves: usize,
-    /// Which number alone may have more than the others.
+    /// The number that is asked for most often.
     lead: Lead,
 }
 
@@ -82,7 +82,7 @@ impl Ranking {
         if tree::root(&self.nodes) < at_least {
             return None;
         }
-        // Mostly one number alone has so much, and then it's known.
+        // Mostly no number before the lead has so much, and then the tree need not be gone down.
         if self.lead.rival < at_least {
             return Some(self.lead.number);
         }

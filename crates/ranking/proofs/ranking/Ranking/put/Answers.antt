@@ -3,11 +3,19 @@ use Rattle.std.proofs.lemmas.Int.{ints, to_z-of_z}
 use Rattle.std.proofs.lemmas.List.{with_items_is}
 use mir.Syntax.{w128}
 use mir.Val.{SFits}
+use Rattle.std.specs.Prelude.{None}
 use Rattle.ranking.specs.Ranking.{IsFree}
 use Rattle.ranking.specs.Tree.{entries_of, value_of}
-use Rattle.ranking.proofs.Entries.{entries_set, free_leaf}
-use Rattle.ranking.proofs.Root.{at_most_root}
+use Rattle.ranking.proofs.Entries.{entries_set, free_leaf, inside}
+use Rattle.ranking.proofs.Root.{at_most_root, greatest_is}
 use Rattle.ranking.proofs.ranking.Ranking.put.Goals as goal
+
+pub put-requires-clause-within : goal.put-requires-clause-within
+put-requires-clause-within c =
+    let free : IsFree (entries_of c.self.inside.nodes.items c.self.inside.leaves) c.args.number =
+    rw c.self.view_is c.requires.free in
+    let within = inside c.self.inside.nodes.items c.self.inside.leaves c.args.number None free in
+    rw c.deref_mut.ensures.value within
 
 pub put-requires-clause-grows : goal.put-requires-clause-grows
 put-requires-clause-grows c =
@@ -29,8 +37,11 @@ invariant_of-self c =
     let leads = rw (to_z-of_z w128 c.args.value c.ranges.value) at c.after-self-inside.ensures in
     rw items (record {
       tree = c.put.ensures.is_tree;
-      leads = rw entries (leads (entries_of nodes leaves)
-          (rw (to_z-of_z w128 c.root-greatest.result fits, is) (at_most_root nodes leaves c.self.invariant.tree))
+      leads = rw entries (leads (entries_of nodes leaves) (rw c.self.view_is c.requires.free)
+          (rw (to_z-of_z w128 c.root-greatest.result fits, is) (record {
+            at_most = at_most_root nodes leaves c.self.invariant.tree;
+            reached = greatest_is nodes leaves c.self.invariant.tree;
+          }))
           c.self.invariant.leads);
     })
 
