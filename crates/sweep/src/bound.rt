@@ -28,8 +28,8 @@ pub struct Bound {
     pub to: u128,
 }
 
-/// The server of each sample, in their order. The ends of each server's samples are looked for in
-/// this list: it is a hundred times shorter than that of the samples.
+/// The server of each sample, in their order. Each server's samples are looked for in this list,
+/// which takes a hundredth of the memory of theirs.
 pub fn servers_of(alloc: Global, samples: &[Sample]) -> Result<Vec<u8>, AllocError>
     ensures { IfOk result (λ servers. servers.items ≡ map (λ sample. sample.server) samples.now) }
 {
