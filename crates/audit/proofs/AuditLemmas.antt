@@ -14,11 +14,12 @@ use Rattle.report.specs.declared.publication.Made.{Made}
 use Rattle.report.specs.Output.{SinkState}
 use Rattle.report.specs.Publication.{IsMadeFor, IsUnwritten, Publishes, answer_of}
 use Rattle.report.specs.Reports.{Report, Reports, GetsText, StaysOrWrites, is_device}
-use Rattle.audit.specs.declared.evidence.Evidence.{Evidence}
+use Rattle.evidence.specs.declared.evidence.Evidence.{Evidence}
+use Rattle.evidence.specs.Reading.{IsFromOutside, Reads}
+use Rattle.evidence.specs.Evidence.{EvidenceData, IsOfInputs, failure_of}
+use Rattle.evidence.specs.EvidenceData.{evidence_data}
 use Rattle.audit.specs.Audit.{IsMadeOf, IsUnwrittenAt, audit_devices, count_of_two, refused, report_on}
 use Rattle.audit.specs.Check.{CountsInputs}
-use Rattle.audit.specs.Evidence.{EvidenceData, IsFromOutside, IsOfInputs, Reads, failure_of}
-use Rattle.audit.specs.EvidenceData.{evidence_data}
 use Rattle.audit.proofs.CheckLemmas.{check_reports}
 
 -- a refusal, or a fault from outside, is what the report calls for

@@ -15,11 +15,13 @@ use Rattle.report.specs.declared.fault.RunFault.{RunFault}
 use Rattle.report.specs.declared.publication.Made.{Made}
 use Rattle.report.specs.Publication.{answer_of}
 use Rattle.report.specs.Reports.{StaysOrWrites}
-use Rattle.audit.specs.declared.evidence.Evidence.{Evidence}
-use Rattle.audit.specs.Audit.{IsMadeOf}
 use Rattle.claim_file.specs.Claim.{ClaimData}
-use Rattle.audit.specs.Evidence.{EvidenceData, Reads, claim_read, evidence_after, evidence_read}
-use Rattle.audit.specs.EvidenceData.{evidence_data}
+use Rattle.evidence.specs.declared.evidence.Evidence.{Evidence}
+use Rattle.evidence.specs.Reading.{Reads}
+use Rattle.evidence.specs.ClaimInput.{claim_read}
+use Rattle.evidence.specs.Evidence.{EvidenceData, evidence_after, evidence_read}
+use Rattle.evidence.specs.EvidenceData.{evidence_data}
+use Rattle.audit.specs.Audit.{IsMadeOf}
 use Rattle.audit.specs.Find.{IsAcceptedOf, IsFoundOf, find_made, found_outcome}
 
 -- a certificate that is found is accepted

@@ -1,10 +1,5 @@
-pub mod EvidenceLemmas
-pub mod TextLemmas
-pub mod CheckText
-pub mod CertificateLemmas
-pub mod CheckSamples
+pub mod SampleLemmas
 pub mod CheckLemmas
 pub mod AuditLemmas
-pub mod SampleLemmas
 pub mod MomentLemmas
 pub mod FindLemmas

@@ -1,28 +1,25 @@
--- The text of `at`: what each server says of the clock's error at one moment, and the hull over the
--- groups.
-use Rattle.std.specs.Prelude.{ℕ, List, ◌++◌, flat_map, Option}
+-- The report of `at`: what each server says of the clock's error at one moment, and the hull over
+-- the groups.
+use Rattle.std.specs.Prelude.{ℕ, List, Option}
 use Rattle.claim_file.specs.Claim.{ClaimData}
-use Rattle.checker.specs.declared.part.Part.{Part}
 use Rattle.checker.specs.Piece.{piece_hull}
 use Rattle.checker.specs.Traceability.{samples_of}
+use Rattle.checker.specs.declared.part.Part.{Part}
 use Rattle.report.specs.declared.fault.Outcome.TheVariants.{Yes}
 use Rattle.report.specs.Reports.{Report, whole_text}
+use Rattle.evidence.specs.Evidence.{EvidenceData}
+use Rattle.audit_text.specs.Parts.{parts_text}
 use Rattle.audit.specs.Audit.{audit_report}
-use Rattle.audit.specs.Evidence.{EvidenceData}
-use Rattle.audit.specs.HullLine.{hull_line}
-use Rattle.audit.specs.IntervalLine.{interval_line}
 use Rattle.audit.specs.Moment.{parts_at, tick_of}
 
--- the text for what these servers say
-unfoldable pub parts_text : ClaimData → List Part → List ℕ
-parts_text claim parts =
-    flat_map (interval_line claim) parts ++
-    hull_line (piece_hull claim.groups claim.false_max parts)
+-- the text for what these servers say, with the hull over the groups
+abbrev pub hull_text : ClaimData → List Part → List ℕ
+hull_text claim parts = parts_text claim parts (piece_hull claim.groups claim.false_max parts)
 
 -- the whole text for a Unix second
 abbrev pub at_text : ℕ → EvidenceData → List ℕ
 at_text second e =
-    parts_text e.claim
+    hull_text e.claim
     (parts_at e.claim (samples_of e.collection.exchanges e.claim) (tick_of second))
 
 -- the report of `at` on what claim and capture give

@@ -14,9 +14,10 @@ use Rattle.report.specs.declared.publication.Made.{Made}
 use Rattle.report.specs.Output.{SinkState, IsWrite}
 use Rattle.report.specs.Publication.{IsMadeFor}
 use Rattle.report.specs.Reports.{Report, Reports, Devices}
-use Rattle.audit.specs.declared.evidence.Evidence.{Evidence}
-use Rattle.audit.specs.Evidence.{EvidenceData, IsOnlyOfClaim, evidence_read, max_claim}
-use Rattle.audit.specs.EvidenceData.{evidence_data}
+use Rattle.evidence.specs.declared.evidence.Evidence.{Evidence}
+use Rattle.evidence.specs.ClaimInput.{IsOnlyOfClaim, max_claim}
+use Rattle.evidence.specs.Evidence.{EvidenceData, evidence_read}
+use Rattle.evidence.specs.EvidenceData.{evidence_data}
 
 -- the report where an input is refused: no text
 abbrev pub refused : RunFault → Report

@@ -1,12 +1,10 @@
 -- What `check` writes and answers for the bytes of its three inputs: the first refusal in the order
 -- claim, certificate, capture, or the text with the verdict.
-use Rattle.std.specs.Prelude.{◌≡◌, ℕ, List, length, nat_lt, Option, Some, None, Result, Ok, Err, if◌then◌else◌, ◌+◌, IfErr}
+use Rattle.std.specs.Prelude.{◌≡◌, ℕ, ◌+◌, List, length, Option, Some, None, Result, Ok, Err, IfErr}
 use Rattle.byte_stream.specs.Fault.{CountsFault}
 use Rattle.byte_stream.specs.Intake.{TakesAtMost}
 use Rattle.pcap_reader.specs.Limit.{most_taken}
-use Rattle.certificate.specs.declared.fault.CertificateFault.{CertificateFault}
 use Rattle.certificate.specs.Certificate.{CertificateData}
-use Rattle.certificate.specs.Reading.{certificate_of}
 use Rattle.claim_file.specs.Claim.{ClaimData}
 use Rattle.pairing.specs.Pairing.{Collection}
 use Rattle.checker.specs.Course.{Course, Fits}
@@ -19,28 +17,14 @@ use Rattle.report.specs.declared.fault.Input.TheVariants as inputs
 use Rattle.report.specs.declared.fault.Outcome.{Outcome}
 use Rattle.report.specs.declared.fault.Outcome.TheVariants as outcomes
 use Rattle.report.specs.declared.fault.RunFault.{RunFault}
-use Rattle.report.specs.declared.fault.RunFault.TheVariants.{Claim, Certificate, TooBig, Device, Memory}
+use Rattle.report.specs.declared.fault.RunFault.TheVariants.{Claim, Certificate, TooBig, Device}
 use Rattle.report.specs.Output.{SinkState}
 use Rattle.report.specs.Reports.{Report, Reports, Devices, whole_text, is_device}
+use Rattle.evidence.specs.CaptureInput.{capture_read}
+use Rattle.evidence.specs.CertificateInput.{certificate_read, max_certificate}
+use Rattle.evidence.specs.ClaimInput.{IsOnlyOfClaim, claim_read, max_claim}
+use Rattle.audit_text.specs.CheckReport.{check_text}
 use Rattle.audit.specs.Audit.{FeedState, IsUnwrittenAt, refused}
-use Rattle.audit.specs.CheckReport.{check_text}
-use Rattle.audit.specs.Evidence.{IsOnlyOfClaim, claim_read, capture_read, max_claim}
-
--- the greatest length of a certificate's text, in bytes
-abbrev pub max_certificate : ℕ
-max_certificate = 134217728
-
--- a certificate's fault is the run's
-abbrev pub certificate_or_fault :
-    Result CertificateData CertificateFault → Result CertificateData RunFault
-certificate_or_fault (Ok certificate) = Ok certificate
-certificate_or_fault (Err fault) = Err (Certificate fault)
-
--- what the bytes of a certificate give
-unfoldable pub certificate_read : List ℕ → Result CertificateData RunFault
-certificate_read bytes =
-    if nat_lt max_certificate (length bytes) then Err (TooBig inputs.Certificate)
-    else certificate_or_fault (certificate_of bytes)
 
 -- the outcome of a verdict
 abbrev pub outcome_of : Verdict → Outcome
@@ -101,14 +85,6 @@ check_devices claim certificate capture sink =
 abbrev pub CountsInputs : Result Outcome RunFault → (Input → ℕ) → (Input → ℕ) → Type 0
 CountsInputs answer before after =
     (input : Input) → CountsFault (is_device input answer) (before input) (after input)
-
--- the faults of reading a certificate
-abbrev pub IsOfCertificate : RunFault → Type 0
-IsOfCertificate (Certificate fault) = Unit {0}
-IsOfCertificate (TooBig inputs.Certificate) = Unit {0}
-IsOfCertificate (Device inputs.Certificate) = Unit {0}
-IsOfCertificate Memory = Unit {0}
-IsOfCertificate _ = ⊥
 
 -- the faults that are found before the capture is read, memory aside
 abbrev pub IsBeforeCapture : RunFault → Type 0

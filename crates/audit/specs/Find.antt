@@ -1,6 +1,5 @@
 -- The text of `find`: a certificate, or the first piece for which none can be accepted.
 use Rattle.std.specs.Prelude.{◌≡◌, ℕ, List, ◌++◌, codes, Option, Some, Result, Ok, Err}
-use Rattle.std.specs.Fmt.{decimal}
 use Rattle.certificate.specs.Certificate.{CertificateData}
 use Rattle.certificate.specs.Writing.{certificate_text}
 use Rattle.checker.specs.Traceability.{samples_of}
@@ -13,17 +12,16 @@ use Rattle.report.specs.declared.fault.Outcome.TheVariants as outcomes
 use Rattle.report.specs.declared.fault.RunFault.{RunFault}
 use Rattle.report.specs.declared.fault.RunFault.TheVariants.{Pieces, Memory}
 use Rattle.report.specs.Reports.{Report, whole_text}
+use Rattle.evidence.specs.Evidence.{EvidenceData, evidence_read}
+use Rattle.audit_text.specs.Nothing.{nothing_text}
 use Rattle.audit.specs.Audit.{audit_report, refused}
 use Rattle.audit.specs.Check.{verdict_on}
-use Rattle.audit.specs.Evidence.{EvidenceData, evidence_read}
-use Rattle.audit.specs.HullLine.{hull_line}
 
 -- what is found, in words: the certificate's compact text and a line feed, or the number of the
 -- piece that fails and its hull
 unfoldable pub found_text : FoundData → List ℕ
 found_text (certificate c) = certificate_text c ++ codes "\n"
-found_text (nothing piece hull) =
-    codes "nothing piece " ++ decimal piece ++ codes " " ++ hull_line hull
+found_text (nothing piece hull) = nothing_text piece hull
 
 -- the outcome: yes where there is a certificate
 abbrev pub found_outcome : FoundData → Outcome

@@ -1,13 +1,6 @@
-pub mod Evidence
-pub mod EvidenceData
 pub mod Audit
-pub mod SampleLine
-pub mod CountsLine
-pub mod CheckReport
-pub mod Check
 pub mod Samples
-pub mod IntervalLine
-pub mod HullLine
 pub mod Moment
 pub mod At
+pub mod Check
 pub mod Find

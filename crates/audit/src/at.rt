@@ -4,40 +4,29 @@ ghost use Rattle.std.specs.Prelude.{◌≡◌, ◌+◌, ◌-◌, ◌^◌, ◌<�
 ghost use Rattle.claim_file.specs.Claim.{IsLawful, data_of};
 ghost use Rattle.report.specs.State.{sink_state};
 ghost use Rattle.audit.specs.Audit.{IsMadeOf, Audits, audit_state, feed_state};
-ghost use Rattle.audit.specs.EvidenceData.{IsLawfulEvidence, evidence_data};
+ghost use Rattle.evidence.specs.EvidenceData.{IsLawfulEvidence, evidence_data};
 ghost use Rattle.audit.specs.At as spec;
 ghost use Rattle.audit.specs.At.{at_made};
 
-use crate::evidence::{Evidence, read_evidence_with};
-use crate::hull_line::write_hull_line;
-use crate::interval_line::write_interval_line;
 use crate::moment::{parts_at, tick_of};
 use crate::sample_list::samples_of;
+use audit_text::parts_text;
 use byte_stream::{Feed, Sink};
 use checker::{Part, piece_hull};
 use claim_file::Claim;
-use line_writer::Line;
+use evidence::{Evidence, read_evidence_with};
 use report::{Made, Outcome, RunFault, publish};
 use std::alloc::{AllocError, Global};
 use std::hash::{BuildHasher, BuildHasherDefault, FoldHasher};
 
-/// The text for what these servers say: the line of each, and the hull over the groups.
-#[tactic(auto, unfolding(crate::specs::At::parts_text))]
-fn parts_text(alloc: Global, claim: &Claim, parts: &[Part]) -> Result<Vec<u8>, AllocError>
+/// The text for what these servers say, with the hull over the groups.
+fn hull_text(alloc: Global, claim: &Claim, parts: &[Part]) -> Result<Vec<u8>, AllocError>
     requires lawful { IsLawful (data_of claim.now) }
     requires listed { All (λ part. part.server < length claim.now.servers.items) parts.now }
-    ensures { IfOk result (λ text. text.items ≡ spec.parts_text (data_of claim.now) parts.now) }
+    ensures { IfOk result (λ text. text.items ≡ spec.hull_text (data_of claim.now) parts.now) }
 {
-    let mut text = Vec::new(alloc);
-    let mut line = Line::new();
-    for part in parts {
-        write_interval_line(&mut line, claim, part);
-        text.extend_from_slice(line.as_bytes())?;
-    }
     let hull = piece_hull(parts, claim.groups.as_slice(), claim.false_max);
-    write_hull_line(&mut line, hull);
-    text.extend_from_slice(line.as_bytes())?;
-    Ok(text)
+    parts_text(alloc, claim, parts, hull)
 }
 
 /// The whole text for a Unix second.
@@ -49,7 +38,7 @@ fn at_text(alloc: Global, second: u32, evidence: &Evidence) -> Result<Vec<u8>, A
     let claim = &evidence.claim;
     let samples = samples_of(alloc, claim, &evidence.collected.exchanges)?;
     let parts = parts_at(claim, samples.as_slice(), tick_of(second));
-    parts_text(alloc, claim, parts.as_slice())
+    hull_text(alloc, claim, parts.as_slice())
 }
 
 /// What the run comes to: the refusal of its inputs, or the whole text.

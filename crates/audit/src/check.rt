@@ -1,7 +1,6 @@
 //! The engine of `check`.
 
 ghost use Rattle.std.specs.Prelude.{◌≡◌, ◌+◌, ◌-◌, ◌^◌, ◌<◌, ◌≤◌, Ok, Err, IfOk, IfErr, IfSome, IsTrue, MatchResult, length, vec_len, All};
-ghost use Rattle.byte_stream.specs.Fault.{CountsFault};
 ghost use Rattle.byte_stream.specs.Intake.{TakesAtMost};
 ghost use Rattle.pcap_reader.specs.Limit.{most_taken};
 ghost use Rattle.certificate.specs.Certificate.{data_of as certificate_data, max_pieces};
@@ -10,49 +9,25 @@ ghost use Rattle.pairing.specs.Exchange.{AreLawful, IsLawful as IsLawfulExchange
 ghost use Rattle.pairing.specs.Pairing.{data_of as collection_data};
 ghost use Rattle.sample_interval.specs.Sample.{IsLawfulSample};
 ghost use Rattle.checker.specs.Traceability.{samples_of, IsTraceable};
-ghost use Rattle.report.specs.Input.{read_failed};
 ghost use Rattle.report.specs.Publication.{IsMadeFor, IsUnwritten, answer_of};
 ghost use Rattle.report.specs.State.{sink_state};
 ghost use Rattle.audit.specs.Check as spec;
-ghost use Rattle.audit.specs.Check.{IsTracedTo, IsOfCertificate, IsBeforeCapture, Checks, CountsInputs, check_report, check_state, checked, count_of};
+ghost use Rattle.audit.specs.Check.{IsTracedTo, IsBeforeCapture, Checks, CountsInputs, check_report, check_state, checked, count_of};
 ghost use Rattle.audit.specs.Audit.{feed_state};
-ghost use Rattle.audit.specs.Evidence.{Reads, IsOnlyOfClaim, max_claim};
+ghost use Rattle.evidence.specs.ClaimInput.{IsOnlyOfClaim, max_claim};
+ghost use Rattle.evidence.specs.CertificateInput.{max_certificate};
 
-use crate::check_report::check_text;
-use crate::evidence::{read_capture_from, read_claim_from};
 use crate::sample_list::samples_of;
+use audit_text::check_text;
 use byte_stream::{Feed, Sink};
-use certificate::{Certificate, read_certificate};
+use certificate::Certificate;
 use checker::{Verdict, check};
 use claim_file::Claim;
+use evidence::{read_capture_from, read_certificate_from, read_claim_from};
 use pairing::Collected;
-use report::{Input, Made, Outcome, RunFault, publish, read_input};
+use report::{Made, Outcome, RunFault, publish};
 use std::alloc::{AllocError, Global};
 use std::hash::{BuildHasher, BuildHasherDefault, FoldHasher};
-
-/// The greatest length of a certificate, in bytes.
-const MAX_CERTIFICATE: u64 = 134_217_728;
-
-/// Reads a certificate whole: at most 134,217,728 bytes.
-fn read_certificate_from<K: Feed>(alloc: Global, feed: &mut K) -> Result<Certificate, RunFault>
-    requires { K.fault_count feed.old < 2 ^ 64 - 1 }
-    ensures known { IfSome (K.remaining feed.old)
-        (λ bytes. Reads certificate_data (spec.certificate_read bytes) result) }
-    ensures few { IfOk result (λ certificate. vec_len certificate.pieces ≤ max_pieces) }
-    ensures fault { IfErr result IsOfCertificate }
-    ensures counts_fault { CountsFault (read_failed result)
-        (K.fault_count feed.old) (K.fault_count feed.new) }
-    ensures at_most { TakesAtMost (MAX_CERTIFICATE + 1)
-        (K.remaining feed.old) (K.remaining feed.new) }
-{
-    match read_input(alloc, feed, Input::Certificate, MAX_CERTIFICATE) {
-        Ok(bytes) => match read_certificate(alloc, bytes.as_slice()) {
-            Ok(certificate) => Ok(certificate),
-            Err(fault) => Err(RunFault::from(fault)),
-        },
-        Err(fault) => Err(fault),
-    }
-}
 
 /// The outcome of a verdict.
 fn outcome_of(verdict: &Verdict) -> Outcome
@@ -124,7 +99,7 @@ fn check_inputs<C: Feed, F: Feed, K: Feed, H: BuildHasher + Drop>(
         IsOnlyOfClaim fault → certificate.new ≡ certificate.old) }
     ensures claim_at_most { TakesAtMost (max_claim + 1)
         (C.remaining claim.old) (C.remaining claim.new) }
-    ensures certificate_at_most { TakesAtMost (MAX_CERTIFICATE + 1)
+    ensures certificate_at_most { TakesAtMost (max_certificate + 1)
         (K.remaining certificate.old) (K.remaining certificate.new) }
     ensures capture_at_most { TakesAtMost most_taken (F.remaining capture) (F.remaining result.0) }
 {

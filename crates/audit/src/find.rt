@@ -1,26 +1,22 @@
 //! The engine of `find`.
 
 ghost use Rattle.std.specs.Prelude.{◌≡◌, ◌+◌, ◌-◌, ◌^◌, ◌<◌, ◌≤◌, ◌++◌, Ok, IfOk, IfErr, IfSome, IsTrue, codes};
-ghost use Rattle.std.specs.Fmt.{decimal};
 ghost use Rattle.certificate.specs.Certificate.{data_of as certificate_data};
 ghost use Rattle.certificate.specs.Writing.{certificate_text};
 ghost use Rattle.finder.specs.Found.{data_of as found_data};
 ghost use Rattle.report.specs.Publication.{IsMadeFor};
 ghost use Rattle.report.specs.State.{sink_state};
 ghost use Rattle.audit.specs.Audit.{IsMadeOf, IsOfMaking, Audits, audit_state, feed_state};
-ghost use Rattle.audit.specs.EvidenceData.{IsLawfulEvidence, evidence_data};
-ghost use Rattle.audit.specs.HullLine.{hull_line};
+ghost use Rattle.evidence.specs.EvidenceData.{IsLawfulEvidence, evidence_data};
 ghost use Rattle.audit.specs.Find as spec;
 ghost use Rattle.audit.specs.Find.{IsAcceptedOf, IsFoundOf, find_made, find_run_fault_of, found_outcome};
 
-use crate::evidence::{Evidence, read_evidence_with};
-use crate::hull_line::write_hull_line;
 use crate::sample_list::samples_of;
+use audit_text::nothing_text;
 use byte_stream::{Feed, Sink};
 use certificate::{Certificate, write_certificate};
+use evidence::{Evidence, read_evidence_with};
 use finder::{FindFault, Found, find};
-use intersection::kinds::Hull;
-use line_writer::Line;
 use report::{Made, Outcome, RunFault, publish};
 use std::alloc::{AllocError, Global};
 use std::hash::{BuildHasher, BuildHasherDefault, FoldHasher};
@@ -55,19 +51,6 @@ fn certificate_line(alloc: Global, certificate: &Certificate) -> Result<Vec<u8>,
     Ok(text.into_bytes())
 }
 
-/// The line that says which piece fails, and its hull.
-fn nothing_line(alloc: Global, piece: u32, hull: Hull) -> Result<Vec<u8>, AllocError>
-    ensures { IfOk result (λ text. text.items ≡
-        codes "nothing piece " ++ decimal piece ++ codes " " ++ hull_line hull) }
-{
-    let mut line = Line::new();
-    write_hull_line(&mut line, hull);
-    line.put_byte(b' ');
-    line.put_number(piece);
-    line.put_text("nothing piece ");
-    line.as_bytes().to_vec(alloc)
-}
-
 /// The whole text.
 #[tactic(auto, unfolding(crate::specs::Find::found_text))]
 fn found_text(alloc: Global, found: &Found) -> Result<Vec<u8>, AllocError>
@@ -75,7 +58,7 @@ fn found_text(alloc: Global, found: &Found) -> Result<Vec<u8>, AllocError>
 {
     match found {
         Found::Certificate(certificate) => certificate_line(alloc, certificate),
-        Found::Nothing { piece, hull } => nothing_line(alloc, *piece, *hull),
+        Found::Nothing { piece, hull } => nothing_text(alloc, *piece, *hull),
     }
 }
 

@@ -1,47 +1,17 @@
 //! The engine of `samples`.
 
-ghost use Rattle.std.specs.Prelude.{◌≡◌, ◌+◌, ◌-◌, ◌^◌, ◌<◌, ◌++◌, IfOk, IfErr, IsTrue};
-ghost use Rattle.claim_file.specs.Claim.{data_of};
+ghost use Rattle.std.specs.Prelude.{◌≡◌, ◌+◌, ◌-◌, ◌^◌, ◌<◌, IfOk, IfErr, IsTrue};
 ghost use Rattle.report.specs.State.{sink_state};
 ghost use Rattle.audit.specs.Audit.{IsMadeOf, Audits, audit_state, feed_state};
-ghost use Rattle.audit.specs.EvidenceData.{IsLawfulEvidence, evidence_data};
-ghost use Rattle.audit.specs.Samples as spec;
-ghost use Rattle.audit.specs.Samples.{sample_lines, samples_made};
+ghost use Rattle.evidence.specs.EvidenceData.{IsLawfulEvidence};
+ghost use Rattle.audit.specs.Samples.{samples_made};
 
-use crate::counts_line::add_counts;
-use crate::evidence::{Evidence, read_evidence_with};
-use crate::sample_line::write_sample_line;
+use audit_text::samples_text;
 use byte_stream::{Feed, Sink};
-use line_writer::Line;
+use evidence::{Evidence, read_evidence_with};
 use report::{Made, Outcome, RunFault, publish};
 use std::alloc::{AllocError, Global};
 use std::hash::{BuildHasher, BuildHasherDefault, FoldHasher};
-
-/// The line of each sample, in the order of the exchanges.
-fn add_samples(text: &mut Vec<u8>, line: &mut Line, evidence: &Evidence) -> Result<(), AllocError>
-    requires { IsLawfulEvidence evidence.now }
-    ensures { IfOk result (λ _. text.new.items ≡ text.old.items ++
-        sample_lines (data_of evidence.now.claim) 0 evidence.now.collected.exchanges.items) }
-{
-    for (number, exchange) in evidence.collected.exchanges.iter().enumerate() {
-        write_sample_line(line, &evidence.claim, number as u32, exchange);
-        text.extend_from_slice(line.as_bytes())?;
-    }
-    Ok(())
-}
-
-/// The whole text.
-#[tactic(auto, unfolding(crate::specs::Samples::samples_text))]
-fn samples_text(alloc: Global, evidence: &Evidence) -> Result<Vec<u8>, AllocError>
-    requires { IsLawfulEvidence evidence.now }
-    ensures { IfOk result (λ text. text.items ≡ spec.samples_text (evidence_data evidence.now)) }
-{
-    let mut text = Vec::new(alloc);
-    let mut line = Line::new();
-    add_samples(&mut text, &mut line, evidence)?;
-    add_counts(&mut text, &mut line, &evidence.collected)?;
-    Ok(text)
-}
 
 /// What the run comes to: the refusal of its inputs, or the whole text.
 fn make_samples(alloc: Global, evidence: &Result<Evidence, RunFault>) -> Result<Made, RunFault>
@@ -49,7 +19,7 @@ fn make_samples(alloc: Global, evidence: &Result<Evidence, RunFault>) -> Result<
     ensures made { IsMadeOf samples_made evidence.now result }
 {
     match evidence {
-        Ok(evidence) => match samples_text(alloc, evidence) {
+        Ok(evidence) => match samples_text(alloc, &evidence.claim, &evidence.collected) {
             Ok(text) => Ok(Made {
                 text,
                 outcome: Outcome::Yes,

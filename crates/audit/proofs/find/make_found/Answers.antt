@@ -1,7 +1,7 @@
 use Rattle.std.proofs.Common.{◌∙◌, ap}
 use Rattle.claim_file.specs.Claim.{data_of}
 use Rattle.checker.specs.Traceability.{samples_of}
-use Rattle.audit.specs.EvidenceData.{evidence_data}
+use Rattle.evidence.specs.EvidenceData.{evidence_data}
 use Rattle.audit.proofs.FindLemmas.{found_accepted}
 use Rattle.audit.proofs.find.make_found.Goals as goal
 

@@ -1,9 +1,0 @@
-use Rattle.std.proofs.Common.{◌≡◌, ◌≤◌}
-use Rattle.audit.specs.CheckReport.{source_count}
-use Rattle.audit.proofs.check_report.source_count.Given as goal
-
-abbrev pub invariant-loop-server : goal.invariant-loop-server
-invariant-loop-server l = record {
-  so_far : l.count ≡ source_count l.exchanges l.server;
-  fits : l.count ≤ l.server;
-}

@@ -1,0 +1,11 @@
+-- The text of `at`: what each server says of the clock's error at one moment, and the hull.
+use Rattle.std.specs.Prelude.{ℕ, List, ◌++◌, flat_map}
+use Rattle.claim_file.specs.Claim.{ClaimData}
+use Rattle.checker.specs.declared.part.Part.{Part}
+use Rattle.intersection.specs.declared.kinds.Hull.{Hull}
+use Rattle.audit_text.specs.HullLine.{hull_line}
+use Rattle.audit_text.specs.IntervalLine.{interval_line}
+
+-- the text for what these servers say
+unfoldable pub parts_text : ClaimData → List Part → Hull → List ℕ
+parts_text claim parts hull = flat_map (interval_line claim) parts ++ hull_line hull

@@ -1,0 +1,41 @@
+-- What the bytes of a capture give under a claim.
+use Rattle.std.specs.Prelude.{List, ℕ, Result, Ok, Err}
+use Rattle.pcap_reader.specs.declared.fault.CaptureFault.{CaptureFault}
+use Rattle.pcap_reader.specs.Remaining.{Coming, capture_of}
+use Rattle.claim_file.specs.Claim.{ClaimData}
+use Rattle.pairing.specs.declared.fault.PairFault.{PairFault}
+use Rattle.pairing.specs.declared.fault.PairFault.TheVariants as pairs
+use Rattle.pairing.specs.Answer.{answer_of}
+use Rattle.pairing.specs.Pairing.{Collection}
+use Rattle.report.specs.declared.fault.Input.TheVariants as inputs
+use Rattle.report.specs.declared.fault.RunFault.{RunFault}
+use Rattle.report.specs.declared.fault.RunFault.TheVariants.{Capture, Exchanges, Device, Memory}
+use Rattle.report.specs.Fault.{run_fault_of}
+
+-- what a run answers where exchanges can't be collected for this reason
+abbrev pub pair_run_fault_of : PairFault → RunFault
+pair_run_fault_of (pairs.Capture fault) = run_fault_of fault
+pair_run_fault_of pairs.TooManyExchanges = Exchanges
+pair_run_fault_of pairs.Memory = Memory
+
+-- a fault of the exchanges is the run's
+abbrev pub collection_or_fault : Result Collection PairFault → Result Collection RunFault
+collection_or_fault (Ok collection) = Ok collection
+collection_or_fault (Err fault) = Err (pair_run_fault_of fault)
+
+-- what a capture gives whose header was read, or wasn't lawful
+abbrev pub collection_read : ClaimData → Result Coming CaptureFault → Result Collection RunFault
+collection_read claim (Ok coming) = collection_or_fault (answer_of claim coming)
+collection_read claim (Err fault) = Err (Capture fault)
+
+-- what the bytes of a capture give
+unfoldable pub capture_read : ClaimData → List ℕ → Result Collection RunFault
+capture_read claim bytes = collection_read claim (capture_of bytes)
+
+-- the faults of reading a capture
+abbrev pub IsOfCapture : RunFault → Type 0
+IsOfCapture (Capture fault) = Unit {0}
+IsOfCapture Exchanges = Unit {0}
+IsOfCapture (Device inputs.Capture) = Unit {0}
+IsOfCapture Memory = Unit {0}
+IsOfCapture _ = ⊥

@@ -1,0 +1,66 @@
+//! The reading of a capture.
+
+ghost use Rattle.std.specs.Prelude.{◌≡◌, ◌-◌, ◌^◌, ◌<◌, IfOk, IfErr, IfSome, length};
+ghost use Rattle.byte_stream.specs.Fault.{CountsFault};
+ghost use Rattle.byte_stream.specs.Intake.{TakesAtMost};
+ghost use Rattle.pcap_reader.specs.Limit.{most_taken};
+ghost use Rattle.claim_file.specs.Claim.{IsLawful, data_of};
+ghost use Rattle.pairing.specs.Exchange.{AreLawful};
+ghost use Rattle.pairing.specs.Pairing.{data_of as collection_data};
+ghost use Rattle.report.specs.Input.{read_failed};
+ghost use Rattle.evidence.specs.Reading.{Reads};
+ghost use Rattle.evidence.specs.CaptureInput.{IsOfCapture, capture_read, pair_run_fault_of};
+
+use byte_stream::Feed;
+use claim_file::Claim;
+use pairing::{Collected, PairFault, collect_with};
+use pcap_reader::Capture;
+use report::RunFault;
+use std::alloc::Global;
+use std::hash::BuildHasher;
+
+/// What a run answers where exchanges can't be collected for this reason.
+fn run_fault_of(fault: PairFault) -> RunFault
+    ensures { result ≡ pair_run_fault_of fault }
+{
+    match fault {
+        PairFault::Capture(fault) => RunFault::from(fault),
+        PairFault::TooManyExchanges => RunFault::Exchanges,
+        PairFault::Memory => RunFault::Memory,
+    }
+}
+
+/// Collects the exchanges of a capture under a claim. The feed is handed back beside them.
+///
+/// `Capture` comes where it isn't a capture or ends too early, `Exchanges` where it has over
+/// 1,000,000 of them, `Device` where the feed failed. The index of requests hashes by `hasher`: who
+/// doesn't trust the capture's writer passes one with a random key.
+pub fn read_capture_from<F: Feed, H: BuildHasher + Drop>(
+    alloc: Global,
+    feed: F,
+    claim: &Claim,
+    hasher: H,
+) -> (F, Result<Collected, RunFault>)
+    requires claim { IsLawful (data_of claim.now) }
+    requires room { F.fault_count feed < 2 ^ 64 - 1 }
+    ensures known { IfSome (F.remaining feed) (λ bytes.
+        Reads collection_data (capture_read (data_of claim.now) bytes) result.1) }
+    ensures lawful { IfOk result.1 (λ collected.
+        AreLawful (length claim.now.servers.items) collected.exchanges.items) }
+    ensures fault { IfErr result.1 IsOfCapture }
+    ensures counts_fault { CountsFault (read_failed result.1)
+        (F.fault_count feed) (F.fault_count result.0) }
+    ensures at_most { TakesAtMost most_taken (F.remaining feed) (F.remaining result.0) }
+{
+    match Capture::begin(alloc, feed) {
+        Ok(mut source) => {
+            let collected = collect_with(alloc, &mut source, claim, hasher);
+            let feed = source.into_feed();
+            match collected {
+                Ok(collected) => (feed, Ok(collected)),
+                Err(fault) => (feed, Err(run_fault_of(fault))),
+            }
+        }
+        Err((feed, fault)) => (feed, Err(RunFault::from(fault))),
+    }
+}
