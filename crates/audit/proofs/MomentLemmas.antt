@@ -1,38 +1,27 @@
 -- What servers say at one moment, one server after another.
-use Rattle.std.proofs.Common.{◌≡◌, ◌∙◌, ◌+◌, ◌<◌, ◌≤◌, ◌++◌, ℕ, ℤ, List, [], ◌∷◌, length, get_or, Option, Some, None, refl, sym, ap, subst, add-one, append-nil, arith, length-append}
-use Rattle.std.specs.Prelude.{slice_get, filter_map, option_and_then, All}
+use Rattle.std.proofs.Common.{◌≡◌, ◌∙◌, ◌+◌, ◌<◌, ◌≤◌, ◌++◌, ℕ, ℤ, List, [], ◌∷◌, length, take, get_or, Option, Some, None, refl, sym, ap, subst, add-one, append-nil, arith, length-append}
+use Rattle.std.specs.Prelude.{filter_map, All}
 use Rattle.std.specs.List.{cons_option}
 use Rattle.std.proofs.lemmas.List.Elements.{filter_map-append, All-push}
-use Rattle.std.proofs.lemmas.Option.{get_or_from_slice_get}
-use Rattle.intersection.specs.declared.kinds.Interval.{Interval}
+use Rattle.claim_file.specs.Claim.{ClaimData}
+use Rattle.pairing.specs.declared.exchange.Exchange.{Exchange}
 use Rattle.sample_interval.specs.declared.kinds.Sample.{Sample}
-use Rattle.span_cover.specs.Best.{best_of, IsBestLow, IsBestHigh}
-use Rattle.span_cover.specs.Piece.{piece_interval_of}
+use Rattle.sample_interval.specs.Sample.{sample_of}
+use Rattle.span_cover.specs.Gathering.{Gathered, Gathering}
 use Rattle.checker.specs.declared.part.Part.{Part}
 use Rattle.checker.specs.Groups.{numbers_below}
-use Rattle.audit.specs.Moment.{part_at, part_between}
+use Rattle.checker.specs.Traceability.{samples_of}
+use Rattle.audit.proofs.SampleLemmas.{sample_more}
 
-module _ (samples : List Sample) (ppb : ℕ) (tick : ℤ) (server : ℕ) where
-  abbrev Found : ℕ × ℕ → Option Part
-  Found best = part_between ppb tick server (slice_get samples best.0) (slice_get samples best.1)
-
-  -- the interval of the best samples is what the server says
-  pub part_found : (low high : ℕ) (d e : Sample) (interval : Interval) →
-      Some (low, high) ≡ best_of samples server tick tick ppb → IsBestLow samples server tick tick ppb low →
-      IsBestHigh samples server tick tick ppb high →
-      interval ≡ piece_interval_of (get_or samples low d) (get_or samples high e) tick tick ppb →
-      Some (record { server = server; interval = interval }) ≡ part_at samples ppb tick server
-  part_found low high d e interval exact is_low is_high is =
-      let l = is_low.stands in
-      let h = is_high.stands in
-      let ends : interval ≡ piece_interval_of is_low.sample is_high.sample tick tick ppb =
-      is ∙ rw (
-        get_or_from_slice_get samples low is_low.sample d l,
-        get_or_from_slice_get samples high is_high.sample e h,
-      ) refl in
-      let said : Some (record { server = server; interval = interval }) ≡ Found (low, high) =
-      rw (l, h) (ap (λ (i : Interval). Some (record { server = server; interval = i })) ends) in
-      said ∙ ap (option_and_then Found) exact
+module _ (claim : ClaimData) (xs : List Exchange) (i : ℕ) (d : Exchange) (within : i < length xs) where
+  -- one sample more was taken
+  pub taken_more : (tick : ℤ) (s : Sample) (best : Gathering) → s ≡ sample_of (get_or xs i d) claim.reading →
+      Gathered (samples_of (take i xs) claim ++ s ∷ []) tick tick claim.drift_ppb best →
+      Gathered (samples_of (take (i + 1) xs) claim) tick tick claim.drift_ppb best
+  taken_more tick s best is gathered =
+      let before = samples_of (take i xs) claim in
+      subst (λ (ts : List Sample). Gathered ts tick tick claim.drift_ppb best)
+      (sample_more claim xs i d within before (before ++ s ∷ []) s refl refl is) gathered
 
 module _ (says : ℕ → Option Part) (server : ℕ) where
   one_more : filter_map says (numbers_below (server + 1)) ≡

@@ -9,7 +9,6 @@ ghost use Rattle.audit.specs.At as spec;
 ghost use Rattle.audit.specs.At.{at_made};
 
 use crate::moment::{parts_at, tick_of};
-use crate::sample_list::samples_of;
 use audit_text::parts_text;
 use byte_stream::{Feed, Sink};
 use checker::{Part, piece_hull};
@@ -36,8 +35,7 @@ fn at_text(alloc: Global, second: u32, evidence: &Evidence) -> Result<Vec<u8>, A
         text.items ≡ spec.at_text second (evidence_data evidence.now)) }
 {
     let claim = &evidence.claim;
-    let samples = samples_of(alloc, claim, &evidence.collected.exchanges)?;
-    let parts = parts_at(claim, samples.as_slice(), tick_of(second));
+    let parts = parts_at(claim, &evidence.collected.exchanges, tick_of(second));
     hull_text(alloc, claim, parts.as_slice())
 }
 

@@ -1,16 +1,20 @@
-//! What samples say at one moment.
+//! What exchanges say of the clock's error at one moment.
 
-ghost use Rattle.std.specs.Prelude.{◌≡◌, ◌≤◌, ◌<◌, IfSome, length, All};
+ghost use Rattle.std.specs.Prelude.{◌≡◌, ◌<◌, ℕ, ℤ, List, IfSome, length, All};
 ghost use Rattle.claim_file.specs.Claim.{IsLawful, data_of};
-ghost use Rattle.sample_interval.specs.Sample.{IsLawfulSample};
+ghost use Rattle.pairing.specs.Exchange.{IsLawful as IsLawfulExchange};
+ghost use Rattle.sample_interval.specs.declared.kinds.Sample.{Sample as TheSample};
+ghost use Rattle.span_cover.specs.Gathering.{Gathered};
 ghost use Rattle.span_cover.specs.Piece.{IsPiece};
+ghost use Rattle.checker.specs.Traceability.{samples_of};
 ghost use Rattle.audit.specs.Moment as spec;
 
 use arrayvec::ArrayVec;
 use checker::Part;
 use claim_file::Claim;
-use sample_interval::kinds::Sample;
-use span_cover::{best, piece_interval};
+use pairing::Exchange;
+use sample_interval::sample;
+use span_cover::BestSamples;
 
 /// Ticks of 2^-32 s in a second.
 const TICKS_PER_SECOND: i128 = 1 << 32;
@@ -23,35 +27,45 @@ pub(crate) fn tick_of(second: u32) -> i128
     i128::from(second) * TICKS_PER_SECOND
 }
 
-/// What a server says at a tick by its best samples, where it has one.
-fn part_at(samples: &[Sample], drift_ppb: u32, tick: i128, server: u8) -> Option<Part>
-    requires samples { All IsLawfulSample samples.now }
-    requires few { length samples.now ≤ 1_000_000 }
+/// The best samples of each server at a tick, by one pass over the exchanges.
+fn best_at(claim: &Claim, exchanges: &[Exchange], tick: i128) -> BestSamples
+    requires lawful { IsLawful (data_of claim.now) }
+    requires exchanges { All (IsLawfulExchange (length claim.now.servers.items)) exchanges.now }
     requires piece { IsPiece tick tick }
-    requires rate { drift_ppb ≤ 500_000_000 }
-    ensures exact { result ≡ spec.part_at samples.now drift_ppb tick server }
+    ensures { Gathered (samples_of exchanges.now (data_of claim.now))
+        tick tick claim.now.drift_ppb result }
+{
+    let mut best = BestSamples::new(tick, tick, claim.drift_ppb);
+    for exchange in exchanges {
+        best.take(&sample(exchange, claim.reading));
+    }
+    best
+}
+
+/// What a server says at a tick by its best samples there, where it has one.
+fn part_of(best: &BestSamples, server: u8) -> Option<Part>
+    requires { server < 32 }
+    ensures exact { (samples : List TheSample) (tick : ℤ) (ppb : ℕ) →
+        Gathered samples tick tick ppb best.now → result ≡ spec.part_at samples ppb tick server }
     ensures of_server { IfSome result (λ part. part.server ≡ server) }
 {
-    let (low, high) = best(samples, server, tick, tick, drift_ppb)?;
-    let (low, high) = (&samples[low as usize], &samples[high as usize]);
-    Some(Part {
-        server,
-        interval: piece_interval(low, high, tick, tick, drift_ppb),
-    })
+    let interval = best.interval_of(server)?;
+    Some(Part { server, interval })
 }
 
 /// What each server says at a tick that has a sample, in the order of the servers.
-pub(crate) fn parts_at(claim: &Claim, samples: &[Sample], tick: i128) -> ArrayVec<Part, 32>
+pub(crate) fn parts_at(claim: &Claim, exchanges: &[Exchange], tick: i128) -> ArrayVec<Part, 32>
     requires lawful { IsLawful (data_of claim.now) }
-    requires samples { All IsLawfulSample samples.now }
-    requires few { length samples.now ≤ 1_000_000 }
+    requires exchanges { All (IsLawfulExchange (length claim.now.servers.items)) exchanges.now }
     requires piece { IsPiece tick tick }
-    ensures exact { result.items ≡ spec.parts_at (data_of claim.now) samples.now tick }
+    ensures exact { result.items ≡
+        spec.parts_at (data_of claim.now) (samples_of exchanges.now (data_of claim.now)) tick }
     ensures listed { All (λ part. part.server < length claim.now.servers.items) result.items }
 {
+    let best = best_at(claim, exchanges, tick);
     let mut parts = ArrayVec::new();
     for server in 0..claim.servers.len() as u8 {
-        if let Some(part) = part_at(samples, claim.drift_ppb, tick, server) {
+        if let Some(part) = part_of(&best, server) {
             parts.push(part);
         }
     }

@@ -1,8 +1,11 @@
 use Rattle.std.proofs.Common.{length}
+use Rattle.claim_file.specs.Claim.{data_of}
+use Rattle.checker.specs.Traceability.{samples_of}
 use Rattle.audit.specs.Moment.{part_at}
 use Rattle.audit.proofs.MomentLemmas.{StandsFor}
 use Rattle.audit.proofs.moment.parts_at.Given as goal
 
 abbrev pub invariant-loop-server : goal.invariant-loop-server
 invariant-loop-server l =
-    StandsFor (part_at l.samples l.claim.drift_ppb l.tick) (length l.claim.servers.items) l.server l.parts.items
+    StandsFor (part_at (samples_of l.exchanges (data_of l.claim)) l.claim.drift_ppb l.tick)
+    (length l.claim.servers.items) l.server l.parts.items
