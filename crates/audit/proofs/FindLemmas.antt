@@ -24,20 +24,20 @@ use Rattle.evidence.specs.EvidenceData.{evidence_data}
 use Rattle.audit.specs.Audit.{IsMadeOf}
 use Rattle.audit.specs.Find.{IsAcceptedOf, IsFoundOf, find_made, found_outcome}
 
--- a certificate that is found is accepted
-pub found_accepted : (step : ℕ) (e : EvidenceData) (samples : List Sample) (found : Found) (outcome : Outcome) →
-    samples ≡ samples_of e.collection.exchanges e.claim → outcome ≡ found_outcome (data_of found) →
-    found_of samples e.claim step ≡ Ok (data_of found) →
-    IfCertificate found (λ certificate. verdict_of samples e.claim certificate ≡ verdicts.Yes) →
-    outcome ≡ outcomes.Yes →
-    IsFoundOf step e
-found_accepted step e samples (founds.Certificate c) outcome same is exact accepted said = record {
-  found = certificate_data c;
-  found_is = rw same at exact;
-  accepted = rw same at accepted;
-}
-found_accepted step e samples (founds.Nothing piece hull) outcome same is exact accepted said =
-    let no : outcomes.No ≡ outcomes.Yes = sym is ∙ said in cc
+module _ (step : ℕ) (e : EvidenceData) (samples : List Sample)
+    (same : samples ≡ samples_of e.collection.exchanges e.claim) where
+  -- a certificate that is found is accepted
+  pub found_accepted : (found : Found) (outcome : Outcome) → outcome ≡ found_outcome (data_of found) →
+      found_of samples e.claim step ≡ Ok (data_of found) →
+      IfCertificate found (λ certificate. verdict_of samples e.claim certificate ≡ verdicts.Yes) →
+      outcome ≡ outcomes.Yes → IsFoundOf step e
+  found_accepted (founds.Certificate c) outcome is exact accepted said = record {
+    found = certificate_data c;
+    found_is = rw same at exact;
+    accepted = rw same at accepted;
+  }
+  found_accepted (founds.Nothing piece hull) outcome is exact accepted said =
+      let no : outcomes.No ≡ outcomes.Yes = sym is ∙ said in cc
 
 -- ---- of bytes
 
@@ -54,11 +54,15 @@ made_yes : (made : Result Made RunFault) (answer : Result Outcome RunFault) → 
 made_yes made answer (inl stays) said = sym stays ∙ said
 made_yes made answer (inr (sent, writes)) said = cc
 
+-- at a yes the evidence was read, and a certificate was found of it
+abbrev IsFound : ℕ → Result Evidence RunFault → Result Made RunFault → Type 0
+IsFound step evidence made =
+    IfOk evidence (λ e. IfOk made (λ m. m.outcome ≡ outcomes.Yes → IsFoundOf step (evidence_data e)))
+
 module _ (step : ℕ) (claim capture : List ℕ) where
   of_made : (evidence : Result Evidence RunFault) (made : Result Made RunFault) →
       IfSome (evidence_read (Some claim) (Some capture)) (λ expected. Reads evidence_data expected evidence) →
-      IsMadeOf (find_made step) evidence made →
-      IfOk evidence (λ e. IfOk made (λ m. m.outcome ≡ outcomes.Yes → IsFoundOf step (evidence_data e))) →
+      IsMadeOf (find_made step) evidence made → IsFound step evidence made →
       answer_of made ≡ Ok outcomes.Yes → IsAcceptedOf step claim capture
   of_made (Ok e) (Ok m) reads is found said = record {
     evidence = evidence_data e;
@@ -68,14 +72,13 @@ module _ (step : ℕ) (claim capture : List ℕ) where
   of_made (Ok e) (Err fault) reads is found said = cc
   of_made (Err fault) made reads is found said = let no : answer_of made ≡ Err fault = ap answer_of is in cc
 
-pub accepted_of_bytes : (step : ℕ) (claim capture : Option (List ℕ)) (evidence : Result Evidence RunFault)
-    (made : Result Made RunFault) (answer : Result Outcome RunFault) →
-    IfSome (evidence_read claim capture) (λ expected. Reads evidence_data expected evidence) →
-    IsMadeOf (find_made step) evidence made →
-    IfOk evidence (λ e. IfOk made (λ m. m.outcome ≡ outcomes.Yes → IsFoundOf step (evidence_data e))) →
-    StaysOrWrites (answer_of made) answer → answer ≡ Ok outcomes.Yes →
-    IfSome claim (λ c. IfSome capture (IsAcceptedOf step c))
-accepted_of_bytes step None capture evidence made answer reads is found stays said = tt
-accepted_of_bytes step (Some claim) None evidence made answer reads is found stays said = tt
-accepted_of_bytes step (Some claim) (Some capture) evidence made answer reads is found stays said =
-    of_made step claim capture evidence made reads is found (made_yes made answer stays said)
+module _ (step : ℕ) (evidence : Result Evidence RunFault) (made : Result Made RunFault)
+    (answer : Result Outcome RunFault) where
+  pub accepted_of_bytes : (claim capture : Option (List ℕ)) →
+      IfSome (evidence_read claim capture) (λ expected. Reads evidence_data expected evidence) →
+      IsMadeOf (find_made step) evidence made → IsFound step evidence made → StaysOrWrites (answer_of made) answer →
+      answer ≡ Ok outcomes.Yes → IfSome claim (λ c. IfSome capture (IsAcceptedOf step c))
+  accepted_of_bytes None capture reads is found stays said = tt
+  accepted_of_bytes (Some claim) None reads is found stays said = tt
+  accepted_of_bytes (Some claim) (Some capture) reads is found stays said =
+      of_made step claim capture evidence made reads is found (made_yes made answer stays said)

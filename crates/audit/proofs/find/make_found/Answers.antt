@@ -8,7 +8,8 @@ use Rattle.audit.proofs.find.make_found.Goals as goal
 pub returns-in-Ok-found_text-clause-accepted : goal.returns-in-Ok-found_text-clause-accepted
 returns-in-Ok-found_text-clause-accepted c =
     let found = c.in-Ok-find in
-    found_accepted c.args.step_s (evidence_data c.args.evidence.now) c.as_slice.result.now found.found
-    c.outcome_of.result (c.as_slice.ensures.value ∙ (c.in-Ok.ensures.exact
-    ∙ ap (λ xs. samples_of xs (data_of c.args.evidence.now.claim)) c.deref.ensures.value)) c.outcome_of.ensures
-    found.ensures.exact found.ensures.accepted
+    let e = evidence_data c.args.evidence.now in
+    let exchanges = ap (λ xs. samples_of xs (data_of c.args.evidence.now.claim)) c.deref.ensures.value in
+    found_accepted c.args.step_s e c.as_slice.result.now
+    (c.as_slice.ensures.value ∙ (c.in-Ok.ensures.exact ∙ exchanges)) found.found c.outcome_of.result
+    c.outcome_of.ensures found.ensures.exact found.ensures.accepted

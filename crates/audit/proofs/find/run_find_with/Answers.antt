@@ -25,5 +25,5 @@ returns-clause-audits g c =
 pub returns-clause-accepted : goal.returns-clause-accepted
 returns-clause-accepted g c =
     let read = c.read_evidence_with-capture in
-    accepted_of_bytes c.args.step_s _ _ read.result.1 c.make_find-made.result _ read.ensures.known
+    accepted_of_bytes c.args.step_s read.result.1 c.make_find-made.result _ _ _ read.ensures.known
     c.make_find-made.ensures.made c.make_find-made.ensures.accepted c.publish-answer.ensures.stays
