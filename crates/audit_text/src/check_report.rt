@@ -241,7 +241,8 @@ fn add_verdict(
     text.extend_from_slice(line.as_bytes())
 }
 
-/// The whole text, for a certificate of so many pieces.
+/// The text of `check`: what is claimed, what became of the capture's records, what is advised, and
+/// the verdict on a certificate of so many pieces.
 #[tactic(auto, unfolding(crate::specs::CheckReport::check_text))]
 pub fn check_text(
     alloc: Global,

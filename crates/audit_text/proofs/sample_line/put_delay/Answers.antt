@@ -10,7 +10,7 @@ returns-clause-text c =
     let x = c.args.x.now in
     let ends = c.delay-from.ensures in
     let from =
-        to_z-of_z w128 c.delay-from.result.0 (search rules) ∙ (ends.from ∙ ap (λ a. delay_from x a) allowance) in
+    to_z-of_z w128 c.delay-from.result.0 (search rules) ∙ (ends.from ∙ ap (λ a. delay_from x a) allowance) in
     let to =
-        to_z-of_z w128 c.delay-from.result.1 (search rules) ∙ (ends.to ∙ ap (λ a. delay_to x a) allowance) in
+    to_z-of_z w128 c.delay-from.result.1 (search rules) ∙ (ends.to ∙ ap (λ a. delay_to x a) allowance) in
     rw (c.put_interval.ensures.text, from, to) refl

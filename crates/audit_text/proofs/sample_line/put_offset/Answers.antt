@@ -10,7 +10,7 @@ returns-clause-text c =
     let x = c.args.x.now in
     let ends = c.offset-from.ensures in
     let from =
-        to_z-of_z w128 c.offset-from.result.0 (search rules) ∙ (ends.from ∙ ap (λ a. offset_from x a) allowance) in
+    to_z-of_z w128 c.offset-from.result.0 (search rules) ∙ (ends.from ∙ ap (λ a. offset_from x a) allowance) in
     let to =
-        to_z-of_z w128 c.offset-from.result.1 (search rules) ∙ (ends.to ∙ ap (λ a. offset_to x a) allowance) in
+    to_z-of_z w128 c.offset-from.result.1 (search rules) ∙ (ends.to ∙ ap (λ a. offset_to x a) allowance) in
     rw (c.put_interval.ensures.text, from, to) refl
