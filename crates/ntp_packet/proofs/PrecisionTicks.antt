@@ -34,5 +34,5 @@ distance-least delay dispersion precision = grind (arith, ints, precision_ticks_
 
 pub distance-greatest : (delay dispersion : ℕ) (precision : ℤ) → delay < 2 ^ 32 → dispersion < 2 ^ 32 →
     IfSome (if int_lt (pos 16) precision then None else Some (pos
-    (delay * 32768 + dispersion * 65536 + precision_ticks_of precision))) (λ ticks. ticks <ℤ pos (2 ^ 70))
+    (delay * 32768 + dispersion * 65536 + precision_ticks_of precision))) (λ ticks. ticks <ℤ pos (2 ^ 50))
 distance-greatest delay dispersion precision d e = grind (arith, ints, precision_ticks_of-greatest precision)

@@ -15,7 +15,7 @@ impl NtpView<'_> {
         ensures distance { result ≡ root_distance_of self.now }
         ensures none { IsNone result ↔ (pos 16 <ℤ precision_of self.now) }
         ensures least { IfSome result (λ ticks. pos 1 ≤ℤ ticks) }
-        ensures greatest { IfSome result (λ ticks. ticks <ℤ pos (2 ^ 70)) }
+        ensures greatest { IfSome result (λ ticks. ticks <ℤ pos (2 ^ 50)) }
     {
         let precision = self.precision();
         if precision > 16 {

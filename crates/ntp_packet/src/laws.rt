@@ -40,12 +40,12 @@ pub fn precision_doubles()
     ensures one_tick { (precision : ℤ) → precision ≤ℤ negsuc 31 → precision_ticks_of precision ≡ 1 }
 {}
 
-/// A root distance is at least one tick, and below 2^70 ticks.
+/// A root distance is at least one tick, and below 2^50 ticks.
 pub fn root_distance_range()
     ensures least { (bytes : List ℕ) → IsBytes bytes →
         IfSome (root_distance_of bytes) (λ ticks. pos 1 ≤ℤ ticks) }
     ensures greatest { (bytes : List ℕ) → IsBytes bytes →
-        IfSome (root_distance_of bytes) (λ ticks. ticks <ℤ pos (2 ^ 70)) }
+        IfSome (root_distance_of bytes) (λ ticks. ticks <ℤ pos (2 ^ 50)) }
 {}
 
 /// The header of a frame's packet is made of bytes of the frame.

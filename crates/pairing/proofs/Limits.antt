@@ -51,7 +51,7 @@ pub record Laws : Type 0 where
   pub header : (frame : List ℕ) → IsBytes frame → IfSome (packet_of frame) (λ packet. IsBytes packet.header)
   pub least : (bytes : List ℕ) → IsBytes bytes → IfSome (root_distance_of bytes) (λ ticks. pos 1 ≤ℤ ticks)
   pub greatest : (bytes : List ℕ) → IsBytes bytes →
-      IfSome (root_distance_of bytes) (λ ticks. ticks <ℤ pos (2 ^ 70))
+      IfSome (root_distance_of bytes) (λ ticks. ticks <ℤ pos (2 ^ 50))
 
 -- ---- requests and replies
 
@@ -158,7 +158,7 @@ distance_positive : (o : Option ℤ) → IfSome o (λ ticks. pos 1 ≤ℤ ticks)
 distance_positive None h = omega (arith, ints)
 distance_positive (Some ticks) h = omega (arith, ints)
 
-distance_below : (o : Option ℤ) → IfSome o (λ ticks. ticks <ℤ pos (2 ^ 70)) → unwrap_or o (pos 0) ≤ℤ pos (2 ^ 70)
+distance_below : (o : Option ℤ) → IfSome o (λ ticks. ticks <ℤ pos (2 ^ 50)) → unwrap_or o (pos 0) ≤ℤ pos (2 ^ 70)
 distance_below None h = omega (arith, ints)
 distance_below (Some ticks) h = omega (arith, ints)
 

@@ -88,11 +88,12 @@ impl<H: BuildHasher + Drop> Index<H> {
         Ok(())
     }
 
-    /// What the requests with a key are. `guess` is the place where the key is looked for first, and
-    /// then the one after the key, if it was found.
+    /// What the requests with a key are. `guess` is the place where the key is looked for first,
+    /// and then the one after the key, if it was found.
     ///
-    /// Keys stand in the order of their first requests. Replies mostly come in that order too, so the
-    /// next reply's key is mostly the next one: with no hash, and with no jump to a far place in memory.
+    /// Keys stand in the order of their first requests. Replies mostly come in that order too, so
+    /// the next reply's key is mostly the next one: with no hash, and no jump to a far place in
+    /// memory.
     pub(crate) fn find_near(&self, key: Key, guess: &mut usize) -> Option<Place>
         ensures { result ≡ get same_key self.now.places key }
     {

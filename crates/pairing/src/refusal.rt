@@ -26,16 +26,13 @@ pub(crate) enum Refusal {
     Ambiguous,
 }
 
-/// The root distance that a header announces, in ticks. It is below 2^50, since root delay and root
-/// dispersion have 32 bits each, and the precision is at most 16.
+/// The root distance that a header announces, in ticks: a number below 2^50, which half the room
+/// holds.
 pub(crate) fn announced_distance(header: &NtpView<'_>) -> Option<u64>
     ensures distance { option_map pos result ≡ root_distance_of header.now }
     ensures none { IsNone result ↔ (pos 16 <ℤ precision_of header.now) }
 {
-    // They are read for their ranges alone.
-    let (_delay, _dispersion) = (header.root_delay(), header.root_dispersion());
-    let distance = header.root_distance()?;
-    Some(distance as u64)
+    header.root_distance().map(|distance| distance as u64)
 }
 
 /// The root distance of a reply in ticks, or the first reason that its header gives to refuse it.

@@ -59,7 +59,8 @@ returns-in_err-take g c =
     let xs = c.args.waiting.now in
     let i = c.loop-reply.reply-index in
     let item = get_or xs i blank in
-    let outcome = outcome_found (get same_key c.args.index.now.places) item _ _ c.outcome.ensures c.find_near-found.ensures in
+    let outcome = outcome_found (get same_key c.args.index.now.places) item _ _ c.outcome.ensures
+        c.find_near-found.ensures in
     rw (p.1, p.2) (elim c.in_err-take.ensures.fault [
       | inl memory ↦ inl memory
       | inr many ↦ inr (
@@ -77,7 +78,8 @@ loop-reply-preserved g c =
     let xs = c.args.waiting.now in
     let i = c.loop-reply.reply-index in
     let item = get_or xs i blank in
-    let outcome = outcome_found (get same_key c.args.index.now.places) item _ _ c.outcome.ensures c.find_near-found.ensures in
+    let outcome = outcome_found (get same_key c.args.index.now.places) item _ _ c.outcome.ensures
+        c.find_near-found.ensures in
     record {
       joined =
           rw (
