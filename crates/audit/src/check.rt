@@ -17,11 +17,10 @@ ghost use Rattle.audit.specs.Audit.{feed_state};
 ghost use Rattle.evidence.specs.ClaimInput.{IsOnlyOfClaim, max_claim};
 ghost use Rattle.evidence.specs.CertificateInput.{max_certificate};
 
-use crate::sample_list::samples_of;
 use audit_text::check_text;
 use byte_stream::{Feed, Sink};
 use certificate::Certificate;
-use checker::{Verdict, check};
+use checker::{Verdict, check_exchanges};
 use claim_file::Claim;
 use evidence::{read_capture_from, read_certificate_from, read_claim_from};
 use pairing::Collected;
@@ -56,8 +55,7 @@ fn make_check(
     ensures traceable { IfOk result (λ made. made.outcome ≡ Outcome.Yes → IsTraceable
         (data_of claim.now) (samples_of collected.now.exchanges.items (data_of claim.now))) }
 {
-    let samples = samples_of(alloc, claim, &collected.exchanges)?;
-    let verdict = check(samples.as_slice(), claim, certificate);
+    let verdict = check_exchanges(&collected.exchanges, claim, certificate);
     let text = check_text(
         alloc,
         claim,
