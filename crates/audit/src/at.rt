@@ -13,7 +13,7 @@ use audit_text::parts_text;
 use byte_stream::{Feed, Sink};
 use checker::{Part, piece_hull};
 use claim_file::Claim;
-use evidence::{Evidence, read_evidence_with};
+use evidence::{Evidence, read_evidence};
 use report::{Made, Outcome, RunFault, publish};
 use std::alloc::{AllocError, Global};
 use std::hash::{BuildHasher, BuildHasherDefault, FoldHasher};
@@ -89,7 +89,7 @@ pub fn run_at_with<C: Feed, F: Feed, S: Sink, H: BuildHasher + Drop>(
         (feed_state F.remaining F.fault_count result.0)
         (sink_state S.contents S.is_open S.fault_count out.new)) capture result.0 result.1 }
 {
-    let (capture, evidence) = read_evidence_with(alloc, claim, capture, hasher);
+    let (capture, evidence) = read_evidence(alloc, claim, capture, hasher);
     let made = make_at(alloc, second, &evidence);
     let answer = publish(out, &made);
     (capture, answer)

@@ -15,7 +15,7 @@ use crate::sample_list::samples_of;
 use audit_text::nothing_text;
 use byte_stream::{Feed, Sink};
 use certificate::{Certificate, write_certificate};
-use evidence::{Evidence, read_evidence_with};
+use evidence::{Evidence, read_evidence};
 use finder::{FindFault, Found, find};
 use report::{Made, Outcome, RunFault, publish};
 use std::alloc::{AllocError, Global};
@@ -143,7 +143,7 @@ pub fn run_find_with<C: Feed, F: Feed, S: Sink, H: BuildHasher + Drop>(
     ensures accepted { result.1 ≡ Ok Outcome.Yes → IfSome (C.remaining claim.old)
         (λ c. IfSome (F.remaining capture) (IsAcceptedOf step_s c)) }
 {
-    let (capture, evidence) = read_evidence_with(alloc, claim, capture, hasher);
+    let (capture, evidence) = read_evidence(alloc, claim, capture, hasher);
     let made = make_find(alloc, step_s, &evidence);
     let answer = publish(out, &made);
     (capture, answer)

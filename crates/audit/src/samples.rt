@@ -8,7 +8,7 @@ ghost use Rattle.audit.specs.Samples.{samples_made};
 
 use audit_text::samples_text;
 use byte_stream::{Feed, Sink};
-use evidence::{Evidence, read_evidence_with};
+use evidence::{Evidence, read_evidence};
 use report::{Made, Outcome, RunFault, publish};
 use std::alloc::{AllocError, Global};
 use std::hash::{BuildHasher, BuildHasherDefault, FoldHasher};
@@ -56,7 +56,7 @@ pub fn run_samples_with<C: Feed, F: Feed, S: Sink, H: BuildHasher + Drop>(
         (feed_state F.remaining F.fault_count result.0)
         (sink_state S.contents S.is_open S.fault_count out.new)) capture result.0 result.1 }
 {
-    let (capture, evidence) = read_evidence_with(alloc, claim, capture, hasher);
+    let (capture, evidence) = read_evidence(alloc, claim, capture, hasher);
     let made = make_samples(alloc, &evidence);
     let answer = publish(out, &made);
     (capture, answer)

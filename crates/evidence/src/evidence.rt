@@ -34,7 +34,7 @@ pub struct Evidence {
 ///
 /// The index of requests hashes by `hasher`: who doesn't trust the capture's writer passes one with
 /// a random key.
-pub fn read_evidence_with<C: Feed, F: Feed, H: BuildHasher + Drop>(
+pub fn read_evidence<C: Feed, F: Feed, H: BuildHasher + Drop>(
     alloc: Global,
     claim: &mut C,
     capture: F,

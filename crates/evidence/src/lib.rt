@@ -15,4 +15,4 @@ mod evidence;
 pub use capture_input::read_capture_from;
 pub use certificate_input::read_certificate_from;
 pub use claim_input::read_claim_from;
-pub use evidence::{Evidence, read_evidence_with};
+pub use evidence::{Evidence, read_evidence};

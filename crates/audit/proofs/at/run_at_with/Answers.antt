@@ -5,7 +5,7 @@ use Rattle.audit.proofs.at.run_at_with.Goals as goal
 
 pub returns : goal.returns
 returns g c =
-    let read = c.read_evidence_with-capture in
+    let read = c.read_evidence-capture in
     let facts = audit_facts (at_made c.args.second) _ read.result.1 c.make_at-made.result _ _ _
     (record {
       reads = read.ensures.known;

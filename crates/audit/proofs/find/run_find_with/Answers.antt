@@ -6,7 +6,7 @@ use Rattle.audit.proofs.find.run_find_with.Goals as goal
 
 pub returns-clause-audits : goal.returns-clause-audits
 returns-clause-audits g c =
-    let read = c.read_evidence_with-capture in
+    let read = c.read_evidence-capture in
     let facts = audit_facts (find_made c.args.step_s) _ read.result.1 c.make_find-made.result _ _ _
     (record {
       reads = read.ensures.known;
@@ -24,6 +24,6 @@ returns-clause-audits g c =
 
 pub returns-clause-accepted : goal.returns-clause-accepted
 returns-clause-accepted g c =
-    let read = c.read_evidence_with-capture in
+    let read = c.read_evidence-capture in
     accepted_of_bytes c.args.step_s read.result.1 c.make_find-made.result _ _ _ read.ensures.known
     c.make_find-made.ensures.made c.make_find-made.ensures.accepted c.publish-answer.ensures.stays

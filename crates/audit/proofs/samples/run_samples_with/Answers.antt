@@ -5,7 +5,7 @@ use Rattle.audit.proofs.samples.run_samples_with.Goals as goal
 
 pub returns : goal.returns
 returns g c =
-    let read = c.read_evidence_with-capture in
+    let read = c.read_evidence-capture in
     let facts = audit_facts samples_made _ read.result.1 c.make_samples-made.result _ _ _
     (record {
       reads = read.ensures.known;
