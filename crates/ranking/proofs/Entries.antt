@@ -37,7 +37,8 @@ module _ (nodes : List ℤ) (leaves number : ℕ) where
       (slice_get-get_or (drop leaves nodes) number NOTHING (rw (length-drop leaves nodes) (omega arith)))
       ∙ ap (λ v. Some (entry_of v)) (get_or-drop leaves nodes number NOTHING)
 
-  pub inside : (entry : Option ℤ) → slice_get (entries_of nodes leaves) number ≡ Some entry → leaves + number < length nodes
+  pub inside : (entry : Option ℤ) → slice_get (entries_of nodes leaves) number ≡ Some entry →
+      leaves + number < length nodes
   inside entry is =
       let short = slice_get_within (entries_of nodes leaves) number entry is in
       omega (arith, length-map (drop leaves nodes) entry_of, length-drop leaves nodes)

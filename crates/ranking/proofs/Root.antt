@@ -10,7 +10,8 @@ use Rattle.ranking.proofs.Spans.{under, reached, root, first_below_child}
 
 module _ (nodes : List ℤ) (leaves : ℕ) (tree : IsTree nodes leaves) where
   -- no value that is held is above the root
-  pub at_most_root : (number : ℕ) (value : ℤ) → IsHeld (entries_of nodes leaves) number value → value ≤ℤ value_of nodes 0
+  pub at_most_root : (number : ℕ) (value : ℤ) → IsHeld (entries_of nodes leaves) number value →
+      value ≤ℤ value_of nodes 0
   at_most_root number value held =
       let leaf = leaf_of nodes leaves number value held in
       let level = tree.level.1 in

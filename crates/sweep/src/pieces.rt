@@ -16,8 +16,8 @@ use std::alloc::{AllocError, Global};
 /// out of memory.
 ///
 /// `servers` has the server of each sample, as [`servers_of`](crate::servers_of) makes it once for
-/// all of them. `first` and `ends` are Unix ticks, from 0 to below 2^64, and never fall. The rate is up to
-/// 500,000,000 parts in 10^9, and the samples are at most 1,000,000.
+/// all of them. `first` and `ends` are Unix ticks, from 0 to below 2^64, and never fall. The rate
+/// is up to 500,000,000 parts in 10^9, and the samples are at most 1,000,000.
 pub fn best_of_pieces(
     alloc: Global,
     samples: &[Sample],

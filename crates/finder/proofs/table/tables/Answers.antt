@@ -42,11 +42,11 @@ loop-server-preserved c =
           let chosen = w.in-Some.table.items in
           let are = rw w.in-Some.is at c.in_ok-table.ensures.best in
           let long = as_many claim.first claim.last c.args.step_s c.args.count _ _ _ c.in_ok-ends.ends.items _
-          first last first c.as_slice-in-loop-server.ensures.value c.in_ok-ends.ensures c.args.samples.now server claim.drift_ppb
-          chosen are in
+          first last first c.as_slice-in-loop-server.ensures.value c.in_ok-ends.ensures c.args.samples.now server
+          claim.drift_ppb chosen are in
           let best = best_are claim.first claim.last c.args.step_s c.args.count _ _ _ c.in_ok-ends.ends.items _
-          first last first c.as_slice-in-loop-server.ensures.value c.in_ok-ends.ensures c.args.samples.now server claim.drift_ppb
-          chosen are in
+          first last first c.as_slice-in-loop-server.ensures.value c.in_ok-ends.ensures c.args.samples.now server
+          claim.drift_ppb chosen are in
           let old = c.loop-server.tables.items in
           let pushed : w.push.new.self.items ≡ old ++ w.in-Some.table ∷ [] = search rules in
           record {

@@ -34,8 +34,8 @@ loop-number-preserved c =
                 here own lawful w.bound_of.ensures.number w.bound_of.ensures.is);
             highs = subst (BoundsSoFar High samples c.args.server _)
                 (sym (ap (λ (v : Vec Bound Global). v.items) w.highs-is ∙ w.in_ok-push-2.ensures.items))
-                (BoundsSoFar-more High samples c.args.server number c.loop-number.highs.items highs _ w.bound_of-then-of-server.result
-                here own lawful w.bound_of-then-of-server.ensures.number w.bound_of-then-of-server.ensures.is);
+                (BoundsSoFar-more High samples c.args.server number c.loop-number.highs.items highs _
+                w.bound_of-then-of-server.result here own lawful w.bound_of-then-of-server.ensures.number w.bound_of-then-of-server.ensures.is);
           }
       | else-of-server w ↦
           record {
