@@ -43,6 +43,25 @@ read | {"pieces":[{"entries":[],"upto":0},{"upto":0,"entries":[[0,0],[0,1],[1,0]
 shape 1 | {"pieces":[{"entries":[],"upto":0},{"upto":0,"entries":[[0,0],[0,1],[1]]}]}
 read | {"pieces":[{"upto":0,"entries":[[0,0],[0,0],[0,0],[0,0],[0,0],[0,0],[0,0],[0,0],[0,0],[0,0],[0,0],[0,0],[0,0],[0,0],[0,0],[0,0],[0,0],[0,0],[0,0],[0,0],[0,0],[0,0],[0,0],[0,0],[0,0],[0,0],[0,0],[0,0],[0,0],[0,0],[0,0],[0,0]]}]}
 shape 0 | {"pieces":[{"upto":0,"entries":[[0,0],[0,0],[0,0],[0,0],[0,0],[0,0],[0,0],[0,0],[0,0],[0,0],[0,0],[0,0],[0,0],[0,0],[0,0],[0,0],[0,0],[0,0],[0,0],[0,0],[0,0],[0,0],[0,0],[0,0],[0,0],[0,0],[0,0],[0,0],[0,0],[0,0],[0,0],[0]]}]}
+fault 1 | {"pieces":[{"entries":[[00,0]],"upto":0}]}
+fault 1 | {"pieces":[{"entries":[[0,0]],"upto":00}]}
+fault 1 | {"pieces":[{"entries":[[,0]],"upto":0}]}
+fault 1 | {"pieces":[{"entries":[[0,0],],"upto":0}]}
+fault 1 | {"pieces":[{"entries":[[0,0]],"upto":0},]}
+fault 1 | {"pieces":[{"entries":[[0,0]],"upto":}]}
+fault 1 | {"pieces":[{"entries":[[0,0]],"upto":0}}
+fault 1 | {"pieces":[{"entries":[[0,0]],"upto":0}]},
+read | {"pieces":[{"entries":[[0,0]],"upto":0}]} 
+shape 0 | {"pieces":[{"entries":[[4294967296,0]],"upto":0}]}
+shape 0 | {"pieces":[{"entries":[[0,18446744073709551616]],"upto":0}]}
+read | {"pieces":[{"entries":[[0,4294967295]],"upto":18446744073709551615}]}
+shape 0 | {"pieces":[{"entries":[[0,0]],"upto":18446744073709551616}]}
+shape 0 | {"pieces":[{"entries":[[0,0]],"upto":99999999999999999999}]}
+shape 1 | {"pieces":[{"entries":[[0,0]],"upto":0},{"entries":[[0,0]],"upto":-1}]}
+read | {"pieces":[{"entries":[[0,0]],"upto":0,"upto":1}]}
+shape 0 | {"pieces":[{"entries":[[0,0]],"upto":0,"uptp":1}]}
+read | {"pieces":[{"entries":[[0,0],[0,0],[0,0],[0,0],[0,0],[0,0],[0,0],[0,0],[0,0],[0,0],[0,0],[0,0],[0,0],[0,0],[0,0],[0,0],[0,0],[0,0],[0,0],[0,0],[0,0],[0,0],[0,0],[0,0],[0,0],[0,0],[0,0],[0,0],[0,0],[0,0],[0,0],[0,0]],"upto":0}]}
+entries 0 | {"pieces":[{"entries":[[0,0],[0,0],[0,0],[0,0],[0,0],[0,0],[0,0],[0,0],[0,0],[0,0],[0,0],[0,0],[0,0],[0,0],[0,0],[0,0],[0,0],[0,0],[0,0],[0,0],[0,0],[0,0],[0,0],[0,0],[0,0],[0,0],[0,0],[0,0],[0,0],[0,0],[0,0],[0,0],[0,0]],"upto":0}]}
 entries 0 | {"pieces":[{"upto":0,"entries":[[0,0],[0,0],[0,0],[0,0],[0,0],[0,0],[0,0],[0,0],[0,0],[0,0],[0,0],[0,0],[0,0],[0,0],[0,0],[0,0],[0,0],[0,0],[0,0],[0,0],[0,0],[0,0],[0,0],[0,0],[0,0],[0,0],[0,0],[0,0],[0,0],[0,0],[0,0],[0,0],[0,0]]}]}
 entries 0 | {"pieces":[{"upto":0,"entries":[[0,0],[0,0],[0,0],[0,0],[0,0],[0,0],[0,0],[0,0],[0,0],[0,0],[0,0],[0,0],[0,0],[0,0],[0,0],[0,0],[0,0],[0,0],[0,0],[0,0],[0,0],[0,0],[0,0],[0,0],[0,0],[0,0],[0,0],[0,0],[0,0],[0,0],[0,0],[0,0],[0]]}]}"#;
 
@@ -75,6 +94,7 @@ fn counts_of_pieces(rt: HostRuntime) -> Result<(), Fail> {
         (100_000, "{\"entries\":[],\"upto\":0}", "read"),
         (100_000, "{}", "shape 0"),
         (100_001, "{}", "fault 5"),
+        (100_001, "{\"entries\":[],\"upto\":0}", "fault 5"),
     ] {
         let mut text = String::from_str(alloc, "{\"pieces\":[")?;
         for _ in 1..count {
@@ -93,5 +113,21 @@ fn written_again(rt: HostRuntime) -> Result<(), Fail> {
     let certificate = read_certificate(rt.alloc(), K1.as_bytes())?;
     let text = write_certificate(rt.alloc(), &certificate)?;
     assert_eq!(rt; text.as_str(), K1);
+    Ok(())
+}
+
+// What `find` writes ends with a line feed, which is no part of the certificate.
+#[test]
+fn ends_of_lines(rt: HostRuntime) -> Result<(), Fail> {
+    for (end, expected) in [
+        ("\n", "read"),
+        ("\n\n", "read"),
+        ("\r\n", "read"),
+        ("\n}", "fault 1"),
+    ] {
+        let mut text = String::from_str(rt.alloc(), K1)?;
+        text.push_str(end)?;
+        assert_eq!(rt; answer(rt.alloc(), text.as_str())?.as_str(), expected);
+    }
     Ok(())
 }
