@@ -60,7 +60,7 @@ returns-in_err-take g c =
     let i = c.loop-reply.reply-index in
     let item = get_or xs i blank in
     let outcome = outcome_found (get same_key c.args.index.now.places) item _ _ c.outcome.ensures
-        c.find_near-found.ensures in
+    c.find_near-found.ensures in
     rw (p.1, p.2) (elim c.in_err-take.ensures.fault [
       | inl memory ↦ inl memory
       | inr many ↦ inr (
@@ -79,7 +79,7 @@ loop-reply-preserved g c =
     let i = c.loop-reply.reply-index in
     let item = get_or xs i blank in
     let outcome = outcome_found (get same_key c.args.index.now.places) item _ _ c.outcome.ensures
-        c.find_near-found.ensures in
+    c.find_near-found.ensures in
     record {
       joined =
           rw (

@@ -11,7 +11,7 @@ loop-gone-preserved g c =
     let n = c.in-Ok.n in
     let rest = ap (λ rest. take gone bytes ++ take n rest) c.split_at.ensures.back in
     let taken : take gone bytes ++ take n c.split_at.result.1.now ≡ take (gone + n) bytes =
-        rest ∙ sym (take-add gone n bytes) in
+    rest ∙ sym (take-add gone n bytes) in
     record {
       within = omega (arith, c.in-Ok.ensures.within, c.split_at.ensures.back_len);
       went = appends_same _ _ _ _ taken (Appends-trans _ _ _ _ _ c.loop-gone.invariant.went c.in-Ok.ensures.known);

@@ -1,6 +1,5 @@
 use Rattle.std.proofs.Common.{rules, arith}
 use Rattle.std.proofs.lemmas.Int.{ints}
-use Rattle.ntp_packet.specs.Header.{precision_of}
 use Rattle.ntp_packet.proofs.PrecisionTicks.{precision_ticks_of-greatest}
 use Rattle.ntp_packet.proofs.header.NtpView.root_distance.Goals as goal
 
