@@ -7,10 +7,14 @@ mod compact;
 mod fault;
 pub mod laws;
 mod reading;
+mod refutation;
+mod refutation_fault;
 mod scanner;
 mod writing;
 
 pub use certificate::{Certificate, Piece};
 pub use fault::CertificateFault;
 pub use reading::read_certificate;
+pub use refutation::Refutation;
+pub use refutation_fault::RefutationFault;
 pub use writing::write_certificate;
