@@ -5,10 +5,12 @@
 mod certificate;
 mod compact;
 mod fault;
+mod items;
 pub mod laws;
 mod reading;
 mod refutation;
 mod refutation_fault;
+mod refutation_reading;
 mod scanner;
 mod writing;
 
@@ -17,4 +19,5 @@ pub use fault::CertificateFault;
 pub use reading::read_certificate;
 pub use refutation::Refutation;
 pub use refutation_fault::RefutationFault;
+pub use refutation_reading::read_refutation;
 pub use writing::write_certificate;

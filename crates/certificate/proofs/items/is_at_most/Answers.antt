@@ -1,6 +1,6 @@
 use Rattle.std.proofs.Common.{rules}
 use Rattle.serde_json.proofs.Views.{items_len-items_view}
-use Rattle.certificate.proofs.reading.is_at_most.Goals as goal
+use Rattle.certificate.proofs.items.is_at_most.Goals as goal
 
 pub returns : goal.returns
 returns c = record {
