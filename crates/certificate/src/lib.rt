@@ -11,6 +11,7 @@ mod reading;
 mod refutation;
 mod refutation_fault;
 mod refutation_reading;
+mod refutation_writing;
 mod scanner;
 mod writing;
 
@@ -20,4 +21,5 @@ pub use reading::read_certificate;
 pub use refutation::Refutation;
 pub use refutation_fault::RefutationFault;
 pub use refutation_reading::read_refutation;
+pub use refutation_writing::write_refutation;
 pub use writing::write_certificate;

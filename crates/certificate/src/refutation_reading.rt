@@ -34,7 +34,11 @@ fn read_value(value: &Value) -> Result<Refutation, RefutationFault>
         return Err(RefutationFault::Shape);
     }
     let liars = read_servers(items).ok_or(RefutationFault::Shape)?;
-    Ok(Refutation { error, liars, reading })
+    Ok(Refutation {
+        error,
+        liars,
+        reading,
+    })
 }
 
 /// The numbers of servers, None where one isn't the number of a server.

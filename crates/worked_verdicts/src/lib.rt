@@ -9,6 +9,8 @@ mod hulls;
 #[cfg(test)]
 mod pieces;
 #[cfg(test)]
+mod refutation_texts;
+#[cfg(test)]
 mod samples;
 #[cfg(test)]
 mod verdicts;
