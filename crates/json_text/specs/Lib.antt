@@ -1,3 +1,4 @@
 pub mod Member
+pub mod Next
 pub mod Step
 pub mod Text

@@ -1,0 +1,102 @@
+//! A JSON text read token by token, without a tree of values.
+
+ghost use Rattle.std.specs.Prelude.{◌≡◌, ◌<◌, length, MatchResult, IfOk, OnOk, Some, None};
+ghost use Rattle.serde_json.specs.Data.{no_members};
+ghost use Rattle.json_text.specs.Next.{next_value, next_items, next_members, rest_after, Opens};
+
+use crate::number::unsigned_in;
+use json::{Invalid, Reader, Token};
+
+/// How a value begins.
+#[derive(Clone, Copy, Debug, PartialEq, Eq)]
+pub enum Opening {
+    /// With an integer from 0 to 2^64 - 1, written without sign, fraction or exponent. It is whole.
+    Unsigned(u64),
+    /// With the bracket of an array, whose elements come next.
+    Array,
+    /// With the brace of an object, whose members come next.
+    Object,
+    /// With a text, another number, true, false or null. It is whole.
+    Other,
+}
+
+/// How the next value begins. Arrays and objects may nest so deep.
+///
+/// Invalid exactly where no value begins, or a number that no float holds. What is after the
+/// beginning of an array or an object is not looked at.
+pub fn open_value(reader: &mut Reader<'_>, depth: usize) -> Result<Opening, Invalid>
+    ensures opened { MatchResult result (λ opening. Opens opening depth reader.old reader.new)
+        (λ _. next_value depth reader.old ≡ None) }
+    ensures shorter { OnOk result (length reader.new < length reader.old) }
+{
+    let token = reader.next().ok_or(Invalid)?;
+    match token {
+        Token::Number(text) => match unsigned_in(text) {
+            Some(Some(number)) => Ok(Opening::Unsigned(number)),
+            Some(None) => Ok(Opening::Other),
+            None => Err(Invalid),
+        },
+        Token::String(_) => Ok(Opening::Other),
+        Token::Bool(_) => Ok(Opening::Other),
+        Token::Null => Ok(Opening::Other),
+        Token::BeginArray => {
+            if depth == 0 {
+                return Err(Invalid);
+            }
+            Ok(Opening::Array)
+        }
+        Token::BeginObject => {
+            if depth == 0 {
+                return Err(Invalid);
+            }
+            Ok(Opening::Object)
+        }
+        Token::EndObject | Token::EndArray | Token::Key(_) | Token::Bad => Err(Invalid),
+    }
+}
+
+/// Passes over the next value. Invalid exactly where there is none.
+#[cycle(pass)]
+pub fn pass_value(reader: &mut Reader<'_>, depth: usize) -> Result<(), Invalid>
+    ensures passed { MatchResult result
+        (λ _. rest_after (next_value depth reader.old) ≡ Some reader.new)
+        (λ _. next_value depth reader.old ≡ None) }
+    ensures shorter { OnOk result (length reader.new < length reader.old) }
+{
+    match open_value(reader, depth)? {
+        Opening::Unsigned(_) => Ok(()),
+        Opening::Other => Ok(()),
+        Opening::Array => pass_items(reader, depth - 1),
+        Opening::Object => pass_members(reader, depth - 1),
+    }
+}
+
+/// Passes over the elements that are left of an array, and its bracket. Invalid exactly where one
+/// of them is no value, or the array doesn't end.
+#[cycle(pass)]
+pub fn pass_items(reader: &mut Reader<'_>, depth: usize) -> Result<(), Invalid>
+    ensures passed { MatchResult result
+        (λ _. rest_after (next_items depth reader.old) ≡ Some reader.new)
+        (λ _. next_items depth reader.old ≡ None) }
+    ensures shorter { OnOk result (length reader.new < length reader.old) }
+{
+    'items: while !reader.take_end_array() {
+        pass_value(reader, depth)?;
+    }
+    Ok(())
+}
+
+/// Passes over the members that are left of an object, and its brace. Invalid exactly where one of
+/// them has no name or no value, or the object doesn't end.
+#[cycle(pass)]
+pub fn pass_members(reader: &mut Reader<'_>, depth: usize) -> Result<(), Invalid>
+    ensures passed { MatchResult result
+        (λ _. rest_after (next_members depth no_members reader.old) ≡ Some reader.new)
+        (λ _. next_members depth no_members reader.old ≡ None) }
+    ensures shorter { OnOk result (length reader.new < length reader.old) }
+{
+    'members: while let Some(_) = reader.next_key()? {
+        pass_value(reader, depth)?;
+    }
+    Ok(())
+}

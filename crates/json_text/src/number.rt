@@ -1,0 +1,62 @@
+//! The text of a number.
+
+ghost use Rattle.std.specs.Prelude.{◌≡◌, ◌==◌, ◌<◌, IsTrue, length, option_map, slice_index, true, false};
+ghost use Rattle.serde_json.specs.Find.{as_u64};
+ghost use Rattle.serde_json.specs.Read.{number_of, number_from, float_of};
+
+use fast_float::Numeral;
+
+/// For the text of a number: the number, where it is a whole number from 0 to 2^64 - 1, written
+/// without sign, fraction or exponent; Some(None) where it is another; None where no float holds
+/// it.
+pub(crate) fn unsigned_in(text: &str) -> Option<Option<u64>>
+    ensures { result ≡ option_map as_u64 (number_of text.now) }
+{
+    let bytes = text.as_bytes();
+    if has_minus(bytes) {
+        negative(&Numeral::scan(&bytes[1..]))
+    } else {
+        positive(&Numeral::scan(bytes))
+    }
+}
+
+/// Whether a text begins with a minus sign.
+fn has_minus(bytes: &[u8]) -> bool
+    ensures value { result ≡ (slice_index bytes.now 0 == 45) }
+    ensures some { IsTrue result → 0 < length bytes.now }
+{
+    !bytes.is_empty() && bytes[0] == b'-'
+}
+
+/// The same of what follows a minus sign.
+fn negative(numeral: &Numeral<'_>) -> Option<Option<u64>>
+    ensures { result ≡ option_map as_u64 (number_from true numeral.now) }
+{
+    if let Some(number) = numeral.to_i64(true) {
+        if number < 0 {
+            return Some(None);
+        }
+    }
+    float(true, numeral)
+}
+
+/// The same where no sign comes first.
+fn positive(numeral: &Numeral<'_>) -> Option<Option<u64>>
+    ensures { result ≡ option_map as_u64 (number_from false numeral.now) }
+{
+    match numeral.to_u64() {
+        Some(number) => Some(Some(number)),
+        None => float(false, numeral),
+    }
+}
+
+/// The same where it is kept as a float.
+fn float(is_negative: bool, numeral: &Numeral<'_>) -> Option<Option<u64>>
+    ensures { result ≡ option_map as_u64 (float_of is_negative numeral.now) }
+{
+    if numeral.to_float::<f64>(is_negative).is_finite() {
+        Some(None)
+    } else {
+        None
+    }
+}
