@@ -3,7 +3,7 @@
 --
 -- What they say together is what `parsed` says of a whole text. The depth is how deep arrays and
 -- objects may still nest.
-use Rattle.std.specs.Prelude.{◌≡◌, ℕ, ◌-◌, ◌<◌, List, length, Option, Some, None, option_map}
+use Rattle.std.specs.Prelude.{◌≡◌, ℕ, ◌-◌, ◌<◌, List, length, Option, Some, None, option_map, Result, MatchResult}
 use Rattle.json.specs.Json.{value, items, members, parse_map}
 use Rattle.json.specs.Token.{Token}
 use Rattle.serde_json.specs.Data.{Data, number, unsigned, array, object, Items, Members, no_members}
@@ -28,6 +28,17 @@ next_members depth found ts =
 -- the tokens after what is read, where it can be read
 abbrev pub rest_after : {A : Type 0} → Option (A × List Token) → Option (List Token)
 rest_after read = option_map (λ p. p.1) read
+
+-- what was read is what is defined, and these tokens follow it
+abbrev pub Reads : {A B E : Type 0} →
+    Result A E → (A → B) → Option (B × List Token) → List Token → Type 0
+Reads answer shown defined rest =
+    MatchResult answer (λ value. defined ≡ Some (shown value, rest)) (λ fault. defined ≡ None)
+
+-- a whole value that isn't of this kind comes first
+abbrev pub HasOther : {A : Type 0} → (Data → Option A) → ℕ → List Token → List Token → Type 0
+HasOther kind depth old new =
+    (value : Data) × (kind value ≡ None) × (next_value depth old ≡ Some (value, new))
 
 -- a value that is no unsigned number, no array and no object
 pub record IsOther (value : Data) : Type 0 where

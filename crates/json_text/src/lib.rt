@@ -7,5 +7,5 @@ mod number;
 mod text;
 
 pub use member::{items_at, members_among, signed_at, text_at, unsigned_at, unsigned_of};
-pub use next::{Opening, open_value, pass_items, pass_members, pass_value};
+pub use next::{next_unsigned, open_array, open_object, pass_items, pass_members, pass_value};
 pub use text::parse;

@@ -1,15 +1,18 @@
 //! A JSON text read token by token, without a tree of values.
 
-ghost use Rattle.std.specs.Prelude.{◌≡◌, ◌<◌, length, MatchResult, IfOk, OnOk, Some, None};
-ghost use Rattle.serde_json.specs.Data.{no_members};
-ghost use Rattle.json_text.specs.Next.{next_value, next_items, next_members, rest_after, Opens};
+ghost use Rattle.std.specs.Prelude.{◌≡◌, ◌-◌, ◌<◌, length, MatchResult, OnOk, Some, None};
+ghost use Rattle.std.specs.Bool.{MatchBool};
+ghost use Rattle.json.specs.Json.{parse_map};
+ghost use Rattle.serde_json.specs.Data.{array, object, no_members};
+ghost use Rattle.serde_json.specs.Find.{as_array, as_object};
+ghost use Rattle.json_text.specs.Member.{unsigned_of};
+ghost use Rattle.json_text.specs.Next.{next_value, next_items, next_members, rest_after, HasOther, Opens, Reads};
 
 use crate::number::unsigned_in;
 use json::{Invalid, Reader, Token};
 
 /// How a value begins.
-#[derive(Clone, Copy, Debug, PartialEq, Eq)]
-pub enum Opening {
+pub(crate) enum Opening {
     /// With an integer from 0 to 2^64 - 1, written without sign, fraction or exponent. It is whole.
     Unsigned(u64),
     /// With the bracket of an array, whose elements come next.
@@ -24,7 +27,7 @@ pub enum Opening {
 ///
 /// Invalid exactly where no value begins, or a number that no float holds. What is after the
 /// beginning of an array or an object is not looked at.
-pub fn open_value(reader: &mut Reader<'_>, depth: usize) -> Result<Opening, Invalid>
+fn open_value(reader: &mut Reader<'_>, depth: usize) -> Result<Opening, Invalid>
     ensures opened { MatchResult result (λ opening. Opens opening depth reader.old reader.new)
         (λ _. next_value depth reader.old ≡ None) }
     ensures shorter { OnOk result (length reader.new < length reader.old) }
@@ -52,6 +55,66 @@ pub fn open_value(reader: &mut Reader<'_>, depth: usize) -> Result<Opening, Inva
             Ok(Opening::Object)
         }
         Token::EndObject | Token::EndArray | Token::Key(_) | Token::Bad => Err(Invalid),
+    }
+}
+
+/// The next value, where it is an integer from 0 to 2^64 - 1, written without sign, fraction or
+/// exponent; Some other value gives None. Invalid exactly where there is no value.
+pub fn next_unsigned(reader: &mut Reader<'_>, depth: usize) -> Result<Option<u64>, Invalid>
+    ensures { Reads result (λ n. n) (parse_map unsigned_of (next_value depth reader.old))
+        reader.new }
+{
+    match open_value(reader, depth)? {
+        Opening::Unsigned(number) => Ok(Some(number)),
+        Opening::Other => Ok(None),
+        Opening::Array => {
+            pass_items(reader, depth - 1)?;
+            Ok(None)
+        }
+        Opening::Object => {
+            pass_members(reader, depth - 1)?;
+            Ok(None)
+        }
+    }
+}
+
+/// Whether the next value is an array. Its elements come next then, and else the value is passed.
+/// Invalid exactly where there is no value, or one that nests too deep.
+pub fn open_array(reader: &mut Reader<'_>, depth: usize) -> Result<bool, Invalid>
+    ensures { MatchResult result (λ opened. MatchBool opened
+        ((0 < depth) × (next_value depth reader.old
+        ≡ parse_map array (next_items (depth - 1) reader.new)))
+        (HasOther as_array depth reader.old reader.new))
+        (λ _. next_value depth reader.old ≡ None) }
+{
+    match open_value(reader, depth)? {
+        Opening::Array => Ok(true),
+        Opening::Unsigned(_) => Ok(false),
+        Opening::Other => Ok(false),
+        Opening::Object => {
+            pass_members(reader, depth - 1)?;
+            Ok(false)
+        }
+    }
+}
+
+/// Whether the next value is an object. Its members come next then, and else the value is passed.
+/// Invalid exactly where there is no value, or one that nests too deep.
+pub fn open_object(reader: &mut Reader<'_>, depth: usize) -> Result<bool, Invalid>
+    ensures { MatchResult result (λ opened. MatchBool opened
+        ((0 < depth) × (next_value depth reader.old
+        ≡ parse_map object (next_members (depth - 1) no_members reader.new)))
+        (HasOther as_object depth reader.old reader.new))
+        (λ _. next_value depth reader.old ≡ None) }
+{
+    match open_value(reader, depth)? {
+        Opening::Object => Ok(true),
+        Opening::Unsigned(_) => Ok(false),
+        Opening::Other => Ok(false),
+        Opening::Array => {
+            pass_items(reader, depth - 1)?;
+            Ok(false)
+        }
     }
 }
 

@@ -1,4 +1,4 @@
-use Rattle.std.proofs.Common.{◌≡◌, ◌<◌, ◌≤◌, length, Some, None, refl, ap, ◌∙◌, arith}
+use Rattle.std.proofs.Common.{◌≡◌, ◌<◌, length, Some, None, refl, ap, ◌∙◌, arith}
 use Rattle.json.proofs.Grammar.{left_some, left_none, read_key-shorter}
 use Rattle.json.specs.Json.{after_end_array, read_key}
 use Rattle.serde_json.specs.Data.{no_members, put}
@@ -56,10 +56,11 @@ pass_members-members-preserved t c =
     let done = c.in_ok-pass_value.ensures in
     let value = left_some (next_value d s) r done.passed in
     let first = read_key-shorter l.reader (Some k) s named in
-    let less = done.shorter in
-    (put k value.0 l.invariant.0,
-    l.invariant.1 ∙ member_read d l.invariant.0 l.reader k s r value.0 named value.1,
-    omega (arith, l.invariant.2))
+    let less = done.shorter in (
+      put k value.0 l.invariant.0,
+      l.invariant.1 ∙ member_read d l.invariant.0 l.reader k s r value.0 named value.1,
+      omega (arith, l.invariant.2),
+    )
 
 pub pass_members-returns-in_err-pass_value-clause-passed : goal.pass_members-returns-in_err-pass_value-clause-passed
 pass_members-returns-in_err-pass_value-clause-passed t c =

@@ -1,4 +1,4 @@
-use Rattle.std.proofs.Common.{rules, ◌≡◌, ◌<◌, [], ◌∷◌, None, Some, refl, sym, ap, ◌∙◌, arith}
+use Rattle.std.proofs.Common.{◌≡◌, ◌<◌, [], ◌∷◌, None, Some, refl, sym, ap, ◌∙◌, arith}
 use Rattle.json.specs.Reads.{token_of}
 use Rattle.serde_json.specs.Data.{number, unsigned, string, boolean, null}
 use Rattle.serde_json.specs.Read.{number_of}
@@ -37,11 +37,12 @@ pub returns-in-Some-None-clause-opened : goal.returns-in-Some-None-clause-opened
 returns-in-Some-None-clause-opened c =
     let first : c.args.reader.now ≡ token_of c.in_ok-token.token ∷ c.next.new.self = grind arith in
     let is = other_known (number_of c.in-Number.text.now)
-    (sym c.unsigned_in.ensures ∙ c.in-Some-None.is ∙ ap Some c.in-Some-None.field-0-is) in
-    (number is.0,
-    is.2,
-    ap (next_value c.args.depth) (first ∙ ap (λ k. token_of k ∷ c.next.new.self) c.in-Number.is)
-    ∙ next_number c.args.depth c.next.new.self c.in-Number.text.now is.0 is.1)
+    (sym c.unsigned_in.ensures ∙ c.in-Some-None.is ∙ ap Some c.in-Some-None.field-0-is) in (
+      number is.0,
+      is.2,
+      ap (next_value c.args.depth) (first ∙ ap (λ k. token_of k ∷ c.next.new.self) c.in-Number.is)
+          ∙ next_number c.args.depth c.next.new.self c.in-Number.text.now is.0 is.1,
+    )
 
 pub returns-in-None-clause-opened : goal.returns-in-None-clause-opened
 returns-in-None-clause-opened c =
@@ -52,43 +53,48 @@ returns-in-None-clause-opened c =
 
 pub returns-in-String-clause-opened : goal.returns-in-String-clause-opened
 returns-in-String-clause-opened c =
-    let first : c.args.reader.now ≡ token_of c.in_ok-token.token ∷ c.next.new.self = grind arith in
-    (string c.in-String.field-0.now,
-    record { no_number = refl; no_array = refl; no_object = refl },
-    ap (next_value c.args.depth) (first ∙ ap (λ k. token_of k ∷ c.next.new.self) c.in-String.is)
-    ∙ next_string c.args.depth c.next.new.self _)
+    let first : c.args.reader.now ≡ token_of c.in_ok-token.token ∷ c.next.new.self = grind arith in (
+      string c.in-String.field-0.now,
+      record { no_number = refl; no_array = refl; no_object = refl },
+      ap (next_value c.args.depth) (first ∙ ap (λ k. token_of k ∷ c.next.new.self) c.in-String.is)
+          ∙ next_string c.args.depth c.next.new.self _,
+    )
 
 pub returns-in-Bool-clause-opened : goal.returns-in-Bool-clause-opened
 returns-in-Bool-clause-opened c =
-    let first : c.args.reader.now ≡ token_of c.in_ok-token.token ∷ c.next.new.self = grind arith in
-    (boolean c.in-Bool.field-0,
-    record { no_number = refl; no_array = refl; no_object = refl },
-    ap (next_value c.args.depth) (first ∙ ap (λ k. token_of k ∷ c.next.new.self) c.in-Bool.is)
-    ∙ next_boolean c.args.depth c.next.new.self _)
+    let first : c.args.reader.now ≡ token_of c.in_ok-token.token ∷ c.next.new.self = grind arith in (
+      boolean c.in-Bool.field-0,
+      record { no_number = refl; no_array = refl; no_object = refl },
+      ap (next_value c.args.depth) (first ∙ ap (λ k. token_of k ∷ c.next.new.self) c.in-Bool.is)
+          ∙ next_boolean c.args.depth c.next.new.self _,
+    )
 
 pub returns-in-Null-clause-opened : goal.returns-in-Null-clause-opened
 returns-in-Null-clause-opened c =
-    let first : c.args.reader.now ≡ token_of c.in_ok-token.token ∷ c.next.new.self = grind arith in
-    (null,
-    record { no_number = refl; no_array = refl; no_object = refl },
-    ap (next_value c.args.depth) (first ∙ ap (λ k. token_of k ∷ c.next.new.self) c.in-Null.is)
-    ∙ next_null c.args.depth c.next.new.self)
+    let first : c.args.reader.now ≡ token_of c.in_ok-token.token ∷ c.next.new.self = grind arith in (
+      null,
+      record { no_number = refl; no_array = refl; no_object = refl },
+      ap (next_value c.args.depth) (first ∙ ap (λ k. token_of k ∷ c.next.new.self) c.in-Null.is)
+          ∙ next_null c.args.depth c.next.new.self,
+    )
 
 pub returns-else-depth-eq0-clause-opened : goal.returns-else-depth-eq0-clause-opened
 returns-else-depth-eq0-clause-opened c =
     let first : c.args.reader.now ≡ token_of c.in_ok-token.token ∷ c.next.new.self = grind arith in
-    let some : 0 < c.args.depth = omega arith in
-    (some,
-    ap (next_value c.args.depth) (first ∙ ap (λ k. token_of k ∷ c.next.new.self) c.in-BeginArray.is)
-    ∙ next_array c.args.depth c.next.new.self some)
+    let some : 0 < c.args.depth = omega arith in (
+      some,
+      ap (next_value c.args.depth) (first ∙ ap (λ k. token_of k ∷ c.next.new.self) c.in-BeginArray.is)
+          ∙ next_array c.args.depth c.next.new.self some,
+    )
 
 pub returns-else-depth-eq0-2-clause-opened : goal.returns-else-depth-eq0-2-clause-opened
 returns-else-depth-eq0-2-clause-opened c =
     let first : c.args.reader.now ≡ token_of c.in_ok-token.token ∷ c.next.new.self = grind arith in
-    let some : 0 < c.args.depth = omega arith in
-    (some,
-    ap (next_value c.args.depth) (first ∙ ap (λ k. token_of k ∷ c.next.new.self) c.in-BeginObject.is)
-    ∙ next_object c.args.depth c.next.new.self some)
+    let some : 0 < c.args.depth = omega arith in (
+      some,
+      ap (next_value c.args.depth) (first ∙ ap (λ k. token_of k ∷ c.next.new.self) c.in-BeginObject.is)
+          ∙ next_object c.args.depth c.next.new.self some,
+    )
 
 pub returns-in-EndObject-clause-opened : goal.returns-in-EndObject-clause-opened
 returns-in-EndObject-clause-opened c =
