@@ -9,3 +9,4 @@ pub mod WorkedCourse
 pub mod Comparison
 pub mod Span
 pub mod Refutation
+pub mod RefutationTest

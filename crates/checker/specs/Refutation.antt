@@ -11,9 +11,8 @@
 -- sends within R of T3. Four such moments exist exactly where none of them has to come after one of
 -- the later ones.
 use Rattle.std.specs.Prelude.{◌≡◌, ◌≢◌, ℕ, ◌<◌, ◌≤◌, ◌==◌, ℤ, pos, ◌+ℤ◌, ◌-ℤ◌, ◌*ℤ◌, ◌≤ℤ◌, ◌<ℤ◌}
-use Rattle.std.specs.Prelude.{unsigned_abs, int_le, int_lt, nat_le, nat_lt, Bool, true, false}
-use Rattle.std.specs.Prelude.{◌&&◌, ◌||◌, not, List, [], ◌∷◌, length, Some, slice_get, All, AllPairs}
-use Rattle.std.specs.List.{list_all, list_any}
+use Rattle.std.specs.Prelude.{unsigned_abs, Bool, false, List, length, Some, slice_get, All, AllPairs}
+use Rattle.std.specs.List.{list_any}
 use Rattle.certificate.specs.Refutation.{RefutationData}
 use Rattle.claim_file.specs.Claim.{ClaimData}
 use Rattle.pairing.specs.declared.exchange.Exchange.{Exchange}
@@ -65,38 +64,7 @@ pub record IsRefuted (claim : ClaimData) (xs : List Exchange) (refutation : Refu
   pub admits : All
       (λ x. is_liar refutation.liars x.server ≡ false → Admits claim.reading refutation.error x) xs
 
--- ---- the same as a test
-
-abbrev pub admits : ℤ → ℤ → Exchange → Bool
-admits allowance error x =
-    int_le (request_start x allowance -ℤ error) (x.t2 +ℤ x.distance)
-    && int_le (request_start x allowance -ℤ error) (x.t3 +ℤ x.distance)
-    && int_le (request_start x allowance) (reply_end x allowance)
-    && int_le (x.t2 -ℤ x.distance) (x.t3 +ℤ x.distance)
-    && int_le (x.t2 -ℤ x.distance) (reply_end x allowance -ℤ error)
-    && int_le (x.t3 -ℤ x.distance) (reply_end x allowance -ℤ error)
-
--- no number stands twice in a list
-abbrev pub are_different : List ℕ → Bool
-are_different [] = true
-are_different (x ∷ xs) = not (list_any (λ y. y == x) xs) && are_different xs
-
-abbrev pub is_against : ClaimData → RefutationData → Bool
-is_against claim refutation =
-    int_lt claim.bound (pos (unsigned_abs refutation.error))
-    && int_le claim.first (pos refutation.reading)
-    && int_le (pos refutation.reading) claim.last
-    && list_all (λ liar. nat_lt liar (length claim.servers)) refutation.liars
-    && are_different refutation.liars
-    && nat_le (false_group_count claim.groups (is_liar refutation.liars)) claim.false_max
-
-abbrev pub is_refuted : ClaimData → List Exchange → RefutationData → Bool
-is_refuted claim xs refutation =
-    is_against claim refutation
-    && list_all
-    (λ x. is_liar refutation.liars x.server || admits claim.reading refutation.error x) xs
-
--- ---- what it stands for
+-- ---- the courses that it stands for
 
 -- the exchanges of one request share its moment
 abbrev pub SharesRequests : List Exchange → Course → Type 0
