@@ -14,3 +14,4 @@ pub mod ApartLemmas
 pub mod NarrowLemmas
 pub mod SpanLemmas
 mod RefutationLemmas
+mod RefutationCourseLemmas

@@ -20,6 +20,7 @@ use Rattle.sample_interval.specs.Moment.{Moment, error_of}
 use Rattle.sample_interval.specs.Window.{request_start, reply_end}
 use Rattle.checker.specs.Course.{Course, Fits, IsClientMoment}
 use Rattle.checker.specs.Groups.{false_group_count}
+use Rattle.checker.specs.Traceability.{IsObservedIn}
 
 -- a server is one of those that are named as false
 abbrev pub is_liar : List ℕ → ℕ → Bool
@@ -85,4 +86,15 @@ pub record IsCourseOf (claim : ClaimData) (xs : List Exchange) (refutation : Ref
     (course : Course) : Type 0 where
   pub fits : Fits claim xs course
   pub off_throughout : IsOffThroughout xs refutation course
+  pub shares_requests : SharesRequests xs course
   pub observed : course.observation.reading ≡ (pos refutation.reading *ℤ pos course.fineness)
+
+-- there is one
+abbrev pub HasCourse : ClaimData → List Exchange → RefutationData → Type 0
+HasCourse claim xs refutation = (course : Course) × IsCourseOf claim xs refutation course
+
+-- some course fits exchanges and a claim, and has its observation in the claim's span. So what is
+-- said of all such courses isn't said of none.
+abbrev pub SomeCourseFits : ClaimData → List Exchange → Type 0
+SomeCourseFits claim xs =
+    (course : Course) × Fits claim xs course × IsObservedIn course claim.first claim.last

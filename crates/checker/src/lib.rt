@@ -14,6 +14,7 @@ pub mod laws;
 mod part;
 mod piece;
 mod refutation;
+pub mod refutation_laws;
 mod source;
 mod stretch;
 mod verdict;
