@@ -1,5 +1,5 @@
 -- The course that an accepted refutation stands for, and the inequalities that such a course gives.
-use Rattle.std.proofs.Common.{◌≡◌, ℕ, zero, suc, ◌+◌, ◌*◌, ◌<◌, ◌≤◌, ℤ, pos, ◌+ℤ◌, ◌-ℤ◌, ◌*ℤ◌, ◌≤ℤ◌, ◌<ℤ◌, unsigned_abs, Bool, true, false, ◌⊎◌, inl, inr, ⊎_elim, List, length, Option, Some, None, refl, sym, ap, ◌∙◌, subst, arith}
+use Rattle.std.proofs.Common.{◌≡◌, ℕ, zero, suc, ◌+◌, ◌*◌, ◌<◌, ◌≤◌, ℤ, pos, negsuc, ◌+ℤ◌, ◌-ℤ◌, ◌*ℤ◌, ◌≤ℤ◌, ◌<ℤ◌, unsigned_abs, Bool, true, false, ◌⊎◌, inl, inr, ⊎_elim, List, length, Option, Some, None, refl, sym, ap, ◌∙◌, subst, arith}
 use Rattle.std.specs.Prelude.{All, AllPairs, slice_get, nat_lt, int_le}
 use Rattle.std.specs.Int.{int_max}
 use Rattle.std.specs.List.{slice_index_or}
@@ -268,6 +268,9 @@ chain4 a b c d e f p q r s t = omega (arith, ints)
 unshifted : (a b e : ℤ) → (a -ℤ e) ≤ℤ (b -ℤ e) → a ≤ℤ b
 unshifted a b e h = omega (arith, ints)
 
+not_both : (a b : ℤ) → a <ℤ b → b ≤ℤ a → ⊥
+not_both a b p q = omega (arith, ints)
+
 -- n times a difference or a sum, and n times its parts
 minus_times : (a b : ℤ) (n : ℕ) → ((a *ℤ pos n) -ℤ (b *ℤ pos n)) ≡ ((a -ℤ b) *ℤ pos n)
 minus_times a b n = let sum = times-add a (a -ℤ b) b n (omega (arith, ints)) in omega (arith, ints)
@@ -364,3 +367,27 @@ module _ (claim : ClaimData) (xs : List Exchange) (r : RefutationData) (against 
     against = against;
     admits = λ k d below true'. course_admits k (slice_index_or xs k d) (slice_get-get_or xs k d below) true';
   }
+
+-- ---- the course breaks the claim
+
+abs_times : (e : ℤ) (n : ℕ) → unsigned_abs (e *ℤ pos n) ≡ unsigned_abs e * n
+abs_times (pos e) n = omega (arith, ints)
+abs_times (negsuc e) n = omega (arith, ints)
+
+module _ (claim : ClaimData) (xs : List Exchange) (r : RefutationData) (course : Course)
+    (against : IsAgainst claim r) (of : IsCourseOf claim xs r course) where
+  pub course_in_span : IsObservedIn course claim.first claim.last
+  course_in_span =
+      let span = against.in_span in
+      let n = course.fineness in
+      rw of.observed (times_le claim.first (pos r.reading) n span.0, times_le (pos r.reading) claim.last n span.1)
+
+  pub course_beyond_bound : IsWithin course claim.bound → ⊥
+  course_beyond_bound within' =
+      let n = course.fineness in
+      let error = of.off_throughout.one_error course.observation (inl refl) in
+      let abs : pos (unsigned_abs r.error * n) ≤ℤ (claim.bound *ℤ pos n) =
+      rw (error, abs_times r.error n) at within' in
+      let scaled : (pos (unsigned_abs r.error) *ℤ pos n) ≡ pos (unsigned_abs r.error * n) = omega (arith, ints) in
+      let near = cancel (pos (unsigned_abs r.error)) claim.bound n of.fits.some_fineness (rw scaled abs) in
+      not_both claim.bound (pos (unsigned_abs r.error)) against.beyond_bound near

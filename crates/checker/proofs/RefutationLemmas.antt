@@ -180,3 +180,7 @@ refuted_to claim xs r h =
     (λ k d below. either_to (is_liar r.liars (slice_index_or xs k d).server) _
     (λ true'. admits_to claim.reading r.error (slice_index_or xs k d) (h.admits k d below true'))) in
     rw (against_to claim r h.against, all) refl
+
+pub refused_by_test : (claim : ClaimData) (xs : List Exchange) (r : RefutationData) → is_refuted claim xs r ≡ false
+    → ¬ (IsRefuted claim xs r)
+refused_by_test claim xs r fails h = true≢false (sym (refuted_to claim xs r h) ∙ fails)

@@ -10,3 +10,4 @@ pub mod Comparison
 pub mod Span
 pub mod Refutation
 pub mod RefutationTest
+pub mod WorkedRefutation

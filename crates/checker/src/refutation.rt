@@ -1,17 +1,24 @@
 //! Whether a refutation stands.
 
-ghost use Rattle.std.specs.Prelude.{◌≡◌, ◌↔◌, ◌≤◌, ◌^◌, pos, ◌+ℤ◌, ◌-ℤ◌, ◌≤ℤ◌};
-ghost use Rattle.std.specs.Prelude.{unsigned_abs, nat_lt, IsTrue, length, All};
+ghost use Rattle.std.specs.Prelude.{◌≡◌, ◌↔◌, ◌≤◌, ◌+ℤ◌, ◌-ℤ◌};
+ghost use Rattle.std.specs.Prelude.{nat_lt, IsTrue, length, All, AllPairs};
 ghost use Rattle.std.specs.List.{list_all};
+ghost use Rattle.certificate.specs.Certificate.{CertificateData};
 ghost use Rattle.certificate.specs.Refutation.{data_of as refutation_data};
 ghost use Rattle.claim_file.specs.Claim.{IsLawful, data_of as claim_data};
-ghost use Rattle.pairing.specs.Exchange.{IsInRange, IsLawful as IsLawfulExchange};
+ghost use Rattle.pairing.specs.Exchange.{IsLawful as IsLawfulExchange, SameRequest};
 ghost use Rattle.sample_interval.specs.Exchange.{IsOfSomeClaim};
 ghost use Rattle.sample_interval.specs.Window.{request_start, reply_end};
 ghost use Rattle.checker.specs.Groups.{holds_false, false_group_count};
-ghost use Rattle.checker.specs.Refutation.{IsRefuted, is_liar};
+ghost use Rattle.checker.specs.Refutation.{IsRefuted, HasCourse, is_liar};
 ghost use Rattle.checker.specs.RefutationTest as spec;
+ghost use Rattle.checker.specs.Traceability.{samples_of};
+ghost use Rattle.checker.specs.Verdict.{verdict_of};
 
+use crate::refutation_laws::{
+    accepted_refutations_have_a_course, yes_and_refutation_never_meet,
+};
+use crate::verdict::Verdict;
 use certificate::Refutation;
 use claim_file::Claim;
 use pairing::Exchange;
@@ -30,7 +37,18 @@ pub fn check_refutation(exchanges: &[Exchange], claim: &Claim, refutation: &Refu
         IsRefuted (claim_data claim.now) exchanges.now (refutation_data refutation.now) }
     ensures tested { result ≡
         spec.is_refuted (claim_data claim.now) exchanges.now (refutation_data refutation.now) }
+
+    // If it is true, a course of events fits in which the error is beyond the bound in the span.
+    ensures course { IsTrue result → AllPairs SameRequest exchanges.now →
+        HasCourse (claim_data claim.now) exchanges.now (refutation_data refutation.now) }
+
+    // And no certificate gets a yes.
+    ensures no_yes { IsTrue result → (certificate : CertificateData) →
+        ¬ (verdict_of (samples_of exchanges.now (claim_data claim.now)) (claim_data claim.now)
+        certificate ≡ Verdict.Yes) }
 {
+    accepted_refutations_have_a_course();
+    yes_and_refutation_never_meet();
     is_refuted(exchanges, claim, refutation)
 }
 

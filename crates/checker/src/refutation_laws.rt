@@ -1,16 +1,19 @@
 //! What holds of refutations, and why.
-ghost use Rattle.std.specs.Prelude.{◌≡◌, ℕ, ℤ, pos, ◌↔◌, true, List, [], ◌∷◌, length, All, AllPairs};
+ghost use Rattle.std.specs.Prelude.{◌≡◌, ℕ, ◌+◌, ℤ, pos, neg_ℤ, ◌↔◌, true};
+ghost use Rattle.std.specs.Prelude.{List, [], ◌∷◌, length, All, AllPairs};
 ghost use Rattle.certificate.specs.Certificate.{CertificateData};
 ghost use Rattle.certificate.specs.Refutation.{RefutationData};
 ghost use Rattle.claim_file.specs.Claim.{ClaimData, IsLawful};
 ghost use Rattle.pairing.specs.Exchange.{IsLawful as IsLawfulExchange, SameRequest};
 ghost use Rattle.pairing.specs.declared.exchange.Exchange.{Exchange};
 ghost use Rattle.checker.specs.Course.{Course, Fits};
-ghost use Rattle.checker.specs.Refutation.{IsAgainst, IsRefuted, IsOffThroughout};
+ghost use Rattle.checker.specs.Refutation.{IsAgainst, IsRefuted, IsOffThroughout, IsCourseOf};
 ghost use Rattle.checker.specs.Refutation.{HasCourse, SomeCourseFits};
 ghost use Rattle.checker.specs.RefutationTest.{is_refuted};
-ghost use Rattle.checker.specs.Traceability.{samples_of};
+ghost use Rattle.checker.specs.Traceability.{samples_of, IsObservedIn, IsWithin};
 ghost use Rattle.checker.specs.Verdict.{verdict_of};
+ghost use Rattle.checker.specs.WorkedCourse.{worked_second, worked_exchange};
+ghost use Rattle.checker.specs.WorkedRefutation.{claim_with, refutation_with};
 ghost use Rattle.checker.specs.declared.verdict.Verdict.TheVariants.{Yes};
 
 use crate::laws::verdicts_are_traceable;
@@ -64,4 +67,45 @@ pub fn bound_plays_no_part_in_fitting()
         All (IsLawfulExchange (length claim.servers)) xs →
         IsRefuted (record claim { bound = bound; bound_ns = bound_ns }) xs refutation →
         SomeCourseFits claim xs }
+{}
+
+/// A course that an accepted refutation stands for breaks the claim: when the clock is observed,
+/// its reading lies in the span and its error is beyond the bound.
+pub fn courses_of_refutations_break_the_claim()
+    ensures in_span { (claim : ClaimData) (xs : List Exchange) (refutation : RefutationData)
+        (course : Course) → IsAgainst claim refutation → IsCourseOf claim xs refutation course →
+        IsObservedIn course claim.first claim.last }
+    ensures beyond_bound { (claim : ClaimData) (xs : List Exchange) (refutation : RefutationData)
+        (course : Course) → IsAgainst claim refutation → IsCourseOf claim xs refutation course →
+        ¬ (IsWithin course claim.bound) }
+{}
+
+/// The worked exchange refutes a claim by each error that it leaves room for and that is beyond the
+/// bound, at both ends, and by no other; and by any error where its server may be false.
+pub fn worked_refutations_stand()
+    ensures beyond { IsRefuted (claim_with 42953967 0) (worked_exchange ∷ [])
+        (refutation_with (pos 42953968) []) }
+    ensures greatest { IsRefuted (claim_with 42953967 0) (worked_exchange ∷ [])
+        (refutation_with (pos 42953969) []) }
+    ensures least { IsRefuted (claim_with 42949673 0) (worked_exchange ∷ [])
+        (refutation_with (neg_ℤ (pos 42949674)) []) }
+    ensures no_bound { IsRefuted (claim_with 0 0) (worked_exchange ∷ [])
+        (refutation_with (pos 1) []) }
+    ensures named { IsRefuted (claim_with 42953972 1) (worked_exchange ∷ [])
+        (refutation_with (pos 42953973) (0 ∷ [])) }
+    ensures too_great { ¬ (IsRefuted (claim_with 42953967 0) (worked_exchange ∷ [])
+        (refutation_with (pos 42953970) [])) }
+    ensures too_small { ¬ (IsRefuted (claim_with 42949673 0) (worked_exchange ∷ [])
+        (refutation_with (neg_ℤ (pos 42949675)) [])) }
+    ensures answered_before_received { ¬ (IsRefuted (claim_with 42953967 0)
+        (record worked_exchange { t2 = pos (worked_second + 4337916969) } ∷ [])
+        (refutation_with (pos 42953968) [])) }
+    ensures within_bound { ¬ (IsRefuted (claim_with 42953967 0) (worked_exchange ∷ [])
+        (refutation_with (pos 42953967) [])) }
+    ensures too_many_named { ¬ (IsRefuted (claim_with 42953972 0) (worked_exchange ∷ [])
+        (refutation_with (pos 42953973) (0 ∷ []))) }
+    ensures named_twice { ¬ (IsRefuted (claim_with 42953972 1) (worked_exchange ∷ [])
+        (refutation_with (pos 42953973) (0 ∷ 0 ∷ []))) }
+    ensures not_listed { ¬ (IsRefuted (claim_with 42953967 1) (worked_exchange ∷ [])
+        (refutation_with (pos 42953968) (1 ∷ []))) }
 {}

@@ -11,3 +11,17 @@ returns-clause-exact c = (
   λ holds. c.is_refuted.ensures
       ∙ refuted_to (claim_data c.args.claim.now) c.args.exchanges.now (refutation_data c.args.refutation.now) holds,
 )
+
+pub returns-clause-course : goal.returns-clause-course
+returns-clause-course c accepted agree =
+    c.accepted_refutations_have_a_course.ensures (claim_data c.args.claim.now) c.args.exchanges.now
+    (refutation_data c.args.refutation.now) c.requires.claim c.requires.exchanges agree
+    (refuted_from (claim_data c.args.claim.now) c.args.exchanges.now (refutation_data c.args.refutation.now)
+    (sym c.is_refuted.ensures ∙ accepted))
+
+pub returns-clause-no_yes : goal.returns-clause-no_yes
+returns-clause-no_yes c accepted certificate yes' =
+    c.yes_and_refutation_never_meet.ensures (claim_data c.args.claim.now) c.args.exchanges.now certificate
+    (refutation_data c.args.refutation.now) c.requires.claim c.requires.exchanges yes'
+    (refuted_from (claim_data c.args.claim.now) c.args.exchanges.now (refutation_data c.args.refutation.now)
+    (sym c.is_refuted.ensures ∙ accepted))
