@@ -13,3 +13,5 @@ pub mod OrderLemmas
 pub mod ApartLemmas
 pub mod NarrowLemmas
 pub mod SpanLemmas
+mod RefutationLemmas
+mod RefutationCourseLemmas

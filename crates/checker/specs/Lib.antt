@@ -8,3 +8,6 @@ pub mod Source
 pub mod WorkedCourse
 pub mod Comparison
 pub mod Span
+pub mod Refutation
+pub mod RefutationTest
+pub mod WorkedRefutation

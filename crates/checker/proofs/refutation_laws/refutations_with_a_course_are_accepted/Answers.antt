@@ -1,0 +1,5 @@
+use Rattle.checker.proofs.RefutationCourseLemmas.{refuted_by_course}
+use Rattle.checker.proofs.refutation_laws.refutations_with_a_course_are_accepted.Goals as goal
+
+pub returns : goal.returns
+returns c claim xs refutation course against fits off = refuted_by_course claim xs refutation against course fits off

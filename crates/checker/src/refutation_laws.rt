@@ -1,0 +1,111 @@
+//! What holds of refutations, and why.
+ghost use Rattle.std.specs.Prelude.{◌≡◌, ℕ, ◌+◌, ℤ, pos, neg_ℤ, ◌↔◌, true};
+ghost use Rattle.std.specs.Prelude.{List, [], ◌∷◌, length, All, AllPairs};
+ghost use Rattle.certificate.specs.Certificate.{CertificateData};
+ghost use Rattle.certificate.specs.Refutation.{RefutationData};
+ghost use Rattle.claim_file.specs.Claim.{ClaimData, IsLawful};
+ghost use Rattle.pairing.specs.Exchange.{IsLawful as IsLawfulExchange, SameRequest};
+ghost use Rattle.pairing.specs.declared.exchange.Exchange.{Exchange};
+ghost use Rattle.checker.specs.Course.{Course, Fits};
+ghost use Rattle.checker.specs.Refutation.{IsAgainst, IsRefuted, IsOffThroughout, IsCourseOf};
+ghost use Rattle.checker.specs.Refutation.{HasCourse, SomeCourseFits};
+ghost use Rattle.checker.specs.RefutationTest.{is_refuted};
+ghost use Rattle.checker.specs.Traceability.{samples_of, IsObservedIn, IsWithin};
+ghost use Rattle.checker.specs.Verdict.{verdict_of};
+ghost use Rattle.checker.specs.WorkedCourse.{worked_second, worked_exchange};
+ghost use Rattle.checker.specs.WorkedRefutation.{claim_with, refutation_with};
+ghost use Rattle.checker.specs.declared.verdict.Verdict.TheVariants.{Yes};
+
+use crate::laws::verdicts_are_traceable;
+
+/// The test is passed exactly by the refutations that are accepted.
+pub fn test_is_passed_where_refuted()
+    ensures { (claim : ClaimData) (xs : List Exchange) (refutation : RefutationData) →
+        (is_refuted claim xs refutation ≡ true) ↔ IsRefuted claim xs refutation }
+{}
+
+/// An accepted refutation has a course that fits the exchanges and the claim: just the servers that
+/// it names are false, the exchanges of one request share its moment, the observed reading is the
+/// refutation's, and the error is the refutation's at every moment of the client.
+pub fn accepted_refutations_have_a_course()
+    ensures { (claim : ClaimData) (xs : List Exchange) (refutation : RefutationData) →
+        IsLawful claim → All (IsLawfulExchange (length claim.servers)) xs →
+        AllPairs SameRequest xs → IsRefuted claim xs refutation →
+        HasCourse claim xs refutation }
+{}
+
+/// The converse: a refutation whose own words are against the claim is accepted where a course fits
+/// in which just the servers that it names are false and the error is its own throughout.
+pub fn refutations_with_a_course_are_accepted()
+    ensures { (claim : ClaimData) (xs : List Exchange) (refutation : RefutationData)
+        (course : Course) → IsAgainst claim refutation → Fits claim xs course →
+        IsOffThroughout xs refutation course → IsRefuted claim xs refutation }
+{}
+
+/// For one list of exchanges and one claim there is no certificate with a yes where there is an
+/// accepted refutation.
+pub fn yes_and_refutation_never_meet()
+    ensures { (claim : ClaimData) (xs : List Exchange) (certificate : CertificateData)
+        (refutation : RefutationData) → IsLawful claim →
+        All (IsLawfulExchange (length claim.servers)) xs →
+        verdict_of (samples_of xs claim) claim certificate ≡ Yes →
+        ¬ (IsRefuted claim xs refutation) }
+{
+    verdicts_are_traceable();
+}
+
+/// Whether a course fits doesn't depend on the bound. So a refutation of the same claim with
+/// another bound, as with none, shows that a course fits the claim itself with a reading of its
+/// span, and a yes for it is said of something.
+pub fn bound_plays_no_part_in_fitting()
+    ensures fits { (claim : ClaimData) (bound : ℤ) (bound_ns : ℕ) (xs : List Exchange)
+        (course : Course) →
+        Fits (record claim { bound = bound; bound_ns = bound_ns }) xs course →
+        Fits claim xs course }
+    ensures some_course { (claim : ClaimData) (bound : ℤ) (bound_ns : ℕ) (xs : List Exchange)
+        (refutation : RefutationData) → IsLawful claim →
+        All (IsLawfulExchange (length claim.servers)) xs →
+        IsRefuted (record claim { bound = bound; bound_ns = bound_ns }) xs refutation →
+        SomeCourseFits claim xs }
+{}
+
+/// A course that an accepted refutation stands for breaks the claim: when the clock is observed,
+/// its reading lies in the span and its error is beyond the bound.
+pub fn courses_of_refutations_break_the_claim()
+    ensures in_span { (claim : ClaimData) (xs : List Exchange) (refutation : RefutationData)
+        (course : Course) → IsAgainst claim refutation → IsCourseOf claim xs refutation course →
+        IsObservedIn course claim.first claim.last }
+    ensures beyond_bound { (claim : ClaimData) (xs : List Exchange) (refutation : RefutationData)
+        (course : Course) → IsAgainst claim refutation → IsCourseOf claim xs refutation course →
+        ¬ (IsWithin course claim.bound) }
+{}
+
+/// The worked exchange refutes a claim by each error that it leaves room for and that is beyond the
+/// bound, at both ends, and by no other; and by any error where its server may be false.
+pub fn worked_refutations_stand()
+    ensures beyond { IsRefuted (claim_with 42953967 0) (worked_exchange ∷ [])
+        (refutation_with (pos 42953968) []) }
+    ensures greatest { IsRefuted (claim_with 42953967 0) (worked_exchange ∷ [])
+        (refutation_with (pos 42953969) []) }
+    ensures least { IsRefuted (claim_with 42949673 0) (worked_exchange ∷ [])
+        (refutation_with (neg_ℤ (pos 42949674)) []) }
+    ensures no_bound { IsRefuted (claim_with 0 0) (worked_exchange ∷ [])
+        (refutation_with (pos 1) []) }
+    ensures named { IsRefuted (claim_with 42953972 1) (worked_exchange ∷ [])
+        (refutation_with (pos 42953973) (0 ∷ [])) }
+    ensures too_great { ¬ (IsRefuted (claim_with 42953967 0) (worked_exchange ∷ [])
+        (refutation_with (pos 42953970) [])) }
+    ensures too_small { ¬ (IsRefuted (claim_with 42949673 0) (worked_exchange ∷ [])
+        (refutation_with (neg_ℤ (pos 42949675)) [])) }
+    ensures answered_before_received { ¬ (IsRefuted (claim_with 42953967 0)
+        (record worked_exchange { t2 = pos (worked_second + 4337916969) } ∷ [])
+        (refutation_with (pos 42953968) [])) }
+    ensures within_bound { ¬ (IsRefuted (claim_with 42953967 0) (worked_exchange ∷ [])
+        (refutation_with (pos 42953967) [])) }
+    ensures too_many_named { ¬ (IsRefuted (claim_with 42953972 0) (worked_exchange ∷ [])
+        (refutation_with (pos 42953973) (0 ∷ []))) }
+    ensures named_twice { ¬ (IsRefuted (claim_with 42953972 1) (worked_exchange ∷ [])
+        (refutation_with (pos 42953973) (0 ∷ 0 ∷ []))) }
+    ensures not_listed { ¬ (IsRefuted (claim_with 42953967 1) (worked_exchange ∷ [])
+        (refutation_with (pos 42953968) (1 ∷ []))) }
+{}
