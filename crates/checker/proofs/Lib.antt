@@ -1,11 +1,15 @@
 pub mod PartLemmas
+pub mod SaidLemmas
 pub mod SourceLemmas
 pub mod GroupLemmas
 pub mod CountingLemmas
 pub mod CoverLemmas
 pub mod VerdictLemmas
 pub mod PieceLemmas
+pub mod PieceFitLemmas
+pub mod HullLemmas
 pub mod TraceabilityLemmas
+pub mod AcceptanceLemmas
 pub mod CourseLemmas
 pub mod ComparisonLemmas
 pub mod EntryLemmas
