@@ -7,6 +7,7 @@ pub mod CoverLemmas
 pub mod VerdictLemmas
 pub mod PieceLemmas
 pub mod PieceFitLemmas
+pub mod BestLemmas
 pub mod HullLemmas
 pub mod TraceabilityLemmas
 pub mod AcceptanceLemmas

@@ -9,4 +9,5 @@ pub mod Traceability
 pub mod Source
 pub mod WorkedCourse
 pub mod Comparison
+pub mod BestParts
 pub mod Span

@@ -18,6 +18,7 @@ ghost use Rattle.sample_interval.specs.Moment.{Moment, IsInWindow};
 ghost use Rattle.sample_interval.specs.Sample.{IsLawfulSample};
 ghost use Rattle.sample_interval.specs.declared.kinds.Sample.{Sample};
 ghost use Rattle.checker.specs.Acceptance.{AreSaidBy, IsAccepted};
+ghost use Rattle.checker.specs.BestParts.{best_parts};
 ghost use Rattle.checker.specs.Comparison.{IsYesOr, IsContradiction, IsRefusedEntry, HasOneMoreEntry};
 ghost use Rattle.checker.specs.Comparison.{HasEntriesSwapped, IsTakenApart};
 ghost use Rattle.checker.specs.Comparison.{AreNarrower, IsOfSamples};
@@ -91,6 +92,12 @@ pub fn hulls_hold_the_error()
         All (λ sample. sample.server < length claim.servers) samples →
         All (IsOfSamples samples stretch claim.drift_ppb) parts →
         HoldsError claim samples stretch (piece_hull claim.groups claim.false_max parts) }
+
+    // That of what each server says by its best samples.
+    ensures best { (claim : ClaimData) (samples : List Sample) (stretch : Stretch) →
+        IsLawful claim → All (λ sample. sample.server < length claim.servers) samples →
+        HoldsError claim samples stretch
+        (piece_hull claim.groups claim.false_max (best_parts claim samples stretch)) }
 {
     drift_shows_on_the_clock_itself();
     error_at_the_request_is_no_less();

@@ -1,4 +1,6 @@
+use Rattle.checker.proofs.BestLemmas.{best_parts_are}
 use Rattle.checker.proofs.HullLemmas.{Laws, piece_holds, capture_holds}
+use Rattle.checker.specs.BestParts.{best_parts}
 use Rattle.checker.proofs.laws.hulls_hold_the_error.Goals as goal
 
 laws : (c : goal.After-every_list_has_a_hull) → Laws
@@ -18,3 +20,8 @@ returns-clause-piece c claim samples stretch entries parts lawful listed said =
 pub returns-clause-capture : goal.returns-clause-capture
 returns-clause-capture c claim samples stretch parts lawful listed of_samples =
     capture_holds (laws c) claim samples lawful listed stretch parts of_samples
+
+pub returns-clause-best : goal.returns-clause-best
+returns-clause-best c claim samples stretch lawful listed =
+    capture_holds (laws c) claim samples lawful listed stretch (best_parts claim samples stretch)
+    (best_parts_are claim samples stretch)
