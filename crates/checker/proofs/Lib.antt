@@ -12,6 +12,7 @@ pub mod HullLemmas
 pub mod TraceabilityLemmas
 pub mod AcceptanceLemmas
 pub mod CourseLemmas
+pub mod WorkedLemmas
 pub mod ComparisonLemmas
 pub mod EntryLemmas
 pub mod OrderLemmas

@@ -8,6 +8,7 @@ pub mod Stretch
 pub mod Traceability
 pub mod Source
 pub mod WorkedCourse
+pub mod WorkedCapture
 pub mod Comparison
 pub mod BestParts
 pub mod Span

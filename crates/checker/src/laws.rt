@@ -13,6 +13,8 @@ ghost use Rattle.era_unfold.specs.Nanoseconds.{ticks_down};
 ghost use Rattle.intersection.specs.declared.kinds.Hull.{Hull};
 ghost use Rattle.intersection.specs.declared.kinds.Hull.TheVariants.{Empty};
 ghost use Rattle.intersection.specs.Fraction.{HoldsFraction, IsAdmissibleFraction};
+ghost use Rattle.pcap_reader.specs.Capture.{IsCapture};
+ghost use Rattle.pairing.specs.Pairing.{exchanges_of};
 ghost use Rattle.pairing.specs.declared.exchange.Exchange.{Exchange};
 ghost use Rattle.sample_interval.specs.Moment.{Moment, IsInWindow};
 ghost use Rattle.sample_interval.specs.Sample.{IsLawfulSample};
@@ -35,6 +37,7 @@ ghost use Rattle.checker.specs.Traceability.{IsOfHull, IsRefusedByHull, IsWithin
 ghost use Rattle.checker.specs.Traceability.{IsWithinNanoseconds};
 ghost use Rattle.checker.specs.Verdict.{parts_after, hull_fault, piece_fault, verdict_of};
 ghost use Rattle.checker.specs.Verdict.{PassBelow};
+ghost use Rattle.checker.specs.WorkedCapture.{worked_capture, worked_format, worked_records};
 ghost use Rattle.checker.specs.WorkedCourse.{worked_second, worked_claim, worked_exchange};
 ghost use Rattle.checker.specs.WorkedCourse.{worked_course, served_course, lone_course};
 ghost use Rattle.checker.specs.WorkedCourse.{slow_claim, slow_course};
@@ -174,6 +177,13 @@ pub fn worked_courses_fit()
     ensures slow { Fits slow_claim (worked_exchange ∷ []) slow_course }
     ensures least { Fits worked_claim (worked_exchange ∷ []) (served_course (neg_ℤ (pos 42949674))
         (pos (worked_second + 85899345)) (pos (worked_second + 42949674))) }
+{}
+
+/// The exchange of the worked courses is what a capture of two packets gives under their claim: the
+/// bytes are a capture of two records, and these have that one exchange.
+pub fn worked_exchange_is_captured()
+    ensures capture { IsCapture worked_capture worked_format worked_records }
+    ensures exchange { exchanges_of worked_claim worked_records ≡ worked_exchange ∷ [] }
 {}
 
 /// Without exchanges the clock may be off by anything, so that no certificate is accepted.
