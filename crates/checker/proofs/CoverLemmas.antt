@@ -1,9 +1,10 @@
 -- Pieces that share their ends hold every reading of the span, fractions of a tick too.
-use Rattle.std.proofs.Common.{ℕ, suc, ◌<◌, ℤ, pos, ◌*ℤ◌, ◌<ℤ◌, ◌≤ℤ◌, List, [], ◌∷◌, length, arith}
+use Rattle.std.proofs.Common.{◌≡◌, ℕ, zero, suc, ◌<◌, ℤ, pos, ◌*ℤ◌, ◌<ℤ◌, ◌≤ℤ◌, List, [], ◌∷◌, length, Some, refl, ap, arith}
+use Rattle.std.specs.Prelude.{slice_get, IsSomeAnd}
 use Rattle.std.proofs.lemmas.Int.{ints, by_lt_z}
 use Rattle.certificate.specs.Certificate.{PieceData}
 use Rattle.sample_interval.specs.Moment.{IsInWindow}
-use Rattle.checker.specs.Stretch.{stretches_from, last_end, SomeHoldsReading}
+use Rattle.checker.specs.Stretch.{stretches_from, begin_of, last_end, SomeHoldsReading}
 use Rattle.checker.specs.declared.stretch.Stretch.{Stretch}
 
 later : (n : ℕ) (reading : ℤ) (first : Stretch) (stretches : List Stretch) → SomeHoldsReading stretches n reading
@@ -26,3 +27,25 @@ pub all_covered : (n : ℕ) (reading begin : ℤ) (pieces : List PieceData) → 
     → IsInWindow n begin (last_end begin pieces) reading → SomeHoldsReading (stretches_from begin pieces) n reading
 all_covered n reading begin [] some inside = absurd (omega arith)
 all_covered n reading begin (piece ∷ pieces) some inside = covered n reading begin piece pieces inside
+
+-- ---- a piece and its stretch, by their number
+
+-- what holds of the stretch at a number is of the piece there
+pub piece_at : (P : Stretch → Type 0) (begin : ℤ) (pieces : List PieceData) (k : ℕ)
+    → IsSomeAnd (slice_get (stretches_from begin pieces) k) P
+    → (piece : PieceData) × (slice_get pieces k ≡ Some piece)
+    × P (record { begin = begin_of begin pieces k; end = pos piece.upto })
+piece_at P begin [] zero holds = absurd holds
+piece_at P begin [] (suc k) holds = absurd holds
+piece_at P begin (piece ∷ pieces) zero holds = (piece, refl, holds)
+piece_at P begin (piece ∷ pieces) (suc k) holds = piece_at P (pos piece.upto) pieces k holds
+
+pub stretch_of_piece : (begin : ℤ) (pieces : List PieceData) (k : ℕ) (piece : PieceData)
+    → slice_get pieces k ≡ Some piece
+    → slice_get (stretches_from begin pieces) k
+    ≡ Some (record { begin = begin_of begin pieces k; end = pos piece.upto })
+stretch_of_piece begin [] k piece at = absurd cc
+stretch_of_piece begin (first ∷ pieces) zero piece at =
+    let here : first ≡ piece = cc in
+    ap (λ (p : PieceData). Some (record { begin = begin; end = pos p.upto })) here
+stretch_of_piece begin (first ∷ pieces) (suc k) piece at = stretch_of_piece (pos first.upto) pieces k piece at

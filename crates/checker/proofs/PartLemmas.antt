@@ -18,7 +18,7 @@ by_test true f g = f refl
 by_test false f g = g refl
 
 -- one server: the test on two samples fails
-same_server : (a b : ℕ) → not (a == b) ≡ false → a ≡ b
+pub same_server : (a b : ℕ) → not (a == b) ≡ false → a ≡ b
 same_server a b h = grind (arith, nat_tests)
 
 -- what holds of all holds of the one at a place

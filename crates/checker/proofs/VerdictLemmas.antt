@@ -1,6 +1,6 @@
 -- What a verdict says of the pieces.
-use Rattle.std.proofs.Common.{◌≡◌, ℕ, zero, suc, ◌+◌, ◌<◌, ℤ, pos, neg_ℤ, ◌≤ℤ◌, Bool, true, false, cond, ◌&&◌, int_le, nat_lt, List, [], ◌∷◌, ◌++◌, length, Option, Some, None, Result, Ok, Err, refl, sym, ap, ◌∙◌, subst, arith}
-use Rattle.std.specs.Prelude.{slice_get, IsSomeAnd}
+use Rattle.std.proofs.Common.{◌≡◌, ℕ, suc, ◌+◌, ◌<◌, ℤ, pos, neg_ℤ, ◌≤ℤ◌, Bool, true, false, cond, ◌&&◌, ◌||◌, int_le, int_lt, nat_lt, List, [], ◌∷◌, ◌++◌, length, Option, Some, None, Result, Ok, Err, inl, inr, refl, sym, ap, ◌∙◌, subst, arith}
+use Rattle.std.specs.Prelude.{slice_get}
 use Rattle.std.specs.Ordering.{int_eq}
 use Rattle.std.proofs.lemmas.Int.{ints}
 use Rattle.std.proofs.lemmas.Bool.{cond-true, cond-false}
@@ -11,14 +11,15 @@ use Rattle.intersection.specs.declared.kinds.Hull.{Hull}
 use Rattle.intersection.specs.declared.kinds.Hull.TheVariants.{Unbounded, Empty, Bounded}
 use Rattle.sample_interval.specs.declared.kinds.Sample.{Sample}
 use Rattle.checker.specs.Piece.{piece_hull}
-use Rattle.checker.specs.Stretch.{stretches_from, last_end}
+use Rattle.checker.specs.Stretch.{begin_of, last_end}
+use Rattle.checker.specs.Traceability.{IsOfHull}
 use Rattle.checker.specs.Verdict.{part_from, parts_after, unless_refused, hull_fault, parts_fault, piece_fault, verdict_after, verdict_from}
 use Rattle.checker.specs.declared.part.Part.{Part}
 use Rattle.checker.specs.declared.stretch.Stretch.{Stretch}
 use Rattle.checker.specs.declared.verdict.Verdict.{Verdict}
 use Rattle.checker.specs.declared.verdict.Verdict.TheVariants.{Yes, No}
 use Rattle.checker.specs.declared.verdict.Why.{Why}
-use Rattle.checker.specs.declared.verdict.Why.TheVariants.{Cut, MixedServers, RepeatedServer, Contradiction, Exceeds, Uncovered}
+use Rattle.checker.specs.declared.verdict.Why.TheVariants.{Cut, BadSample, MixedServers, RepeatedServer, Contradiction, Exceeds, Uncovered}
 use Rattle.checker.proofs.PartLemmas.{by_test}
 
 pub empty_hull : (bound : ℤ) (hull : Hull) → hull_fault bound hull ≡ Some Contradiction → hull ≡ Empty
@@ -34,119 +35,105 @@ empty_hull bound (Bounded lo hi) e = by_test (int_le (neg_ℤ bound) lo && int_l
     sym (cond-false (int_le (neg_ℤ bound) lo && int_le hi bound) None (Some Exceeds) outside) ∙ e in
     cc))
 
+both : (a b : Bool) → (a && b) ≡ true → (a ≡ true) × (b ≡ true)
+both true b h = (refl, h)
+both false b h = absurd cc
+
+-- a bounded hull gives none exactly where it lies inside the bound
+pub inside_from : (bound lo hi : ℤ) → hull_fault bound (Bounded lo hi) ≡ None
+    → (neg_ℤ bound ≤ℤ lo) × (hi ≤ℤ bound)
+inside_from bound lo hi e = by_test (int_le (neg_ℤ bound) lo && int_le hi bound)
+    (λ inside.
+    let tests = both (int_le (neg_ℤ bound) lo) (int_le hi bound) inside in
+    (grind (arith, ints), grind (arith, ints)))
+    (λ outside. absurd (
+    let no : Some Exceeds ≡ None =
+    sym (cond-false (int_le (neg_ℤ bound) lo && int_le hi bound) None (Some Exceeds) outside) ∙ e in
+    cc))
+
+pub none_from_inside : (bound lo hi : ℤ) → neg_ℤ bound ≤ℤ lo → hi ≤ℤ bound
+    → hull_fault bound (Bounded lo hi) ≡ None
+none_from_inside bound lo hi above below =
+    cond-true (int_le (neg_ℤ bound) lo && int_le hi bound) None (Some Exceeds) (grind (arith, ints))
+
+-- a fault that a hull gives, or none
+abbrev pub IsFromHull : Option Why → Type 0
+IsFromHull None = Unit {0}
+IsFromHull (Some Contradiction) = Unit {0}
+IsFromHull (Some Exceeds) = Unit {0}
+IsFromHull _ = ⊥
+
+pub from_hull : (why : Why) → IsOfHull why → IsFromHull (Some why)
+from_hull why (inl is) = subst (λ (w : Why). IsFromHull (Some w)) (sym is) tt
+from_hull why (inr is) = subst (λ (w : Why). IsFromHull (Some w)) (sym is) tt
+
 module _ (samples : List Sample) (claim : ClaimData) where
-  -- what the entries of a piece say over a stretch, where none is refused, and their hull
-  pub record Says (stretch : Stretch) (hull : Hull) : Type 0 where
-    pub entries : List (ℕ × ℕ)
+  -- none of these entries is refused, and their hull over a stretch gives this fault, or none
+  pub record HullGives (stretch : Stretch) (entries : List (ℕ × ℕ)) (fault : Option Why) : Type 0 where
     pub parts : List Part
     pub said : parts_after samples stretch claim.drift_ppb [] entries ≡ Ok parts
-    pub joined : piece_hull claim.groups claim.false_max parts ≡ hull
-
-  -- the hull of a piece is bounded, inside the bound
-  pub record Shows (stretch : Stretch) : Type 0 where
-    pub lo : ℤ
-    pub hi : ℤ
-    pub says : Says stretch (Bounded lo hi)
-    pub above : neg_ℤ claim.bound ≤ℤ lo
-    pub below : hi ≤ℤ claim.bound
+    pub gives : hull_fault claim.bound (piece_hull claim.groups claim.false_max parts) ≡ fault
 
   -- ---- one piece
 
-  both : (a b : Bool) → (a && b) ≡ true → (a ≡ true) × (b ≡ true)
-  both true b h = (refl, h)
-  both false b h = absurd cc
+  refused_test : (mixed repeated : Bool) (part : Part) (why : Why) → IsFromHull (Some why)
+      → cond mixed (Err MixedServers) (cond repeated (Err RepeatedServer) (Ok part)) ≡ Err why → ⊥
+  refused_test true repeated part why from e =
+      let same : why ≡ MixedServers = cc in subst (λ (w : Why). IsFromHull (Some w)) same from
+  refused_test false true part why from e =
+      let same : why ≡ RepeatedServer = cc in subst (λ (w : Why). IsFromHull (Some w)) same from
+  refused_test false false part why from e = absurd cc
 
-  passed_hull : (stretch : Stretch) (entries : List (ℕ × ℕ)) (parts : List Part) (hull : Hull)
-      → parts_after samples stretch claim.drift_ppb [] entries ≡ Ok parts
-      → piece_hull claim.groups claim.false_max parts ≡ hull → hull_fault claim.bound hull ≡ None → Shows stretch
-  passed_hull stretch entries parts Unbounded said joined e = absurd cc
-  passed_hull stretch entries parts Empty said joined e = absurd cc
-  passed_hull stretch entries parts (Bounded lo hi) said joined e =
-      by_test (int_le (neg_ℤ claim.bound) lo && int_le hi claim.bound)
-      (λ inside.
-      let parts_inside = both (int_le (neg_ℤ claim.bound) lo) (int_le hi claim.bound) inside in
-      record {
-        lo = lo;
-        hi = hi;
-        says = record { entries = entries; parts = parts; said = said; joined = joined };
-        above = grind (arith, ints);
-        below = grind (arith, ints);
-      })
-      (λ outside. absurd (
-      let no : Some Exceeds ≡ None =
-      sym (cond-false (int_le (neg_ℤ claim.bound) lo && int_le hi claim.bound) None (Some Exceeds) outside)
-      ∙ e in
-      cc))
+  -- no entry is refused for a reason that a hull gives
+  refused_part : (stretch : Stretch) (earlier : List Part) (low high : Option Sample) (why : Why)
+      → IsFromHull (Some why) → part_from stretch claim.drift_ppb earlier low high ≡ Err why → ⊥
+  refused_part stretch earlier None high why from e =
+      let same : why ≡ BadSample = cc in subst (λ (w : Why). IsFromHull (Some w)) same from
+  refused_part stretch earlier (Some low) None why from e =
+      let same : why ≡ BadSample = cc in subst (λ (w : Why). IsFromHull (Some w)) same from
+  refused_part stretch earlier (Some low) (Some high) why from e = refused_test _ _ _ why from e
 
-  passed_parts : (stretch : Stretch) (entries : List (ℕ × ℕ)) (said : Result (List Part) Why)
-      → parts_after samples stretch claim.drift_ppb [] entries ≡ said → parts_fault claim said ≡ None → Shows stretch
-  passed_parts stretch entries (Err why) is e = absurd cc
-  passed_parts stretch entries (Ok parts) is e = passed_hull stretch entries parts _ is refl e
+  refused_step : (first : Result Part Why) (next : Part → Result (List Part) Why) (why : Why)
+      → (first ≡ Err why → ⊥) → ((part : Part) → next part ≡ Err why → ⊥)
+      → unless_refused first next ≡ Err why → ⊥
+  refused_step (Err other) next why here rest e = here (let same : other ≡ why = cc in ap Err same)
+  refused_step (Ok part) next why here rest e = rest part e
 
-  passed_cut : (stretch : Stretch) (entries : List (ℕ × ℕ)) (cut : Bool)
-      → cond cut (Some Cut) (parts_fault claim (parts_after samples stretch claim.drift_ppb [] entries)) ≡ None
-      → Shows stretch
-  passed_cut stretch entries true e = absurd cc
-  passed_cut stretch entries false e = passed_parts stretch entries _ refl e
-
-  passed : (begin : ℤ) (piece : PieceData) → piece_fault samples claim begin piece ≡ None
-      → Shows (record { begin = begin; end = pos piece.upto })
-  passed begin piece e = passed_cut (record { begin = begin; end = pos piece.upto }) piece.entries _ e
-
-  -- ---- a contradiction
-
-  refused_test : (mixed repeated : Bool) (part : Part)
-      → cond mixed (Err MixedServers) (cond repeated (Err RepeatedServer) (Ok part)) ≡ Err Contradiction → ⊥
-  refused_test true repeated part e = absurd cc
-  refused_test false true part e = absurd cc
-  refused_test false false part e = absurd cc
-
-  -- an entry is never refused as a contradiction
-  refused_part : (stretch : Stretch) (earlier : List Part) (low high : Option Sample)
-      → part_from stretch claim.drift_ppb earlier low high ≡ Err Contradiction → ⊥
-  refused_part stretch earlier None high e = absurd cc
-  refused_part stretch earlier (Some low) None e = absurd cc
-  refused_part stretch earlier (Some low) (Some high) e = refused_test _ _ _ e
-
-  refused_step : (first : Result Part Why) (next : Part → Result (List Part) Why)
-      → (first ≡ Err Contradiction → ⊥) → ((part : Part) → next part ≡ Err Contradiction → ⊥)
-      → unless_refused first next ≡ Err Contradiction → ⊥
-  refused_step (Err why) next here rest e = here (let same : why ≡ Contradiction = cc in ap Err same)
-  refused_step (Ok part) next here rest e = rest part e
-
-  refused_parts : (stretch : Stretch) (earlier : List Part) (entries : List (ℕ × ℕ))
-      → parts_after samples stretch claim.drift_ppb earlier entries ≡ Err Contradiction → ⊥
-  refused_parts stretch earlier [] e = absurd cc
-  refused_parts stretch earlier (entry ∷ entries) e =
+  refused_parts : (stretch : Stretch) (earlier : List Part) (entries : List (ℕ × ℕ)) (why : Why)
+      → IsFromHull (Some why) → parts_after samples stretch claim.drift_ppb earlier entries ≡ Err why → ⊥
+  refused_parts stretch earlier [] why from e = absurd cc
+  refused_parts stretch earlier (entry ∷ entries) why from e =
       refused_step
       (part_from stretch claim.drift_ppb earlier (slice_get samples entry.0) (slice_get samples entry.1))
-      (λ part. parts_after samples stretch claim.drift_ppb (earlier ++ part ∷ []) entries)
-      (refused_part stretch earlier (slice_get samples entry.0) (slice_get samples entry.1))
-      (λ part e'. refused_parts stretch (earlier ++ part ∷ []) entries e') e
+      (λ part. parts_after samples stretch claim.drift_ppb (earlier ++ part ∷ []) entries) why
+      (refused_part stretch earlier (slice_get samples entry.0) (slice_get samples entry.1) why from)
+      (λ part e'. refused_parts stretch (earlier ++ part ∷ []) entries why from e') e
 
-  empty_parts : (stretch : Stretch) (entries : List (ℕ × ℕ)) (said : Result (List Part) Why)
-      → parts_after samples stretch claim.drift_ppb [] entries ≡ said → parts_fault claim said ≡ Some Contradiction
-      → Says stretch Empty
-  empty_parts stretch entries (Err why) is e =
-      absurd (refused_parts stretch [] entries (is ∙ (let same : why ≡ Contradiction = cc in ap Err same)))
-  empty_parts stretch entries (Ok parts) is e = record {
-    entries = entries;
-    parts = parts;
-    said = is;
-    joined = empty_hull claim.bound (piece_hull claim.groups claim.false_max parts) e;
-  }
+  parts_tested : (stretch : Stretch) (entries : List (ℕ × ℕ)) (said : Result (List Part) Why) (fault : Option Why)
+      → IsFromHull fault → parts_after samples stretch claim.drift_ppb [] entries ≡ said
+      → parts_fault claim said ≡ fault → HullGives stretch entries fault
+  parts_tested stretch entries (Err why) fault from is e =
+      absurd (refused_parts stretch [] entries why (subst IsFromHull (sym e) from) is)
+  parts_tested stretch entries (Ok parts) fault from is e = record { parts = parts; said = is; gives = e }
 
-  empty_cut : (stretch : Stretch) (entries : List (ℕ × ℕ)) (cut : Bool)
-      → cond cut (Some Cut) (parts_fault claim (parts_after samples stretch claim.drift_ppb [] entries))
-      ≡ Some Contradiction
-      → Says stretch Empty
-  empty_cut stretch entries true e = absurd cc
-  empty_cut stretch entries false e = empty_parts stretch entries _ refl e
+  cut_tested : (stretch : Stretch) (entries : List (ℕ × ℕ)) (cut : Bool) (fault : Option Why) → IsFromHull fault
+      → cond cut (Some Cut) (parts_fault claim (parts_after samples stretch claim.drift_ppb [] entries)) ≡ fault
+      → (cut ≡ false) × HullGives stretch entries fault
+  cut_tested stretch entries true fault from e = absurd (subst IsFromHull (sym e) from)
+  cut_tested stretch entries false fault from e = (refl, parts_tested stretch entries _ fault from refl e)
 
-  contradicted : (begin : ℤ) (piece : PieceData) → piece_fault samples claim begin piece ≡ Some Contradiction
-      → Says (record { begin = begin; end = pos piece.upto }) Empty
-  contradicted begin piece e =
-      empty_cut (record { begin = begin; end = pos piece.upto }) piece.entries _ e
+  in_order : (begin end last : ℤ) → (int_lt end begin || int_lt last end) ≡ false → (begin ≤ℤ end) × (end ≤ℤ last)
+  in_order begin end last h = (grind (arith, ints), grind (arith, ints))
+
+  -- a piece that passes all tests, or fails at its hull: its stretch is in order, and its entries are taken
+  pub tested : (begin : ℤ) (piece : PieceData) (fault : Option Why) → IsFromHull fault
+      → piece_fault samples claim begin piece ≡ fault
+      → ((begin ≤ℤ pos piece.upto) × (pos piece.upto ≤ℤ claim.last))
+      × HullGives (record { begin = begin; end = pos piece.upto }) piece.entries fault
+  tested begin piece fault from e =
+      let step = cut_tested (record { begin = begin; end = pos piece.upto }) piece.entries
+      (int_lt (pos piece.upto) begin || int_lt claim.last (pos piece.upto)) fault from e in
+      (in_order begin (pos piece.upto) claim.last step.0, step.1)
 
   -- ---- all pieces
 
@@ -178,49 +165,51 @@ module _ (samples : List Sample) (claim : ClaimData) where
       let rest = yes_end (k + 1) (pos piece.upto) pieces step.1 in
       (omega arith, rest.1)
 
-  -- and each of them shows that the error is within the bound
-  pub yes_each : (k : ℕ) (begin : ℤ) (pieces : List PieceData) → verdict_from samples claim k begin pieces ≡ Yes
-      → (j : ℕ) (stretch : Stretch) → slice_get (stretches_from begin pieces) j ≡ Some stretch → Shows stretch
-  yes_each k begin [] e j stretch at = absurd cc
-  yes_each k begin (piece ∷ pieces) e zero stretch at =
-      let step = yes_step k (piece_fault samples claim begin piece) _ e in
-      let here : record { begin = begin; end = pos piece.upto } ≡ stretch = cc in
-      subst Shows here (passed begin piece step.0)
-  yes_each k begin (piece ∷ pieces) e (suc j) stretch at =
-      let step = yes_step k (piece_fault samples claim begin piece) _ e in
-      yes_each (k + 1) (pos piece.upto) pieces step.1 j stretch at
+  -- ---- no
 
-  -- where it is no for a contradiction, there is such a piece, whose hull is empty
-  pub record EmptyAt (k first : ℕ) (stretches : List Stretch) : Type 0 where
+  -- the first piece that fails, by its number
+  pub record FailsAt (first k : ℕ) (begin : ℤ) (pieces : List PieceData) (why : Why) : Type 0 where
     pub place : ℕ
     pub counted : k ≡ first + place
-    pub empty : IsSomeAnd (slice_get stretches place) (λ stretch. Says stretch Empty)
+    pub piece : PieceData
+    pub stands : slice_get pieces place ≡ Some piece
+    pub fails : piece_fault samples claim (begin_of begin pieces place) piece ≡ Some why
 
-  uncovered_test : (first k : ℕ) (covered : Bool) → cond covered Yes (No first Uncovered) ≡ No k Contradiction → ⊥
-  uncovered_test first k true e = absurd cc
-  uncovered_test first k false e = absurd cc
+  uncovered_test : (first k : ℕ) (covered : Bool) (why : Why) → IsFromHull (Some why)
+      → cond covered Yes (No first Uncovered) ≡ No k why → ⊥
+  uncovered_test first k true why from e = absurd cc
+  uncovered_test first k false why from e =
+      let same : why ≡ Uncovered = cc in subst (λ (w : Why). IsFromHull (Some w)) same from
 
-  no_step : (first k : ℕ) (begin : ℤ) (piece : PieceData) (stretches : List Stretch) (fault : Option Why)
+  no_step : (first k : ℕ) (begin : ℤ) (piece : PieceData) (pieces : List PieceData) (why : Why) (fault : Option Why)
       (rest : Verdict) → piece_fault samples claim begin piece ≡ fault
-      → verdict_after fault first rest ≡ No k Contradiction
-      → (rest ≡ No k Contradiction → EmptyAt k (first + 1) stretches)
-      → EmptyAt k first (record { begin = begin; end = pos piece.upto } ∷ stretches)
-  no_step first k begin piece stretches None rest is e later =
+      → verdict_after fault first rest ≡ No k why
+      → (rest ≡ No k why → FailsAt (first + 1) k (pos piece.upto) pieces why)
+      → FailsAt first k begin (piece ∷ pieces) why
+  no_step first k begin piece pieces why None rest is e later =
       let found = later e in
-      record { place = suc found.place; counted = omega (arith, found.counted); empty = found.empty }
-  no_step first k begin piece stretches (Some why) rest is e later =
-      let same : why ≡ Contradiction = cc in
+      record {
+        place = suc found.place;
+        counted = omega (arith, found.counted);
+        piece = found.piece;
+        stands = found.stands;
+        fails = found.fails;
+      }
+  no_step first k begin piece pieces why (Some fault) rest is e later =
+      let same : fault ≡ why = cc in
       let number : first ≡ k = cc in
       record {
         place = 0;
         counted = omega arith;
-        empty = contradicted begin piece (is ∙ ap Some same);
+        piece = piece;
+        stands = refl;
+        fails = is ∙ ap Some same;
       }
 
-  pub no_at : (first k : ℕ) (begin : ℤ) (pieces : List PieceData)
-      → verdict_from samples claim first begin pieces ≡ No k Contradiction
-      → EmptyAt k first (stretches_from begin pieces)
-  no_at first k begin [] e = absurd (uncovered_test first k _ e)
-  no_at first k begin (piece ∷ pieces) e =
-      no_step first k begin piece (stretches_from (pos piece.upto) pieces) (piece_fault samples claim begin piece) _
-      refl e (λ e'. no_at (first + 1) k (pos piece.upto) pieces e')
+  -- where it is no for a hull, there is a piece that fails for it
+  pub no_at : (first k : ℕ) (begin : ℤ) (pieces : List PieceData) (why : Why) → IsFromHull (Some why)
+      → verdict_from samples claim first begin pieces ≡ No k why → FailsAt first k begin pieces why
+  no_at first k begin [] why from e = absurd (uncovered_test first k _ why from e)
+  no_at first k begin (piece ∷ pieces) why from e =
+      no_step first k begin piece pieces why (piece_fault samples claim begin piece) _ refl e
+      (λ e'. no_at (first + 1) k (pos piece.upto) pieces why from e')

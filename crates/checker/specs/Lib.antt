@@ -1,12 +1,16 @@
 pub mod Groups
 pub mod Course
+pub mod PieceFit
 pub mod Piece
 pub mod Verdict
+pub mod Acceptance
 pub mod Stretch
 pub mod Traceability
 pub mod Source
 pub mod WorkedCourse
+pub mod WorkedCapture
 pub mod Comparison
+pub mod BestParts
 pub mod Span
 pub mod Refutation
 pub mod RefutationTest

@@ -23,6 +23,11 @@ begin_of begin pieces zero = begin
 begin_of begin [] (suc k) = begin
 begin_of begin (piece ∷ pieces) (suc k) = begin_of (pos piece.upto) pieces k
 
+-- the stretch of a certificate's piece, by its number
+abbrev pub stretch_of : ClaimData → CertificateData → ℕ → PieceData → Stretch
+stretch_of claim certificate k piece =
+    record { begin = begin_of claim.first certificate.pieces k; end = pos piece.upto }
+
 -- where the last of them ends
 abbrev pub last_end : ℤ → List PieceData → ℤ
 last_end begin [] = begin

@@ -5,27 +5,39 @@
 //! (`sample_interval`), the error throughout a piece (`span_cover`), how many groups leave it out
 //! (here), the hull of whole points that holds it (`intersection`), the pieces that hold every
 //! reading of the span (here).
-ghost use Rattle.std.specs.Prelude.{◌≡◌, ℕ, ◌+◌, ◌<◌, ◌≤◌, ℤ, pos, neg_ℤ, ◌≤ℤ◌, ◌⊎◌, Bool, false};
+ghost use Rattle.std.specs.Prelude.{◌≡◌, ℕ, ◌+◌, ◌<◌, ◌≤◌, ℤ, pos, neg_ℤ, ◌≤ℤ◌, ◌⊎◌, ◌↔◌, Bool, false};
 ghost use Rattle.std.specs.Prelude.{List, [], ◌∷◌, length, All, slice_get, IsSomeAnd, None, Some, Ok};
 ghost use Rattle.certificate.specs.Certificate.{PieceData, CertificateData};
 ghost use Rattle.claim_file.specs.Claim.{ClaimData, IsLawful};
+ghost use Rattle.era_unfold.specs.Nanoseconds.{ticks_down};
+ghost use Rattle.intersection.specs.declared.kinds.Hull.{Hull};
 ghost use Rattle.intersection.specs.declared.kinds.Hull.TheVariants.{Empty};
 ghost use Rattle.intersection.specs.Fraction.{HoldsFraction, IsAdmissibleFraction};
+ghost use Rattle.pcap_reader.specs.Capture.{IsCapture};
+ghost use Rattle.pairing.specs.Pairing.{exchanges_of};
+ghost use Rattle.pairing.specs.declared.exchange.Exchange.{Exchange};
 ghost use Rattle.sample_interval.specs.Moment.{Moment, IsInWindow};
 ghost use Rattle.sample_interval.specs.Sample.{IsLawfulSample};
 ghost use Rattle.sample_interval.specs.declared.kinds.Sample.{Sample};
+ghost use Rattle.checker.specs.Acceptance.{AreSaidBy, IsAccepted};
+ghost use Rattle.checker.specs.BestParts.{best_parts};
 ghost use Rattle.checker.specs.Comparison.{IsYesOr, IsContradiction, IsRefusedEntry, HasOneMoreEntry};
 ghost use Rattle.checker.specs.Comparison.{HasEntriesSwapped, IsTakenApart};
 ghost use Rattle.checker.specs.Comparison.{AreNarrower, IsOfSamples};
-ghost use Rattle.checker.specs.Course.{Fits};
+ghost use Rattle.checker.specs.Course.{Course, Fits};
 ghost use Rattle.checker.specs.Groups.{false_group_count};
 ghost use Rattle.checker.specs.Piece.{group_intervals, piece_hull};
+ghost use Rattle.checker.specs.PieceFit.{FitsPiece};
 ghost use Rattle.checker.specs.Span.{IsSpanWithin, claim_within, certificate_within};
 ghost use Rattle.checker.specs.Stretch.{begin_of, stretches_from, stretches_of, last_end};
 ghost use Rattle.checker.specs.Stretch.{SomeHoldsReading};
-ghost use Rattle.checker.specs.Traceability.{IsTraceable, IsContradicted};
+ghost use Rattle.checker.specs.Traceability.{IsTraceable, IsTraceableByPieces, IsContradicted};
+ghost use Rattle.checker.specs.Traceability.{samples_of, HoldsError, HoldsErrorOfPiece};
+ghost use Rattle.checker.specs.Traceability.{IsOfHull, IsRefusedByHull, IsWithin};
+ghost use Rattle.checker.specs.Traceability.{IsWithinNanoseconds};
 ghost use Rattle.checker.specs.Verdict.{parts_after, hull_fault, piece_fault, verdict_of};
 ghost use Rattle.checker.specs.Verdict.{PassBelow};
+ghost use Rattle.checker.specs.WorkedCapture.{worked_capture, worked_format, worked_records};
 ghost use Rattle.checker.specs.WorkedCourse.{worked_second, worked_claim, worked_exchange};
 ghost use Rattle.checker.specs.WorkedCourse.{worked_course, served_course, lone_course};
 ghost use Rattle.checker.specs.WorkedCourse.{slow_claim, slow_course};
@@ -35,7 +47,8 @@ ghost use Rattle.checker.specs.declared.verdict.Verdict.TheVariants.{Yes, No};
 ghost use Rattle.checker.specs.declared.verdict.Why.{Why};
 ghost use Rattle.checker.specs.declared.verdict.Why.TheVariants.{Contradiction};
 
-use intersection::laws::{every_list_has_a_hull, whole_points_are_fine_enough};
+use era_unfold::laws::nanoseconds_lie_between_their_ticks;
+use intersection::laws::{every_list_has_a_hull, hull_is_one_answer, whole_points_are_fine_enough};
 use sample_interval::laws::{
     drift_shows_on_the_clock_itself, error_at_the_reply_is_no_more, error_at_the_request_is_no_less,
 };
@@ -58,12 +71,58 @@ pub fn pieces_hold_every_reading()
         SomeHoldsReading (stretches_from begin pieces) n reading }
 {}
 
+/// A course that fits the exchanges of a capture fits what any entries name of them.
+pub fn capture_fits_each_piece()
+    ensures { (claim : ClaimData) (xs : List Exchange) (entries : List (ℕ × ℕ))
+        (course : Course) → Fits claim xs course → FitsPiece claim xs entries course }
+{}
+
+/// In every course that fits, the error of the client's clock lies in the hull of a piece at every
+/// moment whose reading lies there, whether the hull is inside a bound or not. An unbounded hull
+/// says nothing, and an empty one that no course that fits has such a moment.
+pub fn hulls_hold_the_error()
+    // The hull of what entries say, in every course that fits what they name.
+    ensures piece { (claim : ClaimData) (samples : List Sample) (stretch : Stretch)
+        (entries : List (ℕ × ℕ)) (parts : List Part) → IsLawful claim →
+        All (λ sample. sample.server < length claim.servers) samples →
+        AreSaidBy samples stretch claim.drift_ppb entries parts →
+        HoldsErrorOfPiece claim samples entries stretch
+        (piece_hull claim.groups claim.false_max parts) }
+
+    // The hull of whatever parts samples give, in every course that fits the capture.
+    ensures capture { (claim : ClaimData) (samples : List Sample) (stretch : Stretch)
+        (parts : List Part) → IsLawful claim →
+        All (λ sample. sample.server < length claim.servers) samples →
+        All (IsOfSamples samples stretch claim.drift_ppb) parts →
+        HoldsError claim samples stretch (piece_hull claim.groups claim.false_max parts) }
+
+    // That of what each server says by its best samples.
+    ensures best { (claim : ClaimData) (samples : List Sample) (stretch : Stretch) →
+        IsLawful claim → All (λ sample. sample.server < length claim.servers) samples →
+        HoldsError claim samples stretch
+        (piece_hull claim.groups claim.false_max (best_parts claim samples stretch)) }
+{
+    drift_shows_on_the_clock_itself();
+    error_at_the_request_is_no_less();
+    error_at_the_reply_is_no_more();
+    error_lies_in_the_interval_of_the_piece();
+    whole_points_are_fine_enough();
+    every_list_has_a_hull();
+}
+
 /// Where the verdict is yes, the error of the client's clock is within the claimed bound at every
 /// moment whose reading lies in the claimed span, in every course of events that fits exchanges
 /// with these samples: with any delays that aren't negative, any drift within the claimed rate, and
 /// at most the claimed number of groups that hold a false server. Where a piece contradicts itself,
 /// no such course has a reading there.
+///
+/// Piece by piece a course has to fit no more than what the entries of a piece name, so that other
+/// servers may be false in each.
 pub fn verdicts_are_traceable()
+    ensures by_pieces { (claim : ClaimData) (samples : List Sample) (certificate : CertificateData) →
+        IsLawful claim → All (λ sample. sample.server < length claim.servers) samples →
+        verdict_of samples claim certificate ≡ Yes →
+        IsTraceableByPieces claim samples certificate }
     ensures yes { (claim : ClaimData) (samples : List Sample) (certificate : CertificateData) →
         IsLawful claim → All (λ sample. sample.server < length claim.servers) samples →
         verdict_of samples claim certificate ≡ Yes → IsTraceable claim samples }
@@ -73,13 +132,34 @@ pub fn verdicts_are_traceable()
         (k : ℕ) → verdict_of samples claim certificate ≡ No k Contradiction →
         IsSomeAnd (slice_get (stretches_of claim certificate) k)
         (IsContradicted claim samples) }
+    ensures held { (claim : ClaimData) (samples : List Sample) (certificate : CertificateData) →
+        IsLawful claim → All (λ sample. sample.server < length claim.servers) samples →
+        (k : ℕ) (why : Why) → verdict_of samples claim certificate ≡ No k why → IsOfHull why →
+        IsRefusedByHull claim samples certificate k why }
 {
-    drift_shows_on_the_clock_itself();
-    error_at_the_request_is_no_less();
-    error_at_the_reply_is_no_more();
-    error_lies_in_the_interval_of_the_piece();
-    whole_points_are_fine_enough();
+    capture_fits_each_piece();
+    hulls_hold_the_error();
+}
+
+/// What is within a bound in ticks, which is a number of nanoseconds rounded down, is within that
+/// number of nanoseconds.
+pub fn bounds_hold_in_nanoseconds()
+    ensures { (course : Course) (bound : ℤ) (bound_ns : ℕ) → bound ≡ pos (ticks_down bound_ns) →
+        IsWithin course bound → IsWithinNanoseconds course bound_ns }
+{
+    nanoseconds_lie_between_their_ticks();
+}
+
+/// The verdict is yes exactly where the certificate is accepted: its pieces share their ends and
+/// are the span, each names samples of one server in an entry and no server twice, and each hull
+/// lies inside the bound.
+pub fn yes_is_acceptance()
+    ensures { (samples : List Sample) (claim : ClaimData) (certificate : CertificateData) →
+        (verdict_of samples claim certificate ≡ Yes) ↔ IsAccepted samples claim certificate }
+{
+    pieces_give_the_verdict();
     every_list_has_a_hull();
+    hull_is_one_answer();
 }
 
 /// Courses that fit are not made up: one server's exchange, of which the capture says that the
@@ -97,6 +177,13 @@ pub fn worked_courses_fit()
     ensures slow { Fits slow_claim (worked_exchange ∷ []) slow_course }
     ensures least { Fits worked_claim (worked_exchange ∷ []) (served_course (neg_ℤ (pos 42949674))
         (pos (worked_second + 85899345)) (pos (worked_second + 42949674))) }
+{}
+
+/// The exchange of the worked courses is what a capture of two packets gives under their claim: the
+/// bytes are a capture of two records, and these have that one exchange.
+pub fn worked_exchange_is_captured()
+    ensures capture { IsCapture worked_capture worked_format worked_records }
+    ensures exchange { exchanges_of worked_claim worked_records ≡ worked_exchange ∷ [] }
 {}
 
 /// Without exchanges the clock may be off by anything, so that no certificate is accepted.

@@ -7,7 +7,8 @@ ghost use Rattle.pairing.specs.Exchange.{IsLawful as IsLawfulExchange};
 ghost use Rattle.sample_interval.specs.Sample.{IsLawfulSample};
 ghost use Rattle.checker.specs.Source.{samples_in, IsLawfulSource};
 ghost use Rattle.checker.specs.Stretch.{stretches_of};
-ghost use Rattle.checker.specs.Traceability.{samples_of, IsTraceable, IsContradicted};
+ghost use Rattle.checker.specs.Traceability.{samples_of, IsTraceable, IsTraceableByPieces};
+ghost use Rattle.checker.specs.Traceability.{IsContradicted, IsOfHull, IsRefusedByHull};
 ghost use Rattle.checker.specs.Verdict.{verdict_of};
 
 use crate::laws::verdicts_are_traceable;
@@ -92,11 +93,21 @@ pub fn check(samples: &[Sample], claim: &Claim, certificate: &Certificate) -> Ve
     // bound over the span.
     ensures yes { result ≡ Verdict.Yes → IsTraceable (claim_data claim.now) samples.now }
 
+    // The same of each piece by itself, in every course that fits what its entries name.
+    ensures by_pieces { result ≡ Verdict.Yes → IsTraceableByPieces
+        (claim_data claim.now) samples.now (certificate_data certificate.now) }
+
     // In no such course does the clock show a reading of the piece.
     ensures contradiction { (k : ℕ) → result ≡ Verdict.No k Why.Contradiction →
         IsSomeAnd (slice_get
         (stretches_of (claim_data claim.now) (certificate_data certificate.now)) k)
         (IsContradicted (claim_data claim.now) samples.now) }
+
+    // Where a hull is refused, the error lies in it, in every course that fits what the entries of
+    // its piece name.
+    ensures held { (k : ℕ) (why : Why) → result ≡ Verdict.No k why → IsOfHull why →
+        IsRefusedByHull (claim_data claim.now) samples.now (certificate_data certificate.now)
+        k why }
 {
     verdicts_are_traceable();
     first_fault(&SampleSource::Listed(samples), claim, certificate)
@@ -116,11 +127,22 @@ pub fn check_exchanges(exchanges: &[Exchange], claim: &Claim, certificate: &Cert
     ensures yes { result ≡ Verdict.Yes → IsTraceable (claim_data claim.now)
         (samples_of exchanges.now (claim_data claim.now)) }
 
+    // The same of each piece by itself, in every course that fits what its entries name.
+    ensures by_pieces { result ≡ Verdict.Yes → IsTraceableByPieces (claim_data claim.now)
+        (samples_of exchanges.now (claim_data claim.now)) (certificate_data certificate.now) }
+
     // In no such course does the clock show a reading of the piece.
     ensures contradiction { (k : ℕ) → result ≡ Verdict.No k Why.Contradiction →
         IsSomeAnd (slice_get
         (stretches_of (claim_data claim.now) (certificate_data certificate.now)) k)
         (IsContradicted (claim_data claim.now) (samples_of exchanges.now (claim_data claim.now))) }
+
+    // Where a hull is refused, the error lies in it, in every course that fits what the entries of
+    // its piece name.
+    ensures held { (k : ℕ) (why : Why) → result ≡ Verdict.No k why → IsOfHull why →
+        IsRefusedByHull (claim_data claim.now)
+        (samples_of exchanges.now (claim_data claim.now)) (certificate_data certificate.now)
+        k why }
 {
     verdicts_are_traceable();
     first_fault(&SampleSource::Made(exchanges, claim), claim, certificate)

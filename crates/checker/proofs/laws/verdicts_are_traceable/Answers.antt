@@ -1,20 +1,20 @@
-use Rattle.checker.proofs.TraceabilityLemmas.{Laws, traceable, contradiction}
+use Rattle.checker.proofs.TraceabilityLemmas.{traceable_by_pieces, traceable, contradiction, refused_by_hull}
 use Rattle.checker.proofs.laws.verdicts_are_traceable.Goals as goal
 
-laws : (c : goal.After-every_list_has_a_hull) → Laws
-laws c = record {
-  drift = c.drift_shows_on_the_clock_itself.ensures;
-  request = c.error_at_the_request_is_no_less.ensures;
-  reply = c.error_at_the_reply_is_no_more.ensures;
-  piece = c.error_lies_in_the_interval_of_the_piece.ensures;
-  fine = c.whole_points_are_fine_enough.ensures.hull;
-  hull = c.every_list_has_a_hull.ensures;
-}
+pub returns-clause-by_pieces : goal.returns-clause-by_pieces
+returns-clause-by_pieces c claim samples certificate lawful listed e =
+    traceable_by_pieces c.hulls_hold_the_error.ensures.piece claim samples certificate lawful listed e
 
 pub returns-clause-yes : goal.returns-clause-yes
 returns-clause-yes c claim samples certificate lawful listed e =
-    traceable (laws c) claim samples certificate lawful listed e
+    traceable c.hulls_hold_the_error.ensures.piece claim samples certificate lawful listed
+    c.capture_fits_each_piece.ensures e
 
 pub returns-clause-contradiction : goal.returns-clause-contradiction
 returns-clause-contradiction c claim samples certificate lawful listed k e =
-    contradiction (laws c) claim samples certificate lawful listed k e
+    contradiction c.hulls_hold_the_error.ensures.piece claim samples certificate lawful listed
+    c.capture_fits_each_piece.ensures k e
+
+pub returns-clause-held : goal.returns-clause-held
+returns-clause-held c claim samples certificate lawful listed k why e of_hull =
+    refused_by_hull c.hulls_hold_the_error.ensures.piece claim samples certificate lawful listed k why e of_hull

@@ -25,3 +25,19 @@ returns-clause-contradiction c k e =
     c.requires.claim
     (listed_samples c.args.exchanges.now (claim_data c.args.claim.now) _ c.requires.exchanges) k
     (sym c.first_fault.ensures ∙ e)
+
+pub returns-clause-by_pieces : goal.returns-clause-by_pieces
+returns-clause-by_pieces c e =
+    c.verdicts_are_traceable.ensures.by_pieces (claim_data c.args.claim.now)
+    (samples_of c.args.exchanges.now (claim_data c.args.claim.now)) (certificate_data c.args.certificate.now)
+    c.requires.claim
+    (listed_samples c.args.exchanges.now (claim_data c.args.claim.now) _ c.requires.exchanges)
+    (sym c.first_fault.ensures ∙ e)
+
+pub returns-clause-held : goal.returns-clause-held
+returns-clause-held c k why e of_hull =
+    c.verdicts_are_traceable.ensures.held (claim_data c.args.claim.now)
+    (samples_of c.args.exchanges.now (claim_data c.args.claim.now)) (certificate_data c.args.certificate.now)
+    c.requires.claim
+    (listed_samples c.args.exchanges.now (claim_data c.args.claim.now) _ c.requires.exchanges) k why
+    (sym c.first_fault.ensures ∙ e) of_hull

@@ -1,0 +1,108 @@
+-- A verdict is yes exactly where the certificate is accepted.
+use Rattle.std.proofs.Common.{◌≡◌, ℕ, ◌<◌, ℤ, pos, ◌≤ℤ◌, int_lt, ◌||◌, ◌↔◌, List, [], length, Some, None, refl, ap, ◌∙◌, subst, arith}
+use Rattle.std.proofs.lemmas.Bool.{cond-false}
+use Rattle.std.proofs.lemmas.Int.{ints}
+use Rattle.std.proofs.lemmas.Option.{slice_get_within}
+use Rattle.certificate.specs.Certificate.{PieceData, CertificateData}
+use Rattle.claim_file.specs.Claim.{ClaimData}
+use Rattle.intersection.specs.Hull.{IsHull, hull_of}
+use Rattle.intersection.specs.declared.kinds.Interval.{Interval}
+use Rattle.intersection.specs.declared.kinds.Hull.{Hull}
+use Rattle.intersection.specs.declared.kinds.Hull.TheVariants.{Unbounded, Empty, Bounded}
+use Rattle.sample_interval.specs.declared.kinds.Sample.{Sample}
+use Rattle.checker.specs.Acceptance.{ShowBound, IsAccepted}
+use Rattle.checker.specs.Piece.{group_intervals, piece_hull}
+use Rattle.checker.specs.Stretch.{begin_of, last_end}
+use Rattle.checker.specs.Verdict.{parts_after, hull_fault, parts_fault, piece_fault, verdict_of, PassBelow}
+use Rattle.checker.specs.declared.stretch.Stretch.{Stretch}
+use Rattle.checker.specs.declared.verdict.Verdict.TheVariants.{Yes}
+use Rattle.checker.specs.declared.verdict.Why.TheVariants.{Cut}
+use Rattle.checker.proofs.SaidLemmas.{said_from, taken_from}
+use Rattle.checker.proofs.VerdictLemmas.{HullGives, tested, inside_from, none_from_inside}
+
+-- the laws that the argument stands on
+pub record Laws : Type 0 where
+  pub yes : (samples : List Sample) (claim : ClaimData) (certificate : CertificateData)
+      → 0 < length certificate.pieces → last_end claim.first certificate.pieces ≡ claim.last
+      → PassBelow samples claim certificate (length certificate.pieces) → verdict_of samples claim certificate ≡ Yes
+  pub each : (samples : List Sample) (claim : ClaimData) (certificate : CertificateData)
+      → verdict_of samples claim certificate ≡ Yes → PassBelow samples claim certificate (length certificate.pieces)
+  pub covers : (samples : List Sample) (claim : ClaimData) (certificate : CertificateData)
+      → verdict_of samples claim certificate ≡ Yes
+      → (0 < length certificate.pieces) × (last_end claim.first certificate.pieces ≡ claim.last)
+  pub hull : (list : List Interval) (f : ℕ) → IsHull list f (hull_of list f)
+  pub one : (list : List Interval) (f : ℕ) (first second : Hull) → IsHull list f first → IsHull list f second
+      → first ≡ second
+
+module _ (laws : Laws) (samples : List Sample) (claim : ClaimData) where
+  -- ---- one piece
+
+  shows_hull : (stretch : Stretch) (entries : List (ℕ × ℕ)) (found : HullGives samples claim stretch entries None)
+      (hull : Hull) → piece_hull claim.groups claim.false_max found.parts ≡ hull → hull_fault claim.bound hull ≡ None
+      → stretch.begin ≤ℤ stretch.end → stretch.end ≤ℤ claim.last → ShowBound samples claim stretch entries
+  shows_hull stretch entries found Unbounded is e forward in_span = absurd cc
+  shows_hull stretch entries found Empty is e forward in_span = absurd cc
+  shows_hull stretch entries found (Bounded lo hi) is e forward in_span =
+      let said = said_from samples stretch claim.drift_ppb entries found.parts found.said in
+      let ends = inside_from claim.bound lo hi e in
+      let list = group_intervals claim.groups found.parts in
+      record {
+        forward = forward;
+        in_span = in_span;
+        parts = found.parts;
+        said = said.0;
+        no_server_twice = said.1;
+        lo = lo;
+        hi = hi;
+        hull = subst (IsHull list claim.false_max) is (laws.hull list claim.false_max);
+        above = ends.0;
+        below = ends.1;
+      }
+
+  shows : (begin : ℤ) (piece : PieceData) → piece_fault samples claim begin piece ≡ None
+      → ShowBound samples claim (record { begin = begin; end = pos piece.upto }) piece.entries
+  shows begin piece e =
+      let found = tested samples claim begin piece None tt e in
+      shows_hull (record { begin = begin; end = pos piece.upto }) piece.entries found.1 _ refl found.1.gives
+      found.0.0 found.0.1
+
+  passes : (begin : ℤ) (piece : PieceData)
+      → ShowBound samples claim (record { begin = begin; end = pos piece.upto }) piece.entries
+      → piece_fault samples claim begin piece ≡ None
+  passes begin piece shown =
+      let stretch : Stretch = record { begin = begin; end = pos piece.upto } in
+      let forward = shown.forward in
+      let in_span = shown.in_span in
+      let list = group_intervals claim.groups shown.parts in
+      let hull : hull_of list claim.false_max ≡ Bounded shown.lo shown.hi =
+      laws.one list claim.false_max (hull_of list claim.false_max) (Bounded shown.lo shown.hi)
+      (laws.hull list claim.false_max) shown.hull in
+      cond-false (int_lt (pos piece.upto) begin || int_lt claim.last (pos piece.upto)) (Some Cut)
+      (parts_fault claim (parts_after samples stretch claim.drift_ppb [] piece.entries)) (grind (arith, ints))
+      ∙ ap (parts_fault claim)
+      (taken_from samples stretch claim.drift_ppb piece.entries shown.parts shown.said shown.no_server_twice)
+      ∙ ap (hull_fault claim.bound) hull
+      ∙ none_from_inside claim.bound shown.lo shown.hi shown.above shown.below
+
+  -- ---- the certificate
+
+  accepted_from : (certificate : CertificateData) → verdict_of samples claim certificate ≡ Yes
+      → IsAccepted samples claim certificate
+  accepted_from certificate e =
+      let ends = laws.covers samples claim certificate e in
+      record {
+        some_piece = ends.0;
+        ends_with_span = ends.1;
+        each = λ k piece at. shows (begin_of claim.first certificate.pieces k) piece
+            (laws.each samples claim certificate e k piece (slice_get_within certificate.pieces k piece at) at);
+      }
+
+  yes_from : (certificate : CertificateData) → IsAccepted samples claim certificate
+      → verdict_of samples claim certificate ≡ Yes
+  yes_from certificate accepted =
+      laws.yes samples claim certificate accepted.some_piece accepted.ends_with_span
+      (λ k piece below at. passes (begin_of claim.first certificate.pieces k) piece (accepted.each k piece at))
+
+  pub acceptance : (certificate : CertificateData)
+      → (verdict_of samples claim certificate ≡ Yes) ↔ IsAccepted samples claim certificate
+  acceptance certificate = (accepted_from certificate, yes_from certificate)

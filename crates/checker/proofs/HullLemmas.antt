@@ -1,0 +1,249 @@
+-- Why a hull holds the error: from what entries name of a course to the hull of what they say.
+use Rattle.std.proofs.Common.{◌≡◌, ℕ, ◌<◌, ◌≤◌, ℤ, pos, ◌*ℤ◌, ◌≤ℤ◌, Bool, true, false, ◌&&◌, List, [], ◌∷◌, length, Option, Some, None, refl, sym, ap, ◌∙◌, subst, arith}
+use Rattle.std.specs.Prelude.{All, slice_get, ◌==◌}
+use Rattle.std.specs.Option.{option_map}
+use Rattle.std.proofs.lemmas.Bool.Decides.{nat_tests}
+use Rattle.std.proofs.lemmas.Map.Keys.{any_passes_from_place}
+use Rattle.std.proofs.lemmas.Option.{slice_get-map}
+use Rattle.claim_file.specs.Claim.{ClaimData, IsLawful}
+use Rattle.intersection.specs.Fraction.{HoldsFraction, IsAdmissibleFraction, HullHoldsFraction}
+use Rattle.intersection.specs.Hull.{IsHull, hull_of}
+use Rattle.intersection.specs.declared.kinds.Interval.{Interval}
+use Rattle.intersection.specs.declared.kinds.Hull.{Hull}
+use Rattle.pairing.specs.declared.exchange.Exchange.{Exchange}
+use Rattle.sample_interval.specs.Moment.{Moment, error_of, DriftsWithin, DriftsWithinByReading, IsInWindow, IsWithinDistance}
+use Rattle.sample_interval.specs.Sample.{sample_of, least_error, greatest_error}
+use Rattle.sample_interval.specs.Widening.{billion}
+use Rattle.sample_interval.specs.Window.{request_start, request_end, reply_start, reply_end}
+use Rattle.sample_interval.specs.declared.kinds.Sample.{Sample}
+use Rattle.span_cover.specs.Piece.{piece_interval_of}
+use Rattle.checker.specs.Acceptance.{IsSaidBy, AreSaidBy}
+use Rattle.checker.specs.Comparison.{IsOfSamples}
+use Rattle.checker.specs.Course.{Course, Fits}
+use Rattle.checker.specs.Groups.{false_group_count}
+use Rattle.checker.specs.Piece.{group_intervals, piece_hull}
+use Rattle.checker.specs.PieceFit.{is_with, has_entry, FitsPiece}
+use Rattle.checker.specs.Traceability.{samples_of, IsObservedIn, IsInHull, HoldsError, HoldsErrorOfPiece}
+use Rattle.checker.specs.declared.part.Part.{Part}
+use Rattle.checker.specs.declared.stretch.Stretch.{Stretch}
+use Rattle.checker.proofs.PartLemmas.{All-slice_get}
+use Rattle.checker.proofs.CountingLemmas.{few_leave_it_out}
+use Rattle.checker.proofs.PieceFitLemmas.{fits_piece}
+use Rattle.checker.proofs.SaidLemmas.{zip_all}
+
+-- the law on the error throughout a piece
+abbrev pub PieceLaw : Type 0
+PieceLaw =
+    (n ppb : ℕ) (low high : Sample) (p q : ℤ) (request reply observed : Moment) → ppb < billion
+    → IsInWindow n p q observed.reading
+    → IsInWindow n low.low_from low.low_to request.reading
+    → (low.low *ℤ pos n) ≤ℤ error_of request → DriftsWithinByReading ppb request observed
+    → IsInWindow n high.high_from high.high_to reply.reading
+    → error_of reply ≤ℤ (high.high *ℤ pos n) → DriftsWithinByReading ppb reply observed
+    → HoldsFraction (piece_interval_of low high p q ppb) (error_of observed) n
+
+-- the laws of the layers below that the argument stands on
+pub record Laws : Type 0 where
+  pub drift : (ppb : ℕ) (a b : Moment) → ppb ≤ billion → DriftsWithin ppb a b → DriftsWithinByReading ppb a b
+  pub request : (x : Exchange) (allowance : ℤ) (n : ℕ) (request : Moment) (received : ℤ)
+      → IsInWindow n (request_start x allowance) (request_end x allowance) request.reading
+      → request.time ≤ℤ received → IsWithinDistance n x.t2 x.distance received
+      → (least_error x allowance *ℤ pos n) ≤ℤ error_of request
+  pub reply : (x : Exchange) (allowance : ℤ) (n : ℕ) (reply : Moment) (sent : ℤ)
+      → IsInWindow n (reply_start x allowance) (reply_end x allowance) reply.reading
+      → sent ≤ℤ reply.time → IsWithinDistance n x.t3 x.distance sent
+      → error_of reply ≤ℤ (greatest_error x allowance *ℤ pos n)
+  pub piece : PieceLaw
+  pub fine : (list : List Interval) (f : ℕ) (hull : Hull) (e : ℤ) (n : ℕ) → 0 < n
+      → IsAdmissibleFraction list f e n → IsHull list f hull → HullHoldsFraction hull e n
+  pub hull : (list : List Interval) (f : ℕ) → IsHull list f (hull_of list f)
+
+-- ---- samples and their exchanges
+
+module _ (xs : List Exchange) (claim : ClaimData) (samples : List Sample) where
+  -- the exchange that a sample is made of
+  pub record MadeOf (k : ℕ) (sample : Sample) : Type 0 where
+    pub exchange : Exchange
+    pub at : slice_get xs k ≡ Some exchange
+    pub is : sample_of exchange claim.reading ≡ sample
+
+  made_from : (k : ℕ) (sample : Sample) (o : Option Exchange) → slice_get xs k ≡ o
+      → option_map (λ x. sample_of x claim.reading) o ≡ Some sample → MadeOf k sample
+  made_from k sample None at is = absurd cc
+  made_from k sample (Some x) at is =
+      record { exchange = x; at = at; is = (let same : sample_of x claim.reading ≡ sample = cc in same) }
+
+  made_of : (k : ℕ) (sample : Sample) → samples ≡ samples_of xs claim → slice_get samples k ≡ Some sample
+      → MadeOf k sample
+  made_of k sample made at = made_from k sample (slice_get xs k) refl
+      (sym (slice_get-map (λ x. sample_of x claim.reading) xs k)
+      ∙ ap (λ (s : List Sample). slice_get s k) (sym made) ∙ at)
+
+-- ---- one course
+
+same_passes : (a b : ℕ) → a ≡ b → (a == b) ≡ true
+same_passes a b is = grind (arith, nat_tests)
+
+-- one that is named and doesn't count as false isn't false
+true_of_used : (false' named : Bool) → named ≡ true → (false' && named) ≡ false → false' ≡ false
+true_of_used true named is unused = absurd (let no : true ≡ false = sym is ∙ unused in cc)
+true_of_used false named is unused = refl
+
+module _ (laws : Laws) (claim : ClaimData) (samples : List Sample) (lawful : IsLawful claim) (xs : List Exchange)
+    (course : Course) (made : samples ≡ samples_of xs claim) where
+  -- the error when the clock is observed
+  abbrev error : ℤ
+  error = error_of course.observation
+
+  -- a part's interval holds it
+  abbrev Holds : Part → Type 0
+  Holds part = HoldsFraction part.interval error course.fineness
+
+  by_reading : (moment : Moment) → DriftsWithin claim.drift_ppb moment course.observation
+      → DriftsWithinByReading claim.drift_ppb moment course.observation
+  by_reading moment drifts =
+      let rate = lawful.drift_in_range in
+      laws.drift claim.drift_ppb moment course.observation (omega arith) drifts
+
+  -- a part's server is that of the exchange for its low end
+  server_of : (stretch : Stretch) (entry : ℕ × ℕ) (part : Part)
+      (said : IsSaidBy samples stretch claim.drift_ppb entry part)
+      → (made_of xs claim samples entry.0 said.low made said.low_is).exchange.server ≡ part.server
+  server_of stretch entry part said =
+      let first = made_of xs claim samples entry.0 said.low made said.low_is in
+      ap (λ (s : Sample). s.server) first.is ∙ sym (ap (λ (p : Part). p.server) said.is)
+
+  module _ (entries : List (ℕ × ℕ)) (fits : FitsPiece claim xs entries course) (stretch : Stretch)
+      (observed : IsObservedIn course stretch.begin stretch.end) where
+    -- the interval of two exchanges with a server that isn't false
+    exchanges_hold : (j a b : ℕ) (x y : Exchange) → slice_get entries j ≡ Some (a, b) → slice_get xs a ≡ Some x
+        → slice_get xs b ≡ Some y → course.is_false x.server ≡ false → course.is_false y.server ≡ false
+        → HoldsFraction
+        (piece_interval_of (sample_of x claim.reading) (sample_of y claim.reading) stretch.begin stretch.end
+        claim.drift_ppb)
+        error course.fineness
+    exchanges_hold j a b x y named at_a at_b true_x true_y =
+        let rate = lawful.drift_in_range in
+        let windows = fits.in_windows j a b x y named at_a at_b in
+        let drifts = fits.drift j a b x y named at_a at_b in
+        let order = fits.ordered j a b x y named at_a at_b true_x true_y in
+        let near = fits.within_root_distance j a b x y named at_a at_b true_x true_y in
+        laws.piece course.fineness claim.drift_ppb (sample_of x claim.reading) (sample_of y claim.reading)
+        stretch.begin stretch.end (course.request a) (course.reply b) course.observation (omega arith) observed
+        windows.0
+        (laws.request x claim.reading course.fineness (course.request a) (course.received a) windows.0 order.0 near.0)
+        (by_reading (course.request a) drifts.0) windows.1
+        (laws.reply y claim.reading course.fineness (course.reply b) (course.sent b) windows.1 order.1 near.1)
+        (by_reading (course.reply b) drifts.1)
+
+    -- what an entry says holds the error, where its server isn't false
+    pub entry_holds : (j : ℕ) (entry : ℕ × ℕ) (part : Part) → slice_get entries j ≡ Some entry
+        → IsSaidBy samples stretch claim.drift_ppb entry part → course.is_false part.server ≡ false → Holds part
+    entry_holds j entry part named said true' =
+        let first = made_of xs claim samples entry.0 said.low made said.low_is in
+        let second = made_of xs claim samples entry.1 said.high made said.high_is in
+        let x = first.exchange in
+        let y = second.exchange in
+        let of_x = server_of stretch entry part said in
+        let true_x : course.is_false x.server ≡ false = ap course.is_false of_x ∙ true' in
+        let true_y : course.is_false y.server ≡ false =
+        ap (λ (s : Sample). course.is_false s.server) second.is ∙ ap course.is_false (sym said.one_server)
+        ∙ ap (λ (s : Sample). course.is_false s.server) (sym first.is) ∙ true_x in
+        let holds = exchanges_hold j entry.0 entry.1 x y named first.at second.at true_x true_y in
+        let at_first : (s : Sample) → Type 0 = λ s. HoldsFraction
+        (piece_interval_of s (sample_of y claim.reading) stretch.begin stretch.end claim.drift_ppb)
+        error course.fineness in
+        let at_second : (s : Sample) → Type 0 = λ s. HoldsFraction
+        (piece_interval_of said.low s stretch.begin stretch.end claim.drift_ppb) error course.fineness in
+        subst Holds (sym said.is) (subst at_second second.is (subst at_first first.is holds))
+
+    -- and its server has an entry
+    is_named : (j : ℕ) (entry : ℕ × ℕ) (part : Part) → slice_get entries j ≡ Some entry
+        → IsSaidBy samples stretch claim.drift_ppb entry part → has_entry xs entries part.server ≡ true
+    is_named j entry part named said =
+        let first = made_of xs claim samples entry.0 said.low made said.low_is in
+        let of_x = server_of stretch entry part said in
+        any_passes_from_place (λ (e : ℕ × ℕ). is_with part.server (slice_get xs e.0)) entries j entry named
+        (ap (is_with part.server) first.at ∙ same_passes first.exchange.server part.server of_x)
+
+  said_of : (stretch : Stretch) (part : Part) (given : IsOfSamples samples stretch claim.drift_ppb part)
+      → IsSaidBy samples stretch claim.drift_ppb (given.low_number, given.high_number) part
+  said_of stretch part given = record {
+    low = given.low;
+    high = given.high;
+    low_is = given.low_is;
+    high_is = given.high_is;
+    one_server = given.one_server;
+    is = given.is;
+  }
+
+  lone_holds : (fits : Fits claim xs course) (stretch : Stretch)
+      (observed : IsObservedIn course stretch.begin stretch.end) (part : Part)
+      → IsOfSamples samples stretch claim.drift_ppb part → course.is_false part.server ≡ false → Holds part
+  lone_holds fits stretch observed part given true' =
+      let entry : ℕ × ℕ = (given.low_number, given.high_number) in
+      entry_holds (entry ∷ []) (fits_piece claim xs (entry ∷ []) course fits) stretch observed 0 entry part refl
+      (said_of stretch part given) true'
+
+  -- ---- the hull
+
+  listed_at : (stretch : Stretch) (entry : ℕ × ℕ) (part : Part)
+      → All (λ sample. sample.server < length claim.servers) samples
+      → IsSaidBy samples stretch claim.drift_ppb entry part → part.server < length claim.groups
+  listed_at stretch entry part listed said =
+      let low = All-slice_get (λ (s : Sample). s.server < length claim.servers) samples entry.0 said.low listed
+      said.low_is in
+      let same = ap (λ (p : Part). p.server) said.is in
+      let count = lawful.group_for_each in
+      omega (arith, same, low, count)
+
+  -- the hull of parts that hold the error, but those of a server that is false
+  hull_of_parts : (is_false : ℕ → Bool) (parts : List Part) → 0 < course.fineness
+      → false_group_count claim.groups is_false ≤ claim.false_max
+      → All (λ part. part.server < length claim.groups) parts
+      → All (λ part. is_false part.server ≡ false → Holds part) parts
+      → IsInHull course (piece_hull claim.groups claim.false_max parts)
+  hull_of_parts is_false parts some few listed hold =
+      let list = group_intervals claim.groups parts in
+      laws.fine list claim.false_max (hull_of list claim.false_max) error course.fineness some
+      (few_leave_it_out claim.groups parts is_false error course.fineness listed hold claim.false_max few)
+      (laws.hull list claim.false_max)
+
+  pub holds_of_piece : (entries : List (ℕ × ℕ)) (parts : List Part) (stretch : Stretch)
+      → All (λ sample. sample.server < length claim.servers) samples → FitsPiece claim xs entries course
+      → IsObservedIn course stretch.begin stretch.end → AreSaidBy samples stretch claim.drift_ppb entries parts
+      → IsInHull course (piece_hull claim.groups claim.false_max parts)
+  holds_of_piece entries parts stretch listed fits observed said =
+      let used : ℕ → Bool = λ server. course.is_false server && has_entry xs entries server in
+      hull_of_parts used parts fits.some_fineness fits.few_false
+      (zip_all (IsSaidBy samples stretch claim.drift_ppb) (λ part. part.server < length claim.groups) entries parts said
+      (λ j entry part named is. listed_at stretch entry part listed is))
+      (zip_all (IsSaidBy samples stretch claim.drift_ppb) (λ part. used part.server ≡ false → Holds part) entries parts
+      said
+      (λ j entry part named is unused. entry_holds entries fits stretch observed j entry part named is
+      (true_of_used (course.is_false part.server) (has_entry xs entries part.server)
+      (is_named entries fits stretch observed j entry part named is) unused)))
+
+  pub holds_of_capture : (parts : List Part) (stretch : Stretch)
+      → All (λ sample. sample.server < length claim.servers) samples → Fits claim xs course
+      → IsObservedIn course stretch.begin stretch.end → All (IsOfSamples samples stretch claim.drift_ppb) parts
+      → IsInHull course (piece_hull claim.groups claim.false_max parts)
+  holds_of_capture parts stretch listed fits observed of_samples =
+      hull_of_parts course.is_false parts fits.some_fineness fits.few_false
+      (λ k d below. listed_at stretch _ _ listed (said_of stretch _ (of_samples k d below)))
+      (λ k d below. lone_holds fits stretch observed _ (of_samples k d below))
+
+-- ---- the law
+
+module _ (laws : Laws) (claim : ClaimData) (samples : List Sample) (lawful : IsLawful claim)
+    (listed : All (λ sample. sample.server < length claim.servers) samples) where
+  pub piece_holds : (stretch : Stretch) (entries : List (ℕ × ℕ)) (parts : List Part)
+      → AreSaidBy samples stretch claim.drift_ppb entries parts
+      → HoldsErrorOfPiece claim samples entries stretch (piece_hull claim.groups claim.false_max parts)
+  piece_holds stretch entries parts said xs course made fits observed =
+      holds_of_piece laws claim samples lawful xs course made entries parts stretch listed fits observed said
+
+  pub capture_holds : (stretch : Stretch) (parts : List Part) → All (IsOfSamples samples stretch claim.drift_ppb) parts
+      → HoldsError claim samples stretch (piece_hull claim.groups claim.false_max parts)
+  capture_holds stretch parts of_samples xs course made fits observed =
+      holds_of_capture laws claim samples lawful xs course made parts stretch listed fits observed of_samples

@@ -1,0 +1,26 @@
+-- What each server says over a stretch by its best samples, those that make its interval there
+-- narrowest.
+use Rattle.std.specs.Prelude.{ℕ, List, length, filter_map, Option}
+use Rattle.std.specs.Option.{option_map}
+use Rattle.claim_file.specs.Claim.{ClaimData}
+use Rattle.intersection.specs.declared.kinds.Interval.{Interval}
+use Rattle.sample_interval.specs.declared.kinds.Sample.{Sample}
+use Rattle.span_cover.specs.Gathering.{best_interval}
+use Rattle.checker.specs.Groups.{numbers_below}
+use Rattle.checker.specs.declared.part.Part.{Part}
+use Rattle.checker.specs.declared.stretch.Stretch.{Stretch}
+
+-- an interval, as what a server says
+abbrev pub said_by : ℕ → Interval → Part
+said_by server interval = record { server = server; interval = interval }
+
+-- what a server says, where it has a sample
+abbrev pub best_part : List Sample → Stretch → ℕ → ℕ → Option Part
+best_part samples stretch ppb server =
+    option_map (said_by server) (best_interval samples server stretch.begin stretch.end ppb)
+
+-- what each server says that has a sample, in the order of the servers
+abbrev pub best_parts : ClaimData → List Sample → Stretch → List Part
+best_parts claim samples stretch =
+    filter_map (best_part samples stretch claim.drift_ppb)
+    (numbers_below (length claim.servers))
