@@ -14,8 +14,8 @@ use intersection::kinds::Hull;
 use sample_interval::kinds::Sample;
 use span_cover::piece_interval;
 
-/// What the entries of a piece say, in their order.
-fn parts(
+/// What the entries of a piece say, in their order: the interval of each server that has one.
+pub fn parts(
     samples: &[Sample],
     claim: &Claim,
     stretch: Stretch,
