@@ -1,22 +1,20 @@
 -- What is found with other bounds.
-use Rattle.std.proofs.Common.{◌≡◌, ℕ, ◌+◌, ◌<◌, ◌≤◌, pos, Bool, true, false, not, max, List, Option, Some, None, Result, Ok, Err, refl, sym, ap, ◌∙◌, ⊎_elim, arith, nat_lt}
-use Rattle.std.proofs.lemmas.Bool.{cond-true, cond-false, cases_lt}
+use Rattle.std.proofs.Common.{◌≡◌, ℕ, ◌<◌, ◌≤◌, pos, Bool, true, false, not, List, Option, Some, None, Ok, Err, refl, sym, ap, ◌∙◌, ⊎_elim, arith}
+use Rattle.std.proofs.lemmas.Bool.{cases_lt}
 use Rattle.era_unfold.specs.Nanoseconds.{ticks_down}
-use Rattle.era_unfold.specs.Ratio.{ceiling_of}
 use Rattle.certificate.specs.Certificate.{max_pieces}
 use Rattle.claim_file.specs.Claim.{ClaimData}
 use Rattle.sample_interval.specs.declared.kinds.Sample.{Sample}
 use Rattle.finder.specs.Entry.{best_hull, is_inside}
-use Rattle.finder.specs.Envelope.{EnvelopeData, HasNoEnds, IsInside, IsLeast, IsLeastBound, IsFirstInNeed, IsFirstWithout, IsCertified, IsNotCertified, envelope_of, envelope_to, least_of, with_bound}
+use Rattle.finder.specs.Envelope.{EnvelopeData, IsInside, IsLeast, IsCertified, IsNotCertified, envelope_of, envelope_to, least_of, with_bound}
 use Rattle.finder.specs.Found.{hull_at, passes, first_failing, found_without, found_of}
 use Rattle.finder.specs.Piece.{count_of, piece_count_of}
-use Rattle.finder.specs.declared.fault.FindFault.{FindFault}
 use Rattle.finder.specs.declared.least.LeastBound.{LeastBound}
 use Rattle.finder.specs.declared.least.LeastBound.TheVariants.{Holds, NoneHolds}
 use Rattle.finder.proofs.AnswerLemmas.{found_of_few}
 use Rattle.finder.proofs.BoundLemmas.{Roundings, least_is_least, none_inside, wider}
 use Rattle.finder.proofs.EnvelopeLemmas.{envelope_of_few, envelope_of_many}
-use Rattle.finder.proofs.ListLemmas.{find_none, find_is_none, by_test}
+use Rattle.finder.proofs.ListLemmas.{find_none, find_is_none}
 
 was_not : (b : Bool) → not b ≡ false → b ≡ true
 was_not true e = refl
@@ -41,7 +39,7 @@ module _ (samples : List Sample) (claim : ClaimData) (step m : ℕ) where
       (λ k from to. ap not (passes_is k ∙ all k (omega (arith, to)))) in (
         _,
         found_of_few samples (with_bound claim m) step few
-          ∙ ap (λ (o : Option ℕ). Ok (found_without samples (with_bound claim m) step o)) none,
+            ∙ ap (λ (o : Option ℕ). Ok (found_without samples (with_bound claim m) step o)) none,
       )
 
   not_carried_at : (o : Option ℕ) → first_failing samples (with_bound claim m) step ≡ o
@@ -57,7 +55,7 @@ module _ (samples : List Sample) (claim : ClaimData) (step m : ℕ) where
     k,
     hull_at samples (with_bound claim m) step k,
     found_of_few samples (with_bound claim m) step few
-      ∙ ap (λ (o : Option ℕ). Ok (found_without samples (with_bound claim m) step o)) is,
+        ∙ ap (λ (o : Option ℕ). Ok (found_without samples (with_bound claim m) step o)) is,
   )
 
   not_carried : ¬ ((k : ℕ) → k < count_of claim step → IsInside m (hull_at samples claim step k))
@@ -92,30 +90,30 @@ module _ (samples : List Sample) (claim : ClaimData) (step : ℕ) where
 
   module _ (roundings : Roundings) (envelope : EnvelopeData) (found : envelope_of samples claim step ≡ Ok envelope)
     where
-    least_is : (least : LeastBound) → envelope.least ≡ least
-        → IsLeast (hull_at samples claim step) (count_of claim step) least
-    least_is least e =
-        rw (← e, ← (says envelope found).is)
-        (least_is_least roundings (hull_at samples claim step) (count_of claim step) some_piece)
+      least_is : (least : LeastBound) → envelope.least ≡ least
+          → IsLeast (hull_at samples claim step) (count_of claim step) least
+      least_is least e =
+          rw (← e, ← (says envelope found).is)
+          (least_is_least roundings (hull_at samples claim step) (count_of claim step) some_piece)
 
-    pub holds : (n k m : ℕ) → envelope.least ≡ Holds n k → n ≤ m
-        → IsCertified (found_of samples (with_bound claim m) step)
-    holds n k m e le =
-        let least = (least_is (Holds n k) e).0 in
-        carried samples claim step m (says envelope found).few
-        (λ j below. wider roundings n m (hull_at samples claim step j) le (least.all_inside j below))
+      pub holds : (n k m : ℕ) → envelope.least ≡ Holds n k → n ≤ m
+          → IsCertified (found_of samples (with_bound claim m) step)
+      holds n k m e le =
+          let least = (least_is (Holds n k) e).0 in
+          carried samples claim step m (says envelope found).few
+          (λ j below. wider roundings n m (hull_at samples claim step j) le (least.all_inside j below))
 
-    pub no_lesser : (n k m : ℕ) → envelope.least ≡ Holds n k → m < n
-        → IsNotCertified (found_of samples (with_bound claim m) step)
-    no_lesser n k m e less =
-        let least = (least_is (Holds n k) e).0 in
-        not_carried samples claim step m (λ all. let le = least.least m all in absurd (omega arith))
-        (says envelope found).few
+      pub no_lesser : (n k m : ℕ) → envelope.least ≡ Holds n k → m < n
+          → IsNotCertified (found_of samples (with_bound claim m) step)
+      no_lesser n k m e less =
+          let least = (least_is (Holds n k) e).0 in
+          not_carried samples claim step m (λ all. let le = least.least m all in absurd (omega arith))
+          (says envelope found).few
 
-    pub none_holds : (k m : ℕ) → envelope.least ≡ NoneHolds k
-        → IsNotCertified (found_of samples (with_bound claim m) step)
-    none_holds k m e =
-        let first = least_is (NoneHolds k) e in
-        not_carried samples claim step m
-        (λ all. none_inside m (hull_at samples claim step k) (all k first.of_span) first.without)
-        (says envelope found).few
+      pub none_holds : (k m : ℕ) → envelope.least ≡ NoneHolds k
+          → IsNotCertified (found_of samples (with_bound claim m) step)
+      none_holds k m e =
+          let first = least_is (NoneHolds k) e in
+          not_carried samples claim step m
+          (λ all. none_inside m (hull_at samples claim step k) (all k first.of_span) first.without)
+          (says envelope found).few

@@ -1,9 +1,10 @@
 -- The pieces of an envelope, one after another.
-use Rattle.std.proofs.Common.{◌≡◌, ℕ, zero, suc, ◌+◌, ◌<◌, ◌≤◌, nat_lt, ℤ, true, false, List, [], ◌∷◌, ◌++◌, length, map, Ok, Err, refl, sym, ap, ◌∙◌, arith, add-one}
+use Rattle.std.proofs.Common.{◌≡◌, ℕ, zero, suc, ◌+◌, ◌<◌, ◌≤◌, nat_lt, true, false, List, [], ◌∷◌, ◌++◌, length, map, Ok, Err, sym, ap, ◌∙◌, arith, add-one, subst}
 use Rattle.std.specs.Prelude.{All}
 use Rattle.std.specs.List.{range_with_len}
 use Rattle.std.proofs.lemmas.Bool.{cond-true, cond-false}
 use Rattle.std.proofs.lemmas.Bool.Decides.{nat_tests}
+use Rattle.std.proofs.lemmas.List.{get_or-map, length-map}
 use Rattle.std.proofs.lemmas.List.Elements.{All-nil, All-cons}
 use Rattle.std.proofs.lemmas.List.FromFn.{map-range_with_len_more}
 use Rattle.certificate.specs.Certificate.{max_pieces}
@@ -25,6 +26,13 @@ too_many n h = grind (arith, nat_tests)
 
 few : (n : ℕ) → n ≤ max_pieces → nat_lt max_pieces n ≡ false
 few n h = grind (arith, nat_tests)
+
+-- what holds of what f gives of each holds of each
+pub All-from_map : {X Y : Type 0} (P : Y → Type 0) (f : X → Y) (xs : List X) → All P (map f xs)
+    → All (λ x. P (f x)) xs
+All-from_map P f xs all k d within =
+    let same = length-map xs f in
+    subst P (get_or-map f xs k d (f d) within) (all k (f d) (omega (arith, same, within)))
 
 module _ (samples : List Sample) (claim : ClaimData) (step : ℕ) where
   pub envelope_of_many : max_pieces < count_of claim step → envelope_of samples claim step ≡ Err TooManyPieces

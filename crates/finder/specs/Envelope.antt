@@ -6,7 +6,7 @@
 -- says how good the clock is known to be: the claim's own bound plays no part in it. If a hull has
 -- no ends, or nothing in it, then no bound holds.
 use Rattle.std.specs.Prelude.{◌≡◌, ◌⊎◌, ℕ, zero, suc, ◌*◌, ◌<◌, ◌≤◌, ◌^◌, max, nat_lt, ⊤, if◌then◌else◌}
-use Rattle.std.specs.Prelude.{ℤ, pos, unsigned_abs, true, List, map, length, All, Result, Ok, Err}
+use Rattle.std.specs.Prelude.{ℤ, pos, unsigned_abs, true, List, map, All, Result, Ok, Err}
 use Rattle.std.specs.Int.{int_max, int_min}
 use Rattle.std.specs.List.{range_with_len}
 use Rattle.era_unfold.specs.Nanoseconds.{nanoseconds_per_second, ticks_down}
@@ -184,6 +184,6 @@ abbrev pub IsBelowLimit : LeastBound → Type 0
 IsBelowLimit (Holds n k) = n < 2 ^ 127
 IsBelowLimit (NoneHolds k) = ⊤
 
-pub record IsLawfulEnvelope (samples : ℕ) (envelope : EnvelopeData) : Type 0 where
-  pub pieces : All (IsLawfulPiece samples) envelope.pieces
+pub record IsLawfulEnvelope (samples : ℕ) (envelope : Envelope) : Type 0 where
+  pub pieces : All (λ piece. IsLawfulPiece samples (piece_data piece)) envelope.pieces.items
   pub least : IsBelowLimit envelope.least

@@ -74,8 +74,7 @@ pub fn find_envelope(
 
     ensures least { IfOk result (λ found. IsLeast (hull_at samples.now (claim_data claim.now) step_s)
         (count_of (claim_data claim.now) step_s) found.least) }
-    ensures lawful { IfOk result (λ found.
-        IsLawfulEnvelope (length samples.now) (data_of found)) }
+    ensures lawful { IfOk result (IsLawfulEnvelope (length samples.now)) }
 {
     last_piece_ends_with_the_span();
     least_bound_is_the_least();
@@ -101,8 +100,7 @@ fn envelope_to(
     requires listed { All (λ sample. sample.server < length claim.now.servers.items) samples.now }
     ensures value { IfOk result (λ found.
         data_of found ≡ envelope_to samples.now (claim_data claim.now) step_s count) }
-    ensures lawful { IfOk result (λ found.
-        IsLawfulEnvelope (length samples.now) (data_of found)) }
+    ensures lawful { IfOk result (IsLawfulEnvelope (length samples.now)) }
 {
     let tables = tables(alloc, samples, claim, step_s, count)?;
     let mut pieces = Vec::with_capacity(alloc, count as usize)?;

@@ -1,11 +1,11 @@
-use Rattle.std.proofs.Common.{◌≡◌, ◌<◌, length, map, sym, ap, ◌∙◌, arith, add-one, refl}
+use Rattle.std.proofs.Common.{◌≡◌, length, map, ap, ◌∙◌, arith, add-one}
 use Rattle.std.specs.Prelude.{All}
 use Rattle.std.proofs.lemmas.List.{map-append}
 use Rattle.claim_file.specs.Claim.{data_of as claim_data}
-use Rattle.finder.specs.Envelope.{IsLawfulPiece, piece_data, with_piece}
+use Rattle.finder.specs.Envelope.{IsLawfulPiece, piece_data}
 use Rattle.finder.specs.Piece.{stretch_at}
 use Rattle.finder.proofs.EntryLemmas.{entries_there}
-use Rattle.finder.proofs.EnvelopeLemmas.{envelope_is, lawful_pieces, least_more, piece_hulls_more}
+use Rattle.finder.proofs.EnvelopeLemmas.{All-from_map, envelope_is, lawful_pieces, least_more, piece_hulls_more}
 use Rattle.finder.proofs.FoundLemmas.{hull_is, stretch_is}
 use Rattle.finder.proofs.PieceLemmas.{piece_of_claim, end_kept}
 use Rattle.finder.proofs.envelope.envelope_to.Goals as goal
@@ -69,4 +69,7 @@ returns-clause-lawful c =
     let all : All (IsLawfulPiece (length c.args.samples.now)) (map piece_data c.loop-number.pieces.items) =
     rw c.loop-number.invariant.pieces
     (lawful_pieces c.args.samples.now claim c.args.step_s c.requires.claim c.loop-number.number) in
-    record { pieces = all; least = c.loop-number.invariant.below }
+    record {
+      pieces = All-from_map (IsLawfulPiece (length c.args.samples.now)) piece_data c.loop-number.pieces.items all;
+      least = c.loop-number.invariant.below;
+    }

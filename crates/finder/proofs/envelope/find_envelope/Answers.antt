@@ -1,7 +1,7 @@
-use Rattle.std.proofs.Common.{◌≡◌, ◌<◌, ◌≤◌, inr, ◌∙◌, sym, ap, arith, Ok}
+use Rattle.std.proofs.Common.{◌≡◌, ◌<◌, ◌≤◌, inr, ◌∙◌, sym, ap, Ok}
 use Rattle.certificate.specs.Certificate.{max_pieces}
 use Rattle.claim_file.specs.Claim.{data_of as claim_data}
-use Rattle.finder.specs.Envelope.{IsLeast, data_of, envelope_to}
+use Rattle.finder.specs.Envelope.{data_of, envelope_to}
 use Rattle.finder.specs.Found.{hull_at}
 use Rattle.finder.specs.Piece.{count_of}
 use Rattle.finder.proofs.EnvelopeLemmas.{envelope_of_many, envelope_of_few, least_of_envelope}
