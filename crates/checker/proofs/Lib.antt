@@ -13,3 +13,4 @@ pub mod OrderLemmas
 pub mod ApartLemmas
 pub mod NarrowLemmas
 pub mod SpanLemmas
+mod RefutationLemmas

@@ -8,3 +8,5 @@ pub mod Source
 pub mod WorkedCourse
 pub mod Comparison
 pub mod Span
+pub mod Refutation
+pub mod RefutationTest

@@ -13,11 +13,13 @@ mod group;
 pub mod laws;
 mod part;
 mod piece;
+mod refutation;
 mod source;
 mod stretch;
 mod verdict;
 
 pub use group::piece_hull;
 pub use part::Part;
+pub use refutation::check_refutation;
 pub use stretch::Stretch;
 pub use verdict::{Verdict, Why, check, check_exchanges};

@@ -1,0 +1,14 @@
+use Rattle.std.proofs.Common.{sym, length, ◌==◌, ◌&&◌, arith, ◌∙◌}
+use Rattle.std.specs.Prelude.{slice_index}
+use Rattle.std.proofs.lemmas.Bool.Decides.{nat_tests}
+use Rattle.checker.specs.Refutation.{is_liar}
+use Rattle.checker.proofs.RefutationLemmas.{found_below, both_pass}
+use Rattle.checker.proofs.refutation.holds_liar.Goals as goal
+
+pub returns-then-contains : goal.returns-then-contains
+returns-then-contains c =
+    sym (found_below
+    (λ server. (slice_index c.args.groups.now server == c.args.group) && is_liar c.args.liars.now server)
+    (length c.args.groups.now) c.loop-server.server c.loop-server-test.true
+    (both_pass _ c.args.group _ (sym c.from.ensures ∙ c.if-from-group.true)
+    (sym c.contains.ensures.value ∙ c.if-contains.true)))

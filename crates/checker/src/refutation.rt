@@ -1,0 +1,217 @@
+//! Whether a refutation stands.
+
+ghost use Rattle.std.specs.Prelude.{◌≡◌, ◌↔◌, ◌≤◌, ◌^◌, pos, ◌+ℤ◌, ◌-ℤ◌, ◌≤ℤ◌};
+ghost use Rattle.std.specs.Prelude.{unsigned_abs, nat_lt, IsTrue, length, All};
+ghost use Rattle.std.specs.List.{list_all};
+ghost use Rattle.certificate.specs.Refutation.{data_of as refutation_data};
+ghost use Rattle.claim_file.specs.Claim.{IsLawful, data_of as claim_data};
+ghost use Rattle.pairing.specs.Exchange.{IsInRange, IsLawful as IsLawfulExchange};
+ghost use Rattle.sample_interval.specs.Exchange.{IsOfSomeClaim};
+ghost use Rattle.sample_interval.specs.Window.{request_start, reply_end};
+ghost use Rattle.checker.specs.Groups.{holds_false, false_group_count};
+ghost use Rattle.checker.specs.Refutation.{IsRefuted, is_liar};
+ghost use Rattle.checker.specs.RefutationTest as spec;
+
+use certificate::Refutation;
+use claim_file::Claim;
+use pairing::Exchange;
+
+/// Whether the exchanges and the refutation refute the claim. It takes no memory.
+///
+/// It is true exactly where these hold: the refutation's error is beyond the bound to one side or
+/// the other; its reading lies in the span; the servers that it names as false are different
+/// numbers of listed servers, of at most `false_max` groups; and each exchange of another server
+/// leaves room for the error, so that its four moments (RFC 5905, section 8) can come one after
+/// another with the clock off by that much at the request and the reply.
+pub fn check_refutation(exchanges: &[Exchange], claim: &Claim, refutation: &Refutation) -> bool
+    requires claim { IsLawful (claim_data claim.now) }
+    requires exchanges { All (IsLawfulExchange (length claim.now.servers.items)) exchanges.now }
+    ensures exact { IsTrue result ↔
+        IsRefuted (claim_data claim.now) exchanges.now (refutation_data refutation.now) }
+    ensures tested { result ≡
+        spec.is_refuted (claim_data claim.now) exchanges.now (refutation_data refutation.now) }
+{
+    is_refuted(exchanges, claim, refutation)
+}
+
+/// The same as a test.
+fn is_refuted(exchanges: &[Exchange], claim: &Claim, refutation: &Refutation) -> bool
+    requires claim { IsLawful (claim_data claim.now) }
+    requires exchanges { All (IsLawfulExchange (length claim.now.servers.items)) exchanges.now }
+    ensures { result ≡ spec.is_refuted
+        (claim_data claim.now) exchanges.now (refutation_data refutation.now) }
+{
+    is_against(claim, refutation)
+        && all_admit(exchanges, claim, refutation)
+}
+
+/// Whether what a refutation says by itself is against the claim.
+fn is_against(claim: &Claim, refutation: &Refutation) -> bool
+    requires { length claim.now.groups.items ≤ 32 }
+    ensures { result ≡ spec.is_against (claim_data claim.now) (refutation_data refutation.now) }
+{
+    is_outside(claim, refutation) && may_be_false(claim, refutation.liars.as_slice())
+}
+
+/// Whether the error is beyond the bound, and the reading in the span.
+fn is_outside(claim: &Claim, refutation: &Refutation) -> bool
+    ensures { result ≡ spec.is_outside (claim_data claim.now) (refutation_data refutation.now) }
+{
+    let reading = i128::from(refutation.reading);
+    i128::from(refutation.error.unsigned_abs()) > claim.bound
+        && claim.first <= reading
+        && reading <= claim.last
+}
+
+/// Whether these servers are listed, each is named once, and all of them may be false.
+fn may_be_false(claim: &Claim, liars: &[u8]) -> bool
+    requires { length claim.now.groups.items ≤ 32 }
+    ensures { result ≡ spec.may_be_false (claim_data claim.now) liars.now }
+{
+    are_listed(liars, claim.servers.len())
+        && are_different(liars)
+        && false_group_count(claim.groups.as_slice(), liars) <= usize::from(claim.false_max)
+}
+
+/// Whether each of these numbers is below the count of servers.
+fn are_listed(liars: &[u8], count: usize) -> bool
+    ensures { result ≡ list_all (λ liar. nat_lt liar count) liars.now }
+{
+    liars.iter().all(|liar| usize::from(*liar) < count)
+}
+
+/// Whether no number stands twice.
+fn are_different(liars: &[u8]) -> bool
+    ensures { result ≡ spec.are_different liars.now }
+{
+    match liars {
+        [] => true,
+        [liar, rest @ ..] => !rest.contains(liar) && are_different(rest),
+    }
+}
+
+/// How many groups hold one of these servers.
+fn false_group_count(groups: &[u8], liars: &[u8]) -> usize
+    requires { length groups.now ≤ 32 }
+    ensures exact { result ≡ false_group_count groups.now (is_liar liars.now) }
+{
+    let mut count = 0;
+    for group in 0..groups.len() {
+        if holds_liar(groups, liars, group) {
+            count += 1;
+        }
+    }
+    count
+}
+
+/// Whether a group holds one of these servers.
+fn holds_liar(groups: &[u8], liars: &[u8], group: usize) -> bool
+    requires { length groups.now ≤ 32 }
+    ensures { result ≡ holds_false groups.now (is_liar liars.now) group }
+{
+    for server in 0..groups.len() {
+        if usize::from(groups[server]) == group && liars.contains(&(server as u8)) {
+            return true;
+        }
+    }
+    false
+}
+
+/// Whether each exchange of a server that isn't named leaves room for the error.
+fn all_admit(exchanges: &[Exchange], claim: &Claim, refutation: &Refutation) -> bool
+    requires claim { IsLawful (claim_data claim.now) }
+    requires exchanges { All (IsLawfulExchange (length claim.now.servers.items)) exchanges.now }
+    ensures { result ≡ list_all
+        (spec.allows claim.now.reading (refutation_data refutation.now)) exchanges.now }
+{
+    for exchange in exchanges {
+        if !allows(exchange, claim, refutation) {
+            return false;
+        }
+    }
+    true
+}
+
+/// Whether an exchange is of a server that is named, or leaves room for the error.
+fn allows(exchange: &Exchange, claim: &Claim, refutation: &Refutation) -> bool
+    requires claim { IsLawful (claim_data claim.now) }
+    requires exchange { IsLawfulExchange (length claim.now.servers.items) exchange.now }
+    ensures { result ≡ spec.allows claim.now.reading (refutation_data refutation.now)
+        exchange.now }
+{
+    refutation.liars.contains(&exchange.server) || admits(exchange, claim, refutation)
+}
+
+/// Whether an exchange leaves room for the error.
+fn admits(exchange: &Exchange, claim: &Claim, refutation: &Refutation) -> bool
+    requires claim { IsLawful (claim_data claim.now) }
+    requires exchange { IsLawfulExchange (length claim.now.servers.items) exchange.now }
+    ensures { result ≡ spec.admits claim.now.reading refutation.now.error exchange.now }
+{
+    let client = client_times(exchange, claim, refutation);
+    let receipt = receipt_times(exchange);
+    let answer = answer_times(exchange);
+    leaves_in_time(client, receipt, answer) && answers_in_time(client, receipt, answer)
+}
+
+/// A first and a last true time, in ticks.
+#[derive(Clone, Copy)]
+struct Times {
+    from: i128,
+    to: i128,
+}
+
+/// Whether the request can leave before the server receives, the server answers and the reply
+/// arrives.
+fn leaves_in_time(client: Times, receipt: Times, answer: Times) -> bool
+    ensures { result ≡ spec.leaves_in_time client.from receipt.to answer.to client.to }
+{
+    client.from <= receipt.to && client.from <= answer.to && client.from <= client.to
+}
+
+/// Whether the server can receive before it answers, and do both before the reply arrives.
+fn answers_in_time(client: Times, receipt: Times, answer: Times) -> bool
+    ensures { result ≡ spec.answers_in_time receipt.from answer.from answer.to client.to }
+{
+    receipt.from <= answer.to && receipt.from <= client.to && answer.from <= client.to
+}
+
+/// The first time at which the request can have left and the last at which the reply can have
+/// arrived, where the client's clock is off by the error.
+fn client_times(exchange: &Exchange, claim: &Claim, refutation: &Refutation) -> Times
+    requires claim { IsLawful (claim_data claim.now) }
+    requires exchange { IsLawfulExchange (length claim.now.servers.items) exchange.now }
+    ensures from { result.from ≡
+        request_start exchange.now claim.now.reading -ℤ refutation.now.error }
+    ensures to { result.to ≡ reply_end exchange.now claim.now.reading -ℤ refutation.now.error }
+{
+    let error = i128::from(refutation.error);
+    Times {
+        from: exchange.t1_low - claim.reading - error,
+        to: exchange.t4_high + claim.reading - error,
+    }
+}
+
+/// The times at which the server can have received the request.
+fn receipt_times(exchange: &Exchange) -> Times
+    requires { IsOfSomeClaim exchange.now }
+    ensures from { result.from ≡ exchange.now.t2 -ℤ exchange.now.distance }
+    ensures to { result.to ≡ exchange.now.t2 +ℤ exchange.now.distance }
+{
+    Times {
+        from: exchange.t2 - exchange.distance,
+        to: exchange.t2 + exchange.distance,
+    }
+}
+
+/// The times at which it can have sent the reply.
+fn answer_times(exchange: &Exchange) -> Times
+    requires { IsOfSomeClaim exchange.now }
+    ensures from { result.from ≡ exchange.now.t3 -ℤ exchange.now.distance }
+    ensures to { result.to ≡ exchange.now.t3 +ℤ exchange.now.distance }
+{
+    Times {
+        from: exchange.t3 - exchange.distance,
+        to: exchange.t3 + exchange.distance,
+    }
+}
