@@ -6,3 +6,4 @@ pub mod HullLine
 pub mod Parts
 pub mod CheckReport
 pub mod Nothing
+pub mod Envelope

@@ -9,6 +9,7 @@
 
 mod check_report;
 mod counts_line;
+mod envelope;
 mod hull_line;
 mod interval_line;
 mod nothing;
@@ -17,6 +18,7 @@ mod sample_line;
 mod samples;
 
 pub use check_report::check_text;
+pub use envelope::envelope_text;
 pub use nothing::nothing_text;
 pub use parts::parts_text;
 pub use samples::samples_text;

@@ -8,3 +8,6 @@ pub mod FoundLemmas
 pub mod VerdictLemmas
 pub mod AnswerLemmas
 pub mod RefusalLemmas
+pub mod BoundLemmas
+pub mod EnvelopeLemmas
+pub mod CarriedLemmas

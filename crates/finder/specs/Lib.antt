@@ -3,3 +3,4 @@ pub mod Piece
 pub mod Entry
 pub mod Found
 pub mod Refusal
+pub mod Envelope

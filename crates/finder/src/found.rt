@@ -17,7 +17,7 @@ use crate::entry::entries_at;
 use crate::fault::FindFault;
 use crate::hull::{hull_of, is_inside};
 use crate::laws::last_piece_ends_with_the_span;
-use crate::piece::piece_count;
+use crate::piece::{MAX_PIECES, piece_count};
 use crate::table::tables;
 use certificate::{Certificate, Piece};
 use checker::laws::{narrower_parts_narrow, parts_are_of_samples, verdicts_are_traceable};
@@ -28,9 +28,6 @@ use sample_interval::kinds::Sample;
 use span_cover::laws::piece_inside_another_is_narrower;
 use span_cover::piece_end;
 use std::alloc::{AllocError, Global};
-
-/// The most pieces of a certificate.
-const MAX_PIECES: u64 = 100_000;
 
 /// A certificate, or why there is none.
 #[derive(Debug, Drop)]

@@ -14,8 +14,10 @@ use intersection::kinds::Hull;
 use sample_interval::kinds::Sample;
 use span_cover::piece_interval;
 
-/// What the entries of a piece say, in their order.
-fn parts(
+/// What the entries of a piece say, in their order: the interval of each server that has one.
+///
+/// The stretch is of Unix ticks, from 0 to below 2^64.
+pub fn parts(
     samples: &[Sample],
     claim: &Claim,
     stretch: Stretch,
@@ -23,11 +25,13 @@ fn parts(
 ) -> ArrayVec<Part, 32>
     requires claim { IsLawful (data_of claim.now) }
     requires samples { All IsLawfulSample samples.now }
+    requires listed { All (λ sample. sample.server < length claim.now.servers.items) samples.now }
     requires stretch { IsPiece stretch.begin stretch.end }
     requires low { All (λ entry. entry.0 < length samples.now) entries.now.items }
     requires high { All (λ entry. entry.1 < length samples.now) entries.now.items }
-    ensures { result.items ≡
+    ensures exact { result.items ≡
         parts_named samples.now (data_of claim.now) stretch entries.now.items }
+    ensures listed { All (λ part. part.server < length claim.now.servers.items) result.items }
 {
     let mut parts: ArrayVec<Part, 32> = ArrayVec::new();
     for entry in entries.as_slice() {

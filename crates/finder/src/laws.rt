@@ -1,14 +1,20 @@
 //! What holds of the definitions. A law is a function that does nothing: its contract is the law,
 //! for every number.
-ghost use Rattle.std.specs.Prelude.{◌≡◌, ℕ, ◌<◌, ℤ, ◌≤ℤ◌, List, [], Ok};
+ghost use Rattle.std.specs.Prelude.{◌≡◌, ℕ, ◌<◌, ◌≤◌, ℤ, ◌≤ℤ◌, List, [], Ok};
 ghost use Rattle.claim_file.specs.Claim.{ClaimData};
+ghost use Rattle.intersection.specs.declared.kinds.Hull.{Hull};
 ghost use Rattle.sample_interval.specs.declared.kinds.Sample.{Sample};
 ghost use Rattle.checker.specs.Verdict.{parts_after, parts_fault, hull_fault};
 ghost use Rattle.checker.specs.declared.stretch.Stretch.{Stretch};
 ghost use Rattle.finder.specs.Entry.{best_entries, best_hull, parts_named};
+ghost use Rattle.finder.specs.Envelope.{EnvelopeData, IsCertified, IsLeast, IsNotCertified, envelope_of, least_of, with_bound};
+ghost use Rattle.finder.specs.Found.{found_of};
 ghost use Rattle.finder.specs.Piece.{IsPieceCount, piece_count_of};
+ghost use Rattle.finder.specs.declared.least.LeastBound.{LeastBound};
 
-use era_unfold::laws::ratios_are_rounded_as_little_as_can_be;
+use era_unfold::laws::{
+    nanoseconds_lie_between_their_ticks, ratios_are_rounded_as_little_as_can_be,
+};
 
 /// The last of the pieces is the first that ends with the span.
 pub fn last_piece_ends_with_the_span()
@@ -29,3 +35,36 @@ pub fn best_entries_are_accepted()
         parts_fault claim (parts_after samples stretch claim.drift_ppb [] entries)
         ≡ hull_fault claim.bound (best_hull samples claim stretch) }
 {}
+
+/// The least bound of hulls is the least inside which all of them lie, with the first piece that
+/// needs it; and no other answer is.
+pub fn least_bound_is_the_least()
+    ensures is { (hulls : ℕ → Hull) (count : ℕ) → 0 < count →
+        IsLeast hulls count (least_of hulls count) }
+    ensures no_other { (hulls : ℕ → Hull) (count : ℕ) (a b : LeastBound) →
+        IsLeast hulls count a → IsLeast hulls count b → a ≡ b }
+{
+    ratios_are_rounded_as_little_as_can_be();
+    nanoseconds_lie_between_their_ticks();
+}
+
+/// The least bound of an envelope is the least that `find` carries with the same samples, claim and
+/// step: with that bound or a wider one it gives a certificate, and with a lesser one none. If no
+/// bound holds, then it gives none with any.
+pub fn find_carries_the_least_bound()
+    ensures holds { (samples : List Sample) (claim : ClaimData) (step n k m : ℕ)
+        (envelope : EnvelopeData) → envelope_of samples claim step ≡ Ok envelope →
+        envelope.least ≡ LeastBound.Holds n k → n ≤ m →
+        IsCertified (found_of samples (with_bound claim m) step) }
+    ensures no_lesser { (samples : List Sample) (claim : ClaimData) (step n k m : ℕ)
+        (envelope : EnvelopeData) → envelope_of samples claim step ≡ Ok envelope →
+        envelope.least ≡ LeastBound.Holds n k → m < n →
+        IsNotCertified (found_of samples (with_bound claim m) step) }
+    ensures none_holds { (samples : List Sample) (claim : ClaimData) (step k m : ℕ)
+        (envelope : EnvelopeData) → envelope_of samples claim step ≡ Ok envelope →
+        envelope.least ≡ LeastBound.NoneHolds k →
+        IsNotCertified (found_of samples (with_bound claim m) step) }
+{
+    ratios_are_rounded_as_little_as_can_be();
+    nanoseconds_lie_between_their_ticks();
+}

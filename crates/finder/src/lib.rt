@@ -1,18 +1,24 @@
-//! Finds certificates.
+//! Finds certificates, and how good a bound the samples show.
 //!
 //! [`find`] cuts the span of a claim into pieces, takes for each server the samples that say most
 //! of each piece, and gives either a certificate, which the checker accepts, or the first piece of
 //! which these samples don't show enough. What it finds is a proposal: nothing rests on it before
-//! the checker has said yes. [`laws`] has what holds of the definitions.
+//! the checker has said yes. [`find_envelope`] takes the same pieces, and gives the hull of each and the
+//! least bound that holds over all of them. [`laws`] has what holds of the definitions.
 #![tactic(auto)]
 
 mod entry;
+mod envelope;
 mod fault;
 mod found;
 mod hull;
 pub mod laws;
+mod least;
 mod piece;
 mod table;
 
+pub use envelope::{Envelope, PieceHull, find_envelope};
 pub use fault::FindFault;
 pub use found::{Found, find};
+pub use hull::parts;
+pub use least::LeastBound;

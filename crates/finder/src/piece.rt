@@ -8,6 +8,9 @@ use std::alloc::{AllocError, Global};
 
 const TICKS_PER_SECOND: u128 = 1 << 32;
 
+/// The most pieces of a certificate.
+pub(crate) const MAX_PIECES: u64 = 100_000;
+
 /// How many pieces a span has that is cut every `step_s` seconds: the last is the first that ends
 /// with the span.
 ///

@@ -1,9 +1,10 @@
-use Rattle.std.proofs.Common.{◌<◌, length, get_or, arith}
+use Rattle.std.proofs.Common.{◌<◌, ◌≤◌, length, get_or, arith}
 use Rattle.std.proofs.lemmas.Grind.{common_steps}
 use Rattle.std.proofs.lemmas.Int.{ints}
+use Rattle.std.proofs.lemmas.List.{take_all}
 use Rattle.claim_file.specs.Claim.{data_of}
 use Rattle.finder.specs.Entry.{part_named}
-use Rattle.finder.proofs.EntryLemmas.{part_computed}
+use Rattle.finder.proofs.EntryLemmas.{listed_parts, part_computed}
 use Rattle.finder.proofs.Kept.{kept}
 use Rattle.finder.proofs.ListLemmas.{filter_map_more}
 use Rattle.finder.proofs.hull.parts.Goals as goal
@@ -40,3 +41,12 @@ loop-entry-preserved c =
           (rw same at c.push.ensures.items);
       fits = grind (arith, common_steps);
     }
+
+pub returns-clause-listed : goal.returns-clause-listed
+returns-clause-listed c =
+    let entries = c.args.entries.now.items in
+    let listed = listed_parts c.args.samples.now (data_of c.args.claim.now) c.args.stretch entries
+    (length c.args.claim.now.servers.items) c.requires.listed in
+    let past : length entries ≤ c.loop-entry.entry-index =
+    rw c.as_slice-entry-items.ensures.value at c.loop-entry-test.false in
+    rw (c.loop-entry.invariant.so_far, take_all c.loop-entry.entry-index entries past) listed

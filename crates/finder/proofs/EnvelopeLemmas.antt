@@ -1,0 +1,100 @@
+-- The pieces of an envelope, one after another.
+use Rattle.std.proofs.Common.{◌≡◌, ℕ, zero, suc, ◌+◌, ◌<◌, ◌≤◌, nat_lt, true, false, List, [], ◌∷◌, ◌++◌, length, map, Ok, Err, sym, ap, ◌∙◌, arith, add-one, subst}
+use Rattle.std.specs.Prelude.{All}
+use Rattle.std.specs.List.{range_with_len}
+use Rattle.std.proofs.lemmas.Bool.{cond-true, cond-false}
+use Rattle.std.proofs.lemmas.Bool.Decides.{nat_tests}
+use Rattle.std.proofs.lemmas.List.{get_or-map, length-map}
+use Rattle.std.proofs.lemmas.List.Elements.{All-nil, All-cons}
+use Rattle.std.proofs.lemmas.List.FromFn.{map-range_with_len_more}
+use Rattle.certificate.specs.Certificate.{max_pieces}
+use Rattle.claim_file.specs.Claim.{ClaimData, IsLawful}
+use Rattle.intersection.specs.declared.kinds.Hull.{Hull}
+use Rattle.sample_interval.specs.declared.kinds.Sample.{Sample}
+use Rattle.checker.specs.declared.stretch.Stretch.{Stretch}
+use Rattle.finder.specs.Entry.{best_entries}
+use Rattle.finder.specs.Envelope.{EnvelopeData, PieceHullData, IsLawfulPiece, piece_hull_at, piece_hulls, least_of, with_piece, envelope_of, envelope_to}
+use Rattle.finder.specs.Found.{hull_at}
+use Rattle.finder.specs.Piece.{count_of, stretch_at}
+use Rattle.finder.specs.declared.fault.FindFault.TheVariants.{TooManyPieces}
+use Rattle.finder.specs.declared.least.LeastBound.{LeastBound}
+use Rattle.finder.proofs.EntryLemmas.{entries_there}
+use Rattle.finder.proofs.PieceLemmas.{piece_of_claim}
+
+too_many : (n : ℕ) → max_pieces < n → nat_lt max_pieces n ≡ true
+too_many n h = grind (arith, nat_tests)
+
+few : (n : ℕ) → n ≤ max_pieces → nat_lt max_pieces n ≡ false
+few n h = grind (arith, nat_tests)
+
+-- what holds of what f gives of each holds of each
+pub All-from_map : {X Y : Type 0} (P : Y → Type 0) (f : X → Y) (xs : List X) → All P (map f xs)
+    → All (λ x. P (f x)) xs
+All-from_map P f xs all k d within =
+    let same = length-map xs f in
+    subst P (get_or-map f xs k d (f d) within) (all k (f d) (omega (arith, same, within)))
+
+module _ (samples : List Sample) (claim : ClaimData) (step : ℕ) where
+  pub envelope_of_many : max_pieces < count_of claim step → envelope_of samples claim step ≡ Err TooManyPieces
+  unfolding envelope_of
+  envelope_of_many many = cond-true (nat_lt max_pieces (count_of claim step)) _ _ (too_many _ many)
+
+  pub envelope_of_few : count_of claim step ≤ max_pieces
+      → envelope_of samples claim step ≡ Ok (envelope_to samples claim step (count_of claim step))
+  unfolding envelope_of
+  envelope_of_few h = cond-false (nat_lt max_pieces (count_of claim step)) _ _ (few _ h)
+
+  -- one more piece
+  pub piece_hulls_more : (k : ℕ) (old : List PieceHullData) (stretch : Stretch) (entries : List (ℕ × ℕ)) (hull : Hull)
+      → old ≡ piece_hulls samples claim step k → stretch ≡ stretch_at claim step k
+      → entries ≡ best_entries samples claim (stretch_at claim step k) → hull ≡ hull_at samples claim step k
+      → old ++ record { stretch = stretch; entries = entries; hull = hull } ∷ []
+      ≡ piece_hulls samples claim step (k + 1)
+  piece_hulls_more k old stretch entries hull so_far a b e =
+      let make : Stretch → List (ℕ × ℕ) → Hull → PieceHullData =
+      λ s es h. record { stretch = s; entries = es; hull = h } in
+      ap (λ (ps : List PieceHullData). ps ++ make stretch entries hull ∷ []) so_far
+      ∙ ap (λ (s : Stretch). piece_hulls samples claim step k ++ make s entries hull ∷ []) a
+      ∙ ap (λ (es : List (ℕ × ℕ)). piece_hulls samples claim step k ++ make (stretch_at claim step k) es hull ∷ []) b
+      ∙ ap (λ (h : Hull). piece_hulls samples claim step k
+      ++ make (stretch_at claim step k) (best_entries samples claim (stretch_at claim step k)) h ∷ []) e
+      ∙ sym (map-range_with_len_more (piece_hull_at samples claim step) 0 k k (omega arith))
+
+  pub least_more : (k : ℕ) (old : LeastBound) (hull : Hull) → old ≡ least_of (hull_at samples claim step) k
+      → hull ≡ hull_at samples claim step k
+      → with_piece old k hull ≡ least_of (hull_at samples claim step) (k + 1)
+  least_more k old hull a b =
+      rw add-one (ap (λ (l : LeastBound). with_piece l k hull) a
+      ∙ ap (with_piece (least_of (hull_at samples claim step) k) k) b)
+
+  pub envelope_is : (n : ℕ) (pieces : List PieceHullData) (least : LeastBound)
+      → pieces ≡ piece_hulls samples claim step n → least ≡ least_of (hull_at samples claim step) n
+      → ◌≡◌ {A = EnvelopeData} (record { pieces = pieces; least = least }) (envelope_to samples claim step n)
+  envelope_is n pieces least a b =
+      let make : List PieceHullData → LeastBound → EnvelopeData = λ ps l. record { pieces = ps; least = l } in
+      ap (λ (ps : List PieceHullData). make ps least) a ∙ ap (make (piece_hulls samples claim step n)) b
+
+  -- ---- each piece is lawful
+
+  module _ (lawful : IsLawful claim) where
+    lawful_piece : (k : ℕ) → IsLawfulPiece (length samples) (piece_hull_at samples claim step k)
+    lawful_piece k = record {
+      stretch = piece_of_claim claim lawful step k;
+      named = entries_there samples claim (stretch_at claim step k);
+    }
+
+    lawful_from : (k n : ℕ)
+        → All (IsLawfulPiece (length samples)) (map (piece_hull_at samples claim step) (range_with_len k n))
+    lawful_from k zero = All-nil (IsLawfulPiece (length samples))
+    lawful_from k (suc n) =
+        All-cons (IsLawfulPiece (length samples)) (piece_hull_at samples claim step k) _ (lawful_piece k)
+        (lawful_from (k + 1) n)
+
+    pub lawful_pieces : (n : ℕ) → All (IsLawfulPiece (length samples)) (piece_hulls samples claim step n)
+    lawful_pieces n = lawful_from 0 n
+
+  -- ---- what it says of the bound
+
+  pub least_of_envelope : (n : ℕ) (envelope : EnvelopeData) → envelope ≡ envelope_to samples claim step n
+      → envelope.least ≡ least_of (hull_at samples claim step) n
+  least_of_envelope n envelope is = ap (λ (e : EnvelopeData). e.least) is

@@ -1,0 +1,98 @@
+//! The least bound of hulls.
+
+ghost use Rattle.std.specs.Prelude.{◌≡◌, ◌*◌, ◌^◌, ◌<◌, ◌≤◌};
+ghost use Rattle.finder.specs.Envelope as spec;
+ghost use Rattle.finder.specs.Envelope.{nanoseconds_of, reach_of, with_piece, IsBelowLimit};
+
+use intersection::kinds::Hull;
+
+/// Ticks of 2^-32 s in a second.
+const TICKS_PER_SECOND: u128 = 1 << 32;
+
+const NANOSECONDS_PER_SECOND: u128 = 1_000_000_000;
+
+/// The least bound that holds over pieces of a span.
+#[derive(Clone, Copy, Debug, PartialEq, Eq)]
+pub enum LeastBound {
+    /// Every hull lies inside this bound, and inside no lesser one.
+    Holds {
+        /// The bound in nanoseconds, which may be more than a claim can say: below 2^127.
+        bound_ns: u128,
+        /// The number of the first piece that needs it, from 0.
+        piece: u32,
+    },
+    /// No bound holds: a hull has no ends, or nothing lies in it.
+    NoneHolds {
+        /// The number of the first piece with such a hull, from 0.
+        piece: u32,
+    },
+}
+
+impl LeastBound {
+    /// The least bound of no piece.
+    pub(crate) fn of_none() -> LeastBound
+        ensures { result ≡ LeastBound.Holds 0 0 }
+    {
+        LeastBound::Holds {
+            bound_ns: 0,
+            piece: 0,
+        }
+    }
+
+    /// The least bound of these pieces and of one more, which has this number and hull.
+    pub(crate) fn with_piece(self, number: u32, hull: Hull) -> LeastBound
+        requires { IsBelowLimit self }
+        ensures value { result ≡ with_piece self number hull }
+        ensures in_range { IsBelowLimit result }
+    {
+        match (self, hull) {
+            (LeastBound::NoneHolds { piece }, _) => LeastBound::NoneHolds { piece },
+            (LeastBound::Holds { .. }, Hull::Unbounded | Hull::Empty) => {
+                LeastBound::NoneHolds { piece: number }
+            }
+            (LeastBound::Holds { bound_ns, piece }, Hull::Bounded { lo, hi }) => {
+                with_need(bound_ns, piece, number, nanoseconds_of(reach_of(lo, hi)))
+            }
+        }
+    }
+}
+
+/// The least bound of pieces with that of one more, which needs so many nanoseconds.
+fn with_need(bound_ns: u128, piece: u32, number: u32, needed: u128) -> LeastBound
+    requires bound { bound_ns < 2 ^ 127 }
+    requires needed { needed < 2 ^ 127 }
+    ensures value { result ≡ spec.with_need bound_ns piece number needed }
+    ensures in_range { IsBelowLimit result }
+{
+    if bound_ns < needed {
+        LeastBound::Holds {
+            bound_ns: needed,
+            piece: number,
+        }
+    } else {
+        LeastBound::Holds { bound_ns, piece }
+    }
+}
+
+/// How many ticks the hull from `lo` to `hi` reaches to either side of zero.
+fn reach_of(lo: i128, hi: i128) -> u128
+    ensures value { result ≡ reach_of lo hi }
+    ensures in_range { result ≤ 2 ^ 127 }
+{
+    let below = lo.min(0).unsigned_abs();
+    let above = hi.max(0).unsigned_abs();
+    below.max(above)
+}
+
+/// The least number of nanoseconds that has no fewer ticks, also if they are rounded down.
+///
+/// Whole seconds are counted apart, so that no product is out of range.
+fn nanoseconds_of(ticks: u128) -> u128
+    requires { ticks ≤ 2 ^ 127 }
+    ensures value { result ≡ nanoseconds_of ticks }
+    ensures in_range { result < 2 ^ 127 }
+{
+    let seconds = ticks / TICKS_PER_SECOND;
+    let rest = ticks % TICKS_PER_SECOND;
+    seconds * NANOSECONDS_PER_SECOND + (rest * NANOSECONDS_PER_SECOND).div_ceil(TICKS_PER_SECOND)
+}
