@@ -1,4 +1,5 @@
 """What the test scripts share: counting cases, showing what was wrong, and the last line 'N passed, M failed'."""
+import hashlib
 import os
 import subprocess
 import sys
@@ -54,6 +55,25 @@ def run(words, given=b"", **how):
     except subprocess.TimeoutExpired:
         return "no end", b"", b""
     return ran.returncode, ran.stdout, ran.stderr
+
+
+def sum_of(data):
+    return hashlib.sha256(data).hexdigest()
+
+
+def sum_of_sources(top):
+    """The sum of the files that the program is built of, as the launcher takes it: of the sums of all files with their
+    paths, sorted by bytes."""
+    folders = [folder for name in ("src", "specs", "proofs") for folder in top.glob(f"crates/*/{name}")]
+    files = [top / "crates.txt", *(file for folder in folders for file in folder.rglob("*") if file.is_file())]
+    lines = sorted(f"{sum_of(file.read_bytes())}  {file.relative_to(top)}\n".encode() for file in files)
+    return sum_of(b"".join(lines))
+
+
+def manifest_of(top, toolchain):
+    """What dist/MANIFEST has to say of the program in dist/."""
+    return (f"program {sum_of((top / 'dist/ntpaudit').read_bytes())}\nsources {sum_of_sources(top)}\n"
+            f"toolchain {toolchain}\n")
 
 
 def finish():
