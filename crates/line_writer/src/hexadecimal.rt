@@ -28,8 +28,7 @@ impl Line {
         while left > 0 {
             left -= 1;
             let pair = usize::from(bytes[left]) * 2;
-            self.put_byte(PAIRS[pair + 1]);
-            self.put_byte(PAIRS[pair]);
+            self.put_pair(PAIRS[pair], PAIRS[pair + 1]);
         }
     }
 

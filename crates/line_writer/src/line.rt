@@ -75,6 +75,19 @@ impl Line {
         self.scratch[self.start] = byte;
     }
 
+    /// Writes two bytes at once.
+    #[inline]
+    pub(crate) fn put_pair(&mut self, first: u8, second: u8)
+        requires { length self.old + 2 ≤ CAPACITY }
+        ensures text { self.new ≡ first ∷ second ∷ self.old }
+        ensures grows { length self.new ≡ length self.old + 2 }
+    {
+        let start = self.start - 2;
+        self.scratch[start] = first;
+        self.scratch[start + 1] = second;
+        self.start = start;
+    }
+
     /// Writes a text.
     #[inline]
     pub fn put_text(&mut self, text: &str)

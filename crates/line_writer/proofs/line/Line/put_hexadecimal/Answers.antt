@@ -17,8 +17,7 @@ loop-left-preserved c =
     let pair = pair_at (get_or c.args.bytes.now k 0) (c.type_inv.bytes k).fits in
     record {
       within = omega arith;
-      text = c.put_byte-in-loop-left.ensures.text ∙ rw (
-        c.put_byte.ensures.text,
+      text = c.put_pair.ensures.text ∙ rw (
         c.loop-left.invariant.text,
         c.from-pair.ensures,
         pair.0,
