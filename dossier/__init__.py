@@ -1,0 +1,8 @@
+"""ntpaudit-dossier: many audits by ntpaudit, put together for a person.
+
+The program `ntpaudit` gives each answer. Nothing here computes anything about clocks: a figure is what the program
+printed, at most converted from ticks of 2^-32 s to milliseconds and from Unix seconds to civil times.
+"""
+
+VERSION = 1
+"""The form of audit.json. An audit.json of another form is of another dossier, and its folder is audited again."""

@@ -1,0 +1,134 @@
+"""The command line of ntpaudit-dossier."""
+from __future__ import annotations
+
+import argparse
+import os
+import sys
+from pathlib import Path
+
+from .program import Fault, find_program
+
+USAGE, OUTPUT_FAILED, INTERRUPTED = 5, 4, 130
+
+ABOUT = """Puts many audits by ntpaudit together: folders with a claim and captures, and one page that a person can read.
+
+  tcpdump -i eth0 --time-stamp-precision=nano -w web-1/f.pcap udp port 123    record (Ctrl-C when it is enough)
+  ntpaudit-dossier draft web-1/f.pcap > web-1/claim.json                      a claim to start from: read it, mend it
+  ntpaudit-dossier audit web-1                                                the audit
+  ntpaudit-dossier page web-1 > dossier.html                                  the page
+  ntpaudit-dossier verify web-1                                               a year later
+
+docs/DOSSIER.md has more. Statuses are those of ntpaudit: 0 yes, 1 no, 2 an input is refused, 3 out of memory, 4 a device,
+5 the command line; the status of several folders is the worst of theirs."""
+
+
+class Parser(argparse.ArgumentParser):
+    def error(self, message: str) -> None:
+        self.exit(USAGE, f"{self.prog}: {message}\n")
+
+
+def parser() -> Parser:
+    top = Parser(prog="ntpaudit-dossier", description=ABOUT, formatter_class=argparse.RawDescriptionHelpFormatter)
+    commands = top.add_subparsers(dest="command", required=True, metavar="COMMAND")
+    draft = commands.add_parser("draft", help="print a claim to start from")
+    draft.add_argument("captures", nargs="+", metavar="CAPTURE")
+    draft.add_argument("--client", metavar="ADDRESS", help="the client; the one that asks most where it is left out")
+    draft.add_argument("--day", action="store_true", help="claim whole days (UTC)")
+    draft.add_argument("--drift-ppb", type=int, default=100_000, metavar="N")
+    draft.add_argument("--reading-ns", type=int, default=100_000, metavar="N")
+    audit = commands.add_parser("audit", help="audit folders")
+    audit.add_argument("folders", nargs="+", metavar="FOLDER")
+    audit.add_argument("--step", type=in_range(1, 86_400), metavar="N", help="seconds of a piece; else the coarsest of 64, 16, 4, 1 that carries the claim")
+    audit.add_argument("--days", action="store_true", help="a verdict for each day (UTC) of the span")
+    audit.add_argument("--jobs", type=in_range(1, 4096), default=0, metavar="N", help="folders side by side; as many as processors where it is left out")
+    audit.add_argument("--again", action="store_true", help="audit folders that are done and unchanged, too")
+    page = commands.add_parser("page", help="print a page of audits that were made")
+    page.add_argument("folders", nargs="+", metavar="FOLDER")
+    form = page.add_mutually_exclusive_group()
+    form.add_argument("--json", action="store_true", help="the table as JSON")
+    form.add_argument("--csv", action="store_true", help="the table as CSV")
+    page.add_argument("--title", default="Clock dossier", metavar="TEXT")
+    page.add_argument("-o", "--output", metavar="FILE", help="write the file whole or not at all")
+    verify = commands.add_parser("verify", help="see whether inputs and answers are still the same")
+    verify.add_argument("folders", nargs="+", metavar="FOLDER")
+    picture = commands.add_parser("picture", help="print the picture of a claim and a capture, as SVG")
+    picture.add_argument("claim", metavar="CLAIM")
+    picture.add_argument("capture", metavar="CAPTURE")
+    picture.add_argument("--step", type=in_range(1, 86_400), default=64, metavar="N")
+    commands.add_parser("worker").add_argument("given")
+    return top
+
+
+def in_range(least: int, most: int):
+    def number(word: str) -> int:
+        if not word.isdecimal() or not least <= int(word) <= most:
+            raise argparse.ArgumentTypeError(f"a number from {least} to {most}")
+        return int(word)
+    return number
+
+
+def main(words: list[str]) -> int:
+    """Runs a command, and gives its status."""
+    from .work import Stopped
+    try:
+        status = run(parser().parse_args(words))
+        sys.stdout.flush()
+        return status
+    except Fault as fault:
+        say(fault.line)
+        return fault.status
+    except OSError as error:
+        sys.stdout = open(os.devnull, "w")
+        say(f"ntpaudit-dossier: the output can't be written ({error.strerror})")
+        return OUTPUT_FAILED
+    except KeyboardInterrupt:
+        say("ntpaudit-dossier: broken off; what is done isn't done again by the next call")
+        return INTERRUPTED
+    except Stopped as stopped:
+        return 128 + stopped.args[0]
+
+
+def say(line: str) -> None:
+    from .text import plain
+    try:
+        print(plain(line), file=sys.stderr, flush=True)
+    except OSError:
+        pass
+
+
+def run(given: argparse.Namespace) -> int:
+    if given.command == "worker":
+        from .work import work
+        return work(given.given)
+    if given.command == "page":
+        from .page import write_page
+        return write_page([tidy(folder) for folder in given.folders], given)
+    program = find_program()
+    if given.command == "draft":
+        return run_draft(given, program)
+    if given.command == "audit":
+        from .audit import Options
+        from .work import audit_all
+        jobs = given.jobs or len(os.sched_getaffinity(0))
+        return audit_all([tidy(folder) for folder in given.folders], Options(given.step, given.days, given.again), program, jobs)
+    if given.command == "verify":
+        from .verify import verify_all
+        return verify_all([tidy(folder) for folder in given.folders], program)
+    from .figure import print_picture
+    return print_picture(program, given.claim, given.capture, given.step)
+
+
+def tidy(folder: str) -> str:
+    """A folder's path without slashes at its end."""
+    return folder.rstrip("/") or "/"
+
+
+def run_draft(given: argparse.Namespace, program) -> int:
+    from .draft import claim_text, draft
+    claim, remarks = draft(program, [str(Path(capture)) for capture in given.captures], given.client, given.day, given.drift_ppb, given.reading_ns)
+    for remark in remarks:
+        say(remark)
+    if claim is None:
+        return 1
+    sys.stdout.write(claim_text(claim))
+    return 0

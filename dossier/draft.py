@@ -1,0 +1,211 @@
+"""A claim to start from, drafted out of what `list` and `samples` print of a capture."""
+from __future__ import annotations
+
+import ipaddress
+import json
+import tempfile
+from collections import Counter, defaultdict
+from dataclasses import dataclass, field
+from pathlib import Path
+from typing import Any
+
+from . import folder as files
+from .answers import read_envelope
+from .audit import envelope_step_of
+from .program import Fault, Operand, Program
+from .recording import SECOND, Recording, read_recording
+from .text import count, plain
+from .units import DAY, civil, ns_up_ms
+
+MOST_SERVERS = 32
+COARSEST = 64
+NO_BOUND = 1_000_000_000
+DRIFT_PPB, READING_NS = 100_000, 100_000
+
+
+@dataclass
+class Traffic:
+    """What a capture holds of NTP: who asked, who answered whom, and which references a server named to a client."""
+
+    packets: int = 0
+    asked: Counter = field(default_factory=Counter)
+    answered: dict[str, Counter] = field(default_factory=lambda: defaultdict(Counter))
+    references: dict[tuple[str, str], set[tuple[int, str]]] = field(default_factory=lambda: defaultdict(set))
+
+
+def read_traffic(program: Program, folder: str, capture: Operand) -> Traffic:
+    seen = Traffic()
+    for line in program.lines(["list", capture], folder):
+        words = line.decode("ascii").split(" ", 12)
+        if words[0] == "records":
+            seen.packets = int(words[3])
+            continue
+        (source, source_port), (destination, destination_port) = (word.split(":") for word in words[2:4])
+        if words[5] == "m3" and destination_port == "123":
+            seen.asked[source] += 1
+        elif words[5] == "m4" and source_port == "123":
+            seen.answered[destination][source] += 1
+            seen.references[destination, source].add((int(words[7][1:]), words[11]))
+    return seen
+
+
+def by_number(address: str) -> int:
+    return int(ipaddress.IPv4Address(address))
+
+
+def upstream(stratum: int, reference: str) -> str | None:
+    """The address that a reference identifier is. That of a primary server, and one in 127.0.0.0/8, names a kind of clock
+    and no server."""
+    address = ipaddress.IPv4Address(int(reference, 16))
+    return None if stratum < 2 or address.is_loopback or reference == "00000000" else str(address)
+
+
+def group(servers: list[str], references: dict[str, set[tuple[int, str]]]) -> list[list[int]]:
+    """Servers that follow one another, or one and the same address, are in one group."""
+    of = {server: {server} for server in servers}
+    for server in servers:
+        for above in {address for seen in references[server] if (address := upstream(*seen))}:
+            met = of[server] | of.get(above, {above})
+            for member in met:
+                of[member] = met
+    found = []
+    for number, server in enumerate(servers):
+        members = [k for k, other in enumerate(servers) if other in of[server]]
+        if members[0] == number:
+            found.append(members)
+    return found
+
+
+def round_up(number: int) -> int:
+    """The least number of two digits, with zeros behind them, that isn't below this one."""
+    unit = 10 ** max(0, len(str(number)) - 2)
+    return -(-number // unit) * unit
+
+
+def span_of(recording: Recording, whole_days: bool) -> tuple[int, int]:
+    """The whole seconds between the first exchange and the last, or the whole days that hold them."""
+    first, last = -(-recording.first_request // SECOND), recording.last_reply // SECOND
+    if whole_days:
+        return first - first % DAY, -(-last // DAY) * DAY
+    return min(first, last), last
+
+
+class Draft:
+    """Drafts a claim for one capture, and says on the way what a person has to look at."""
+
+    def __init__(self, program: Program, folder: str, capture: Operand):
+        self.program, self.folder, self.capture = program, folder, capture
+        self.remarks: list[str] = []
+
+    def claim(self, client: str | None, whole_days: bool, drift_ppb: int, reading_ns: int) -> dict[str, Any] | None:
+        """The claim, or None where the capture has no client with a server that answered it."""
+        seen = read_traffic(self.program, self.folder, self.capture)
+        client = self.choose(seen, client)
+        if client is None:
+            return None
+        servers = sorted((server for server, _ in seen.answered[client].most_common(MOST_SERVERS)), key=by_number)
+        if len(seen.answered[client]) > MOST_SERVERS:
+            self.remarks.append(f"A claim names at most {MOST_SERVERS} servers: those that answered least are left out.")
+        claim = {"client": client, "servers": servers, "false_max": 0, "from": civil(0), "to": civil(0), "bound_ns": 0,
+                 "drift_ppb": drift_ppb, "reading_ns": reading_ns}
+        with tempfile.TemporaryDirectory(prefix="ntpaudit-") as place:
+            own = Operand(str(Path(place) / files.CLAIM))
+            Path(own.name).write_bytes(files.compact(claim))
+            recording = read_recording(self.program, self.folder, own, self.capture)
+            if not recording.times:
+                self.remarks.append(f"None of {client}'s servers gave a sample: {counted(recording.counts)}.")
+                return None
+            self.name_servers(claim, recording, {server: seen.references[client, server] for server in servers})
+            first, last = span_of(recording, whole_days)
+            claim |= {"from": civil(first), "to": civil(last)}
+            Path(own.name).write_bytes(files.compact(claim))
+            self.take_bound(claim, own, last - first)
+        self.leave_to_a_person(claim)
+        return claim
+
+    def choose(self, seen: Traffic, client: str | None) -> str | None:
+        """The client that asked most, or the one that is named."""
+        if not seen.asked:
+            self.remarks.append(f"No NTP client asks anybody in it: {count(seen.packets, 'NTP packet')}.")
+            return None
+        clients = sorted(seen.asked, key=lambda address: (-seen.asked[address], by_number(address)))
+        chosen = client or clients[0]
+        if client is None and len(clients) > 1:
+            self.remarks.append(f"{len(clients)} clients ask in it; this is a claim for the one that asks most, and --client takes another.")
+        if client is not None or len(clients) > 1:
+            for address in clients:
+                self.remarks.append(f"{address} asks {count(seen.asked[address], 'time')}, and {count(len(seen.answered[address]), 'server')} answer it.")
+        if not seen.answered.get(chosen):
+            self.remarks.append(f"Nobody answers {plain(chosen)}.")
+            return None
+        return chosen
+
+    def name_servers(self, claim: dict[str, Any], recording: Recording, references: dict[str, set[tuple[int, str]]]) -> None:
+        """Names the servers with a sample, puts them into groups, and grants that fewer than half of these were wrong."""
+        silent = [server for server in claim["servers"] if server not in recording.by_server]
+        if silent:
+            self.remarks.append(f"Left out, since no reply of theirs is of use: {', '.join(silent)} ({counted(recording.counts)}).")
+        claim["servers"] = [server for server in claim["servers"] if server in recording.by_server]
+        groups = group(claim["servers"], references)
+        claim["false_max"] = (len(groups) - 1) // 2
+        if len(groups) < len(claim["servers"]):
+            claim["groups"] = groups
+        kinds = defaultdict(list)
+        for server in claim["servers"]:
+            for stratum, reference in references[server]:
+                if upstream(stratum, reference) is None and reference != "00000000":
+                    kinds[reference].append(server)
+        for reference, servers in kinds.items():
+            if len(set(servers)) > 1:
+                self.remarks.append(f"{', '.join(servers)} name one kind of reference clock ({reference}): if it is one and the same clock, put them into one group.")
+
+    def take_bound(self, claim: dict[str, Any], own: Operand, span: int) -> None:
+        """The least bound that the envelope carries, rounded up to two digits."""
+        step = envelope_step_of(claim, COARSEST)
+        envelope = read_envelope(self.program.run(["envelope", own, self.capture, "--servers", "--step", str(step)], self.folder).text)
+        if envelope.least_ns is None:
+            word, k = envelope.hulls[envelope.worst], envelope.worst
+            claim["bound_ns"] = NO_BOUND
+            self.remarks.append(f"bound_ns: no bound is carried, since the piece from {civil(envelope.begins[k])} is {word}; one second stands there for now.")
+        else:
+            claim["bound_ns"] = round_up(envelope.least_ns)
+            self.remarks.append(f"bound_ns: the least bound that pieces of {step} s carry is {ns_up_ms(envelope.least_ns)} ms; rounded up.")
+
+    def leave_to_a_person(self, claim: dict[str, Any]) -> None:
+        """What only a person can answer for."""
+        groups = len(claim.get("groups", claim["servers"]))
+        self.remarks += [
+            f"drift_ppb is {claim['drift_ppb']}: how fast the clock may gain or lose, its oscillator's data sheet and the NTP client's corrections together. Nothing in a capture shows it.",
+            f"reading_ns is {claim['reading_ns']}: how far a record's time may be from what the clock showed. It has to be measured on that machine.",
+            f"false_max is {claim['false_max']}: fewer than half of {count(groups, 'group')} of servers may be wrong. Whether no more were is for a person to say.",
+            "groups: servers of one operator, or on one reference clock, belong together. A capture shows only what they name as their reference.",
+        ]
+
+
+def counted(counts: dict[str, int]) -> str:
+    """The counts that say what became of replies."""
+    names = ("replies", "version", "leap", "stratum", "precision", "zero", "norequest", "ambiguous")
+    return ", ".join(f"{name} {counts[name]}" for name in names if counts.get(name))
+
+
+def draft(program: Program, captures: list[str], client: str | None, whole_days: bool, drift_ppb: int, reading_ns: int) -> tuple[dict[str, Any] | None, list[str]]:
+    """A claim for captures, which are joined where there are several; and remarks for a person."""
+    if len(captures) == 1:
+        drafting = Draft(program, ".", Operand(captures[0]))
+        return drafting.claim(client, whole_days, drift_ppb, reading_ns), drafting.remarks
+    with tempfile.TemporaryDirectory(prefix="ntpaudit-") as place:
+        for number, capture in enumerate(captures):
+            try:
+                (Path(place) / f"{number:06}.pcap").symlink_to(Path(capture).resolve(strict=True))
+            except OSError:
+                raise Fault("ntpaudit: device capture", files.DEVICE) from None
+        files.join(Path(place), [f"{number:06}.pcap" for number in range(len(captures))])
+        drafting = Draft(program, place, Operand(files.JOINED))
+        claim = drafting.claim(client, whole_days, drift_ppb, reading_ns)
+        drafting.remarks.insert(0, f"{len(captures)} captures were joined in order of time.")
+        return claim, drafting.remarks
+
+
+def claim_text(claim: dict[str, Any]) -> str:
+    """The claim, a line for each of its fields."""
+    return "{\n" + ",\n".join(f"  {json.dumps(name)}: {json.dumps(value)}" for name, value in claim.items()) + "\n}\n"

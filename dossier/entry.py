@@ -1,0 +1,106 @@
+"""What audit.json holds: a record of a folder, with an entry for each audit in it."""
+from __future__ import annotations
+
+import re
+from dataclasses import asdict, dataclass, field, fields
+from pathlib import Path
+from typing import Any
+
+from . import VERSION
+from .folder import AUDIT, CERTIFICATE, CLAIM, CLAIM_OF_0, ENVELOPE, JOINED, REFUTATION, REPORT, read_json
+
+YES, NO, NEITHER, REFUSED = "yes", "no", "neither", "refused"
+STATUS = {YES: 0, NO: 1, NEITHER: 1}
+
+PART = re.compile(r"\.|\d{4}-\d\d-\d\d")
+LEFT = {CERTIFICATE, REPORT, ENVELOPE, REFUTATION, CLAIM_OF_0}
+
+
+@dataclass
+class Entry:
+    """One audit: of a whole claim, or of one day of it."""
+
+    part: str
+    """The folder of its files, seen from the record's: `.`, or a day such as `2026-11-22`."""
+    verdict: str
+    claim: dict[str, Any] | None = None
+    fault: dict[str, Any] | None = None
+    """The line and the status of a refusal."""
+    decided_by: str | None = None
+    """The command whose text is report.txt: `check`, or `find` where it found nothing."""
+    step: int | None = None
+    """Seconds of the certificate's pieces, or of those in which `find` found nothing last."""
+    envelope_step: int | None = None
+    pieces: int = 0
+    """How many pieces the envelope has."""
+    least_ns: int | None = None
+    """The least bound that the envelope carries, or None where a piece is unbounded or empty."""
+    worst: dict[str, Any] | None = None
+    """The piece that needs the least bound, or the first that is unbounded or empty."""
+    reason: dict[str, Any] | None = None
+    """Of a no: the piece that fails, and how."""
+    failing: dict[str, int] = field(default_factory=dict)
+    """How many pieces of the envelope are unbounded, are empty, or lie beyond the bound."""
+    counts: dict[str, int] = field(default_factory=dict)
+    servers: list[dict[str, Any]] = field(default_factory=list)
+    refutation: dict[str, Any] | None = None
+    warnings: list[dict[str, Any]] = field(default_factory=list)
+    outputs: dict[str, str] = field(default_factory=dict)
+    """The SHA-256 of each file that the audit left, by its name seen from the record's folder."""
+
+    @property
+    def status(self) -> int:
+        return self.fault["status"] if self.fault else STATUS[self.verdict]
+
+
+@dataclass
+class Record:
+    """What audit.json says of a folder."""
+
+    program: dict[str, str]
+    options: dict[str, Any]
+    inputs: dict[str, str]
+    """The SHA-256 of each input, by its name."""
+    capture: str | None
+    """The capture that was read: the one input, or the file in which several were joined."""
+    entries: list[Entry]
+    made: str
+    seconds: float
+    dossier: int = VERSION
+
+    @property
+    def status(self) -> int:
+        return max((entry.status for entry in self.entries), default=0)
+
+    @property
+    def outputs(self) -> dict[str, str]:
+        return {name: sum_ for entry in self.entries for name, sum_ in entry.outputs.items()}
+
+
+def record_json(record: Record) -> dict[str, Any]:
+    return asdict(record)
+
+
+def read_record(folder: Path) -> Record | None:
+    """The record of a folder; None where there is none, or one of another form."""
+    found = read_json(folder / AUDIT)
+    if not isinstance(found, dict) or found.get("dossier") != VERSION:
+        return None
+    try:
+        record = Record(**{**found, "entries": [Entry(**entry) for entry in found["entries"]]})
+        return record if all(map(is_own, record.entries)) else None
+    except (TypeError, KeyError, AttributeError):
+        return None
+
+
+def is_own(entry: Entry) -> bool:
+    """Whether an entry names files of its own folder alone: an audit.json may come from anybody."""
+    def is_left(name: str) -> bool:
+        part, _, file = name.rpartition("/")
+        return name == JOINED or (file in LEFT and part == "") or (file in LEFT | {CLAIM} and bool(PART.fullmatch(part)) and part != ".")
+    return bool(PART.fullmatch(entry.part)) and all(map(is_left, entry.outputs))
+
+
+def differing(one: Entry, other: Entry) -> list[str]:
+    """The names of what two entries say differently, the sums of outputs left out."""
+    return [f.name for f in fields(Entry) if f.name != "outputs" and getattr(one, f.name) != getattr(other, f.name)]

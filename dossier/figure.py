@@ -1,0 +1,197 @@
+"""The picture of an envelope, as SVG: the clock's error in milliseconds over civil time.
+
+The hull is a band, the intervals of each server are strokes, the claimed bound is two lines, and pieces that fail are
+marked below. It needs no script, and its words keep their size in a window of any width: what is drawn lies in an inner
+picture that is stretched, and the words stand beside it at parts of the width.
+"""
+from __future__ import annotations
+
+import sys
+
+from .answers import Envelope, read_envelope
+from .cells import Cell, cells_of
+from .program import Operand, Program
+from .scale import ms_marks, time_marks
+from .style import PICTURE
+from .text import html, minus
+from .units import bound_ticks, ns_ms, range_ms, seconds_of, shown_time
+
+WIDTH, HEIGHT, TOP, STRIP, FOOT = 10_000, 300, 10, 12, 40
+"""The inner picture's width in its own units; heights in pixels."""
+
+COLOURS, DASHES = 7, 4
+MARKS = {"empty": "empty: no course of events fits", "beyond": "beyond the bound", "unbounded": "unbounded: nothing follows"}
+
+
+def picture(envelope: Envelope, bound_ns: int, name: str, label: str) -> str:
+    """The picture, with ids that begin with a name of its own."""
+    bound = bound_ticks(bound_ns)
+    cells = cells_of(envelope, bound)
+    low, high = extent(cells, bound)
+
+    def y(ticks: float) -> float:
+        return HEIGHT * (high - ticks) / (high - low)
+    inner = [band(cells, y), *strokes(cells, y)]
+    inner += [line(y(mark), "grid" if mark else "zero") for mark, _ in ms_marks(low, high)]
+    inner += [line(y(side), "bound") for side in (bound, -bound)]
+    height = TOP + HEIGHT + STRIP + FOOT
+    return "\n".join([
+        f'<svg class="picture" role="img" aria-labelledby="{name}-t {name}-d" width="100%" height="{height}" xmlns="http://www.w3.org/2000/svg">',
+        f'<title id="{name}-t">{html(label)}</title>',
+        f'<desc id="{name}-d">{html(described(envelope, bound_ns))}</desc>',
+        f'<svg y="{TOP}" width="100%" height="{HEIGHT}" viewBox="0 0 {WIDTH} {HEIGHT}" preserveAspectRatio="none">', *inner, "</svg>",
+        f'<rect class="frame" y="{TOP}" width="100%" height="{HEIGHT}"/>',
+        f'<svg y="{TOP + HEIGHT}" width="100%" height="{STRIP}" viewBox="0 0 {WIDTH} {STRIP}" preserveAspectRatio="none">', *marks(cells), "</svg>",
+        *words(envelope, bound, bound_ns, low, high, y), "</svg>"])
+
+
+def extent(cells: list[Cell], bound: int) -> tuple[int, int]:
+    """What is shown, in ticks: the hull and the bound, and a margin. A server far from both stands outside."""
+    lows = [-bound, *(cell.hull[0] for cell in cells if cell.hull)]
+    highs = [bound, *(cell.hull[1] for cell in cells if cell.hull)]
+    margin = max(1000, (max(highs) - min(lows)) * 12 // 100)
+    return min(lows) - margin, max(highs) + margin
+
+
+def x(part: float) -> int:
+    return round(WIDTH * part)
+
+
+def band(cells: list[Cell], y) -> str:
+    """The hull: from cell to cell along its high ends, and back along its low ones. A cell without a hull is a gap."""
+    drawn, run = [], []
+    for cell in [*cells, None]:
+        if cell is not None and cell.hull and (not run or run[-1].end == cell.begin):
+            run.append(cell)
+            continue
+        if run:
+            there = "".join(f"V{y(c.hull[1]):.1f}H{x(c.end)}" for c in run)
+            back = "".join(f"V{y(c.hull[0]):.1f}H{x(c.begin)}" for c in reversed(run))
+            drawn.append(f"M{x(run[0].begin)} {y(run[0].hull[1]):.1f}{there}{back}Z")
+        run = [cell] if cell is not None and cell.hull else []
+    return f'<path class="hull" d="{"".join(drawn)}"/>'
+
+
+def strokes(cells: list[Cell], y) -> list[str]:
+    """Of each server a stroke in each cell, side by side. Where it goes through the whole picture it is faint, and where it
+    lies outside there is a short one at the edge."""
+    servers = len(cells[0].servers)
+    is_dense = " dense" if len(cells) * servers > 400 else ""
+    drawn = []
+    for place in range(servers):
+        plain, wide = [], []
+        for cell in cells:
+            if cell.servers[place] is None:
+                continue
+            bottom, top = (y(end) for end in cell.servers[place])
+            at = x(cell.begin + (cell.end - cell.begin) * (place + 1) / (servers + 1))
+            if bottom < 0:
+                plain.append(f"M{at} 0v7")
+            elif top > HEIGHT:
+                plain.append(f"M{at} {HEIGHT}v-7")
+            elif top < 0 and bottom > HEIGHT:
+                wide.append(f"M{at} 0v{HEIGHT}")
+            else:
+                plain.append(f"M{at} {min(bottom, HEIGHT):.1f}V{max(top, 0):.1f}")
+        for path, kind in ((wide, " wide"), (plain, is_dense)):
+            if path:
+                drawn.append(f'<path class="server {server_class(place)}{kind}" d="{"".join(path)}"/>')
+    return drawn
+
+
+def server_class(place: int) -> str:
+    return f"c{place % COLOURS} d{place // COLOURS % DASHES}"
+
+
+def line(height: float, name: str) -> str:
+    return f'<path class="{name}" d="M0 {height:.1f}H{WIDTH}"/>'
+
+
+def marks(cells: list[Cell]) -> list[str]:
+    """A strip that marks the cells that fail, run by run."""
+    drawn = []
+    for kind in MARKS:
+        path, end = [], None
+        for cell in cells:
+            if cell.mark == kind:
+                if end != cell.begin:
+                    path.append(f"M{x(cell.begin)} {STRIP / 2:.0f}")
+                path.append(f"H{x(cell.end)}")
+                end = cell.end
+        if path:
+            drawn.append(f'<path class="mark {kind}" d="{"".join(path)}"/>')
+    return drawn
+
+
+def words(envelope: Envelope, bound: int, bound_ns: int, low: int, high: int, y) -> list[str]:
+    """What is written: milliseconds at the left, the bound at the right, times below."""
+    first, last = envelope.begins[0], envelope.ends[-1]
+    bottom = TOP + HEIGHT + STRIP
+    drawn = []
+    for mark, text in ms_marks(low, high):
+        if 12 < y(mark) < HEIGHT - 4:
+            drawn.append(f'<text x="4" y="{TOP + y(mark) - 3:.1f}">{minus(text)}{" ms" if not mark else ""}</text>')
+    for side, sign in ((bound, "+"), (-bound, "\u2212"))[: 2 if bound else 1]:
+        shift = -4 if side >= 0 else 13
+        drawn.append(f'<text class="claimed" x="100%" dx="-4" text-anchor="end" y="{TOP + y(side) + shift:.1f}">claimed {sign}{ns_ms(bound_ns)} ms</text>')
+    for time, text in time_marks(first, last) if first < last else [(first, shown_time(first)[11:])]:
+        part = 100 * (time - first) / max(1, last - first)
+        anchor = "start" if part < 6 else "end" if part > 94 else "middle"
+        drawn.append(f'<line class="tick" x1="{part:.2f}%" x2="{part:.2f}%" y1="{bottom}" y2="{bottom + 5}"/>')
+        drawn.append(f'<text x="{part:.2f}%" y="{bottom + 18}" text-anchor="{anchor}">{text}</text>')
+    days = " to ".join(sorted({shown_time(time)[:10] for time in (first, last)}))
+    drawn.append(f'<text x="50%" y="{bottom + 34}" text-anchor="middle">UTC, {days}</text>')
+    return drawn
+
+
+def described(envelope: Envelope, bound_ns: int) -> str:
+    """The picture in words, for whoever doesn't see it."""
+    bounded = [hull for hull in envelope.hulls if not isinstance(hull, str)]
+    text = f"The clock's error from {shown_time(envelope.begins[0])} to {shown_time(envelope.ends[-1])} UTC, in {len(envelope.hulls)} pieces. "
+    if bounded:
+        text += f"The hull lies within {range_ms(min(hull[0] for hull in bounded), max(hull[1] for hull in bounded))}; "
+    text += f"the claimed bound is {ns_ms(bound_ns)} ms to either side. "
+    fails = {word: envelope.hulls.count(word) for word in ("empty", "unbounded")}
+    fails["beyond the bound"] = sum(hull[0] < -bound_ticks(bound_ns) or hull[1] > bound_ticks(bound_ns) for hull in bounded)
+    return text + ", ".join(f"{number} pieces {word}" for word, number in fails.items() if number)
+
+
+def legend(names: list[str], fails: set[str]) -> str:
+    """What stands for what, beside a picture in a page."""
+    drawn = [item('<path class="hull" d="M0 2H26V12H0Z"/>', "hull: what is left, if no more were wrong than granted")]
+    drawn += [item(f'<path class="server {server_class(place)}" d="M0 7H26"/>', name) for place, name in enumerate(names)]
+    drawn += [item('<path class="bound" d="M0 7H26"/>', "claimed bound")]
+    drawn += [item(f'<path class="mark {kind}" d="M0 7H26"/>', text) for kind, text in MARKS.items() if kind in fails]
+    return f'<ul class="legend">{"".join(drawn)}</ul>'
+
+
+def item(swatch: str, text: str) -> str:
+    return f'<li><svg width="26" height="14" aria-hidden="true">{swatch}</svg> {html(text)}</li>'
+
+
+def standing_alone(envelope: Envelope, bound_ns: int, label: str, wide: int = 900) -> str:
+    """The picture as a file of its own, with its legend in it."""
+    names = ["hull", *envelope.servers]
+    top, across, drawn = 40, 0, []
+    for place, name in enumerate(names):
+        if across + 50 + 8 * len(name) > wide - 20:
+            top, across = top + 20, 0
+        swatch = '<path class="hull" d="M0 2H26V12H0Z"/>' if not place else f'<path class="server {server_class(place - 1)}" d="M0 7H26"/>'
+        drawn.append(f'<g transform="translate({10 + across} {top - 32})">{swatch}<text x="32" y="12">{html(name)}</text></g>')
+        across += 56 + 8 * len(name)
+    height = top + TOP + HEIGHT + STRIP + FOOT
+    return "\n".join([
+        f'<svg xmlns="http://www.w3.org/2000/svg" width="{wide}" height="{height}">',
+        f"<style>{PICTURE}</style>", '<rect class="paper" width="100%" height="100%"/>', *drawn,
+        f'<svg x="10" y="{top}" width="{wide - 20}" height="{height - top}">', picture(envelope, bound_ns, "p", label), "</svg>", "</svg>"])
+
+
+def print_picture(program: Program, claim: str, capture: str, step: int) -> int:
+    """Prints the picture of a claim and a capture, from what `envelope` says of them."""
+    import json
+    text = program.run(["envelope", Operand(claim), Operand(capture), "--servers", "--step", str(step)], ".").text
+    with open(claim, "rb") as opened:
+        given = json.load(opened)
+    assert seconds_of(given["from"]) <= seconds_of(given["to"])
+    sys.stdout.write(standing_alone(read_envelope(text), given["bound_ns"], f"The error of the clock of {given['client']}") + "\n")
+    return 0

@@ -1,0 +1,159 @@
+"""What an audit's answers come to: the verdict, the reason of a no, and what a reader has to be warned of.
+
+This is a function of texts that the program printed; `verify` calls it again on texts of its own.
+"""
+from __future__ import annotations
+
+import json
+from collections.abc import Iterator
+from dataclasses import dataclass
+from typing import Any
+
+from .answers import Envelope, Hull, Report, read_envelope, read_nothing, read_report
+from .entry import NEITHER, NO, YES, Entry
+from .folder import compact
+from .recording import SECOND, Recording
+from .units import bound_ticks, seconds_of
+
+FAR = 10
+"""A piece is far from the samples where the nearest is farther than this part of the span."""
+
+
+@dataclass(frozen=True)
+class Texts:
+    """What the program printed of one audit."""
+
+    decided_by: str
+    step: int
+    report: bytes
+    envelope_step: int
+    envelope: bytes
+    refutation: bytes
+    """The text of `find --refutation`, of the claim at a no and of the claim with the bound 0 at a yes."""
+    refute: bytes | None
+    """What `refute` says of it, where there is one."""
+    claim_of_0: bytes | None
+
+
+def at_bound_0(claim: dict[str, Any]) -> bytes:
+    """The claim with the bound 0: what refutes it is a course of events that fits the capture."""
+    return compact({**claim, "bound_ns": 0})
+
+
+def groups_of(claim: dict[str, Any]) -> list[list[int]]:
+    return claim.get("groups") or [[k] for k in range(len(claim["servers"]))]
+
+
+def judge(part: str, claim: dict[str, Any], recording: Recording, texts: Texts) -> Entry:
+    envelope = read_envelope(texts.envelope)
+    report = read_report(texts.report) if texts.decided_by == "check" else None
+    failing = count_failing(envelope, bound_ticks(claim["bound_ns"]))
+    is_yes = report is not None and report.is_yes
+    verdict = NO if not is_yes else NEITHER if failing["empty"] else YES
+    return Entry(
+        part=part, verdict=verdict, claim=claim, decided_by=texts.decided_by, step=texts.step,
+        envelope_step=texts.envelope_step, pieces=len(envelope.hulls), least_ns=envelope.least_ns,
+        worst=piece_of(envelope, envelope.worst), reason=None if is_yes else reason_of(claim, report, texts), failing=failing,
+        counts=recording.counts, servers=servers_of(claim, recording, envelope), refutation=refutation_of(is_yes, texts),
+        warnings=list(warnings(claim, recording, envelope, report)),
+    )
+
+
+def piece_of(envelope: Envelope, k: int) -> dict[str, Any]:
+    return {"piece": k, "from": envelope.begins[k], "to": envelope.ends[k], "hull": in_json(envelope.hulls[k])}
+
+
+def in_json(hull: Hull) -> list[int] | str:
+    return hull if isinstance(hull, str) else list(hull)
+
+
+def is_beyond(hull: Hull, bound: int) -> bool:
+    return not isinstance(hull, str) and (hull[0] < -bound or hull[1] > bound)
+
+
+def count_failing(envelope: Envelope, bound: int) -> dict[str, int]:
+    return {"unbounded": envelope.hulls.count("unbounded"), "empty": envelope.hulls.count("empty"),
+            "beyond": sum(is_beyond(hull, bound) for hull in envelope.hulls)}
+
+
+def reason_of(claim: dict[str, Any], report: Report | None, texts: Texts) -> dict[str, Any]:
+    """Of a no: the words of `check`, or the piece that `find` names with its hull and its times."""
+    if report is not None:
+        return {"why": report.why, "piece": report.piece}
+    nothing = read_nothing(texts.report)
+    first, last = seconds_of(claim["from"]), seconds_of(claim["to"])
+    begin = first + nothing.piece * texts.step
+    return {"why": why_of(nothing.hull, bound_ticks(claim["bound_ns"])), "piece": nothing.piece, "from": begin,
+            "to": min(begin + texts.step, last), "hull": in_json(nothing.hull)}
+
+
+def why_of(hull: Hull, bound: int) -> str:
+    """`unbounded` and `empty` as they stand; `off` where the hull lies beyond the bound as a whole; else `exceeds`."""
+    if isinstance(hull, str):
+        return hull
+    return "off" if hull[0] > bound or hull[1] < -bound else "exceeds"
+
+
+def servers_of(claim: dict[str, Any], recording: Recording, envelope: Envelope) -> list[dict[str, Any]]:
+    """For each server of the claim its group, its samples, the outermost ends of its intervals, how many of these hold
+    nothing, and whether it stands apart: no interval of its own meets the hull of its piece."""
+    group = {server: number for number, members in enumerate(groups_of(claim)) for server in members}
+    found = []
+    for number, address in enumerate(claim["servers"]):
+        server = {"address": address, "group": group[number], "samples": recording.by_server.get(address, 0)}
+        if address in envelope.servers:
+            lows, highs = envelope.servers[address]
+            server |= {"low": min(lows), "high": max(highs), "crossed": sum(map(int.__gt__, lows, highs)),
+                       "apart": is_apart(lows, highs, envelope.hulls)}
+        found.append(server)
+    return found
+
+
+def is_apart(lows: list[int], highs: list[int], hulls: list[Hull]) -> bool:
+    bounded = [(low, high, hull) for low, high, hull in zip(lows, highs, hulls) if not isinstance(hull, str)]
+    return bool(bounded) and not any(low <= hull[1] and hull[0] <= high for low, high, hull in bounded)
+
+
+def refutation_of(is_yes: bool, texts: Texts) -> dict[str, Any]:
+    """Which claim was to be refuted, whether anything was found, and what `refute` says of it."""
+    found: dict[str, Any] = {"of": "bound 0" if is_yes else "claim", "found": texts.refute is not None}
+    if texts.refute is not None:
+        said = json.loads(texts.refutation)
+        found |= {"stands": texts.refute == b"refuted yes\n", "error": said["error"], "false": said["false"], "reading": said["reading"]}
+    return found
+
+
+def warnings(claim: dict[str, Any], recording: Recording, envelope: Envelope, report: Report | None) -> Iterator[dict[str, Any]]:
+    """What stands beside a verdict, whatever it is."""
+    if (k := envelope.first("empty")) is not None:
+        yield {"kind": "empty", "count": envelope.hulls.count("empty"), **piece_of(envelope, k)}
+    first, last = seconds_of(claim["from"]), seconds_of(claim["to"])
+    if recording.first is not None:
+        before, after = recording.first - first * SECOND, last * SECOND - recording.last
+        if before > 0 or after > 0:
+            yield {"kind": "outside", "before": max(0, before), "after": max(0, after)}
+    if claim["drift_ppb"] == 0:
+        yield {"kind": "no-drift"}
+    if recording.fall:
+        record, before, after = recording.fall
+        yield {"kind": "falls", "count": recording.falls, "record": record, "before": before, "after": after}
+    yield from far_pieces(recording, envelope, last - first)
+    if recording.counts.get("warnings"):
+        yield {"kind": "leap", "count": recording.counts["warnings"]}
+    if report is not None and report.sources is not None:
+        yield {"kind": "sources", "count": report.sources}
+    if report is not None and report.reference is not None:
+        yield {"kind": "reference", "reference": report.reference}
+
+
+def far_pieces(recording: Recording, envelope: Envelope, span: int) -> Iterator[dict[str, Any]]:
+    limit, far, worst = span * SECOND // FAR, 0, (-1, 0)
+    if not recording.times:
+        return
+    for k, (begin, end) in enumerate(zip(envelope.begins, envelope.ends)):
+        distance = recording.nearest(begin, end)
+        if distance > limit:
+            far += 1
+            worst = max(worst, (distance, -k))
+    if far:
+        yield {"kind": "far", "count": far, "distance": worst[0], **piece_of(envelope, -worst[1])}

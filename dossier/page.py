@@ -1,0 +1,100 @@
+"""The page: one file that needs no network and no script, to be read on a screen or on paper."""
+from __future__ import annotations
+
+import argparse
+import sys
+from collections import Counter
+from pathlib import Path
+
+from .article import article
+from .entry import NEITHER, NO, REFUSED, YES, Record
+from .folder import write_beside
+from .program import now
+from .style import PAGE
+from .table import Row, as_csv, as_json, records_of, row_of, rows_of
+from .text import count, html, minus
+from .units import ns_ms, ns_up_ms
+
+SYMBOLS = {YES: "\u2713", NO: "\u2717", NEITHER: "?", REFUSED: "!"}
+MEANINGS = {
+    YES: "shown: in every course of events that fits the capture",
+    NO: "not shown",
+    NEITHER: "something that the claim grants isn't so",
+    REFUSED: "no verdict: the audit couldn't be made",
+}
+POLICY = "default-src 'none'; style-src 'unsafe-inline'"
+"""Nothing is fetched and nothing is run, whatever stands in the page."""
+
+
+def write_page(folders: list[str], given: argparse.Namespace) -> int:
+    """Prints the page or the table, or writes it whole."""
+    records = records_of(folders)
+    text = as_json(rows_of(records)) if given.json else as_csv(rows_of(records)) if given.csv else page(records, given.title)
+    data = text.encode("utf-8", "backslashreplace")
+    if given.output:
+        write_beside(Path(given.output), data)
+    else:
+        sys.stdout.buffer.write(data)
+    return 0
+
+
+def page(records: list[tuple[str, Record]], title: str) -> str:
+    entries = [(folder, record, entry) for folder, record in records for entry in record.entries]
+    rows = [row_of(folder, entry) for folder, _, entry in entries]
+    names = [f"a{number}" for number in range(len(entries))]
+    articles = [article(name, Path(folder), record, entry, badge(entry.verdict)) for name, (folder, record, entry) in zip(names, entries)]
+    return "\n".join([
+        "<!DOCTYPE html>", '<html lang="en">', "<head>", '<meta charset="utf-8">',
+        f'<meta http-equiv="Content-Security-Policy" content="{POLICY}">',
+        '<meta name="viewport" content="width=device-width, initial-scale=1">', '<meta name="color-scheme" content="light dark">',
+        f"<title>{html(title)}</title>", f"<style>{PAGE}</style>", "</head>", "<body>",
+        "<header>", f"<h1>{html(title)}</h1>", f'<p class="soft">{html(made_by(records))}</p>', tally(rows), "</header>",
+        "<main>", table(rows, names), *articles, "</main>", "</body>", "</html>", ""])
+
+
+def made_by(records: list[tuple[str, Record]]) -> str:
+    programs = {record.program["sha256"]: record.program["version"] for _, record in records if record.program}
+    which = "; ".join(f"{version or 'ntpaudit'}, SHA-256 {sum_[:16]}\u2026" for sum_, version in programs.items())
+    return f"{count(len(records), 'folder')}, put together at {now()}. Audited by {which or 'nothing yet'}. All times are UTC."
+
+
+def badge(verdict: str) -> str:
+    return f'<span class="verdict {verdict}">{SYMBOLS[verdict]} {verdict}</span>'
+
+
+def tally(rows: list[Row]) -> str:
+    counts = Counter(row.verdict for row in rows)
+    items = [f"<li>{badge(verdict)} {counts[verdict]:,} {html(MEANINGS[verdict])}</li>" for verdict in MEANINGS if counts[verdict]]
+    return f'<ul class="tally">{"".join(items)}</ul>'
+
+
+COLUMNS = ["Machine", "Day", "Verdict", "Claimed", "Least bound", "Worst piece", "Samples", "Servers", "Why, and what to do"]
+CLASSES = {"Claimed": "number", "Least bound": "number", "Samples": "number", "Machine": "machine", "Worst piece": "time", "Servers": "few",
+           "Why, and what to do": "why"}
+
+
+def table(rows: list[Row], names: list[str]) -> str:
+    """Machines and days. A column that would be empty throughout is left out."""
+    cells = [cells_of(row, name) for row, name in zip(rows, names)]
+    shown = [k for k, _ in enumerate(COLUMNS) if any(row[k] for row in cells)]
+    head = "".join(f'<th{of_column(COLUMNS[k])}>{COLUMNS[k]}</th>' for k in shown)
+    body = ["".join(f'<td data-label="{COLUMNS[k]}"{of_column(COLUMNS[k])}>{row[k]}</td>' for k in shown) for row in cells]
+    lines = "\n".join(f"<tr>{row}</tr>" for row in body)
+    return f"<table>\n<thead><tr>{head}</tr></thead>\n<tbody>\n{lines}\n</tbody>\n</table>"
+
+
+def of_column(column: str) -> str:
+    return f' class="{CLASSES[column]}"' if column in CLASSES else ""
+
+
+def cells_of(row: Row, name: str) -> list[str]:
+    worst = f"<span>{row.worst_begin[:10]} {row.worst_begin[11:19]}</span>" if row.worst_begin else ""
+    of = "" if row.servers is None else f"{row.servers} in {row.groups} groups" if row.groups != row.servers else str(row.servers)
+    most = "" if row.false_max is None else f" ({row.false_max} wrong at most)" if row.false_max else " (none wrong)"
+    said = [minus(html(f"{row.reason} {row.to_do}".strip())), *(f"<b>Warning:</b> {html(words)}" for words in row.warnings)]
+    why = "<br>".join(words for words in said if words)
+    return [f'<a href="#{name}">{html(row.machine)}</a>', html(row.day), badge(row.verdict),
+            "" if row.bound_ns is None else f"{ns_ms(row.bound_ns)} ms",
+            "" if row.bound_ns is None else "none" if row.least_bound_ns is None else f"{ns_up_ms(row.least_bound_ns)} ms", worst,
+            "" if row.samples is None else f"{row.samples:,}", of + most,
+            f"<span>{why}</span>" if why else ""]

@@ -1,0 +1,90 @@
+"""The look of pages and pictures: light, dark and printed, in colours that the colour-blind and a printer without colour
+tell apart, since forms differ too (dashes, symbols, borders)."""
+
+LIGHT = """--paper:#fff;--ink:#1b1b1b;--soft:#5c5c5c;--rule:#d5d5d5;--panel:#f5f5f3;--hull:#ffe9a0;--hulledge:#a88400;--bound:#1b1b1b;
+--bad:#b3261e;--good:#0b5e4a;--c0:#0072b2;--c1:#009e73;--c2:#c77f00;--c3:#d55e00;--c4:#b0498a;--c5:#3f9bd1;--c6:#666"""
+DARK = """--paper:#16181a;--ink:#ececec;--soft:#a9a9a9;--rule:#3d4043;--panel:#202326;--hull:#594d12;--hulledge:#d9b93a;--bound:#ececec;
+--bad:#ff8a80;--good:#5fd3b3;--c0:#5ab4f0;--c1:#3fd0a4;--c2:#f0b03c;--c3:#ff8c4a;--c4:#e796c4;--c5:#9bd7ff;--c6:#b5b5b5"""
+
+PICTURE = f""":root{{{LIGHT}}}
+@media(prefers-color-scheme:dark){{:root{{{DARK}}}}}
+@media print{{:root{{{LIGHT}}}}}
+svg{{font:12px system-ui,sans-serif}}
+svg text{{fill:var(--soft);paint-order:stroke;stroke:var(--paper);stroke-width:3px;stroke-linejoin:round}}
+svg path{{vector-effect:non-scaling-stroke;fill:none}}
+.paper{{fill:var(--paper)}}
+.frame{{fill:none;stroke:var(--rule)}}
+.grid{{stroke:var(--rule)}}
+.zero{{stroke:var(--soft)}}
+.tick{{stroke:var(--soft)}}
+svg .hull{{fill:var(--hull);stroke:var(--hulledge);stroke-width:1}}
+.bound{{stroke:var(--bound);stroke-width:1.5;stroke-dasharray:7 4}}
+svg .claimed{{fill:var(--ink)}}
+.server{{stroke-width:2}}
+.dense{{stroke-width:1;opacity:.55}}
+.mark{{stroke-width:12;stroke:var(--bad)}}
+.beyond{{stroke-dasharray:3 2}}
+.unbounded{{stroke-dasharray:1 5;stroke:var(--soft)}}
+.d1{{stroke-dasharray:6 3}}
+.d2{{stroke-dasharray:2 2}}
+.d3{{stroke-dasharray:9 2 2 2}}
+""" + "".join(f".c{k}{{stroke:var(--c{k})}}\n" for k in range(7))
+"""What pictures need, in a page and alone."""
+
+PAGE = PICTURE + """*{box-sizing:border-box}
+body{margin:0 auto;max-width:1100px;padding:24px 20px 60px;background:var(--paper);color:var(--ink);font:16px/1.5 system-ui,sans-serif}
+h1{font-size:28px;margin:0 0 4px}
+h2{font-size:22px;margin:0 0 8px;overflow-wrap:anywhere}
+h3{font-size:16px;margin:26px 0 6px}
+p{margin:8px 0}
+a{color:inherit}
+.soft{color:var(--soft);font-size:14px}
+.lead{font-size:18px;max-width:46em}
+article{border-top:3px solid var(--ink);margin-top:44px;padding-top:16px}
+table{border-collapse:collapse;width:100%;font-size:14px;line-height:1.4}
+th,td{text-align:left;vertical-align:top;padding:6px 10px 6px 0;border-bottom:1px solid var(--rule);overflow-wrap:anywhere}
+th{font-weight:600;color:var(--soft)}
+.number{text-align:right;white-space:nowrap;font-variant-numeric:tabular-nums}
+.narrow{width:1%;white-space:nowrap}
+.machine{min-width:9em}
+.time{min-width:6em}
+.few{min-width:8em}
+.why{width:34%}
+.verdict{display:inline-block;padding:0 9px;border:2px solid;border-radius:5px;font-weight:700;white-space:nowrap}
+.yes{color:var(--good)}
+.no{color:var(--paper);background:var(--bad);border-color:var(--bad)}
+.neither{color:var(--bad);border-style:dashed}
+.refused{color:var(--soft);border-style:dotted}
+h2 .verdict{font-size:16px;vertical-align:3px;margin-left:6px}
+.tally{display:flex;flex-wrap:wrap;gap:8px 18px;list-style:none;padding:0;margin:14px 0}
+.warnings{border-left:5px solid var(--bad);background:var(--panel);margin:14px 0;padding:8px 16px 8px 30px}
+.warnings li{margin:4px 0}
+figure{margin:22px 0 8px}
+figcaption{font-size:14px;color:var(--soft);margin-bottom:4px}
+.picture{display:block;overflow:visible}
+.legend{display:flex;flex-wrap:wrap;gap:2px 18px;list-style:none;padding:0;margin:8px 0;font-size:13px}
+.legend svg,td svg{vertical-align:-2px}
+.sums td{font-family:ui-monospace,monospace;font-size:12px}
+pre{background:var(--panel);padding:10px 14px;overflow-x:auto;font-size:13px;white-space:pre-wrap;overflow-wrap:anywhere}
+.sign{min-width:11em}
+@media(max-width:700px){
+body{padding:16px 14px 40px}
+h1{font-size:24px}
+thead{display:none}
+tr{display:block;border-bottom:2px solid var(--rule);padding:8px 0}
+td,td.number,td.narrow,td.why{display:flex;gap:12px;border:0;padding:2px 0;text-align:left;white-space:normal;width:auto}
+td>*{min-width:0}
+td::before{content:attr(data-label);flex:0 0 7.5em;color:var(--soft)}
+td:empty,td.blank:empty{display:none}
+}
+@media print{
+body{max-width:none;padding:0;font-size:11pt}
+article{break-before:page;border-top:0;margin-top:0}
+figure,tr,.warnings,.legend{break-inside:avoid}
+h3{break-after:avoid}
+thead{display:table-header-group}
+.sign{height:2.6em}
+*{print-color-adjust:exact;-webkit-print-color-adjust:exact}
+}
+"""
+"""What a page needs besides."""

@@ -1,0 +1,83 @@
+"""The table of machines and days: a row for each audit, for a page, as JSON and as CSV."""
+from __future__ import annotations
+
+import csv
+import io
+import json
+from dataclasses import asdict, dataclass, field
+from pathlib import Path
+
+from .entry import REFUSED, Entry, Record, read_record
+from .judgement import groups_of
+from .text import plain
+from .units import civil
+from .words import reason, to_do, warning_words
+
+NOT_AUDITED = {"line": "ntpaudit-dossier: not audited", "status": 4}
+
+
+@dataclass
+class Row:
+    machine: str
+    day: str
+    client: str = ""
+    begin: str = ""
+    end: str = ""
+    verdict: str = REFUSED
+    bound_ns: int | None = None
+    least_bound_ns: int | None = None
+    worst_begin: str = ""
+    worst_end: str = ""
+    samples: int | None = None
+    servers: int | None = None
+    groups: int | None = None
+    false_max: int | None = None
+    reason: str = ""
+    to_do: str = ""
+    warnings: list[str] = field(default_factory=list)
+
+
+def records_of(folders: list[str]) -> list[tuple[str, Record]]:
+    """The record of each folder. One that wasn't audited gets a record that says so."""
+    def of(folder: str) -> Record:
+        none = Record({}, {}, {}, None, [Entry(part=".", verdict=REFUSED, fault=NOT_AUDITED)], "", 0)
+        return read_record(Path(folder)) or none
+    return [(folder, of(folder)) for folder in folders]
+
+
+def row_of(folder: str, entry: Entry) -> Row:
+    row = Row(plain(folder), "" if entry.part == "." else entry.part, verdict=entry.verdict, reason=plain(reason(entry)),
+              to_do=to_do(entry), warnings=[warning_words(warning) for warning in entry.warnings])
+    if entry.claim:
+        claim, worst = entry.claim, entry.worst
+        row.client, row.begin, row.end, row.bound_ns = claim["client"], claim["from"], claim["to"], claim["bound_ns"]
+        row.least_bound_ns, row.worst_begin, row.worst_end = entry.least_ns, civil(worst["from"]), civil(worst["to"])
+        row.samples, row.servers, row.groups = entry.counts["samples"], len(claim["servers"]), len(groups_of(claim))
+        row.false_max = claim["false_max"]
+    return row
+
+
+def rows_of(records: list[tuple[str, Record]]) -> list[Row]:
+    return [row_of(folder, entry) for folder, record in records for entry in record.entries]
+
+
+def as_json(rows: list[Row]) -> str:
+    return json.dumps([asdict(row) for row in rows], indent=1) + "\n"
+
+
+def as_csv(rows: list[Row]) -> str:
+    """One line a row. A text that a spreadsheet would take for a formula gets an apostrophe before it."""
+    out = io.StringIO()
+    writer = csv.writer(out, lineterminator="\n")
+    writer.writerow(list(asdict(Row("", ""))))
+    for row in rows:
+        writer.writerow([as_cell(value) for value in asdict(row).values()])
+    return out.getvalue()
+
+
+def as_cell(value: object) -> object:
+    if value is None:
+        return ""
+    if isinstance(value, list):
+        value = "; ".join(value)
+    return f"'{value}" if isinstance(value, str) and value[:1] in ("=", "+", "-", "@") else value

@@ -1,0 +1,82 @@
+"""Ticks, nanoseconds and Unix seconds as a person reads them.
+
+A low end is rounded down and a high end up, so that what is shown never says more than the program did.
+"""
+from __future__ import annotations
+
+from datetime import datetime, timedelta, timezone
+
+TICKS = 2**32
+"""Ticks in a second."""
+
+EPOCH = datetime(1970, 1, 1, tzinfo=timezone.utc)
+FORM = "%Y-%m-%dT%H:%M:%SZ"
+DAY = 86_400
+
+
+def ceil_div(a: int, b: int) -> int:
+    return -(-a // b)
+
+
+def thousandths(number: int) -> str:
+    """A number of thousandths with its three decimals: -2314 is `-2.314`."""
+    whole, rest = divmod(abs(number), 1000)
+    return f"{'-' if number < 0 else ''}{whole:,}.{rest:03}"
+
+
+def low_ms(ticks: int) -> str:
+    """Ticks in milliseconds, rounded down to the microsecond."""
+    return thousandths(ticks * 1_000_000 // TICKS)
+
+
+def high_ms(ticks: int) -> str:
+    """Ticks in milliseconds, rounded up to the microsecond."""
+    return thousandths(ceil_div(ticks * 1_000_000, TICKS))
+
+
+def range_ms(low: int, high: int) -> str:
+    """Two ends in ticks as `-2.314 to 2.260 ms`."""
+    return f"{low_ms(low)} to {high_ms(high)} ms"
+
+
+def ns_up_ms(nanoseconds: int) -> str:
+    """Nanoseconds in milliseconds, rounded up to the microsecond."""
+    return thousandths(ceil_div(nanoseconds, 1000))
+
+
+def ns_ms(nanoseconds: int) -> str:
+    """Nanoseconds in milliseconds, exactly and without zeros at the end: 5000000 is `5`, 956568 is `0.956568`."""
+    whole, rest = divmod(nanoseconds, 1_000_000)
+    return f"{whole:,}" + (f".{rest:06}".rstrip("0") if rest else "")
+
+
+def bound_ticks(bound_ns: int) -> int:
+    """A claim's bound in ticks, as the program has it: rounded down."""
+    return bound_ns * TICKS // 10**9
+
+
+def civil(seconds: int) -> str:
+    """Unix seconds in the form of a claim's times."""
+    return (EPOCH + timedelta(seconds=seconds)).strftime(FORM)
+
+
+def shown_time(seconds: int) -> str:
+    """Unix seconds as a person reads them: `2026-11-22 07:03:36`."""
+    return civil(seconds).replace("T", " ").removesuffix("Z")
+
+
+def seconds_of(time: str) -> int:
+    """Unix seconds of a claim's time."""
+    return int((datetime.strptime(time, FORM).replace(tzinfo=timezone.utc) - EPOCH).total_seconds())
+
+
+def day_of(seconds: int) -> str:
+    return civil(seconds)[:10]
+
+
+def span_of_seconds(seconds: float) -> str:
+    """A length of time in words: `12.5 s`, `3.2 min`, `5.0 h`, `2.1 days`."""
+    for size, name in ((DAY, "days"), (3600, "h"), (60, "min")):
+        if seconds >= 2 * size:
+            return f"{seconds / size:.1f} {name}"
+    return f"{seconds:.1f} s"
