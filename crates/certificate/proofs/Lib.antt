@@ -1,11 +1,14 @@
 pub mod Ascii
 pub mod CompactRead
 pub mod Digits
+pub mod EntriesRead
 pub mod Joined
 pub mod Limits
 pub mod LineFeed
 pub mod Outlined
+pub mod PairRead
 pub mod Pairs
+pub mod PartsRead
 pub mod ReadBack
 pub mod RefutationText
 pub mod TextRead

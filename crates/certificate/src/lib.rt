@@ -4,9 +4,11 @@
 
 mod certificate;
 mod compact;
+mod entry;
 mod fault;
 mod items;
 pub mod laws;
+mod piece;
 mod reading;
 mod refutation;
 mod refutation_fault;
