@@ -9,7 +9,9 @@ pub mod Outlined
 pub mod PairRead
 pub mod Pairs
 pub mod PartsRead
+pub mod PiecesRead
 pub mod ReadBack
 pub mod RefutationText
 pub mod TextRead
 pub mod Texts
+pub mod WholeRead

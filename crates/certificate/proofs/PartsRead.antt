@@ -50,7 +50,7 @@ module _ (names : List (List ℕ)) (k : List ℕ) (d : Data) where
   has_only-put no_members = refl
   has_only-put (member l e ms) = has_only-put_at (slice_cmp nat_cmp k l) l e ms refl (has_only-put ms)
 
-not_same : (b : Bool) (xs ys : List ℕ) → bytes_eq xs ys ≡ b → ys ≢ xs → b ≡ false
+pub not_same : (b : Bool) (xs ys : List ℕ) → bytes_eq xs ys ≡ b → ys ≢ xs → b ≡ false
 not_same true xs ys is other = absurd (other (sym ((bytes_eq-Decides xs ys).0 is)))
 not_same false xs ys is other = refl
 
@@ -108,18 +108,18 @@ after_asked few bad false read more = refl
 after_asked few bad true None more = refl
 after_asked few bad true (Some a) more = refl
 
-same_piece : (number : ℕ) (members : Members) (is_known : Bool) (upto : Option ℕ) (items : Option Items) →
+same_piece : (number : ℕ) (ms : Members) (is_known : Bool) (upto : Option ℕ) (items : Option Items) →
     piece_from number (made is_known upto (option_map (entries_in number) items))
-    ≡ (given (Shape number) (if is_known then Some members else None) λ members.
+    ≡ (given (Shape number) (if is_known then Some ms else None) λ members.
     given (Shape number) upto λ upto.
     given (Shape number) items λ items.
     asked (TooManyEntries number) (nat_le (items_len items) max_entries) (
     given (Shape number) (entries_of items) λ entries.
     Ok (record { entries = entries; upto = upto })))
-same_piece number members false upto items = refl
-same_piece number members true None items = refl
-same_piece number members true (Some upto) None = refl
-same_piece number members true (Some upto) (Some items) =
+same_piece number ms false upto items = refl
+same_piece number ms true None items = refl
+same_piece number ms true (Some upto) None = refl
+same_piece number ms true (Some upto) (Some items) =
     after_asked (TooManyEntries number) (Shape number) (nat_le (items_len items) max_entries) (entries_of items)
     (λ entries. record { entries = entries; upto = upto })
 

@@ -9,6 +9,7 @@ mod fault;
 mod items;
 pub mod laws;
 mod piece;
+mod pieces;
 mod reading;
 mod refutation;
 mod refutation_fault;
