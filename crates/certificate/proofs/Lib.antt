@@ -1,12 +1,17 @@
 pub mod Ascii
 pub mod CompactRead
 pub mod Digits
+pub mod EntriesRead
 pub mod Joined
 pub mod Limits
 pub mod LineFeed
 pub mod Outlined
+pub mod PairRead
 pub mod Pairs
+pub mod PartsRead
+pub mod PiecesRead
 pub mod ReadBack
 pub mod RefutationText
 pub mod TextRead
 pub mod Texts
+pub mod WholeRead

@@ -1,5 +1,6 @@
 -- Why a certificate is refused.
-use Rattle.std.specs.Prelude.{ℕ, Result}
+use Rattle.std.specs.Prelude.{◌≡◌, ◌⊎◌, ℕ, List, Option, Some, None, Result, MatchResult}
+use Rattle.json.specs.Token.{Token}
 use Rattle.json_text.specs.Step as step
 use Rattle.certificate.specs.declared.fault.CertificateFault.{CertificateFault}
 use Rattle.certificate.specs.declared.fault.CertificateFault.TheVariants.{Json, Top, Shape, TooManyEntries, TooManyPieces, Memory}
@@ -17,3 +18,11 @@ number_of Memory = 6
 abbrev pub Answers : {A B : Type 0} →
     Result A CertificateFault → (A → B) → Result B CertificateFault → Type 0
 Answers answer shown defined = step.Answers Memory answer shown defined
+
+-- what was read is what is defined, and these tokens follow it; a fault is Memory, or says that
+-- there is no JSON text
+abbrev pub ReadsOn : {A B : Type 0} →
+    Result A CertificateFault → (A → B) → Option (B × List Token) → List Token → Type 0
+ReadsOn answer shown defined rest =
+    MatchResult answer (λ value. defined ≡ Some (shown value, rest))
+    (λ fault. (fault ≡ Memory) ⊎ ((fault ≡ Json) × (defined ≡ None)))

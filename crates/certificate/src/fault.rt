@@ -1,9 +1,10 @@
 //! Why a certificate is refused.
 
 ghost use Rattle.std.specs.Prelude.{◌≡◌};
-ghost use Rattle.certificate.specs.declared.fault.CertificateFault.TheVariants.{Memory};
+ghost use Rattle.certificate.specs.declared.fault.CertificateFault.TheVariants.{Json, Memory};
 ghost use Rattle.certificate.specs.Fault.{number_of};
 
+use json::Invalid;
 use std::alloc::AllocError;
 use thiserror::Error;
 
@@ -52,5 +53,13 @@ impl From<AllocError> for CertificateFault {
 
     fn from(_error: AllocError) -> CertificateFault {
         CertificateFault::Memory
+    }
+}
+
+impl From<Invalid> for CertificateFault {
+    ghost from_gives = { λ _ fault. fault ≡ Json };
+
+    fn from(_error: Invalid) -> CertificateFault {
+        CertificateFault::Json
     }
 }

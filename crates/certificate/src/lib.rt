@@ -4,9 +4,12 @@
 
 mod certificate;
 mod compact;
+mod entry;
 mod fault;
 mod items;
 pub mod laws;
+mod piece;
+mod pieces;
 mod reading;
 mod refutation;
 mod refutation_fault;

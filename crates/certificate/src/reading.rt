@@ -1,20 +1,32 @@
 //! What the text of a certificate says.
+//!
+//! It is read token by token, in one pass. Of what is no part of a certificate, only the tokens are
+//! looked at, so no text takes more memory than its own bytes once more, and the pieces that it
+//! lists.
 
-ghost use Rattle.std.specs.Prelude.{◌≡◌, ◌≤◌, IfOk, length, map, option_map};
-ghost use Rattle.serde_json.specs.View.{view, items_view};
-ghost use Rattle.certificate.specs.Certificate.{data_of, piece_data, max_pieces};
-ghost use Rattle.certificate.specs.Fault.{Answers};
-ghost use Rattle.json_text.specs.Step.{Gives};
+ghost use Rattle.std.specs.Prelude.{◌≡◌, ◌≤◌, ◌⊎◌, Some, None, IfOk, MatchResult, length, option_map};
+ghost use Rattle.json.specs.Json.{parse_map};
+ghost use Rattle.serde_json.specs.Data.{Data, Members, no_members, put};
+ghost use Rattle.serde_json.specs.Find.{as_array};
+ghost use Rattle.serde_json.specs.Read.{read};
+ghost use Rattle.json_text.specs.Next.{next_value, next_members};
+ghost use Rattle.json_text.specs.Step.{given};
+ghost use Rattle.certificate.specs.declared.fault.CertificateFault.TheVariants.{Json, Memory};
+ghost use Rattle.certificate.specs.Certificate.{data_of, max_pieces};
+ghost use Rattle.certificate.specs.Fault.{Answers, ReadsOn};
+ghost use Rattle.certificate.specs.Parted.{pieces_data, whole_data};
+ghost use Rattle.certificate.specs.Parts.{certificate_of_parts, judged, pieces_in, top_parts_of};
 ghost use Rattle.certificate.specs.Reading as spec;
 
-use crate::certificate::{Certificate, MAX_ENTRIES, MAX_PIECES, Piece};
-use crate::compact::read_compact;
+use crate::certificate::{Certificate, Piece};
 use crate::fault::CertificateFault;
-use crate::items::is_at_most;
-use arrayvec::ArrayVec;
-use json_text::{items_at, members_among, parse, unsigned_at, unsigned_of};
-use serde_json::Value;
+use crate::pieces::read_pieces;
+use json::{Reader, Scratch};
+use json_text::{open_array, open_object, pass_value};
 use std::alloc::Global;
+
+/// How deep arrays and objects may nest.
+const MAX_DEPTH: usize = 127;
 
 /// The certificate that the bytes of a JSON text say, or the first fault that it has: at most
 /// 100,000 pieces, each with at most 32 entries.
@@ -22,96 +34,123 @@ pub fn read_certificate(alloc: Global, bytes: &[u8]) -> Result<Certificate, Cert
     ensures exact { Answers result data_of (spec.certificate_of bytes.now) }
     ensures few { IfOk result (λ certificate. length certificate.pieces.items ≤ max_pieces) }
 {
-    if let Some(certificate) = read_compact(alloc, bytes)? {
-        return Ok(certificate);
+    match std::str::from_utf8(bytes) {
+        Ok(text) => read_text(alloc, text, &mut Scratch::new(alloc)),
+        Err(_) => Err(CertificateFault::Json),
     }
-    read_value(alloc, &parse(alloc, bytes)?.ok_or(CertificateFault::Json)?)
 }
 
-/// The certificate that a JSON value says.
-fn read_value(alloc: Global, value: &Value) -> Result<Certificate, CertificateFault>
-    ensures exact { Answers result data_of (spec.certificate_from (view value.now)) }
-    ensures few { IfOk result (λ certificate. length certificate.pieces.items ≤ max_pieces) }
+/// The certificate that a JSON text says.
+fn read_text(
+    alloc: Global,
+    text: &str,
+    scratch: &mut Scratch,
+) -> Result<Certificate, CertificateFault>
+    ensures { Answers result data_of (given Json (read text.now) spec.certificate_from) }
 {
-    let items = top(value).ok_or(CertificateFault::Top)?;
-    if !is_at_most(items, MAX_PIECES) {
-        return Err(CertificateFault::TooManyPieces);
+    let mut reader = Reader::new(text, scratch)?;
+    let read = read_value(alloc, &mut reader, MAX_DEPTH)?;
+    if reader.next().is_some() {
+        return Err(CertificateFault::Json);
     }
-    let pieces = read_pieces(alloc, items)?;
-    Ok(Certificate { pieces })
+    read
 }
 
-/// The array of an object with the one name `pieces`.
-fn top(value: &Value) -> Option<&Vec<Value>>
-    ensures { option_map (λ list. items_view list.now.items) result ≡ spec.top_of (view value.now) }
+/// The certificate that the next value says, or its first fault.
+fn read_value(
+    alloc: Global,
+    reader: &mut Reader<'_>,
+    depth: usize,
+) -> Result<Result<Certificate, CertificateFault>, CertificateFault>
+    ensures { ReadsOn result (judged data_of)
+        (parse_map spec.certificate_from (next_value depth reader.old)) reader.new }
 {
-    members_among(value, &["pieces"])?;
-    items_at(value, "pieces")
-}
-
-/// The pieces, numbered from 0.
-fn read_pieces(alloc: Global, items: &[Value]) -> Result<Vec<Piece>, CertificateFault>
-    requires { length items.now ≤ 100000 }
-    ensures exact { Answers result (λ pieces. map piece_data pieces.items)
-        (spec.pieces_from 0 (items_view items.now)) }
-    ensures same { IfOk result (λ pieces. length pieces.items ≡ length items.now) }
-{
-    let mut pieces = Vec::new(alloc);
-    for (number, item) in items.iter().enumerate() {
-        let piece = read_piece(number as u32, item)?;
-        if pieces.push(piece).is_err() {
-            return Err(CertificateFault::Memory);
-        }
-    }
-    Ok(pieces)
-}
-
-/// The piece with this number.
-fn read_piece(number: u32, value: &Value) -> Result<Piece, CertificateFault>
-    ensures { Gives result piece_data (spec.piece_of number (view value.now)) }
-{
-    members_among(value, &["entries", "upto"]).ok_or(CertificateFault::Shape(number))?;
-    let upto = unsigned_at(value, "upto").ok_or(CertificateFault::Shape(number))?;
-    let items = items_at(value, "entries").ok_or(CertificateFault::Shape(number))?;
-    if !is_at_most(items, MAX_ENTRIES) {
-        return Err(CertificateFault::TooManyEntries(number));
-    }
-    let entries = read_entries(items).ok_or(CertificateFault::Shape(number))?;
-    Ok(Piece { upto, entries })
-}
-
-/// The entries of a piece, None where one isn't a pair of sample numbers.
-fn read_entries(items: &[Value]) -> Option<ArrayVec<(u32, u32), 32>>
-    requires { length items.now ≤ 32 }
-    ensures { option_map (λ v. v.items) result ≡ spec.entries_of (items_view items.now) }
-{
-    let mut entries = ArrayVec::new();
-    for item in items {
-        let entry = read_entry(item)?;
-        entries.push(entry);
-    }
-    Some(entries)
-}
-
-/// A pair of sample numbers.
-fn read_entry(value: &Value) -> Option<(u32, u32)>
-    ensures { result ≡ spec.entry_of (view value.now) }
-{
-    let items = value.as_array()?;
-    if items.len() != 2 {
-        return None;
-    }
-    Some((read_sample(&items[0])?, read_sample(&items[1])?))
-}
-
-/// The number of a sample.
-fn read_sample(value: &Value) -> Option<u32>
-    ensures { result ≡ spec.sample_of (view value.now) }
-{
-    let number = unsigned_of(value)?;
-    if number <= u32::MAX as u64 {
-        Some(number as u32)
+    if open_object(reader, depth)? {
+        Ok(read_whole(alloc, reader, depth - 1)?.certificate())
     } else {
-        None
+        Ok(Err(CertificateFault::Top))
+    }
+}
+
+/// What the members of the object say, as far as they're read. The last member of a name counts.
+#[derive(Drop)]
+pub(crate) struct Whole {
+    /// Whether every name so far is the one of the pieces.
+    is_known: bool,
+    /// The pieces or their first fault, where they are an array.
+    pieces: Option<Result<Vec<Piece>, CertificateFault>>,
+}
+
+/// What the members that are left of an object say.
+fn read_whole(
+    alloc: Global,
+    reader: &mut Reader<'_>,
+    depth: usize,
+) -> Result<Whole, CertificateFault>
+    ensures { ReadsOn result whole_data
+        (parse_map top_parts_of (next_members depth no_members reader.old)) reader.new }
+{
+    let mut whole = Whole {
+        is_known: true,
+        pieces: None,
+    };
+    'members: while let Some(name) = reader.next_key()? {
+        whole.read(alloc, reader, depth, name)?;
+    }
+    Ok(whole)
+}
+
+impl Whole {
+    /// Reads the member of this name.
+    fn read(
+        &mut self,
+        alloc: Global,
+        reader: &mut Reader<'_>,
+        depth: usize,
+        name: &str,
+    ) -> Result<(), CertificateFault>
+        ensures { MatchResult result
+            (λ _. (value : Data) × (next_value depth reader.old ≡ Some (value, reader.new))
+                × ((found : Members) → whole_data self.old ≡ top_parts_of found →
+                    whole_data self.new ≡ top_parts_of (put name.now value found)))
+            (λ fault. (fault ≡ Memory)
+                ⊎ ((fault ≡ Json) × (next_value depth reader.old ≡ None))) }
+    {
+        match name {
+            "pieces" => self.pieces = read_listed(alloc, reader, depth)?,
+            _ => {
+                pass_value(reader, depth)?;
+                self.is_known = false;
+            }
+        }
+        Ok(())
+    }
+
+    /// The certificate of these parts.
+    fn certificate(self) -> Result<Certificate, CertificateFault>
+        ensures { judged data_of result ≡ certificate_of_parts (whole_data self) }
+    {
+        if !self.is_known {
+            return Err(CertificateFault::Top);
+        }
+        let pieces = self.pieces.ok_or(CertificateFault::Top)??;
+        Ok(Certificate { pieces })
+    }
+}
+
+/// The pieces or their first fault, None where the next value is no array.
+fn read_listed(
+    alloc: Global,
+    reader: &mut Reader<'_>,
+    depth: usize,
+) -> Result<Option<Result<Vec<Piece>, CertificateFault>>, CertificateFault>
+    ensures { ReadsOn result (option_map (judged pieces_data))
+        (parse_map (λ value. option_map pieces_in (as_array value)) (next_value depth reader.old))
+        reader.new }
+{
+    if open_array(reader, depth)? {
+        Ok(Some(read_pieces(alloc, reader, depth - 1)?))
+    } else {
+        Ok(None)
     }
 }

@@ -1,3 +1,4 @@
 pub mod Names
+pub mod NextMapped
 pub mod NextTokens
 pub mod Texts

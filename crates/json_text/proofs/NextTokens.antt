@@ -73,7 +73,7 @@ module _ (p : Parse json.Json) (takes : Takes p) where
 
 -- ---- what is converted
 
-abbrev pick : {A : Type 0} → A → Option A → A
+abbrev pub pick : {A : Type 0} → A → Option A → A
 pick d None = d
 pick d (Some a) = a
 

@@ -1,0 +1,81 @@
+-- The entries of a piece, read one after another.
+use Rattle.std.proofs.Common.{◌≡◌, ℕ, suc, ◌+◌, ◌≤◌, List, [], ◌∷◌, ◌++◌, Bool, true, false, nat_le, Option, Some, None, option_map, option_and_then, Result, Ok, Err, if◌then◌else◌, refl, sym, ap, ap₂, ◌∙◌, arith, append-nil, append_assoc}
+use Rattle.std.proofs.lemmas.Bool.Decides.{nat_tests}
+use Rattle.serde_json.specs.Data.{Data, Items, no_items, item}
+use Rattle.serde_json.specs.Events.{items_len}
+use Rattle.json_text.specs.Step.{given, asked}
+use Rattle.certificate.specs.declared.fault.CertificateFault.{CertificateFault}
+use Rattle.certificate.specs.declared.fault.CertificateFault.TheVariants.{Shape, TooManyEntries}
+use Rattle.certificate.specs.Certificate.{max_entries}
+use Rattle.certificate.specs.Parts.{entries_in}
+use Rattle.certificate.specs.Reading.{entry_of, entries_of}
+
+-- the entries that were read, unless an element was none
+abbrev pub so_far : Bool → List (ℕ × ℕ) → Option (List (ℕ × ℕ))
+so_far are_pairs entries = if are_pairs then Some entries else None
+
+abbrev pub and_one : Option (List (ℕ × ℕ)) → Option (ℕ × ℕ) → Option (List (ℕ × ℕ))
+and_one found entry = option_and_then (λ es. option_map (λ e. es ++ e ∷ []) entry) found
+
+abbrev and_more : Option (List (ℕ × ℕ)) → Option (List (ℕ × ℕ)) → Option (List (ℕ × ℕ))
+and_more found more = option_and_then (λ es. option_map (λ more. es ++ more) more) found
+
+-- what is said, where so many elements were read and these are left
+abbrev pub entries_after : ℕ → ℕ → Option (List (ℕ × ℕ)) → Items → Result (List (ℕ × ℕ)) CertificateFault
+entries_after number count found items =
+    asked (TooManyEntries number) (nat_le (count + items_len items) max_entries) (
+    given (Shape number) (and_more found (entries_of items)) Ok)
+
+none_before : (more : Option (List (ℕ × ℕ))) → more ≡ and_more (Some []) more
+none_before None = refl
+none_before (Some es) = refl
+
+pub entries_first : (number : ℕ) (items : Items) → entries_in number items ≡ entries_after number 0 (Some []) items
+entries_first number items =
+    let same : items_len items ≡ 0 + items_len items = omega arith in
+    ap₂ (λ n more. asked (TooManyEntries number) (nat_le n max_entries) (given (Shape number) more Ok)) same
+    (none_before (entries_of items))
+
+one_more : (found : Option (List (ℕ × ℕ))) (entry : Option (ℕ × ℕ)) (more : Option (List (ℕ × ℕ))) →
+    and_more found (option_and_then (λ first. option_map (λ others. first ∷ others) more) entry)
+    ≡ and_more (and_one found entry) more
+one_more None entry more = refl
+one_more (Some es) None more = refl
+one_more (Some es) (Some e) None = refl
+one_more (Some es) (Some e) (Some others) = ap Some (sym (append_assoc es (e ∷ []) others))
+
+pub entries_next : (number count : ℕ) (found : Option (List (ℕ × ℕ))) (value : Data) (rest : Items) →
+    entries_after number count found (item value rest)
+    ≡ entries_after number (count + 1) (and_one found (entry_of value)) rest
+entries_next number count found value rest =
+    let same : count + suc (items_len rest) ≡ count + 1 + items_len rest = omega arith in
+    ap₂ (λ n more. asked (TooManyEntries number) (nat_le n max_entries) (given (Shape number) more Ok)) same
+    (one_more found (entry_of value) (entries_of rest))
+
+nothing_more : (found : Option (List (ℕ × ℕ))) → and_more found (Some []) ≡ found
+nothing_more None = refl
+nothing_more (Some es) = ap Some (append-nil es)
+
+pub entries_last : (number count : ℕ) (found : Option (List (ℕ × ℕ))) → count ≤ max_entries →
+    entries_after number count found no_items ≡ given (Shape number) found Ok
+entries_last number count found few =
+    let fits : nat_le (count + 0) max_entries ≡ true = grind (arith, nat_tests) in
+    ap₂ (λ b more. asked (TooManyEntries number) b (given (Shape number) more Ok)) fits (nothing_more found)
+
+pub entries_too_many : (number count : ℕ) (found : Option (List (ℕ × ℕ))) (value : Data) (rest : Items) →
+    count ≡ max_entries → entries_after number count found (item value rest) ≡ Err (TooManyEntries number)
+entries_too_many number count found value rest full =
+    let over : nat_le (count + suc (items_len rest)) max_entries ≡ false = grind (arith, nat_tests) in
+    ap (λ b. asked (TooManyEntries number) b
+    (given (Shape number) (and_more found (entries_of (item value rest))) Ok)) over
+
+-- what was pushed, in the program's words
+pub pushed_one : (are_pairs : Bool) (before after : List (ℕ × ℕ)) (entry : ℕ × ℕ) → after ≡ before ++ entry ∷ [] →
+    so_far are_pairs after ≡ and_one (so_far are_pairs before) (Some entry)
+pushed_one true before after entry is = ap Some is
+pushed_one false before after entry is = refl
+
+pub pushed_none : (are_pairs : Bool) (before after : List (ℕ × ℕ)) →
+    so_far false after ≡ and_one (so_far are_pairs before) None
+pushed_none true before after = refl
+pushed_none false before after = refl

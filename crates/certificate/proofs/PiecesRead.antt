@@ -1,0 +1,62 @@
+-- The pieces of a certificate, read one after another.
+use Rattle.std.proofs.Common.{◌≡◌, ℕ, suc, ◌+◌, ◌≤◌, List, [], ◌∷◌, ◌++◌, true, false, nat_le, Result, Ok, Err, refl, sym, ap, ap₂, ◌∙◌, arith, append-nil, append_assoc}
+use Rattle.std.proofs.lemmas.Bool.Decides.{nat_tests}
+use Rattle.serde_json.specs.Data.{Data, Items, no_items, item}
+use Rattle.serde_json.specs.Events.{items_len}
+use Rattle.json_text.specs.Step.{asked, after}
+use Rattle.certificate.specs.declared.fault.CertificateFault.{CertificateFault}
+use Rattle.certificate.specs.declared.fault.CertificateFault.TheVariants.{TooManyPieces}
+use Rattle.certificate.specs.Certificate.{PieceData, max_pieces}
+use Rattle.certificate.specs.Parts.{pieces_in, pieces_and}
+use Rattle.certificate.specs.Reading.{piece_of, pieces_from}
+
+abbrev Pieces : Type 0
+Pieces = Result (List PieceData) CertificateFault
+
+abbrev and_more : Pieces → Pieces → Pieces
+and_more found more = after found λ pieces. after more λ others. Ok (pieces ++ others)
+
+-- what is said, where so many pieces were read and these are left
+abbrev pub pieces_after : ℕ → Result (List PieceData) CertificateFault → Items → Result (List PieceData) CertificateFault
+pieces_after count found items =
+    asked TooManyPieces (nat_le (count + items_len items) max_pieces) (and_more found (pieces_from count items))
+
+none_before : (more : Pieces) → more ≡ and_more (Ok []) more
+none_before (Ok pieces) = refl
+none_before (Err fault) = refl
+
+pub pieces_first : (items : Items) → pieces_in items ≡ pieces_after 0 (Ok []) items
+pieces_first items =
+    let same : items_len items ≡ 0 + items_len items = omega arith in
+    ap₂ (λ n more. asked TooManyPieces (nat_le n max_pieces) more) same (none_before (pieces_from 0 items))
+
+one_more : (found : Pieces) (piece : Result PieceData CertificateFault) (more : Pieces) →
+    and_more found (after piece λ first. after more λ others. Ok (first ∷ others))
+    ≡ and_more (after found λ pieces. after piece λ p. Ok (pieces ++ p ∷ [])) more
+one_more (Err fault) piece more = refl
+one_more (Ok pieces) (Err fault) more = refl
+one_more (Ok pieces) (Ok piece) (Err fault) = refl
+one_more (Ok pieces) (Ok piece) (Ok others) = ap Ok (sym (append_assoc pieces (piece ∷ []) others))
+
+pub pieces_next : (count : ℕ) (found : Result (List PieceData) CertificateFault) (value : Data) (rest : Items) →
+    pieces_after count found (item value rest) ≡ pieces_after (count + 1) (pieces_and count found value) rest
+pieces_next count found value rest =
+    let same : count + suc (items_len rest) ≡ count + 1 + items_len rest = omega arith in
+    ap₂ (λ n more. asked TooManyPieces (nat_le n max_pieces) more) same
+    (one_more found (piece_of count value) (pieces_from (count + 1) rest))
+
+nothing_more : (found : Pieces) → and_more found (Ok []) ≡ found
+nothing_more (Err fault) = refl
+nothing_more (Ok pieces) = ap Ok (append-nil pieces)
+
+pub pieces_last : (count : ℕ) (found : Result (List PieceData) CertificateFault) → count ≤ max_pieces →
+    pieces_after count found no_items ≡ found
+pieces_last count found few =
+    let fits : nat_le (count + 0) max_pieces ≡ true = grind (arith, nat_tests) in
+    ap₂ (λ b more. asked TooManyPieces b more) fits (nothing_more found)
+
+pub pieces_too_many : (count : ℕ) (found : Result (List PieceData) CertificateFault) (value : Data) (rest : Items) →
+    count ≡ max_pieces → pieces_after count found (item value rest) ≡ Err TooManyPieces
+pieces_too_many count found value rest full =
+    let over : nat_le (count + suc (items_len rest)) max_pieces ≡ false = grind (arith, nat_tests) in
+    ap (λ b. asked TooManyPieces b (and_more found (pieces_from count (item value rest)))) over

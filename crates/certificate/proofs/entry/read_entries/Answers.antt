@@ -1,0 +1,109 @@
+use Rattle.std.proofs.Common.{◌≡◌, ◌+◌, ◌<◌, ◌≤◌, length, Some, None, Ok, Err, true, false, sym, ap, ◌∙◌, arith, length-append}
+use Rattle.json.specs.Json.{parse_map, after_end_array}
+use Rattle.json_text.proofs.NextMapped.{mapped_same, mapped-shorter, array_ends, element_refused, element_read, goes_on}
+use Rattle.json_text.specs.Next.{next_items}
+use Rattle.json_text.specs.Step.{given}
+use Rattle.certificate.specs.Parts.{entries_in}
+use Rattle.certificate.specs.Reading.{entry_of}
+use Rattle.certificate.specs.declared.fault.CertificateFault.TheVariants.{Shape, TooManyEntries}
+use Rattle.certificate.proofs.EntriesRead.{so_far, and_one, entries_after, entries_first, entries_next, entries_last, entries_too_many, pushed_one, pushed_none}
+use Rattle.certificate.proofs.entry.read_entries.Goals as goal
+use Rattle.certificate.proofs.entry.read_entries.Goals.{Joined-branch-3, in-Some, in-None}
+
+pub entries-init : goal.entries-init
+entries-init c = record {
+  read = mapped_same _ _ (entries_first c.args.number) (next_items c.args.depth c.args.reader.now)
+      ∙ ap (λ es. parse_map (entries_after c.args.number 0 (Some es)) (next_items c.args.depth c.args.reader.now))
+      (sym c.new-entries.ensures);
+  held = omega (arith, ap length c.new-entries.ensures);
+  few = omega arith;
+}
+
+pub returns-then-count-eq-MAX_ENTRIES : goal.returns-then-count-eq-MAX_ENTRIES
+returns-then-count-eq-MAX_ENTRIES c =
+    let l = c.entries in
+    let found = so_far l.are_pairs l.entries.items in
+    let going : (after_end_array l.reader ≡ None) × (c.take_end_array.new.self ≡ l.reader) = grind arith in
+    let (v, rest, read) = goes_on c.args.depth l.reader c.pass_items.new.reader going.0
+    (rw (← going.1) c.in_ok-pass_items.ensures.passed) in
+    l.invariant.read ∙ ap (parse_map (entries_after c.args.number l.count found)) read
+    ∙ ap (λ e. Some (e, c.pass_items.new.reader)) (entries_too_many c.args.number l.count found v rest (omega arith))
+
+pub returns-in_err-entry : goal.returns-in_err-entry
+returns-in_err-entry c =
+    let l = c.entries in
+    let found = so_far l.are_pairs l.entries.items in
+    let going : (after_end_array l.reader ≡ None) × (c.take_end_array.new.self ≡ l.reader) = grind arith in
+    let refused = l.invariant.read
+    ∙ element_refused (entries_after c.args.number l.count found) c.args.depth l.reader entry_of going.0
+    (rw (← going.1) c.in_err-entry.ensures) in
+    grind (arith, refused)
+
+pub entries-smaller : goal.entries-smaller
+entries-smaller c =
+    let l = c.entries in
+    let going : (after_end_array l.reader ≡ None) × (c.take_end_array.new.self ≡ l.reader) = grind arith in
+    mapped-shorter entry_of c.args.depth l.reader c.read_entry.new.reader c.in_ok-entry.field-0
+    (rw (← going.1) c.in_ok-entry.ensures)
+
+added : (c : Joined-branch-3) →
+    so_far c.match-branch-3.are_pairs c.match-branch-3.entries.items
+    ≡ and_one (so_far c.entries.are_pairs c.entries.entries.items) c.in_ok-entry.field-0
+added c =
+    let l = c.entries in
+    elim c.match-branch-3.branch [
+    in-Some w ↦
+        rw (w.are_pairs-is, w.entries-is, w.in-Some.is)
+        (pushed_one l.are_pairs l.entries.items w.push.new.self.items w.in-Some.entry w.push.ensures.items)
+    | in-None w ↦
+        rw (w.are_pairs-is, w.in-None.is) (pushed_none l.are_pairs l.entries.items l.entries.items)
+    ]
+
+counted : (c : Joined-branch-3) → length c.match-branch-3.entries.items ≤ c.entries.count + 1
+counted c =
+    let l = c.entries in
+    elim c.match-branch-3.branch [
+    in-Some w ↦
+        rw (w.entries-is, w.push.ensures.items)
+        (simp length-append (omega (arith, l.invariant.held)))
+    | in-None w ↦ rw w.entries-is (omega (arith, l.invariant.held))
+    ]
+
+pub entries-preserved : goal.entries-preserved
+entries-preserved c =
+    let l = c.entries in
+    let entry = c.in_ok-entry.field-0 in
+    let found = so_far l.are_pairs l.entries.items in
+    let r = c.read_entry.new.reader in
+    let going : (after_end_array l.reader ≡ None) × (c.take_end_array.new.self ≡ l.reader) = grind arith in
+    let (v, same, more) = element_read (entries_after c.args.number l.count found) c.args.depth l.reader entry_of entry r
+    going.0 (rw (← going.1) c.in_ok-entry.ensures) in
+    record {
+      read = l.invariant.read ∙ more
+          ∙ mapped_same _ _ (λ rest. entries_next c.args.number l.count found v rest) (next_items c.args.depth r)
+          ∙ ap (λ e. parse_map (entries_after c.args.number (l.count + 1) (and_one found e)) (next_items c.args.depth r))
+          same
+          ∙ ap (λ f. parse_map (entries_after c.args.number (l.count + 1) f) (next_items c.args.depth r)) (sym (added c));
+      held = counted c;
+      few = omega (arith, l.invariant.few);
+    }
+
+pub returns-then-are_pairs : goal.returns-then-are_pairs
+returns-then-are_pairs c =
+    let l = c.entries in
+    let r = c.take_end_array.new.self in
+    let over : after_end_array l.reader ≡ Some r = grind arith in
+    let found = so_far l.are_pairs l.entries.items in
+    l.invariant.read ∙ array_ends (entries_after c.args.number l.count found) c.args.depth l.reader r over
+    ∙ ap (λ e. Some (e, r)) (entries_last c.args.number l.count found l.invariant.few)
+    ∙ ap (λ b. Some (given (Shape c.args.number) (so_far b l.entries.items) Ok, r)) c.if-are_pairs.true
+
+pub returns-else-are_pairs : goal.returns-else-are_pairs
+returns-else-are_pairs c =
+    let l = c.entries in
+    let r = c.take_end_array.new.self in
+    let over : after_end_array l.reader ≡ Some r = grind arith in
+    let found = so_far l.are_pairs l.entries.items in
+    l.invariant.read ∙ array_ends (entries_after c.args.number l.count found) c.args.depth l.reader r over
+    ∙ ap (λ e. Some (e, r)) (entries_last c.args.number l.count found l.invariant.few)
+    ∙ ap (λ b. Some (given (Shape c.args.number) (so_far b l.entries.items) Ok, r)) c.if-are_pairs.false

@@ -1,0 +1,74 @@
+use Rattle.std.proofs.Common.{◌≡◌, ◌+◌, ◌<◌, ◌≤◌, length, [], Some, None, Ok, Err, inl, inr, map, sym, ap, ◌∙◌, arith}
+use Rattle.json.specs.Json.{parse_map, after_end_array}
+use Rattle.json_text.proofs.NextMapped.{mapped_same, mapped-shorter, array_ends, element_refused, element_read, goes_on}
+use Rattle.json_text.specs.Next.{next_items}
+use Rattle.certificate.specs.Certificate.{piece_data}
+use Rattle.certificate.specs.Parted.{pieces_data}
+use Rattle.certificate.specs.Parts.{judged, pieces_in, pieces_and}
+use Rattle.certificate.proofs.PiecesRead.{pieces_after, pieces_first, pieces_next, pieces_last, pieces_too_many}
+use Rattle.certificate.proofs.pieces.read_pieces.Goals as goal
+
+pub pieces-init : goal.pieces-init
+pieces-init c = record {
+  read = mapped_same _ _ pieces_first (next_items c.args.depth c.args.reader.now)
+      ∙ ap (λ ps. parse_map (pieces_after 0 (Ok (map piece_data ps))) (next_items c.args.depth c.args.reader.now))
+      (sym c.new.ensures.items);
+  few = omega arith;
+}
+
+pub returns-then-count-eq-MAX_PIECES : goal.returns-then-count-eq-MAX_PIECES
+returns-then-count-eq-MAX_PIECES c =
+    let l = c.pieces in
+    let found = judged pieces_data l.found in
+    let going : (after_end_array l.reader ≡ None) × (c.take_end_array.new.self ≡ l.reader) = grind arith in
+    let (v, rest, read) = goes_on c.args.depth l.reader c.pass_items.new.reader going.0
+    (rw (← going.1) c.in_ok-pass_items.ensures.passed) in
+    l.invariant.read ∙ ap (parse_map (pieces_after l.count found)) read
+    ∙ ap (λ e. Some (e, c.pass_items.new.reader)) (pieces_too_many l.count found v rest (omega arith))
+
+pub returns-in_err-found : goal.returns-in_err-found
+returns-in_err-found c =
+    let l = c.pieces in
+    let found = judged pieces_data l.found in
+    let going : (after_end_array l.reader ≡ None) × (c.take_end_array.new.self ≡ l.reader) = grind arith in
+    elim c.in_err-found.ensures [
+    inl memory ↦ grind (arith, memory)
+    | inr none ↦
+        let refused = l.invariant.read
+        ∙ element_refused (pieces_after l.count found) c.args.depth l.reader (pieces_and l.count found) going.0
+        (rw (← going.1) none.1) in
+        grind (arith, refused)
+    ]
+
+pub pieces-smaller : goal.pieces-smaller
+pieces-smaller c =
+    let l = c.pieces in
+    let found = judged pieces_data l.found in
+    let going : (after_end_array l.reader ≡ None) × (c.take_end_array.new.self ≡ l.reader) = grind arith in
+    mapped-shorter (pieces_and l.count found) c.args.depth l.reader c.read_next.new.reader
+    (judged pieces_data c.in_ok-found.found)
+    (rw (← going.1) c.in_ok-found.ensures)
+
+pub pieces-preserved : goal.pieces-preserved
+pieces-preserved c =
+    let l = c.pieces in
+    let found = judged pieces_data l.found in
+    let r = c.read_next.new.reader in
+    let going : (after_end_array l.reader ≡ None) × (c.take_end_array.new.self ≡ l.reader) = grind arith in
+    let (v, same, more) = element_read (pieces_after l.count found) c.args.depth l.reader (pieces_and l.count found)
+    (judged pieces_data c.in_ok-found.found) r going.0 (rw (← going.1) c.in_ok-found.ensures) in
+    record {
+      read = l.invariant.read ∙ more
+          ∙ mapped_same _ _ (λ rest. pieces_next l.count found v rest) (next_items c.args.depth r)
+          ∙ ap (λ f. parse_map (pieces_after (l.count + 1) f) (next_items c.args.depth r)) same;
+      few = omega (arith, l.invariant.few);
+    }
+
+pub returns : goal.returns
+returns c =
+    let l = c.pieces in
+    let r = c.take_end_array.new.self in
+    let over : after_end_array l.reader ≡ Some r = grind arith in
+    let found = judged pieces_data l.found in
+    l.invariant.read ∙ array_ends (pieces_after l.count found) c.args.depth l.reader r over
+    ∙ ap (λ e. Some (e, r)) (pieces_last l.count found l.invariant.few)

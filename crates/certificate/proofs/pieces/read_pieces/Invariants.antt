@@ -1,0 +1,18 @@
+use Rattle.std.proofs.Common.{◌≡◌, ◌≤◌, length}
+use Rattle.json.specs.Json.{parse_map}
+use Rattle.json_text.specs.Next.{next_items}
+use Rattle.certificate.specs.Certificate.{max_pieces}
+use Rattle.certificate.specs.Parted.{pieces_data}
+use Rattle.certificate.specs.Parts.{judged, pieces_in}
+use Rattle.certificate.proofs.PiecesRead.{pieces_after}
+use Rattle.certificate.proofs.pieces.read_pieces.Given as goal
+
+abbrev pub invariant-pieces : goal.invariant-pieces
+invariant-pieces l = record {
+  read : parse_map pieces_in (next_items l.depth l.fn.reader)
+      ≡ parse_map (pieces_after l.count (judged pieces_data l.found)) (next_items l.depth l.reader);
+  few : l.count ≤ max_pieces;
+}
+
+abbrev pub decreases-pieces : goal.decreases-pieces
+decreases-pieces l = length l.reader

@@ -1,0 +1,49 @@
+use Rattle.std.proofs.Common.{◌≡◌, ◌≤◌, ℕ, List, length, Bool, true, false, Some, None, Result, Ok, Err, IfOk, if◌then◌else◌, inl, inr, refl, sym, ap, ◌∙◌, subst}
+use Rattle.std.proofs.lemmas.List.{length-map}
+use Rattle.std.proofs.lemmas.Str.{is_utf8-from_IsUtf8, IsUtf8-from_is_utf8}
+use Rattle.std.specs.Prelude.{IsUtf8}
+use Rattle.std.specs.Str.{is_utf8}
+use Rattle.json_text.specs.Step.{given}
+use Rattle.serde_json.specs.Read.{read}
+use Rattle.certificate.specs.Certificate.{data_of, piece_data, max_pieces}
+use Rattle.certificate.specs.declared.certificate.Certificate.{Certificate}
+use Rattle.certificate.specs.declared.fault.CertificateFault.{CertificateFault}
+use Rattle.certificate.specs.declared.fault.CertificateFault.TheVariants.{Json}
+use Rattle.certificate.specs.Fault.{Answers}
+use Rattle.certificate.specs.Reading.{certificate_from, certificate_of}
+use Rattle.certificate.proofs.Limits.{certificate_of-readable}
+use Rattle.certificate.proofs.reading.read_certificate.Goals as goal
+
+of_text : (bytes text : List ℕ) → text ≡ bytes → IsUtf8 bytes →
+    given Json (read text) certificate_from ≡ certificate_of bytes
+of_text bytes text same valid =
+    ap (λ t. given Json (read t) certificate_from) same
+    ∙ sym (ap (λ b. given Json (if b then read bytes else None) certificate_from) (is_utf8-from_IsUtf8 bytes valid))
+
+no_text : (bytes : List ℕ) (b : Bool) → is_utf8 bytes ≡ b → (IsUtf8 bytes → ⊥) → certificate_of bytes ≡ Err Json
+no_text bytes true is invalid = absurd (invalid (IsUtf8-from_is_utf8 bytes is))
+no_text bytes false is invalid = ap (λ b. given Json (if b then read bytes else None) certificate_from) is
+
+few_pieces : (bytes : List ℕ) (answer : Result Certificate CertificateFault) →
+    Answers answer data_of (certificate_of bytes) →
+    IfOk answer (λ certificate. length certificate.pieces.items ≤ max_pieces)
+few_pieces bytes (Ok certificate) is =
+    rw (← length-map certificate.pieces.items piece_data) (certificate_of-readable bytes (data_of certificate) is).0
+few_pieces bytes (Err fault) is = tt
+
+exact : (bytes text : List ℕ) (answer : Result Certificate CertificateFault) → (text ≡ bytes) × IsUtf8 bytes →
+    Answers answer data_of (given Json (read text) certificate_from) → Answers answer data_of (certificate_of bytes)
+exact bytes text answer (same, valid) is = subst (λ d. Answers answer data_of d) (of_text bytes text same valid) is
+
+pub returns-in-Ok-clause-exact : goal.returns-in-Ok-clause-exact
+returns-in-Ok-clause-exact c =
+    exact c.args.bytes.now c.in-Ok.text.now c.read_text.result c.in-Ok.ensures.cases c.read_text.ensures
+
+pub returns-in-Ok-clause-few : goal.returns-in-Ok-clause-few
+returns-in-Ok-clause-few c =
+    few_pieces c.args.bytes.now c.read_text.result
+    (exact c.args.bytes.now c.in-Ok.text.now c.read_text.result c.in-Ok.ensures.cases c.read_text.ensures)
+
+pub returns-in-Err-clause-exact : goal.returns-in-Err-clause-exact
+returns-in-Err-clause-exact c =
+    inr (no_text c.args.bytes.now (is_utf8 c.args.bytes.now) refl c.in-Err.ensures.cases.0)

@@ -1,0 +1,62 @@
+use Rattle.std.proofs.Common.{◌≡◌, ◌<◌, length, Some, None, inl, inr, refl, sym, ap, ◌∙◌, arith}
+use Rattle.json.proofs.Grammar.{read_key-shorter}
+use Rattle.json.specs.Json.{parse_map, read_key}
+use Rattle.json_text.proofs.NextTokens.{key_refused, member_read, member_refused, members_over, value-shorter}
+use Rattle.json_text.specs.Next.{next_value, next_members}
+use Rattle.serde_json.specs.Data.{no_members, put}
+use Rattle.certificate.specs.Parts.{top_parts_of}
+use Rattle.certificate.proofs.reading.read_whole.Goals as goal
+
+pub members-init : goal.members-init
+members-init c = (no_members, refl, refl)
+
+pub returns-in_err-name : goal.returns-in_err-name
+returns-in_err-name c =
+    let l = c.members in
+    let refused = ap (parse_map top_parts_of)
+    (l.invariant.1 ∙ key_refused c.args.depth l.invariant.0 l.reader c.in_err-name.ensures.value) in
+    grind (arith, refused)
+
+pub members-smaller : goal.members-smaller
+members-smaller c =
+    let l = c.members in
+    let s = c.next_key.new.self in
+    let named : read_key l.reader ≡ Some (Some c.in-Some.name.now, s) = grind arith in
+    let first = read_key-shorter l.reader (Some c.in-Some.name.now) s named in
+    let done = c.in_ok-read.ensures in
+    let less = value-shorter c.args.depth s c.read.new.reader done.0 done.1 in
+    omega arith
+
+pub members-preserved : goal.members-preserved
+members-preserved c =
+    let l = c.members in
+    let s = c.next_key.new.self in
+    let k = c.in-Some.name.now in
+    let named : read_key l.reader ≡ Some (Some k, s) = grind arith in
+    let done = c.in_ok-read.ensures in
+    (put k done.0 l.invariant.0,
+    l.invariant.1 ∙ member_read c.args.depth l.invariant.0 l.reader k s c.read.new.reader done.0 named done.1,
+    done.2 l.invariant.0 l.invariant.2)
+
+pub returns-in_err-read : goal.returns-in_err-read
+returns-in_err-read c =
+    let l = c.members in
+    let s = c.next_key.new.self in
+    let k = c.in-Some.name.now in
+    let named : read_key l.reader ≡ Some (Some k, s) = grind arith in
+    elim c.in_err-read.ensures [
+    inl memory ↦ grind (arith, memory)
+    | inr none ↦
+        let refused = ap (parse_map top_parts_of)
+        (l.invariant.1 ∙ member_refused c.args.depth l.invariant.0 l.reader k s named none.1) in
+        grind (arith, refused)
+    ]
+
+pub returns : goal.returns
+returns c =
+    let l = c.members in
+    let r = c.next_key.new.self in
+    let over : read_key l.reader ≡ Some (None, r) = grind arith in
+    ap (parse_map top_parts_of)
+    (l.invariant.1 ∙ members_over c.args.depth l.invariant.0 l.reader r over)
+    ∙ ap (λ p. Some (p, r)) (sym l.invariant.2)

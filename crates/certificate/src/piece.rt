@@ -1,0 +1,118 @@
+//! The pieces of a certificate, read token by token.
+
+ghost use Rattle.std.specs.Prelude.{◌≡◌, ◌++◌, ◌⊎◌, ◌<◌, ◌^◌, Some, None, MatchResult, map, option_map, length, OnOk, IfOk};
+ghost use Rattle.json.specs.Json.{parse_map};
+ghost use Rattle.serde_json.specs.Data.{Data, Members, object, no_members, put};
+ghost use Rattle.serde_json.specs.Find.{as_array};
+ghost use Rattle.json_text.specs.Next.{next_value, next_members, Reads};
+ghost use Rattle.certificate.specs.Certificate.{piece_data};
+ghost use Rattle.certificate.specs.Parts.{PieceParts, entries_in, judged, parts_of, piece_from};
+ghost use Rattle.certificate.specs.Parted.{parts_data};
+ghost use Rattle.certificate.specs.Reading.{piece_of};
+
+use crate::certificate::Piece;
+use crate::entry::read_entries;
+use crate::fault::CertificateFault;
+use arrayvec::ArrayVec;
+use json::{Invalid, Reader};
+use json_text::{next_unsigned, open_array, open_object, pass_value};
+
+/// What the members of a piece say, as far as they're read. The last member of a name counts.
+#[derive(Drop)]
+pub(crate) struct Parts {
+    /// Whether every name so far is one of a piece.
+    is_known: bool,
+    /// The end, where it is an integer below 2^64.
+    upto: Option<u64>,
+    /// The entries or their first fault, where they are an array.
+    entries: Option<Result<ArrayVec<(u32, u32), 32>, CertificateFault>>,
+}
+
+/// The piece with this number, or its first fault.
+pub(crate) fn read_piece(
+    reader: &mut Reader<'_>,
+    depth: usize,
+    number: u32,
+) -> Result<Result<Piece, CertificateFault>, Invalid>
+    ensures { Reads result (judged piece_data)
+        (parse_map (piece_of number) (next_value depth reader.old)) reader.new }
+{
+    if open_object(reader, depth)? {
+        Ok(read_parts(reader, depth - 1, number)?.piece(number))
+    } else {
+        Ok(Err(CertificateFault::Shape(number)))
+    }
+}
+
+/// What the members that are left of an object say of the piece with this number.
+fn read_parts(reader: &mut Reader<'_>, depth: usize, number: u32) -> Result<Parts, Invalid>
+    ensures { Reads result parts_data
+        (parse_map (parts_of number) (next_members depth no_members reader.old)) reader.new }
+{
+    let mut parts = Parts {
+        is_known: true,
+        upto: None,
+        entries: None,
+    };
+    'members: while let Some(name) = reader.next_key()? {
+        parts.read(reader, depth, number, name)?;
+    }
+    Ok(parts)
+}
+
+impl Parts {
+    /// Reads the member of this name.
+    fn read(
+        &mut self,
+        reader: &mut Reader<'_>,
+        depth: usize,
+        number: u32,
+        name: &str,
+    ) -> Result<(), Invalid>
+        ensures { MatchResult result
+            (λ _. (value : Data) × (next_value depth reader.old ≡ Some (value, reader.new))
+                × ((found : Members) → parts_data self.old ≡ parts_of number found →
+                    parts_data self.new ≡ parts_of number (put name.now value found)))
+            (λ _. next_value depth reader.old ≡ None) }
+    {
+        match name {
+            "entries" => self.entries = read_listed(reader, depth, number)?,
+            "upto" => self.upto = next_unsigned(reader, depth)?,
+            _ => {
+                pass_value(reader, depth)?;
+                self.is_known = false;
+            }
+        }
+        Ok(())
+    }
+
+    /// The piece with this number, which has these parts.
+    fn piece(self, number: u32) -> Result<Piece, CertificateFault>
+        ensures { judged piece_data result ≡ piece_from number (parts_data self) }
+    {
+        if !self.is_known {
+            return Err(CertificateFault::Shape(number));
+        }
+        let upto = self.upto.ok_or(CertificateFault::Shape(number))?;
+        let entries = self.entries.ok_or(CertificateFault::Shape(number))??;
+        Ok(Piece { upto, entries })
+    }
+}
+
+/// The entries of the piece with this number or their first fault, None where the next value is no
+/// array.
+fn read_listed(
+    reader: &mut Reader<'_>,
+    depth: usize,
+    number: u32,
+) -> Result<Option<Result<ArrayVec<(u32, u32), 32>, CertificateFault>>, Invalid>
+    ensures { Reads result (option_map (judged (λ entries. entries.items)))
+        (parse_map (λ value. option_map (entries_in number) (as_array value))
+        (next_value depth reader.old)) reader.new }
+{
+    if open_array(reader, depth)? {
+        Ok(Some(read_entries(reader, depth - 1, number)?))
+    } else {
+        Ok(None)
+    }
+}

@@ -1,0 +1,66 @@
+//! The array of pieces, read token by token.
+
+ghost use Rattle.json.specs.Json.{parse_map};
+ghost use Rattle.json_text.specs.Next.{next_value, next_items};
+ghost use Rattle.certificate.specs.Fault.{ReadsOn};
+ghost use Rattle.certificate.specs.Parted.{pieces_data};
+ghost use Rattle.certificate.specs.Parts.{judged, pieces_and, pieces_in};
+
+use crate::certificate::{MAX_PIECES, Piece};
+use crate::fault::CertificateFault;
+use crate::piece::read_piece;
+use json::Reader;
+use json_text::{pass_items, pass_value};
+use std::alloc::Global;
+
+/// The pieces that are left of an array, or the first fault that they have.
+pub(crate) fn read_pieces(
+    alloc: Global,
+    reader: &mut Reader<'_>,
+    depth: usize,
+) -> Result<Result<Vec<Piece>, CertificateFault>, CertificateFault>
+    ensures { ReadsOn result (judged pieces_data)
+        (parse_map pieces_in (next_items depth reader.old)) reader.new }
+{
+    let mut found = Ok(Vec::new(alloc));
+    let mut count = 0;
+    'pieces: while !reader.take_end_array() {
+        if count == MAX_PIECES {
+            pass_items(reader, depth)?;
+            return Ok(Err(CertificateFault::TooManyPieces));
+        }
+        found = read_next(reader, depth, count as u32, found)?;
+        count += 1;
+    }
+    Ok(found)
+}
+
+/// The pieces before this one and this one, whose number is given, or the first fault that they
+/// have.
+fn read_next(
+    reader: &mut Reader<'_>,
+    depth: usize,
+    number: u32,
+    found: Result<Vec<Piece>, CertificateFault>,
+) -> Result<Result<Vec<Piece>, CertificateFault>, CertificateFault>
+    ensures { ReadsOn result (judged pieces_data)
+        (parse_map (pieces_and number (judged pieces_data found)) (next_value depth reader.old))
+        reader.new }
+{
+    match found {
+        Ok(mut pieces) => {
+            match read_piece(reader, depth, number)? {
+                Ok(piece) => if pieces.push(piece).is_err() {
+                    Err(CertificateFault::Memory)
+                } else {
+                    Ok(Ok(pieces))
+                },
+                Err(fault) => Ok(Err(fault)),
+            }
+        }
+        Err(fault) => {
+            pass_value(reader, depth)?;
+            Ok(Err(fault))
+        }
+    }
+}
