@@ -1,5 +1,5 @@
 -- The course that an accepted refutation stands for, and the inequalities that such a course gives.
-use Rattle.std.proofs.Common.{◌≡◌, ℕ, zero, suc, ◌+◌, ◌*◌, ◌<◌, ◌≤◌, ℤ, pos, negsuc, ◌+ℤ◌, ◌-ℤ◌, ◌*ℤ◌, ◌≤ℤ◌, ◌<ℤ◌, unsigned_abs, Bool, true, false, ◌⊎◌, inl, inr, ⊎_elim, List, length, Option, Some, None, refl, sym, ap, ◌∙◌, subst, arith}
+use Rattle.std.proofs.Common.{◌≡◌, ℕ, ◌*◌, ◌<◌, ℤ, pos, negsuc, ◌+ℤ◌, ◌-ℤ◌, ◌*ℤ◌, ◌≤ℤ◌, ◌<ℤ◌, unsigned_abs, false, inl, inr, ⊎_elim, List, length, Option, Some, None, refl, sym, ap, ◌∙◌, subst, arith}
 use Rattle.std.specs.Prelude.{All, AllPairs, slice_get, nat_lt, int_le}
 use Rattle.std.specs.Int.{int_max}
 use Rattle.std.specs.List.{slice_index_or}
@@ -12,7 +12,7 @@ use Rattle.intersection.specs.Fineness.{times_le, times-add}
 use Rattle.pairing.specs.Exchange.{IsLawful as IsLawfulExchange, SameRequest}
 use Rattle.pairing.specs.declared.exchange.Exchange.{Exchange}
 use Rattle.sample_interval.specs.Moment.{Moment, error_of, error_change, DriftsWithin, IsInWindow, IsWithinDistance}
-use Rattle.sample_interval.specs.Window.{request_start, request_end, reply_start, reply_end}
+use Rattle.sample_interval.specs.Window.{request_start, reply_end}
 use Rattle.checker.specs.Course.{Course, Fits, IsClientMoment, ReadsInWindows, ComesInOrder, KeepsRootDistance}
 use Rattle.checker.specs.Refutation.{is_liar, AdmitsError, Admits, IsAgainst, IsRefuted, SharesRequests, IsOffThroughout, IsCourseOf, HasCourse, SomeCourseFits}
 use Rattle.checker.specs.Traceability.{IsObservedIn, IsWithin, IsTraceable, samples_of}
@@ -64,8 +64,10 @@ module _ (start end t2 t3 distance error : ℤ) where
       let receipt = no_later (start -ℤ error) (t2 -ℤ distance) (t2 +ℤ distance) room.leaves_before_receipt
       (around t2 distance some) in
       let answer = no_later receipt_time (t3 -ℤ distance) (t3 +ℤ distance)
-      (no_later _ _ _ room.leaves_before_answer room.receives_before_answer) (around t3 distance some) in
-      (within t2 distance receipt_time (second_comes _ _) receipt, within t3 distance answer_time (second_comes _ _) answer)
+      (no_later _ _ _ room.leaves_before_answer room.receives_before_answer) (around t3 distance some) in (
+        within t2 distance receipt_time (second_comes _ _) receipt,
+        within t3 distance answer_time (second_comes _ _) answer,
+      )
 
 -- ---- one error throughout
 
@@ -113,10 +115,10 @@ one_start xs i j x y agree at_i at_j same =
     by_test (nat_lt i j)
     (λ before. (pair_at SameRequest xs i j x y agree (grind (arith, nat_tests)) at_i at_j same).0)
     (λ after. by_test (nat_lt j i)
-      (λ before. sym (pair_at SameRequest xs j i y x agree (grind (arith, nat_tests)) at_j at_i (sym same)).0)
-      (λ neither. let equal : i ≡ j = grind (arith, nat_tests) in
-        let is : Some x ≡ Some y = sym at_i ∙ ap (slice_get xs) equal ∙ at_j in
-        let one : x ≡ y = cc in ap (λ (z : Exchange). z.t1_low) one))
+    (λ before. sym (pair_at SameRequest xs j i y x agree (grind (arith, nat_tests)) at_j at_i (sym same)).0)
+    (λ neither. let equal : i ≡ j = grind (arith, nat_tests) in
+    let is : Some x ≡ Some y = sym at_i ∙ ap (slice_get xs) equal ∙ at_j in
+    let one : x ≡ y = cc in ap (λ (z : Exchange). z.t1_low) one))
 
 -- ---- the course
 
@@ -168,7 +170,8 @@ module _ (claim : ClaimData) (xs : List Exchange) (r : RefutationData) where
 
     room : (k : ℕ) (x : Exchange) → slice_get xs k ≡ Some x → is_liar r.liars x.server ≡ false
         → Admits claim.reading r.error x
-    room k x at = each_at (λ y. is_liar r.liars y.server ≡ false → Admits claim.reading r.error y) xs k x refuted.admits at
+    room k x at =
+        each_at (λ y. is_liar r.liars y.server ≡ false → Admits claim.reading r.error y) xs k x refuted.admits at
 
     order : (k : ℕ) (x : Exchange) → slice_get xs k ≡ Some x → is_liar r.liars x.server ≡ false
         → ComesInOrder course k x
@@ -179,7 +182,7 @@ module _ (claim : ClaimData) (xs : List Exchange) (r : RefutationData) where
     distances k x at true' =
         let lawful = each_at (IsLawfulExchange servers) xs k x each at in
         rw at (near_stamps (start_of x) (end_of x) x.t2 x.t3 x.distance r.error (room k x at true')
-          lawful.distance_not_negative)
+        lawful.distance_not_negative)
 
     fits : Fits claim xs course
     fits = record {
@@ -198,15 +201,18 @@ module _ (claim : ClaimData) (xs : List Exchange) (r : RefutationData) where
         rw (at_i, at_j) (ap (moment_with r.error) start)
 
     pub has_course : AllPairs SameRequest xs → HasCourse claim xs r
-    has_course agree = (course, record {
-      fits = fits;
-      off_throughout = record {
-        just_liars_false = λ server. refl;
-        one_error = λ m is. client_error m is ∙ sym (once r.error);
-      };
-      shares_requests = shared agree;
-      observed = sym (once (pos r.reading));
-    })
+    has_course agree = (
+      course,
+      record {
+        fits = fits;
+        off_throughout = record {
+          just_liars_false = λ server. refl;
+          one_error = λ m is. client_error m is ∙ sym (once r.error);
+        };
+        shares_requests = shared agree;
+        observed = sym (once (pos r.reading));
+      },
+    )
 
     observed_in_span : IsObservedIn course claim.first claim.last
     observed_in_span =
@@ -250,11 +256,11 @@ cancel : (a b : ℤ) (n : ℕ) → 0 < n → (a *ℤ pos n) ≤ℤ (b *ℤ pos n
 cancel a b n some h =
     by_test (int_le a b) (λ holds. grind (arith, ints))
     (λ fails.
-      let above : (b +ℤ pos 1) ≤ℤ a = grind (arith, ints) in
-      let scaled = times_le (b +ℤ pos 1) a n above in
-      let sum = times-add (b +ℤ pos 1) b (pos 1) n refl in
-      let unit : (pos 1 *ℤ pos n) ≡ pos n = omega (arith, ints) in
-      absurd (omega (arith, ints)))
+    let above : (b +ℤ pos 1) ≤ℤ a = grind (arith, ints) in
+    let scaled = times_le (b +ℤ pos 1) a n above in
+    let sum = times-add (b +ℤ pos 1) b (pos 1) n refl in
+    let unit : (pos 1 *ℤ pos n) ≡ pos n = omega (arith, ints) in
+    absurd (omega (arith, ints)))
 
 chain2 : (a b c d : ℤ) → a ≤ℤ b → b ≤ℤ c → c ≤ℤ d → a ≤ℤ d
 chain2 a b c d p q r = omega (arith, ints)

@@ -80,8 +80,8 @@ pub fn courses_of_refutations_break_the_claim()
         ¬ (IsWithin course claim.bound) }
 {}
 
-/// The worked exchange refutes a claim by each error that it leaves room for and that is beyond the
-/// bound, at both ends, and by no other; and by any error where its server may be false.
+/// The worked exchange refutes a claim by errors that it leaves room for and that are beyond the
+/// bound, up to both ends of that room, and by any error if its server may be false.
 pub fn worked_refutations_stand()
     ensures beyond { IsRefuted (claim_with 42953967 0) (worked_exchange ∷ [])
         (refutation_with (pos 42953968) []) }
@@ -93,13 +93,16 @@ pub fn worked_refutations_stand()
         (refutation_with (pos 1) []) }
     ensures named { IsRefuted (claim_with 42953972 1) (worked_exchange ∷ [])
         (refutation_with (pos 42953973) (0 ∷ [])) }
+{}
+
+/// It refutes no claim by an error one tick outside that room, by one within the bound, or by
+/// servers that may not all be false, that are named twice or that aren't listed; nor if its server
+/// says that it answered before it received.
+pub fn other_worked_refutations_fall()
     ensures too_great { ¬ (IsRefuted (claim_with 42953967 0) (worked_exchange ∷ [])
         (refutation_with (pos 42953970) [])) }
     ensures too_small { ¬ (IsRefuted (claim_with 42949673 0) (worked_exchange ∷ [])
         (refutation_with (neg_ℤ (pos 42949675)) [])) }
-    ensures answered_before_received { ¬ (IsRefuted (claim_with 42953967 0)
-        (record worked_exchange { t2 = pos (worked_second + 4337916969) } ∷ [])
-        (refutation_with (pos 42953968) [])) }
     ensures within_bound { ¬ (IsRefuted (claim_with 42953967 0) (worked_exchange ∷ [])
         (refutation_with (pos 42953967) [])) }
     ensures too_many_named { ¬ (IsRefuted (claim_with 42953972 0) (worked_exchange ∷ [])
@@ -108,4 +111,7 @@ pub fn worked_refutations_stand()
         (refutation_with (pos 42953973) (0 ∷ 0 ∷ []))) }
     ensures not_listed { ¬ (IsRefuted (claim_with 42953967 1) (worked_exchange ∷ [])
         (refutation_with (pos 42953968) (1 ∷ []))) }
+    ensures answered_before_received { ¬ (IsRefuted (claim_with 42953967 0)
+        (record worked_exchange { t2 = pos (worked_second + 4337916969) } ∷ [])
+        (refutation_with (pos 42953968) [])) }
 {}
