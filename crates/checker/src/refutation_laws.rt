@@ -81,7 +81,8 @@ pub fn courses_of_refutations_break_the_claim()
 {}
 
 /// The worked exchange refutes a claim by errors that it leaves room for and that are beyond the
-/// bound, up to both ends of that room, and by any error if its server may be false.
+/// bound, up to both ends of that room, and by any error if its server may be false, with the least
+/// of 64 bits among them.
 pub fn worked_refutations_stand()
     ensures beyond { IsRefuted (claim_with 42953967 0) (worked_exchange ∷ [])
         (refutation_with (pos 42953968) []) }
@@ -93,11 +94,13 @@ pub fn worked_refutations_stand()
         (refutation_with (pos 1) []) }
     ensures named { IsRefuted (claim_with 42953972 1) (worked_exchange ∷ [])
         (refutation_with (pos 42953973) (0 ∷ [])) }
+    ensures least_of_all { IsRefuted (claim_with 42953972 1) (worked_exchange ∷ [])
+        (refutation_with (neg_ℤ (pos 9223372036854775808)) (0 ∷ [])) }
 {}
 
-/// It refutes no claim by an error one tick outside that room, by one within the bound, or by
-/// servers that may not all be false, that are named twice or that aren't listed; nor if its server
-/// says that it answered before it received.
+/// It refutes no claim by an error one tick outside that room, by one within the bound, at a reading
+/// outside the span, or by servers that may not all be false, that are named twice or that aren't
+/// listed; nor if its server says that it answered before it received.
 pub fn other_worked_refutations_fall()
     ensures too_great { ¬ (IsRefuted (claim_with 42953967 0) (worked_exchange ∷ [])
         (refutation_with (pos 42953970) [])) }
@@ -105,6 +108,8 @@ pub fn other_worked_refutations_fall()
         (refutation_with (neg_ℤ (pos 42949675)) [])) }
     ensures within_bound { ¬ (IsRefuted (claim_with 42953967 0) (worked_exchange ∷ [])
         (refutation_with (pos 42953967) [])) }
+    ensures outside_span { ¬ (IsRefuted (claim_with 42953967 0) (worked_exchange ∷ [])
+        (record (refutation_with (pos 42953968) []) { reading = worked_second + 1 })) }
     ensures too_many_named { ¬ (IsRefuted (claim_with 42953972 0) (worked_exchange ∷ [])
         (refutation_with (pos 42953973) (0 ∷ []))) }
     ensures named_twice { ¬ (IsRefuted (claim_with 42953972 1) (worked_exchange ∷ [])

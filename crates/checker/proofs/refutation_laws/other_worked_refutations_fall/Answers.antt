@@ -32,3 +32,8 @@ pub returns-clause-answered_before_received : goal.returns-clause-answered_befor
 returns-clause-answered_before_received c =
     refused_by_test (claim_with 42953967 0)
     (record worked_exchange { t2 = pos (worked_second + 4337916969) } ∷ []) (refutation_with (pos 42953968) []) refl
+
+pub returns-clause-outside_span : goal.returns-clause-outside_span
+returns-clause-outside_span c =
+    refused_by_test (claim_with 42953967 0) (worked_exchange ∷ [])
+    (record (refutation_with (pos 42953968) []) { reading = worked_second + 1 }) refl

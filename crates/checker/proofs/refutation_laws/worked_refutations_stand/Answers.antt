@@ -23,3 +23,8 @@ returns-clause-no_bound c =
 pub returns-clause-named : goal.returns-clause-named
 returns-clause-named c =
     refuted_from (claim_with 42953972 1) (worked_exchange ∷ []) (refutation_with (pos 42953973) (0 ∷ [])) refl
+
+pub returns-clause-least_of_all : goal.returns-clause-least_of_all
+returns-clause-least_of_all c =
+    refuted_from (claim_with 42953972 1) (worked_exchange ∷ [])
+    (refutation_with (neg_ℤ (pos 9223372036854775808)) (0 ∷ [])) refl
