@@ -15,3 +15,4 @@ pub mod NarrowLemmas
 pub mod SpanLemmas
 mod RefutationLemmas
 mod RefutationCourseLemmas
+mod RefutationStampLemmas

@@ -1,5 +1,5 @@
 //! What holds of refutations, and why.
-ghost use Rattle.std.specs.Prelude.{◌≡◌, ℕ, ◌+◌, ℤ, pos, neg_ℤ, ◌↔◌, true};
+ghost use Rattle.std.specs.Prelude.{◌≡◌, ℕ, ◌+◌, ℤ, pos, neg_ℤ, ◌≤ℤ◌, ◌↔◌, true};
 ghost use Rattle.std.specs.Prelude.{List, [], ◌∷◌, length, All, AllPairs};
 ghost use Rattle.certificate.specs.Certificate.{CertificateData};
 ghost use Rattle.certificate.specs.Refutation.{RefutationData};
@@ -67,6 +67,15 @@ pub fn bound_plays_no_part_in_fitting()
         All (IsLawfulExchange (length claim.servers)) xs →
         IsRefuted (record claim { bound = bound; bound_ns = bound_ns }) xs refutation →
         SomeCourseFits claim xs }
+{}
+
+/// What refutes a claim refutes it with every narrower bound, and with every drift: the clock that it
+/// speaks of doesn't drift at all.
+pub fn narrower_bounds_are_refuted_too()
+    ensures { (claim : ClaimData) (narrower : ℤ) (drift_ppb : ℕ) (xs : List Exchange)
+        (refutation : RefutationData) → narrower ≤ℤ claim.bound →
+        IsRefuted claim xs refutation →
+        IsRefuted (record claim { bound = narrower; drift_ppb = drift_ppb }) xs refutation }
 {}
 
 /// A course that an accepted refutation stands for breaks the claim: when the clock is observed,
