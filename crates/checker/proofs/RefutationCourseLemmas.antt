@@ -100,24 +100,25 @@ module _ {X : Type 0} where
   each_at : (P : X → Type 0) (xs : List X) (k : ℕ) (x : X) → All P xs → slice_get xs k ≡ Some x → P x
   each_at P xs k x all at = subst P (get_or_from_slice_get xs k x x at) (all k x (slice_get_within xs k x at))
 
-  pair_at : (R : X → X → Type 0) (xs : List X) (i j : ℕ) (x y : X) → AllPairs R xs → i < j
-      → slice_get xs i ≡ Some x → slice_get xs j ≡ Some y → R x y
-  pair_at R xs i j x y all before at_i at_j =
-      let found = all i j x before (slice_get_within xs j y at_j) in
-      subst (λ (b : X). R x b) (get_or_from_slice_get xs j y x at_j)
-      (subst (λ (a : X). R a (slice_index_or xs j x)) (get_or_from_slice_get xs i x x at_i) found)
+  module _ (R : X → X → Type 0) (xs : List X) (all : AllPairs R xs) where
+    pair_at : (i j : ℕ) (x y : X) → i < j → slice_get xs i ≡ Some x → slice_get xs j ≡ Some y → R x y
+    pair_at i j x y before at_i at_j =
+        let found = all i j x before (slice_get_within xs j y at_j) in
+        subst (λ (b : X). R x b) (get_or_from_slice_get xs j y x at_j)
+        (subst (λ (a : X). R a (slice_index_or xs j x)) (get_or_from_slice_get xs i x x at_i) found)
 
--- exchanges of one request agree in when it was sent
-one_start : (xs : List Exchange) (i j : ℕ) (x y : Exchange) → AllPairs SameRequest xs → slice_get xs i ≡ Some x
-    → slice_get xs j ≡ Some y → x.request ≡ y.request → x.t1_low ≡ y.t1_low
-one_start xs i j x y agree at_i at_j same =
-    by_test (nat_lt i j)
-    (λ before. (pair_at SameRequest xs i j x y agree (grind (arith, nat_tests)) at_i at_j same).0)
-    (λ after. by_test (nat_lt j i)
-    (λ before. sym (pair_at SameRequest xs j i y x agree (grind (arith, nat_tests)) at_j at_i (sym same)).0)
-    (λ neither. let equal : i ≡ j = grind (arith, nat_tests) in
-    let is : Some x ≡ Some y = sym at_i ∙ ap (slice_get xs) equal ∙ at_j in
-    let one : x ≡ y = cc in ap (λ (z : Exchange). z.t1_low) one))
+module _ (xs : List Exchange) (agree : AllPairs SameRequest xs) where
+  -- exchanges of one request agree in when it was sent
+  one_start : (i j : ℕ) (x y : Exchange) → slice_get xs i ≡ Some x → slice_get xs j ≡ Some y
+      → x.request ≡ y.request → x.t1_low ≡ y.t1_low
+  one_start i j x y at_i at_j same =
+      by_test (nat_lt i j)
+      (λ before. (pair_at SameRequest xs agree i j x y (grind (arith, nat_tests)) at_i at_j same).0)
+      (λ after. by_test (nat_lt j i)
+      (λ before. sym (pair_at SameRequest xs agree j i y x (grind (arith, nat_tests)) at_j at_i (sym same)).0)
+      (λ neither. let equal : i ≡ j = grind (arith, nat_tests) in
+      let is : Some x ≡ Some y = sym at_i ∙ ap (slice_get xs) equal ∙ at_j in
+      let one : x ≡ y = cc in ap (λ (z : Exchange). z.t1_low) one))
 
 -- ---- the course
 
@@ -196,7 +197,7 @@ module _ (claim : ClaimData) (xs : List Exchange) (r : RefutationData) where
     shared : AllPairs SameRequest xs → SharesRequests xs course
     shared agree i j x y at_i at_j same =
         let start : start_of x ≡ start_of y =
-        ap (λ (t : ℤ). t -ℤ claim.reading) (one_start xs i j x y agree at_i at_j same) in
+        ap (λ (t : ℤ). t -ℤ claim.reading) (one_start xs agree i j x y at_i at_j same) in
         rw (at_i, at_j) (ap (moment_with r.error) start)
 
     pub has_course : AllPairs SameRequest xs → HasCourse claim xs r

@@ -28,14 +28,11 @@ cancel a b n some h =
     let unit : (pos 1 *ℤ pos n) ≡ pos n = omega (arith, ints) in
     absurd (omega (arith, ints)))
 
-chain2 : (a b c d : ℤ) → a ≤ℤ b → b ≤ℤ c → c ≤ℤ d → a ≤ℤ d
-chain2 a b c d p q r = omega (arith, ints)
+joined : (a b c : ℤ) → a ≤ℤ b → b ≤ℤ c → a ≤ℤ c
+joined a b c p q = omega (arith, ints)
 
-chain3 : (a b c d e : ℤ) → a ≤ℤ b → b ≤ℤ c → c ≤ℤ d → d ≤ℤ e → a ≤ℤ e
-chain3 a b c d e p q r s = omega (arith, ints)
-
-chain4 : (a b c d e f : ℤ) → a ≤ℤ b → b ≤ℤ c → c ≤ℤ d → d ≤ℤ e → e ≤ℤ f → a ≤ℤ f
-chain4 a b c d e f p q r s t = omega (arith, ints)
+chained : (a b c d : ℤ) → a ≤ℤ b → b ≤ℤ c → c ≤ℤ d → a ≤ℤ d
+chained a b c d p q r = omega (arith, ints)
 
 unshifted : (a b e : ℤ) → (a -ℤ e) ≤ℤ (b -ℤ e) → a ≤ℤ b
 unshifted a b e h = omega (arith, ints)
@@ -88,12 +85,12 @@ module _ (start end t2 t3 distance error : ℤ) (request reply : Moment) (receiv
   scaled_room =
       let (o1, o2, o3) = order in
       record {
-        receipt = chain2 _ _ _ _ leaves o1 receipt_to;
-        answer = chain3 _ _ _ _ _ leaves o1 o2 answer_to;
-        arrival = unshifted start end error (chain4 _ _ _ _ _ _ leaves o1 o2 o3 arrives);
-        receipt_answer = chain2 _ _ _ _ receipt_from o2 answer_to;
-        receipt_arrival = chain3 _ _ _ _ _ receipt_from o2 o3 arrives;
-        answer_arrival = chain2 _ _ _ _ answer_from o3 arrives;
+        receipt = chained _ _ _ _ leaves o1 receipt_to;
+        answer = chained _ _ _ _ leaves o1 (joined _ _ _ o2 answer_to);
+        arrival = unshifted start end error (chained _ _ _ _ leaves o1 (chained _ _ _ _ o2 o3 arrives));
+        receipt_answer = chained _ _ _ _ receipt_from o2 answer_to;
+        receipt_arrival = chained _ _ _ _ receipt_from o2 (joined _ _ _ o3 arrives);
+        answer_arrival = chained _ _ _ _ answer_from o3 arrives;
       }
 
 -- room n times over is room
