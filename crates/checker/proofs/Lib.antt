@@ -21,3 +21,4 @@ pub mod NarrowLemmas
 pub mod SpanLemmas
 mod RefutationLemmas
 mod RefutationCourseLemmas
+mod RefutationStampLemmas

@@ -1,21 +1,20 @@
--- The course that an accepted refutation stands for, and the inequalities that such a course gives.
-use Rattle.std.proofs.Common.{◌≡◌, ℕ, zero, suc, ◌+◌, ◌*◌, ◌<◌, ◌≤◌, ℤ, pos, negsuc, ◌+ℤ◌, ◌-ℤ◌, ◌*ℤ◌, ◌≤ℤ◌, ◌<ℤ◌, unsigned_abs, Bool, true, false, ◌⊎◌, inl, inr, ⊎_elim, List, length, Option, Some, None, refl, sym, ap, ◌∙◌, subst, arith}
-use Rattle.std.specs.Prelude.{All, AllPairs, slice_get, nat_lt, int_le}
+-- The course that an accepted refutation stands for.
+use Rattle.std.proofs.Common.{◌≡◌, ℕ, ◌<◌, ℤ, pos, ◌+ℤ◌, ◌-ℤ◌, ◌*ℤ◌, ◌≤ℤ◌, ◌<ℤ◌, unsigned_abs, false, ⊎_elim, List, length, Option, Some, None, refl, sym, ap, ◌∙◌, subst, arith}
+use Rattle.std.specs.Prelude.{All, AllPairs, slice_get, nat_lt}
 use Rattle.std.specs.Int.{int_max}
 use Rattle.std.specs.List.{slice_index_or}
 use Rattle.std.proofs.lemmas.Int.{ints, clamps}
 use Rattle.std.proofs.lemmas.Bool.Decides.{nat_tests}
-use Rattle.std.proofs.lemmas.Option.{get_or_from_slice_get, slice_get-get_or, slice_get_within}
+use Rattle.std.proofs.lemmas.Option.{get_or_from_slice_get, slice_get_within}
 use Rattle.certificate.specs.Refutation.{RefutationData}
 use Rattle.claim_file.specs.Claim.{ClaimData}
-use Rattle.intersection.specs.Fineness.{times_le, times-add}
 use Rattle.pairing.specs.Exchange.{IsLawful as IsLawfulExchange, SameRequest}
 use Rattle.pairing.specs.declared.exchange.Exchange.{Exchange}
 use Rattle.sample_interval.specs.Moment.{Moment, error_of, error_change, DriftsWithin, IsInWindow, IsWithinDistance}
-use Rattle.sample_interval.specs.Window.{request_start, request_end, reply_start, reply_end}
+use Rattle.sample_interval.specs.Window.{request_start, reply_end}
 use Rattle.checker.specs.Course.{Course, Fits, IsClientMoment, ReadsInWindows, ComesInOrder, KeepsRootDistance}
-use Rattle.checker.specs.Refutation.{is_liar, AdmitsError, Admits, IsAgainst, IsRefuted, SharesRequests, IsOffThroughout, IsCourseOf, HasCourse, SomeCourseFits}
-use Rattle.checker.specs.Traceability.{IsObservedIn, IsWithin, IsTraceable, samples_of}
+use Rattle.checker.specs.Refutation.{is_liar, AdmitsError, Admits, IsRefuted, SharesRequests, HasCourse, SomeCourseFits}
+use Rattle.checker.specs.Traceability.{IsObservedIn, IsTraceable, samples_of}
 use Rattle.checker.specs.WorkedCourse.{moment_with}
 use Rattle.checker.proofs.PartLemmas.{by_test}
 
@@ -64,8 +63,10 @@ module _ (start end t2 t3 distance error : ℤ) where
       let receipt = no_later (start -ℤ error) (t2 -ℤ distance) (t2 +ℤ distance) room.leaves_before_receipt
       (around t2 distance some) in
       let answer = no_later receipt_time (t3 -ℤ distance) (t3 +ℤ distance)
-      (no_later _ _ _ room.leaves_before_answer room.receives_before_answer) (around t3 distance some) in
-      (within t2 distance receipt_time (second_comes _ _) receipt, within t3 distance answer_time (second_comes _ _) answer)
+      (no_later _ _ _ room.leaves_before_answer room.receives_before_answer) (around t3 distance some) in (
+        within t2 distance receipt_time (second_comes _ _) receipt,
+        within t3 distance answer_time (second_comes _ _) answer,
+      )
 
 -- ---- one error throughout
 
@@ -99,24 +100,25 @@ module _ {X : Type 0} where
   each_at : (P : X → Type 0) (xs : List X) (k : ℕ) (x : X) → All P xs → slice_get xs k ≡ Some x → P x
   each_at P xs k x all at = subst P (get_or_from_slice_get xs k x x at) (all k x (slice_get_within xs k x at))
 
-  pair_at : (R : X → X → Type 0) (xs : List X) (i j : ℕ) (x y : X) → AllPairs R xs → i < j
-      → slice_get xs i ≡ Some x → slice_get xs j ≡ Some y → R x y
-  pair_at R xs i j x y all before at_i at_j =
-      let found = all i j x before (slice_get_within xs j y at_j) in
-      subst (λ (b : X). R x b) (get_or_from_slice_get xs j y x at_j)
-      (subst (λ (a : X). R a (slice_index_or xs j x)) (get_or_from_slice_get xs i x x at_i) found)
+  module _ (R : X → X → Type 0) (xs : List X) (all : AllPairs R xs) where
+    pair_at : (i j : ℕ) (x y : X) → i < j → slice_get xs i ≡ Some x → slice_get xs j ≡ Some y → R x y
+    pair_at i j x y before at_i at_j =
+        let found = all i j x before (slice_get_within xs j y at_j) in
+        subst (λ (b : X). R x b) (get_or_from_slice_get xs j y x at_j)
+        (subst (λ (a : X). R a (slice_index_or xs j x)) (get_or_from_slice_get xs i x x at_i) found)
 
--- exchanges of one request agree in when it was sent
-one_start : (xs : List Exchange) (i j : ℕ) (x y : Exchange) → AllPairs SameRequest xs → slice_get xs i ≡ Some x
-    → slice_get xs j ≡ Some y → x.request ≡ y.request → x.t1_low ≡ y.t1_low
-one_start xs i j x y agree at_i at_j same =
-    by_test (nat_lt i j)
-    (λ before. (pair_at SameRequest xs i j x y agree (grind (arith, nat_tests)) at_i at_j same).0)
-    (λ after. by_test (nat_lt j i)
-      (λ before. sym (pair_at SameRequest xs j i y x agree (grind (arith, nat_tests)) at_j at_i (sym same)).0)
+module _ (xs : List Exchange) (agree : AllPairs SameRequest xs) where
+  -- exchanges of one request agree in when it was sent
+  one_start : (i j : ℕ) (x y : Exchange) → slice_get xs i ≡ Some x → slice_get xs j ≡ Some y
+      → x.request ≡ y.request → x.t1_low ≡ y.t1_low
+  one_start i j x y at_i at_j same =
+      by_test (nat_lt i j)
+      (λ before. (pair_at SameRequest xs agree i j x y (grind (arith, nat_tests)) at_i at_j same).0)
+      (λ after. by_test (nat_lt j i)
+      (λ before. sym (pair_at SameRequest xs agree j i y x (grind (arith, nat_tests)) at_j at_i (sym same)).0)
       (λ neither. let equal : i ≡ j = grind (arith, nat_tests) in
-        let is : Some x ≡ Some y = sym at_i ∙ ap (slice_get xs) equal ∙ at_j in
-        let one : x ≡ y = cc in ap (λ (z : Exchange). z.t1_low) one))
+      let is : Some x ≡ Some y = sym at_i ∙ ap (slice_get xs) equal ∙ at_j in
+      let one : x ≡ y = cc in ap (λ (z : Exchange). z.t1_low) one))
 
 -- ---- the course
 
@@ -168,7 +170,8 @@ module _ (claim : ClaimData) (xs : List Exchange) (r : RefutationData) where
 
     room : (k : ℕ) (x : Exchange) → slice_get xs k ≡ Some x → is_liar r.liars x.server ≡ false
         → Admits claim.reading r.error x
-    room k x at = each_at (λ y. is_liar r.liars y.server ≡ false → Admits claim.reading r.error y) xs k x refuted.admits at
+    room k x at =
+        each_at (λ y. is_liar r.liars y.server ≡ false → Admits claim.reading r.error y) xs k x refuted.admits at
 
     order : (k : ℕ) (x : Exchange) → slice_get xs k ≡ Some x → is_liar r.liars x.server ≡ false
         → ComesInOrder course k x
@@ -179,7 +182,7 @@ module _ (claim : ClaimData) (xs : List Exchange) (r : RefutationData) where
     distances k x at true' =
         let lawful = each_at (IsLawfulExchange servers) xs k x each at in
         rw at (near_stamps (start_of x) (end_of x) x.t2 x.t3 x.distance r.error (room k x at true')
-          lawful.distance_not_negative)
+        lawful.distance_not_negative)
 
     fits : Fits claim xs course
     fits = record {
@@ -194,19 +197,22 @@ module _ (claim : ClaimData) (xs : List Exchange) (r : RefutationData) where
     shared : AllPairs SameRequest xs → SharesRequests xs course
     shared agree i j x y at_i at_j same =
         let start : start_of x ≡ start_of y =
-        ap (λ (t : ℤ). t -ℤ claim.reading) (one_start xs i j x y agree at_i at_j same) in
+        ap (λ (t : ℤ). t -ℤ claim.reading) (one_start xs agree i j x y at_i at_j same) in
         rw (at_i, at_j) (ap (moment_with r.error) start)
 
     pub has_course : AllPairs SameRequest xs → HasCourse claim xs r
-    has_course agree = (course, record {
-      fits = fits;
-      off_throughout = record {
-        just_liars_false = λ server. refl;
-        one_error = λ m is. client_error m is ∙ sym (once r.error);
-      };
-      shares_requests = shared agree;
-      observed = sym (once (pos r.reading));
-    })
+    has_course agree = (
+      course,
+      record {
+        fits = fits;
+        off_throughout = record {
+          just_liars_false = λ server. refl;
+          one_error = λ m is. client_error m is ∙ sym (once r.error);
+        };
+        shares_requests = shared agree;
+        observed = sym (once (pos r.reading));
+      },
+    )
 
     observed_in_span : IsObservedIn course claim.first claim.last
     observed_in_span =
@@ -243,151 +249,21 @@ module _ (claim : ClaimData) (bound : ℤ) (bound_ns : ℕ) (xs : List Exchange)
       let found = some_fits (record claim { bound = bound; bound_ns = bound_ns }) xs r some servers each refuted in
       (found.0, other_bound found.0 found.1, found.2)
 
--- ---- what a course says of the stamps
+further : (bound narrower error : ℤ) → narrower ≤ℤ bound → bound <ℤ error → narrower <ℤ error
+further bound narrower error p q = omega (arith, ints)
 
--- n times an order gives the order
-cancel : (a b : ℤ) (n : ℕ) → 0 < n → (a *ℤ pos n) ≤ℤ (b *ℤ pos n) → a ≤ℤ b
-cancel a b n some h =
-    by_test (int_le a b) (λ holds. grind (arith, ints))
-    (λ fails.
-      let above : (b +ℤ pos 1) ≤ℤ a = grind (arith, ints) in
-      let scaled = times_le (b +ℤ pos 1) a n above in
-      let sum = times-add (b +ℤ pos 1) b (pos 1) n refl in
-      let unit : (pos 1 *ℤ pos n) ≡ pos n = omega (arith, ints) in
-      absurd (omega (arith, ints)))
-
-chain2 : (a b c d : ℤ) → a ≤ℤ b → b ≤ℤ c → c ≤ℤ d → a ≤ℤ d
-chain2 a b c d p q r = omega (arith, ints)
-
-chain3 : (a b c d e : ℤ) → a ≤ℤ b → b ≤ℤ c → c ≤ℤ d → d ≤ℤ e → a ≤ℤ e
-chain3 a b c d e p q r s = omega (arith, ints)
-
-chain4 : (a b c d e f : ℤ) → a ≤ℤ b → b ≤ℤ c → c ≤ℤ d → d ≤ℤ e → e ≤ℤ f → a ≤ℤ f
-chain4 a b c d e f p q r s t = omega (arith, ints)
-
-unshifted : (a b e : ℤ) → (a -ℤ e) ≤ℤ (b -ℤ e) → a ≤ℤ b
-unshifted a b e h = omega (arith, ints)
-
-not_both : (a b : ℤ) → a <ℤ b → b ≤ℤ a → ⊥
-not_both a b p q = omega (arith, ints)
-
--- n times a difference or a sum, and n times its parts
-minus_times : (a b : ℤ) (n : ℕ) → ((a *ℤ pos n) -ℤ (b *ℤ pos n)) ≡ ((a -ℤ b) *ℤ pos n)
-minus_times a b n = let sum = times-add a (a -ℤ b) b n (omega (arith, ints)) in omega (arith, ints)
-
-plus_times : (a b : ℤ) (n : ℕ) → ((a *ℤ pos n) +ℤ (b *ℤ pos n)) ≡ ((a +ℤ b) *ℤ pos n)
-plus_times a b n = sym (times-add (a +ℤ b) a b n refl)
-
--- the inequalities, n times over
-pub record ScaledRoom (start end t2 t3 distance error : ℤ) : Type 0 where
-  pub receipt : (start -ℤ error) ≤ℤ (t2 +ℤ distance)
-  pub answer : (start -ℤ error) ≤ℤ (t3 +ℤ distance)
-  pub arrival : start ≤ℤ end
-  pub receipt_answer : (t2 -ℤ distance) ≤ℤ (t3 +ℤ distance)
-  pub receipt_arrival : (t2 -ℤ distance) ≤ℤ (end -ℤ error)
-  pub answer_arrival : (t3 -ℤ distance) ≤ℤ (end -ℤ error)
-
--- moments one after another, with a clock that is off by an error at the first and the last
-module _ (start end t2 t3 distance error : ℤ) (request reply : Moment) (received sent : ℤ)
-    (off_first : error_of request ≡ error) (off_last : error_of reply ≡ error)
-    (from : start ≤ℤ request.reading) (to : reply.reading ≤ℤ end)
-    (order : (request.time ≤ℤ received) × (received ≤ℤ sent) × (sent ≤ℤ reply.time))
-    (near_first : pos (unsigned_abs (received -ℤ t2)) ≤ℤ distance)
-    (near_last : pos (unsigned_abs (sent -ℤ t3)) ≤ℤ distance) where
-  leaves : (start -ℤ error) ≤ℤ request.time
-  leaves = omega (arith, ints, off_first, from)
-
-  arrives : reply.time ≤ℤ (end -ℤ error)
-  arrives = omega (arith, ints, off_last, to)
-
-  receipt_from : (t2 -ℤ distance) ≤ℤ received
-  receipt_from = omega (arith, ints, near_first)
-
-  receipt_to : received ≤ℤ (t2 +ℤ distance)
-  receipt_to = omega (arith, ints, near_first)
-
-  answer_from : (t3 -ℤ distance) ≤ℤ sent
-  answer_from = omega (arith, ints, near_last)
-
-  answer_to : sent ≤ℤ (t3 +ℤ distance)
-  answer_to = omega (arith, ints, near_last)
-
-  scaled_room : ScaledRoom start end t2 t3 distance error
-  scaled_room =
-      let (o1, o2, o3) = order in
-      record {
-        receipt = chain2 _ _ _ _ leaves o1 receipt_to;
-        answer = chain3 _ _ _ _ _ leaves o1 o2 answer_to;
-        arrival = unshifted start end error (chain4 _ _ _ _ _ _ leaves o1 o2 o3 arrives);
-        receipt_answer = chain2 _ _ _ _ receipt_from o2 answer_to;
-        receipt_arrival = chain3 _ _ _ _ _ receipt_from o2 o3 arrives;
-        answer_arrival = chain2 _ _ _ _ answer_from o3 arrives;
-      }
-
--- room n times over is room
-module _ (start end t2 t3 distance error : ℤ) (n : ℕ) (some : 0 < n) where
-  room_once : ScaledRoom (start *ℤ pos n) (end *ℤ pos n) (t2 *ℤ pos n) (t3 *ℤ pos n) (distance *ℤ pos n)
-      (error *ℤ pos n)
-      → AdmitsError start end t2 t3 distance error
-  room_once h = record {
-    leaves_before_receipt = cancel _ _ n some
-        (rw (minus_times start error n, plus_times t2 distance n) at h.receipt);
-    leaves_before_answer = cancel _ _ n some
-        (rw (minus_times start error n, plus_times t3 distance n) at h.answer);
-    leaves_before_arrival = cancel _ _ n some h.arrival;
-    receives_before_answer = cancel _ _ n some
-        (rw (minus_times t2 distance n, plus_times t3 distance n) at h.receipt_answer);
-    receives_before_arrival = cancel _ _ n some
-        (rw (minus_times t2 distance n, minus_times end error n) at h.receipt_arrival);
-    answers_before_arrival = cancel _ _ n some
-        (rw (minus_times t3 distance n, minus_times end error n) at h.answer_arrival);
-  }
-
-module _ (claim : ClaimData) (xs : List Exchange) (r : RefutationData) (against : IsAgainst claim r)
-    (course : Course) (fits : Fits claim xs course) (off : IsOffThroughout xs r course) where
-  course_admits : (k : ℕ) (x : Exchange) → slice_get xs k ≡ Some x → is_liar r.liars x.server ≡ false
-      → Admits claim.reading r.error x
-  course_admits k x at true' =
-      let n = course.fineness in
-      let w = request_start x claim.reading in
-      let z = reply_end x claim.reading in
-      let listed = slice_get_within xs k x at in
-      let not_false : course.is_false x.server ≡ false = off.just_liars_false x.server ∙ true' in
-      let windows = fits.in_windows k x at in
-      let near = fits.within_root_distance k x at not_false in
-      room_once w z x.t2 x.t3 x.distance r.error n fits.some_fineness
-      (scaled_room (w *ℤ pos n) (z *ℤ pos n) (x.t2 *ℤ pos n) (x.t3 *ℤ pos n) (x.distance *ℤ pos n) (r.error *ℤ pos n)
-      (course.request k) (course.reply k) (course.received k) (course.sent k)
-      (off.one_error (course.request k) (inr (k, listed, inl refl)))
-      (off.one_error (course.reply k) (inr (k, listed, inr refl)))
-      windows.0.0 windows.1.1 (fits.ordered k x at not_false) near.0 near.1)
-
-  pub refuted_by_course : IsRefuted claim xs r
-  refuted_by_course = record {
-    against = against;
-    admits = λ k d below true'. course_admits k (slice_index_or xs k d) (slice_get-get_or xs k d below) true';
-  }
-
--- ---- the course breaks the claim
-
-abs_times : (e : ℤ) (n : ℕ) → unsigned_abs (e *ℤ pos n) ≡ unsigned_abs e * n
-abs_times (pos e) n = omega (arith, ints)
-abs_times (negsuc e) n = omega (arith, ints)
-
-module _ (claim : ClaimData) (xs : List Exchange) (r : RefutationData) (course : Course)
-    (against : IsAgainst claim r) (of : IsCourseOf claim xs r course) where
-  pub course_in_span : IsObservedIn course claim.first claim.last
-  course_in_span =
-      let span = against.in_span in
-      let n = course.fineness in
-      rw of.observed (times_le claim.first (pos r.reading) n span.0, times_le (pos r.reading) claim.last n span.1)
-
-  pub course_beyond_bound : IsWithin course claim.bound → ⊥
-  course_beyond_bound within' =
-      let n = course.fineness in
-      let error = of.off_throughout.one_error course.observation (inl refl) in
-      let abs : pos (unsigned_abs r.error * n) ≤ℤ (claim.bound *ℤ pos n) =
-      rw (error, abs_times r.error n) at within' in
-      let scaled : (pos (unsigned_abs r.error) *ℤ pos n) ≡ pos (unsigned_abs r.error * n) = omega (arith, ints) in
-      let near = cancel (pos (unsigned_abs r.error)) claim.bound n of.fits.some_fineness (rw scaled abs) in
-      not_both claim.bound (pos (unsigned_abs r.error)) against.beyond_bound near
+pub refuted_with_less : (claim : ClaimData) (narrower : ℤ) (drift_ppb : ℕ) (xs : List Exchange) (r : RefutationData)
+    → narrower ≤ℤ claim.bound → IsRefuted claim xs r
+    → IsRefuted (record claim { bound = narrower; drift_ppb = drift_ppb }) xs r
+refuted_with_less claim narrower drift_ppb xs r less h =
+    let against = h.against in
+    record {
+      against = record {
+        beyond_bound = further claim.bound narrower (pos (unsigned_abs r.error)) less against.beyond_bound;
+        in_span = against.in_span;
+        liars_listed = against.liars_listed;
+        liars_differ = against.liars_differ;
+        few_false = against.few_false;
+      };
+      admits = h.admits;
+    }

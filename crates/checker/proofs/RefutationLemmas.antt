@@ -1,7 +1,7 @@
 -- What a refutation says, and its tests.
-use Rattle.std.proofs.Common.{◌≡◌, ◌≢◌, ℕ, zero, suc, ◌+◌, ◌<◌, ◌≤◌, ℤ, pos, ◌+ℤ◌, ◌-ℤ◌, ◌*ℤ◌, ◌≤ℤ◌, ◌<ℤ◌, unsigned_abs, Bool, true, false, true≢false, cond, ◌&&◌, ◌||◌, List, [], ◌∷◌, ◌++◌, length, count_by, refl, sym, ap, ◌∙◌, subst, arith}
-use Rattle.std.specs.Prelude.{◌==◌, int_le, int_lt, nat_le, nat_lt, not, All, AllPairs, ◌↔◌}
-use Rattle.std.specs.List.{list_any, list_all, AllPass, slice_index_or}
+use Rattle.std.proofs.Common.{◌≡◌, ◌≢◌, ℕ, zero, suc, ◌<◌, ◌≤◌, ℤ, ◌-ℤ◌, ◌≤ℤ◌, ◌<ℤ◌, Bool, true, false, true≢false, ◌&&◌, ◌||◌, List, [], ◌∷◌, length, refl, sym, ◌∙◌, arith}
+use Rattle.std.specs.Prelude.{◌==◌, int_le, int_lt, nat_le, nat_lt, not, All, AllPairs}
+use Rattle.std.specs.List.{list_any, list_all, slice_index_or}
 use Rattle.std.proofs.lemmas.Int.{ints}
 use Rattle.std.proofs.lemmas.Bool.Decides.{nat_tests}
 use Rattle.std.proofs.lemmas.List.Folds.{list_any_none}
@@ -10,9 +10,9 @@ use Rattle.certificate.specs.Refutation.{RefutationData}
 use Rattle.claim_file.specs.Claim.{ClaimData}
 use Rattle.pairing.specs.declared.exchange.Exchange.{Exchange}
 use Rattle.sample_interval.specs.Window.{request_start, reply_end}
-use Rattle.checker.specs.Groups.{numbers_below, false_group_count}
-use Rattle.checker.specs.Refutation.{is_liar, AdmitsError, Admits, IsAgainst, IsRefuted}
-use Rattle.checker.specs.RefutationTest.{leaves_in_time, answers_in_time, admits, allows, are_different, is_outside, may_be_false, is_against, is_refuted}
+use Rattle.checker.specs.Groups.{numbers_below}
+use Rattle.checker.specs.Refutation.{is_liar, Admits, IsAgainst, IsRefuted}
+use Rattle.checker.specs.RefutationTest.{admits, allows, are_different, is_against, is_refuted}
 use Rattle.checker.proofs.CountingLemmas.{fails_below}
 use Rattle.checker.proofs.PartLemmas.{by_test}
 
@@ -98,9 +98,14 @@ admits_to : (allowance error : ℤ) (x : Exchange) → Admits allowance error x 
 admits_to allowance error x h =
     let w = request_start x allowance in
     let z = reply_end x allowance in
-    rw (le_to _ _ h.leaves_before_receipt, le_to _ _ h.leaves_before_answer,
-      le_to _ _ (shifted_back w z error h.leaves_before_arrival), le_to _ _ h.receives_before_answer,
-      le_to _ _ h.receives_before_arrival, le_to _ _ h.answers_before_arrival) refl
+    rw (
+      le_to _ _ h.leaves_before_receipt,
+      le_to _ _ h.leaves_before_answer,
+      le_to _ _ (shifted_back w z error h.leaves_before_arrival),
+      le_to _ _ h.receives_before_answer,
+      le_to _ _ h.receives_before_arrival,
+      le_to _ _ h.answers_before_arrival,
+    ) refl
 
 -- ---- numbers that differ
 
@@ -156,8 +161,14 @@ against_to : (claim : ClaimData) (r : RefutationData) → IsAgainst claim r → 
 against_to claim r h =
     let listed : list_all (λ liar. nat_lt liar (length claim.servers)) r.liars ≡ true =
     list_all-from_AllPass _ r.liars (λ k d below. below_to _ _ (h.liars_listed k d below)) in
-    rw (lt_to _ _ h.beyond_bound, le_to _ _ h.in_span.0, le_to _ _ h.in_span.1, listed, differ_to r.liars h.liars_differ,
-      at_most_to _ _ h.few_false) refl
+    rw (
+      lt_to _ _ h.beyond_bound,
+      le_to _ _ h.in_span.0,
+      le_to _ _ h.in_span.1,
+      listed,
+      differ_to r.liars h.liars_differ,
+      at_most_to _ _ h.few_false,
+    ) refl
 
 -- ---- the whole
 

@@ -47,6 +47,12 @@ ghost use Rattle.checker.specs.declared.verdict.Verdict.TheVariants.{Yes, No};
 ghost use Rattle.checker.specs.declared.verdict.Why.{Why};
 ghost use Rattle.checker.specs.declared.verdict.Why.TheVariants.{Contradiction};
 
+pub use crate::refutation_laws::{
+    accepted_refutations_have_a_course, bound_plays_no_part_in_fitting,
+    courses_of_refutations_break_the_claim, narrower_bounds_are_refuted_too,
+    other_worked_refutations_fall, refutations_with_a_course_are_accepted,
+    test_is_passed_where_refuted, worked_refutations_stand, yes_and_refutation_never_meet,
+};
 use era_unfold::laws::nanoseconds_lie_between_their_ticks;
 use intersection::laws::{every_list_has_a_hull, hull_is_one_answer, whole_points_are_fine_enough};
 use sample_interval::laws::{

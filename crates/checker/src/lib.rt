@@ -6,6 +6,9 @@
 //! [`check_exchanges`] is the same of exchanges, without a list of their samples. [`piece_hull`]
 //! is the hull of a piece's entries over the groups of servers. Nothing here allocates. [`laws`]
 //! has the theorem, its steps, and how verdicts compare.
+//!
+//! [`check_refutation`] settles whether there is evidence against the claim: an error beyond the
+//! bound for which such a course fits. It and a yes never meet.
 #![tactic(auto)]
 
 mod entry;
@@ -14,7 +17,7 @@ pub mod laws;
 mod part;
 mod piece;
 mod refutation;
-pub mod refutation_laws;
+mod refutation_laws;
 mod source;
 mod stretch;
 mod verdict;

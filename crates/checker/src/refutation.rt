@@ -15,9 +15,7 @@ ghost use Rattle.checker.specs.RefutationTest as spec;
 ghost use Rattle.checker.specs.Traceability.{samples_of};
 ghost use Rattle.checker.specs.Verdict.{verdict_of};
 
-use crate::refutation_laws::{
-    accepted_refutations_have_a_course, yes_and_refutation_never_meet,
-};
+use crate::refutation_laws::{accepted_refutations_have_a_course, yes_and_refutation_never_meet};
 use crate::verdict::Verdict;
 use certificate::Refutation;
 use claim_file::Claim;
@@ -59,8 +57,7 @@ fn is_refuted(exchanges: &[Exchange], claim: &Claim, refutation: &Refutation) ->
     ensures { result ≡ spec.is_refuted
         (claim_data claim.now) exchanges.now (refutation_data refutation.now) }
 {
-    is_against(claim, refutation)
-        && all_admit(exchanges, claim, refutation)
+    is_against(claim, refutation) && all_admit(exchanges, claim, refutation)
 }
 
 /// Whether what a refutation says by itself is against the claim.

@@ -1,5 +1,5 @@
 //! What holds of refutations, and why.
-ghost use Rattle.std.specs.Prelude.{◌≡◌, ℕ, ◌+◌, ℤ, pos, neg_ℤ, ◌↔◌, true};
+ghost use Rattle.std.specs.Prelude.{◌≡◌, ℕ, ◌+◌, ℤ, pos, neg_ℤ, ◌≤ℤ◌, ◌↔◌, true};
 ghost use Rattle.std.specs.Prelude.{List, [], ◌∷◌, length, All, AllPairs};
 ghost use Rattle.certificate.specs.Certificate.{CertificateData};
 ghost use Rattle.certificate.specs.Refutation.{RefutationData};
@@ -69,6 +69,15 @@ pub fn bound_plays_no_part_in_fitting()
         SomeCourseFits claim xs }
 {}
 
+/// What refutes a claim refutes it with every narrower bound, and with every drift: the clock that it
+/// speaks of doesn't drift at all.
+pub fn narrower_bounds_are_refuted_too()
+    ensures { (claim : ClaimData) (narrower : ℤ) (drift_ppb : ℕ) (xs : List Exchange)
+        (refutation : RefutationData) → narrower ≤ℤ claim.bound →
+        IsRefuted claim xs refutation →
+        IsRefuted (record claim { bound = narrower; drift_ppb = drift_ppb }) xs refutation }
+{}
+
 /// A course that an accepted refutation stands for breaks the claim: when the clock is observed,
 /// its reading lies in the span and its error is beyond the bound.
 pub fn courses_of_refutations_break_the_claim()
@@ -80,8 +89,9 @@ pub fn courses_of_refutations_break_the_claim()
         ¬ (IsWithin course claim.bound) }
 {}
 
-/// The worked exchange refutes a claim by each error that it leaves room for and that is beyond the
-/// bound, at both ends, and by no other; and by any error where its server may be false.
+/// The worked exchange refutes a claim by errors that it leaves room for and that are beyond the
+/// bound, up to both ends of that room, and by any error if its server may be false, with the least
+/// of 64 bits among them.
 pub fn worked_refutations_stand()
     ensures beyond { IsRefuted (claim_with 42953967 0) (worked_exchange ∷ [])
         (refutation_with (pos 42953968) []) }
@@ -93,19 +103,29 @@ pub fn worked_refutations_stand()
         (refutation_with (pos 1) []) }
     ensures named { IsRefuted (claim_with 42953972 1) (worked_exchange ∷ [])
         (refutation_with (pos 42953973) (0 ∷ [])) }
+    ensures least_of_all { IsRefuted (claim_with 42953972 1) (worked_exchange ∷ [])
+        (refutation_with (neg_ℤ (pos 9223372036854775808)) (0 ∷ [])) }
+{}
+
+/// It refutes no claim by an error one tick outside that room, by one within the bound, at a reading
+/// outside the span, or by servers that may not all be false, that are named twice or that aren't
+/// listed; nor if its server says that it answered before it received.
+pub fn other_worked_refutations_fall()
     ensures too_great { ¬ (IsRefuted (claim_with 42953967 0) (worked_exchange ∷ [])
         (refutation_with (pos 42953970) [])) }
     ensures too_small { ¬ (IsRefuted (claim_with 42949673 0) (worked_exchange ∷ [])
         (refutation_with (neg_ℤ (pos 42949675)) [])) }
-    ensures answered_before_received { ¬ (IsRefuted (claim_with 42953967 0)
-        (record worked_exchange { t2 = pos (worked_second + 4337916969) } ∷ [])
-        (refutation_with (pos 42953968) [])) }
     ensures within_bound { ¬ (IsRefuted (claim_with 42953967 0) (worked_exchange ∷ [])
         (refutation_with (pos 42953967) [])) }
+    ensures outside_span { ¬ (IsRefuted (claim_with 42953967 0) (worked_exchange ∷ [])
+        (record (refutation_with (pos 42953968) []) { reading = worked_second + 1 })) }
     ensures too_many_named { ¬ (IsRefuted (claim_with 42953972 0) (worked_exchange ∷ [])
         (refutation_with (pos 42953973) (0 ∷ []))) }
     ensures named_twice { ¬ (IsRefuted (claim_with 42953972 1) (worked_exchange ∷ [])
         (refutation_with (pos 42953973) (0 ∷ 0 ∷ []))) }
     ensures not_listed { ¬ (IsRefuted (claim_with 42953967 1) (worked_exchange ∷ [])
         (refutation_with (pos 42953968) (1 ∷ []))) }
+    ensures answered_before_received { ¬ (IsRefuted (claim_with 42953967 0)
+        (record worked_exchange { t2 = pos (worked_second + 4337916969) } ∷ [])
+        (refutation_with (pos 42953968) [])) }
 {}

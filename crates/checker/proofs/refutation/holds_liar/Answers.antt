@@ -1,6 +1,5 @@
-use Rattle.std.proofs.Common.{sym, length, ◌==◌, ◌&&◌, arith, ◌∙◌}
+use Rattle.std.proofs.Common.{sym, length, ◌==◌, ◌&&◌, ◌∙◌}
 use Rattle.std.specs.Prelude.{slice_index}
-use Rattle.std.proofs.lemmas.Bool.Decides.{nat_tests}
 use Rattle.checker.specs.Refutation.{is_liar}
 use Rattle.checker.proofs.RefutationLemmas.{found_below, both_pass}
 use Rattle.checker.proofs.refutation.holds_liar.Goals as goal

@@ -1,0 +1,162 @@
+-- What a course that a refutation stands for says of the stamps and of the claim.
+use Rattle.std.proofs.Common.{◌≡◌, ℕ, ◌*◌, ◌<◌, ℤ, pos, negsuc, ◌+ℤ◌, ◌-ℤ◌, ◌*ℤ◌, ◌≤ℤ◌, ◌<ℤ◌, unsigned_abs, false, inl, inr, List, Some, refl, sym, ◌∙◌, arith}
+use Rattle.std.specs.Prelude.{slice_get, int_le}
+use Rattle.std.specs.List.{slice_index_or}
+use Rattle.std.proofs.lemmas.Int.{ints}
+use Rattle.std.proofs.lemmas.Option.{slice_get-get_or, slice_get_within}
+use Rattle.certificate.specs.Refutation.{RefutationData}
+use Rattle.claim_file.specs.Claim.{ClaimData}
+use Rattle.intersection.specs.Fineness.{times_le, times-add}
+use Rattle.pairing.specs.declared.exchange.Exchange.{Exchange}
+use Rattle.sample_interval.specs.Moment.{Moment, error_of}
+use Rattle.sample_interval.specs.Window.{request_start, reply_end}
+use Rattle.checker.specs.Course.{Course, Fits}
+use Rattle.checker.specs.Refutation.{is_liar, AdmitsError, Admits, IsAgainst, IsRefuted, IsOffThroughout, IsCourseOf}
+use Rattle.checker.specs.Traceability.{IsObservedIn, IsWithin}
+use Rattle.checker.proofs.PartLemmas.{by_test}
+
+-- ---- what a course says of the stamps
+
+-- n times an order gives the order
+cancel : (a b : ℤ) (n : ℕ) → 0 < n → (a *ℤ pos n) ≤ℤ (b *ℤ pos n) → a ≤ℤ b
+cancel a b n some h =
+    by_test (int_le a b) (λ holds. grind (arith, ints))
+    (λ fails.
+    let above : (b +ℤ pos 1) ≤ℤ a = grind (arith, ints) in
+    let scaled = times_le (b +ℤ pos 1) a n above in
+    let sum = times-add (b +ℤ pos 1) b (pos 1) n refl in
+    let unit : (pos 1 *ℤ pos n) ≡ pos n = omega (arith, ints) in
+    absurd (omega (arith, ints)))
+
+joined : (a b c : ℤ) → a ≤ℤ b → b ≤ℤ c → a ≤ℤ c
+joined a b c p q = omega (arith, ints)
+
+chained : (a b c d : ℤ) → a ≤ℤ b → b ≤ℤ c → c ≤ℤ d → a ≤ℤ d
+chained a b c d p q r = omega (arith, ints)
+
+unshifted : (a b e : ℤ) → (a -ℤ e) ≤ℤ (b -ℤ e) → a ≤ℤ b
+unshifted a b e h = omega (arith, ints)
+
+not_both : (a b : ℤ) → a <ℤ b → b ≤ℤ a → ⊥
+not_both a b p q = omega (arith, ints)
+
+-- n times a difference or a sum, and n times its parts
+minus_times : (a b : ℤ) (n : ℕ) → ((a *ℤ pos n) -ℤ (b *ℤ pos n)) ≡ ((a -ℤ b) *ℤ pos n)
+minus_times a b n = let sum = times-add a (a -ℤ b) b n (omega (arith, ints)) in omega (arith, ints)
+
+plus_times : (a b : ℤ) (n : ℕ) → ((a *ℤ pos n) +ℤ (b *ℤ pos n)) ≡ ((a +ℤ b) *ℤ pos n)
+plus_times a b n = sym (times-add (a +ℤ b) a b n refl)
+
+-- the inequalities, n times over
+pub record ScaledRoom (start end t2 t3 distance error : ℤ) : Type 0 where
+  pub receipt : (start -ℤ error) ≤ℤ (t2 +ℤ distance)
+  pub answer : (start -ℤ error) ≤ℤ (t3 +ℤ distance)
+  pub arrival : start ≤ℤ end
+  pub receipt_answer : (t2 -ℤ distance) ≤ℤ (t3 +ℤ distance)
+  pub receipt_arrival : (t2 -ℤ distance) ≤ℤ (end -ℤ error)
+  pub answer_arrival : (t3 -ℤ distance) ≤ℤ (end -ℤ error)
+
+-- moments one after another, with a clock that is off by an error at the first and the last
+module _ (start end t2 t3 distance error : ℤ) (request reply : Moment) (received sent : ℤ)
+    (off_first : error_of request ≡ error) (off_last : error_of reply ≡ error)
+    (from : start ≤ℤ request.reading) (to : reply.reading ≤ℤ end)
+    (order : (request.time ≤ℤ received) × (received ≤ℤ sent) × (sent ≤ℤ reply.time))
+    (near_first : pos (unsigned_abs (received -ℤ t2)) ≤ℤ distance)
+    (near_last : pos (unsigned_abs (sent -ℤ t3)) ≤ℤ distance) where
+  leaves : (start -ℤ error) ≤ℤ request.time
+  leaves = omega (arith, ints, off_first, from)
+
+  arrives : reply.time ≤ℤ (end -ℤ error)
+  arrives = omega (arith, ints, off_last, to)
+
+  receipt_from : (t2 -ℤ distance) ≤ℤ received
+  receipt_from = omega (arith, ints, near_first)
+
+  receipt_to : received ≤ℤ (t2 +ℤ distance)
+  receipt_to = omega (arith, ints, near_first)
+
+  answer_from : (t3 -ℤ distance) ≤ℤ sent
+  answer_from = omega (arith, ints, near_last)
+
+  answer_to : sent ≤ℤ (t3 +ℤ distance)
+  answer_to = omega (arith, ints, near_last)
+
+  scaled_room : ScaledRoom start end t2 t3 distance error
+  scaled_room =
+      let (o1, o2, o3) = order in
+      record {
+        receipt = chained _ _ _ _ leaves o1 receipt_to;
+        answer = chained _ _ _ _ leaves o1 (joined _ _ _ o2 answer_to);
+        arrival = unshifted start end error (chained _ _ _ _ leaves o1 (chained _ _ _ _ o2 o3 arrives));
+        receipt_answer = chained _ _ _ _ receipt_from o2 answer_to;
+        receipt_arrival = chained _ _ _ _ receipt_from o2 (joined _ _ _ o3 arrives);
+        answer_arrival = chained _ _ _ _ answer_from o3 arrives;
+      }
+
+-- room n times over is room
+module _ (start end t2 t3 distance error : ℤ) (n : ℕ) (some : 0 < n) where
+  room_once : ScaledRoom (start *ℤ pos n) (end *ℤ pos n) (t2 *ℤ pos n) (t3 *ℤ pos n) (distance *ℤ pos n)
+      (error *ℤ pos n)
+      → AdmitsError start end t2 t3 distance error
+  room_once h = record {
+    leaves_before_receipt = cancel _ _ n some
+        (rw (minus_times start error n, plus_times t2 distance n) at h.receipt);
+    leaves_before_answer = cancel _ _ n some
+        (rw (minus_times start error n, plus_times t3 distance n) at h.answer);
+    leaves_before_arrival = cancel _ _ n some h.arrival;
+    receives_before_answer = cancel _ _ n some
+        (rw (minus_times t2 distance n, plus_times t3 distance n) at h.receipt_answer);
+    receives_before_arrival = cancel _ _ n some
+        (rw (minus_times t2 distance n, minus_times end error n) at h.receipt_arrival);
+    answers_before_arrival = cancel _ _ n some
+        (rw (minus_times t3 distance n, minus_times end error n) at h.answer_arrival);
+  }
+
+module _ (claim : ClaimData) (xs : List Exchange) (r : RefutationData) (against : IsAgainst claim r)
+    (course : Course) (fits : Fits claim xs course) (off : IsOffThroughout xs r course) where
+  course_admits : (k : ℕ) (x : Exchange) → slice_get xs k ≡ Some x → is_liar r.liars x.server ≡ false
+      → Admits claim.reading r.error x
+  course_admits k x at true' =
+      let n = course.fineness in
+      let w = request_start x claim.reading in
+      let z = reply_end x claim.reading in
+      let listed = slice_get_within xs k x at in
+      let not_false : course.is_false x.server ≡ false = off.just_liars_false x.server ∙ true' in
+      let windows = fits.in_windows k x at in
+      let near = fits.within_root_distance k x at not_false in
+      room_once w z x.t2 x.t3 x.distance r.error n fits.some_fineness
+      (scaled_room (w *ℤ pos n) (z *ℤ pos n) (x.t2 *ℤ pos n) (x.t3 *ℤ pos n) (x.distance *ℤ pos n) (r.error *ℤ pos n)
+      (course.request k) (course.reply k) (course.received k) (course.sent k)
+      (off.one_error (course.request k) (inr (k, listed, inl refl)))
+      (off.one_error (course.reply k) (inr (k, listed, inr refl)))
+      windows.0.0 windows.1.1 (fits.ordered k x at not_false) near.0 near.1)
+
+  pub refuted_by_course : IsRefuted claim xs r
+  refuted_by_course = record {
+    against = against;
+    admits = λ k d below true'. course_admits k (slice_index_or xs k d) (slice_get-get_or xs k d below) true';
+  }
+
+-- ---- the course breaks the claim
+
+abs_times : (e : ℤ) (n : ℕ) → unsigned_abs (e *ℤ pos n) ≡ unsigned_abs e * n
+abs_times (pos e) n = omega (arith, ints)
+abs_times (negsuc e) n = omega (arith, ints)
+
+module _ (claim : ClaimData) (xs : List Exchange) (r : RefutationData) (course : Course)
+    (against : IsAgainst claim r) (of : IsCourseOf claim xs r course) where
+  pub course_in_span : IsObservedIn course claim.first claim.last
+  course_in_span =
+      let span = against.in_span in
+      let n = course.fineness in
+      rw of.observed (times_le claim.first (pos r.reading) n span.0, times_le (pos r.reading) claim.last n span.1)
+
+  pub course_beyond_bound : IsWithin course claim.bound → ⊥
+  course_beyond_bound within' =
+      let n = course.fineness in
+      let error = of.off_throughout.one_error course.observation (inl refl) in
+      let abs : pos (unsigned_abs r.error * n) ≤ℤ (claim.bound *ℤ pos n) =
+      rw (error, abs_times r.error n) at within' in
+      let scaled : (pos (unsigned_abs r.error) *ℤ pos n) ≡ pos (unsigned_abs r.error * n) = omega (arith, ints) in
+      let near = cancel (pos (unsigned_abs r.error)) claim.bound n of.fits.some_fineness (rw scaled abs) in
+      not_both claim.bound (pos (unsigned_abs r.error)) against.beyond_bound near
