@@ -2,3 +2,4 @@ pub mod Known
 pub mod OutputLemmas
 pub mod ClosingLemmas
 pub mod FaultTextLemmas
+pub mod ReadingLemmas
