@@ -15,7 +15,7 @@ use Rattle.pairing.specs.declared.fault.PairFault.TheVariants as pairs
 use Rattle.pairing.specs.Answer.{IsAnswerTo, IsFromOutside as is_pair_from_outside}
 use Rattle.pairing.specs.Pairing.{data_of as collection_data}
 use Rattle.report.specs.Fault.{run_fault_of}
-use Rattle.evidence.specs.Reading.{IsFromOutside, Reads}
+use Rattle.report.specs.Reading.{IsFromOutside, Reads}
 use Rattle.evidence.specs.CaptureInput.{capture_read, collection_read, pair_run_fault_of}
 
 -- what is taken as a capture is begun and then read is no more than may be taken of a capture

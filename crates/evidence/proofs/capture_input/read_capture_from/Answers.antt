@@ -5,7 +5,7 @@ use Rattle.pcap_reader.specs.Limit.{most_taken}
 use Rattle.claim_file.specs.Claim.{data_of}
 use Rattle.pairing.specs.Pairing.{data_of as collection_data}
 use Rattle.report.specs.declared.fault.RunFault.{RunFault}
-use Rattle.evidence.specs.Reading.{Reads}
+use Rattle.report.specs.Reading.{Reads}
 use Rattle.evidence.specs.CaptureInput.{capture_read}
 use Rattle.evidence.proofs.CaptureLemmas.{capture_is_read, capture_unread, capture_refused, taken_in_all}
 use Rattle.evidence.proofs.capture_input.read_capture_from.Goals as goal
@@ -17,13 +17,13 @@ returns-in-Ok-collected-clause-known g c =
 
 pub returns-in-Ok-collected-clause-at_most : goal.returns-in-Ok-collected-clause-at_most
 returns-in-Ok-collected-clause-at_most g c =
-    let before = g.F.Feed.remaining c.args.feed in
+    let before = (g.F.Feed.state c.args.feed).remaining in
     subst (λ (after : Option (List ℕ)). TakesAtMost most_taken before after) (sym c.into_feed-feed.ensures.known)
     (taken_in_all _ _ _ c.in-Ok.ensures.takes c.collect_with-collected.ensures.leaves.takes)
 
 pub returns-in-Err-collected-clause-known : goal.returns-in-Err-collected-clause-known
 returns-in-Err-collected-clause-known g c =
-    let known = g.F.Feed.remaining c.args.feed in
+    let known = (g.F.Feed.state c.args.feed).remaining in
     let claim = data_of c.args.claim.now in
     subst (λ (f : RunFault). IfSome known (λ (b : List ℕ). Reads collection_data (capture_read claim b) (Err f)))
     (sym c.run_fault_of.ensures)
@@ -31,13 +31,13 @@ returns-in-Err-collected-clause-known g c =
 
 pub returns-in-Err-collected-clause-at_most : goal.returns-in-Err-collected-clause-at_most
 returns-in-Err-collected-clause-at_most g c =
-    let before = g.F.Feed.remaining c.args.feed in
+    let before = (g.F.Feed.state c.args.feed).remaining in
     subst (λ (after : Option (List ℕ)). TakesAtMost most_taken before after) (sym c.into_feed-feed.ensures.known)
     (taken_in_all _ _ _ c.in-Ok.ensures.takes c.collect_with-collected.ensures.leaves.takes)
 
 pub returns-in-Err-clause-known : goal.returns-in-Err-clause-known
 returns-in-Err-clause-known g c =
-    let known = g.F.Feed.remaining c.args.feed in
+    let known = (g.F.Feed.state c.args.feed).remaining in
     let claim = data_of c.args.claim.now in
     subst (λ (f : RunFault). IfSome known (λ (b : List ℕ). Reads collection_data (capture_read claim b) (Err f)))
     (sym c.from.ensures)
