@@ -15,7 +15,7 @@ ascii_first : (byte : ℕ) (bytes : List ℕ) → byte < 128 → IsAscii bytes �
 ascii_first byte bytes small rest zero = small
 ascii_first byte bytes small rest (suc k) = rest k
 
-ascii_joined : {X : Type 0} (text : X → List ℕ) (xs : List X) → All (λ x. IsAscii (text x)) xs →
+pub ascii_joined : {X : Type 0} (text : X → List ℕ) (xs : List X) → All (λ x. IsAscii (text x)) xs →
     IsAscii (join_with_byte comma (map text xs))
 ascii_joined text [] each = IsAscii-nil
 ascii_joined text (x ∷ []) each = each 0 x (omega arith)
@@ -24,11 +24,11 @@ ascii_joined text (x ∷ y ∷ xs) each =
     (ascii_first comma _ (omega arith) (ascii_joined text (y ∷ xs) (λ k d less. each (suc k) d (omega arith))))
 
 -- a text of few bytes, each of which is looked at
-abbrev are_small : List ℕ → Bool
+abbrev pub are_small : List ℕ → Bool
 are_small [] = true
 are_small (byte ∷ bytes) = nat_lt byte 128 && are_small bytes
 
-ascii_literal : (bytes : List ℕ) → are_small bytes ≡ true → IsAscii bytes
+pub ascii_literal : (bytes : List ℕ) → are_small bytes ≡ true → IsAscii bytes
 ascii_literal [] small = IsAscii-nil
 ascii_literal (byte ∷ bytes) small =
     let (first, rest) = and_parts _ _ small in

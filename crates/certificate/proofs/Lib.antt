@@ -4,7 +4,9 @@ pub mod Digits
 pub mod Joined
 pub mod Limits
 pub mod LineFeed
+pub mod Outlined
 pub mod Pairs
 pub mod ReadBack
+pub mod RefutationText
 pub mod TextRead
 pub mod Texts

@@ -17,7 +17,7 @@ use Rattle.certificate.specs.Certificate.{PieceData, CertificateData, NamesSampl
 use Rattle.certificate.specs.Reading.{sample_of, entry_of, entries_of, piece_of, pieces_from, certificate_from, certificate_of}
 use Rattle.certificate.specs.Writing.{number_value, entry_value, piece_value, certificate_value}
 
-at_most : (m n : ℕ) → m ≤ n → nat_le m n ≡ true
+pub at_most : (m n : ℕ) → m ≤ n → nat_le m n ≡ true
 at_most m n le = grind (arith, nat_tests)
 
 sample_of-value : (n : ℕ) → n < 2 ^ 32 → sample_of (number_value n) ≡ Some n
@@ -36,7 +36,7 @@ entries_of-values (e ∷ es) named =
           (λ k d less. named (suc k) d (omega arith)),
     ) refl
 
-items_len-map : {X : Type 0} (value : X → Data) (xs : List X) → items_len (items_of (map value xs)) ≡ length xs
+pub items_len-map : {X : Type 0} (value : X → Data) (xs : List X) → items_len (items_of (map value xs)) ≡ length xs
 items_len-map value [] = refl
 items_len-map value (x ∷ xs) = ap suc (items_len-map value xs)
 
@@ -71,7 +71,7 @@ certificate_from-value certificate few readable =
     ) refl
 
 -- it nests five deep
-items_depth-map : {X : Type 0} (value : X → Data) (n : ℕ) → ((x : X) → depth (value x) ≤ n) → (xs : List X) →
+pub items_depth-map : {X : Type 0} (value : X → Data) (n : ℕ) → ((x : X) → depth (value x) ≤ n) → (xs : List X) →
     items_depth (items_of (map value xs)) ≤ n
 items_depth-map value n below [] = omega arith
 items_depth-map value n below (x ∷ xs) =

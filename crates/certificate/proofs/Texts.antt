@@ -9,7 +9,7 @@ use Rattle.certificate.specs.Certificate.{PieceData, CertificateData}
 use Rattle.certificate.specs.Writing.{comma, entry_text, piece_text, certificate_text, entry_value, piece_value, certificate_value}
 
 -- the elements of an array, with commas between them
-items_text-map : {X : Type 0} (value : X → Data) (text : X → List ℕ) → ((x : X) → compact_text (value x) ≡ text x) →
+pub items_text-map : {X : Type 0} (value : X → Data) (text : X → List ℕ) → ((x : X) → compact_text (value x) ≡ text x) →
     (xs : List X) →
     items_text false (items_of (map value xs)) ≡ join_with_byte comma (map text xs) ++ 93 ∷ []
 items_text-map value text same [] = refl

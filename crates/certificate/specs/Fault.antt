@@ -1,5 +1,6 @@
 -- Why a certificate is refused.
-use Rattle.std.specs.Prelude.{◌≡◌, ℕ, ◌⊎◌, Result, Ok, Err, MatchResult}
+use Rattle.std.specs.Prelude.{ℕ, Result}
+use Rattle.json_text.specs.Step as step
 use Rattle.certificate.specs.declared.fault.CertificateFault.{CertificateFault}
 use Rattle.certificate.specs.declared.fault.CertificateFault.TheVariants.{Json, Top, Shape, TooManyEntries, TooManyPieces, Memory}
 
@@ -12,15 +13,7 @@ number_of (TooManyEntries piece) = 4
 number_of TooManyPieces = 5
 number_of Memory = 6
 
--- the answer is the one that is defined, value or fault
-abbrev pub Gives : {A B : Type 0} →
-    Result A CertificateFault → (A → B) → Result B CertificateFault → Type 0
-Gives answer shown defined =
-    MatchResult answer (λ value. defined ≡ Ok (shown value)) (λ fault. defined ≡ Err fault)
-
--- the same, or Memory
+-- the answer is the one that is defined, value or fault, or Memory
 abbrev pub Answers : {A B : Type 0} →
     Result A CertificateFault → (A → B) → Result B CertificateFault → Type 0
-Answers answer shown defined =
-    MatchResult answer (λ value. defined ≡ Ok (shown value))
-    (λ fault. (fault ≡ Memory) ⊎ (defined ≡ Err fault))
+Answers answer shown defined = step.Answers Memory answer shown defined

@@ -3,5 +3,7 @@ pub mod Compact
 pub mod Fault
 pub mod Refutation
 pub mod RefutationFault
+pub mod RefutationReading
+pub mod RefutationWriting
 pub mod Reading
 pub mod Writing

@@ -1,6 +1,6 @@
 -- What a refutation says: an error by which the clock may have been off at a reading, where some
 -- servers are false.
-use Rattle.std.specs.Prelude.{ℕ, ℤ, List}
+use Rattle.std.specs.Prelude.{ℕ, ◌-◌, ◌^◌, ◌<◌, ◌≤◌, ℤ, pos, negsuc, ◌≤ℤ◌, ◌<ℤ◌, List, length, All}
 use Rattle.certificate.specs.declared.refutation.Refutation.{Refutation}
 
 -- a refutation as numbers and a list: the error in ticks of 2^-32 s, the numbers of the servers
@@ -17,3 +17,16 @@ data_of refutation = record {
   liars = refutation.liars.items;
   reading = refutation.reading;
 }
+
+-- the most servers that a refutation names
+abbrev pub max_liars : ℕ
+max_liars = 32
+
+-- a refutation as a program holds it: an error of 64 bits with sign, few servers with numbers of 8
+-- bits, and a reading of 64 bits
+pub record IsHeldRefutation (refutation : RefutationData) : Type 0 where
+  pub least : negsuc (2 ^ 63 - 1) ≤ℤ refutation.error
+  pub greatest : refutation.error <ℤ pos (2 ^ 63)
+  pub few : length refutation.liars ≤ max_liars
+  pub named : All (λ server. server < 2 ^ 8) refutation.liars
+  pub reading : refutation.reading < 2 ^ 64

@@ -1,8 +1,11 @@
 //! What holds of the definitions that the contracts cite. A law is a function that does nothing:
-//! its contract is the law, for every text and every certificate.
+//! its contract is the law, for every text, every certificate and every refutation.
 
 ghost use Rattle.std.specs.Prelude.{◌≡◌, ℕ, ◌≤◌, List, Ok, All, length};
 ghost use Rattle.certificate.specs.Certificate.{CertificateData, IsReadable, max_pieces};
+ghost use Rattle.certificate.specs.Refutation.{RefutationData, IsHeldRefutation};
+ghost use Rattle.certificate.specs.RefutationReading.{refutation_of};
+ghost use Rattle.certificate.specs.RefutationWriting.{refutation_text};
 ghost use Rattle.certificate.specs.Reading.{certificate_from, certificate_of};
 ghost use Rattle.certificate.specs.Writing.{certificate_text, certificate_value};
 ghost use Rattle.serde_json.specs.Written.{compact_text};
@@ -24,4 +27,13 @@ pub fn certificates_are_written_as_they_are_read()
     ensures value { (certificate : CertificateData) → length certificate.pieces ≤ max_pieces →
         All IsReadable certificate.pieces →
         certificate_from (certificate_value certificate) ≡ Ok certificate }
+{}
+
+/// The text of a refutation says that refutation, and it is as short as a refutation that is read
+/// may be.
+pub fn refutations_are_written_as_they_are_read()
+    ensures read { (refutation : RefutationData) → IsHeldRefutation refutation →
+        refutation_of (refutation_text refutation) ≡ Ok refutation }
+    ensures short { (refutation : RefutationData) → IsHeldRefutation refutation →
+        length (refutation_text refutation) ≤ 65536 }
 {}

@@ -5,10 +5,13 @@
 mod certificate;
 mod compact;
 mod fault;
+mod items;
 pub mod laws;
 mod reading;
 mod refutation;
 mod refutation_fault;
+mod refutation_reading;
+mod refutation_writing;
 mod scanner;
 mod writing;
 
@@ -17,4 +20,6 @@ pub use fault::CertificateFault;
 pub use reading::read_certificate;
 pub use refutation::Refutation;
 pub use refutation_fault::RefutationFault;
+pub use refutation_reading::read_refutation;
+pub use refutation_writing::write_refutation;
 pub use writing::write_certificate;

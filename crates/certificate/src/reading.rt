@@ -1,15 +1,16 @@
 //! What the text of a certificate says.
 
-ghost use Rattle.std.specs.Prelude.{◌≡◌, ◌≤◌, nat_le, IfOk, IsTrue, length, map, option_map};
-ghost use Rattle.serde_json.specs.Events.{items_len};
+ghost use Rattle.std.specs.Prelude.{◌≡◌, ◌≤◌, IfOk, length, map, option_map};
 ghost use Rattle.serde_json.specs.View.{view, items_view};
 ghost use Rattle.certificate.specs.Certificate.{data_of, piece_data, max_pieces};
-ghost use Rattle.certificate.specs.Fault.{Answers, Gives};
+ghost use Rattle.certificate.specs.Fault.{Answers};
+ghost use Rattle.json_text.specs.Step.{Gives};
 ghost use Rattle.certificate.specs.Reading as spec;
 
 use crate::certificate::{Certificate, MAX_ENTRIES, MAX_PIECES, Piece};
 use crate::compact::read_compact;
 use crate::fault::CertificateFault;
+use crate::items::is_at_most;
 use arrayvec::ArrayVec;
 use json_text::{items_at, members_among, parse, unsigned_at, unsigned_of};
 use serde_json::Value;
@@ -38,14 +39,6 @@ fn read_value(alloc: Global, value: &Value) -> Result<Certificate, CertificateFa
     }
     let pieces = read_pieces(alloc, items)?;
     Ok(Certificate { pieces })
-}
-
-/// Whether an array has at most so many elements.
-fn is_at_most(items: &[Value], most: usize) -> bool
-    ensures exact { result ≡ nat_le (items_len (items_view items.now)) most }
-    ensures few { IsTrue result → length items.now ≤ most }
-{
-    items.len() <= most
 }
 
 /// The array of an object with the one name `pieces`.

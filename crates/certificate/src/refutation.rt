@@ -2,6 +2,9 @@
 
 use arrayvec::ArrayVec;
 
+/// How many servers a refutation may name.
+pub(crate) const MAX_LIARS: usize = 32;
+
 /// A refutation of a claim: at this reading the clock may have been off by this error, if these
 /// servers are false.
 #[derive(Debug, Drop)]

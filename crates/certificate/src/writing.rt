@@ -81,7 +81,7 @@ fn push_entry(text: &mut String, entry: (u32, u32)) -> Result<(), AllocError>
 }
 
 /// Writes a comma before every element but the first.
-fn push_comma(text: &mut String, index: usize) -> Result<(), AllocError>
+pub(crate) fn push_comma(text: &mut String, index: usize) -> Result<(), AllocError>
     ensures { OnOk result (string_bytes text.new ≡ string_bytes text.old ++ comma_before index) }
 {
     if index > 0 {
@@ -91,7 +91,7 @@ fn push_comma(text: &mut String, index: usize) -> Result<(), AllocError>
 }
 
 /// Writes a number in decimal.
-fn push_number(text: &mut String, number: u64) -> Result<(), AllocError>
+pub(crate) fn push_number(text: &mut String, number: u64) -> Result<(), AllocError>
     ensures { OnOk result (string_bytes text.new ≡ string_bytes text.old ++ decimal number) }
 {
     text.push_str(Buffer::new().format(number))

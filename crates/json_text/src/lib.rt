@@ -4,5 +4,5 @@
 mod member;
 mod text;
 
-pub use member::{items_at, members_among, text_at, unsigned_at, unsigned_of};
+pub use member::{items_at, members_among, signed_at, text_at, unsigned_at, unsigned_of};
 pub use text::parse;

@@ -60,3 +60,11 @@ pub fn unsigned_at(value: &Value, name: &str) -> Option<u64>
 {
     value.get(name)?.as_u64()
 }
+
+/// The member of that name, where it is a whole number from -2^63 to 2^63 - 1, written without
+/// fraction or exponent.
+pub fn signed_at(value: &Value, name: &str) -> Option<i64>
+    ensures { result ≡ spec.signed_at name.now (view value.now) }
+{
+    value.get(name)?.as_i64()
+}
