@@ -1,9 +1,0 @@
-use Rattle.std.proofs.Common.{rules}
-use Rattle.serde_json.proofs.Views.{items_len-items_view}
-use Rattle.certificate.proofs.reading.is_at_most.Goals as goal
-
-pub returns : goal.returns
-returns c = record {
-  exact = rw (items_len-items_view c.args.items.now) (search rules);
-  few = search rules;
-}
