@@ -10,6 +10,7 @@ pub mod Input
 pub mod Reading
 pub mod ClaimInput
 pub mod CertificateInput
+pub mod RefutationInput
 pub mod Delivery
 pub mod Publication
 pub mod Runs

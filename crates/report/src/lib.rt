@@ -18,6 +18,7 @@ mod input;
 mod output;
 mod publication;
 mod refusal;
+mod refutation_input;
 mod telling;
 
 pub use certificate_input::read_certificate_from;
@@ -31,4 +32,5 @@ pub use input::read_input;
 pub use output::{OUTPUT_CAPACITY, Output, output_buffer};
 pub use publication::{Made, publish};
 pub use refusal::{refuse, refuse_time};
+pub use refutation_input::read_refutation_from;
 pub use telling::tell;
