@@ -190,11 +190,11 @@ closes_refused_short old mid refusal fault r p = record {
   device = λ which. write_device fault p.fault which ∙ sym (refusal_device refusal r which);
 }
 
-left_nil : (a b : List (List ℕ)) → [] ≡ a ++ b → a ≡ []
+pub left_nil : (a b : List (List ℕ)) → [] ≡ a ++ b → a ≡ []
 left_nil [] b e = refl
 left_nil (x ∷ a) b e = cc
 
-keeps_nothing : (a b : Option (List ℕ)) → Appends a b [] → Keeps a b
+pub keeps_nothing : (a b : Option (List ℕ)) → Appends a b [] → Keeps a b
 keeps_nothing None b p = tt
 keeps_nothing (Some old) None p = absurd p
 keeps_nothing (Some old) (Some now) p = p ∙ append-nil old

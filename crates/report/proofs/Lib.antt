@@ -3,3 +3,4 @@ pub mod OutputLemmas
 pub mod ClosingLemmas
 pub mod FaultTextLemmas
 pub mod ReadingLemmas
+pub mod RefusalLemmas

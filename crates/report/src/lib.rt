@@ -15,6 +15,7 @@ mod fault;
 mod fault_text;
 mod help;
 mod input;
+pub mod laws;
 mod output;
 mod publication;
 mod refusal;
