@@ -1,29 +1,35 @@
--- The report of a check, once its text is made.
-use Rattle.std.proofs.Common.{ℕ, Option, Some, None, Result}
-use Rattle.std.specs.Prelude.{IfSome}
-use Rattle.report.specs.declared.fault.Input.{Input}
+-- What a verdict shows.
+use Rattle.std.proofs.Common.{◌≡◌, ℕ, refl, sym, ap, subst}
+use Rattle.std.specs.Prelude.{slice_get, IsSomeAnd}
+use Rattle.certificate.specs.Certificate.{CertificateData}
+use Rattle.checker.specs.Stretch.{stretches_of}
+use Rattle.checker.specs.Traceability.{IsContradicted, IsTraceable}
+use Rattle.checker.specs.declared.verdict.Verdict.{Verdict}
+use Rattle.checker.specs.declared.verdict.Verdict.TheVariants as verdicts
+use Rattle.checker.specs.declared.verdict.Why.TheVariants.{Contradiction}
 use Rattle.report.specs.declared.fault.Outcome.{Outcome}
-use Rattle.report.specs.declared.fault.RunFault.{RunFault}
-use Rattle.report.specs.declared.publication.Made.{Made}
-use Rattle.report.specs.Output.{SinkState}
-use Rattle.report.specs.Publication.{IsMadeFor, Publishes, answer_of}
-use Rattle.report.specs.Reports.{Report, Reports, GetsText}
-use Rattle.audit.specs.Check.{CountsInputs}
+use Rattle.audit.specs.Check.{outcome_of, verdict_on}
+use Rattle.audit.specs.Evidence.{EvidenceData, samples_in}
+use Rattle.audit.specs.Question.{ShowsOf, check_of}
 
--- what was made is published
-published_text : {before after : SinkState} {answer : Result Outcome RunFault} (report : Option Report)
-    (made : Result Made RunFault) → IfSome report (λ r. IsMadeFor r made) → Publishes before after made answer →
-    IfSome report (λ r. GetsText r before.contents after.contents answer)
-published_text None made h p = tt
-published_text (Some r) made h p = p.text r h
+-- what the checker says of its verdict
+pub record Settled (certificate : CertificateData) (e : EvidenceData) (verdict : Verdict) : Type 0 where
+  pub exact : verdict ≡ verdict_on certificate e
+  pub yes : verdict ≡ verdicts.Yes → IsTraceable e.claim (samples_in e)
+  pub contradiction : (k : ℕ) → verdict ≡ verdicts.No k Contradiction →
+      IsSomeAnd (slice_get (stretches_of e.claim certificate) k) (IsContradicted e.claim (samples_in e))
 
-pub check_reports : {before after : SinkState} {answer : Result Outcome RunFault} {count count' : Input → ℕ}
-    (report : Option Report) (made : Result Made RunFault) → IfSome report (λ r. IsMadeFor r made) →
-    Publishes before after made answer → CountsInputs (answer_of made) count count' →
-    Reports report (record { source = count; sink = before }) (record { source = count'; sink = after }) answer
-check_reports report made h p counts = record {
-  text = published_text report made h p;
-  closed = p.closed;
-  sink = p.sink;
-  source = λ input. rw (p.source input) (counts input);
-}
+module _ (certificate : CertificateData) (e : EvidenceData) where
+  shown : (verdict : Verdict) → Settled certificate e verdict → ShowsOf (check_of certificate) e (outcome_of verdict)
+  shown verdicts.Yes settled = settled.yes refl
+  shown (verdicts.No piece why) settled = record {
+    piece = piece;
+    why = why;
+    verdict_is = sym settled.exact;
+    contradiction = λ is. settled.contradiction piece (ap (verdicts.No piece) is);
+  }
+
+  -- the outcome that is told of a verdict
+  pub verdict_shows : (verdict : Verdict) (outcome : Outcome) → outcome ≡ outcome_of verdict →
+      Settled certificate e verdict → ShowsOf (check_of certificate) e outcome
+  verdict_shows verdict outcome is settled = subst (ShowsOf (check_of certificate) e) (sym is) (shown verdict settled)

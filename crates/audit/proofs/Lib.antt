@@ -1,5 +1,8 @@
 pub mod SampleLemmas
-pub mod CheckLemmas
-pub mod AuditLemmas
+pub mod CaptureLemmas
 pub mod MomentLemmas
+pub mod CheckLemmas
 pub mod FindLemmas
+pub mod RunLemmas
+pub mod ShowsLemmas
+pub mod StatusLemmas

@@ -1,21 +1,26 @@
--- The text of `find`: a certificate, or the first piece for which none can be accepted.
-use Rattle.std.specs.Prelude.{◌≡◌, ℕ, List, ◌++◌, codes, Option, Some, Result, Ok, Err}
+-- The report of `find`: a certificate, or the first piece for which none can be accepted; and what
+-- its outcome says.
+use Rattle.std.specs.Prelude.{◌≡◌, ◌≢◌, ℕ, List, ◌++◌, codes, Result, Ok, Err}
+use Rattle.byte_stream.specs.State.{FeedState}
 use Rattle.certificate.specs.Certificate.{CertificateData}
 use Rattle.certificate.specs.Writing.{certificate_text}
-use Rattle.checker.specs.Traceability.{samples_of}
+use Rattle.checker.specs.Traceability.{IsContradicted}
 use Rattle.checker.specs.declared.verdict.Verdict.TheVariants as verdicts
+use Rattle.intersection.specs.declared.kinds.Hull.{Hull}
+use Rattle.intersection.specs.declared.kinds.Hull.TheVariants.{Empty}
 use Rattle.finder.specs.declared.fault.FindFault.{FindFault}
 use Rattle.finder.specs.declared.fault.FindFault.TheVariants as finds
 use Rattle.finder.specs.Found.{FoundData, certificate, nothing, found_of}
+use Rattle.finder.specs.Piece.{stretch_at}
+use Rattle.finder.specs.Refusal.{NoneIsAcceptedOver}
 use Rattle.report.specs.declared.fault.Outcome.{Outcome}
 use Rattle.report.specs.declared.fault.Outcome.TheVariants as outcomes
 use Rattle.report.specs.declared.fault.RunFault.{RunFault}
 use Rattle.report.specs.declared.fault.RunFault.TheVariants.{Pieces, Memory}
-use Rattle.report.specs.Reports.{Report, whole_text}
-use Rattle.evidence.specs.Evidence.{EvidenceData, evidence_read}
+use Rattle.report.specs.Reports.{Report, refused, whole_text}
 use Rattle.audit_text.specs.Nothing.{nothing_text}
-use Rattle.audit.specs.Audit.{audit_report, refused}
 use Rattle.audit.specs.Check.{verdict_on}
+use Rattle.audit.specs.Evidence.{EvidenceData, IsEvidenceOf, OfClaimAndCapture, samples_in}
 
 -- what is found, in words: the certificate's compact text and a line feed, or the number of the
 -- piece that fails and its hull
@@ -38,25 +43,49 @@ abbrev pub found_report : Result FoundData FindFault → Report
 found_report (Ok found) = whole_text (found_text found) (found_outcome found)
 found_report (Err fault) = refused (find_run_fault_of fault)
 
--- the report of `find` on what claim and capture give, for pieces of so many seconds
-abbrev pub find_made : ℕ → EvidenceData → Report
-find_made step e =
-    found_report (found_of (samples_of e.collection.exchanges e.claim) e.claim step)
+-- what is found in the samples of a capture, for pieces of so many seconds
+abbrev pub found_in : ℕ → EvidenceData → Result FoundData FindFault
+found_in step e = found_of (samples_in e) e.claim step
 
--- the report on the bytes of claim and capture, as far as they are known
-abbrev pub find_report : ℕ → Option (List ℕ) → Option (List ℕ) → Option Report
-find_report step claim capture = audit_report (find_made step) claim capture
+-- the report of `find` on a claim and the exchanges of a capture
+abbrev pub find_report : ℕ → EvidenceData → Report
+find_report step e = found_report (found_in step e)
 
 -- a certificate is found of this evidence, and it is accepted
 pub record IsFoundOf (step : ℕ) (e : EvidenceData) : Type 0 where
   pub found : CertificateData
-  pub found_is : found_of (samples_of e.collection.exchanges e.claim) e.claim step
-      ≡ Ok (certificate found)
-  pub accepted : verdict_on e.claim found e.collection ≡ verdicts.Yes
+  pub found_is : found_in step e ≡ Ok (certificate found)
+  pub accepted : verdict_on found e ≡ verdicts.Yes
+
+-- Nothing is found of this evidence: a piece fails, which the report names with its hull. Where the
+-- hull is empty, no course of events that fits the exchanges has its reading in that piece, and
+-- else no certificate is accepted that has a piece over the whole of it.
+pub record IsNothingOf (step : ℕ) (e : EvidenceData) : Type 0 where
+  pub piece : ℕ
+  pub hull : Hull
+  pub found_is : found_in step e ≡ Ok (nothing piece hull)
+  pub empty : hull ≡ Empty →
+      IsContradicted e.claim (samples_in e) (stretch_at e.claim step piece)
+  pub none_accepted : hull ≢ Empty →
+      NoneIsAcceptedOver (samples_in e) e.claim (stretch_at e.claim step piece)
 
 -- The bytes of claim and capture give evidence of which a certificate is found that is accepted: a
 -- check of the three says yes.
 pub record IsAcceptedOf (step : ℕ) (claim capture : List ℕ) : Type 0 where
   pub evidence : EvidenceData
-  pub evidence_is : evidence_read (Some claim) (Some capture) ≡ Some (Ok evidence)
+  pub evidence_is : IsEvidenceOf claim capture evidence
   pub is_found : IsFoundOf step evidence
+
+-- The bytes of claim and capture give evidence of which nothing is found.
+pub record IsVain (step : ℕ) (claim capture : List ℕ) : Type 0 where
+  pub evidence : EvidenceData
+  pub evidence_is : IsEvidenceOf claim capture evidence
+  pub is_nothing : IsNothingOf step evidence
+
+-- At a yes a certificate is found and accepted, where the bytes of claim and capture are known.
+abbrev pub IsAccepted : ℕ → FeedState → FeedState → Type 0
+IsAccepted step claim capture = OfClaimAndCapture claim capture (IsAcceptedOf step)
+
+-- At a no nothing is found, where these bytes are known.
+abbrev pub IsNotFound : ℕ → FeedState → FeedState → Type 0
+IsNotFound step claim capture = OfClaimAndCapture claim capture (IsVain step)

@@ -1,6 +1,10 @@
-pub mod Audit
+pub mod CaptureInput
+pub mod Evidence
 pub mod Samples
 pub mod Moment
 pub mod At
 pub mod Check
 pub mod Find
+pub mod Question
+pub mod Report
+pub mod Run

@@ -1,19 +1,23 @@
-//! The engines that hold a capture against a claim: what its exchanges say of the clock.
+//! What a capture shows of a claim: one engine for every question.
 //!
-//! Each reads the claim whole, then the certificate where there is one, and then the capture, makes
-//! its whole text, and writes it. What the inputs give is said by the crate evidence, and how it is
-//! shown by audit_text. `specs/Audit` and `specs/Check` say what an engine promises of its inputs
-//! and its output; the report of each command stands in `specs/` under its name.
+//! [`run`] reads the claim, then the question's second input where it has one, and then the
+//! capture, makes its whole text, and writes it; [`answer`] does the same and tells the answer by
+//! an exit status. What is asked stands in `question`, a small module for each command; how a text
+//! is shown is said by audit_text. `specs/Run` says what a run needs and promises, `specs/Report`
+//! what it writes, and `specs/Question` what an outcome means. [`run_samples`], [`run_at`],
+//! [`run_check`] and [`run_find`] are the engines of the commands, with a hasher of a fixed key.
 #![tactic(auto)]
 
-mod at;
-mod check;
-mod find;
+mod capture_input;
+mod commands;
+mod engine;
+mod evidence;
 mod moment;
+mod question;
 mod sample_list;
-mod samples;
+mod step;
 
-pub use at::{run_at, run_at_with};
-pub use check::{run_check, run_check_with};
-pub use find::{run_find, run_find_with};
-pub use samples::{run_samples, run_samples_with};
+pub use commands::{run_at, run_check, run_find, run_samples};
+pub use engine::{Outputs, answer, run};
+pub use question::Question;
+pub use step::Step;

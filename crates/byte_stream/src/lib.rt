@@ -6,6 +6,7 @@
 #![tactic(auto)]
 
 mod feed;
+mod interruption;
 mod pace;
 mod read_feed;
 mod reserved;

@@ -3,11 +3,12 @@
 ghost use Rattle.std.specs.Prelude.{◌≡◌};
 
 use crate::feed::{Feed, FeedFault};
+use crate::interruption::MOST_TRIES;
 use std::io::{ErrorKind, Read};
 
 /// The bytes of a reader. It takes no memory of its own.
 ///
-/// A read that was interrupted is tried again. Any other failed read, also one that would block,
+/// A read that was interrupted is tried again, up to a thousand times in all. Any other failed read, also one that would block,
 /// is a fault at once, and isn't repeated.
 #[derive(Debug, Drop)]
 pub struct ReadFeed<R> {
@@ -18,15 +19,15 @@ pub struct ReadFeed<R> {
 impl<R: Read> ReadFeed<R> {
     /// The feed of what the reader still gives, with no fault.
     pub fn new(reader: R) -> ReadFeed<R>
-        ensures known { ⟦<ReadFeed<R> as Feed>⟧.remaining result ≡ R.remaining reader }
-        ensures unfailed { ⟦<ReadFeed<R> as Feed>⟧.fault_count result ≡ 0 }
+        ensures { ⟦<ReadFeed<R> as Feed>⟧.state result
+            ≡ record { remaining = R.remaining reader; faults = 0 } }
     {
         ReadFeed { reader, faults: 0 }
     }
 
     /// The reader, after the bytes that were pulled.
     pub fn into_reader(self) -> R
-        ensures { R.remaining result ≡ ⟦<ReadFeed<R> as Feed>⟧.remaining self }
+        ensures { R.remaining result ≡ (⟦<ReadFeed<R> as Feed>⟧.state self).remaining }
     {
         let ReadFeed { reader, faults: _ } = self;
         reader
@@ -34,12 +35,10 @@ impl<R: Read> ReadFeed<R> {
 }
 
 impl<R: Read> Feed for ReadFeed<R> {
-    ghost remaining = { λ s. R.remaining s.reader };
-
-    ghost fault_count = { λ s. s.faults };
+    ghost state = { λ s. record { remaining = R.remaining s.reader; faults = s.faults } };
 
     fn pull(&mut self, into: &mut [u8]) -> Result<usize, FeedFault> {
-        for _try in 0..u64::MAX {
+        for _try in 0..MOST_TRIES {
             match self.reader.read(into) {
                 Ok(count) => return Ok(count),
                 Err(error) => {

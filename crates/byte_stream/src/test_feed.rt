@@ -1,9 +1,10 @@
 //! A feed for tests.
 
-ghost use Rattle.std.specs.Prelude.{◌≡◌, ◌-◌, ◌^◌, ◌<◌, ◌≤◌, length, min, Some, IfOk, IfSome, is_err};
+ghost use Rattle.std.specs.Prelude.{◌≡◌, ◌≤◌, length, min, Some, IfOk, IfSome, is_err};
 ghost use Rattle.std.specs.Io.KnownBytes.{ReadConsumes};
 ghost use Rattle.byte_stream.specs.Double.{feed_pace};
 ghost use Rattle.byte_stream.specs.Fault.{CountsFault};
+ghost use Rattle.byte_stream.specs.State.{IsReadable};
 ghost use Rattle.byte_stream.specs.Pace.{pace_of, most_of, is_failing, next_pace};
 
 use crate::feed::{Feed, FeedFault};
@@ -22,8 +23,8 @@ impl<'a> TestFeed<'a> {
     /// bytes and room. The pull with the number `failing` fails, the first being number 1, and no
     /// other does.
     pub fn new(bytes: &'a [u8], cut: Cut, failing: Option<u64>) -> TestFeed<'a>
-        ensures known { ⟦<TestFeed<'a> as Feed>⟧.remaining result ≡ Some bytes.now }
-        ensures unfailed { ⟦<TestFeed<'a> as Feed>⟧.fault_count result ≡ 0 }
+        ensures state { ⟦<TestFeed<'a> as Feed>⟧.state result
+            ≡ record { remaining = Some bytes.now; faults = 0 } }
         ensures pace { feed_pace result ≡ pace_of cut failing }
     {
         TestFeed {
@@ -35,22 +36,20 @@ impl<'a> TestFeed<'a> {
 }
 
 impl<'a> Feed for TestFeed<'a> {
-    ghost remaining = { λ s. Some s.rest.now };
-
-    ghost fault_count = { λ s. s.faults };
+    ghost state = { λ s. record { remaining = Some s.rest.now; faults = s.faults } };
 
     fn pull(&mut self, into: &mut [u8]) -> Result<usize, FeedFault>
-        requires { ⟦<TestFeed<'a> as Feed>⟧.fault_count self.old < 2 ^ 64 - 1 }
+        requires { IsReadable (⟦<TestFeed<'a> as Feed>⟧.state self.old) }
         ensures within { IfOk result (λ n. n ≤ length into.new) }
-        ensures known { ReadConsumes (⟦<TestFeed<'a> as Feed>⟧.remaining self.old)
-            (⟦<TestFeed<'a> as Feed>⟧.remaining self.new) result into.new }
+        ensures known { ReadConsumes (⟦<TestFeed<'a> as Feed>⟧.state self.old).remaining
+            (⟦<TestFeed<'a> as Feed>⟧.state self.new).remaining result into.new }
         ensures counts_fault { CountsFault (is_err result)
-            (⟦<TestFeed<'a> as Feed>⟧.fault_count self.old)
-            (⟦<TestFeed<'a> as Feed>⟧.fault_count self.new) }
+            (⟦<TestFeed<'a> as Feed>⟧.state self.old).faults
+            (⟦<TestFeed<'a> as Feed>⟧.state self.new).faults }
 
         // Which pull fails, and how much any other gives.
         ensures fails { is_err result ≡ is_failing (feed_pace self.old) }
-        ensures share { IfOk result (λ n. IfSome (⟦<TestFeed<'a> as Feed>⟧.remaining self.old)
+        ensures share { IfOk result (λ n. IfSome (⟦<TestFeed<'a> as Feed>⟧.state self.old).remaining
             (λ rest. n ≡ min (most_of (feed_pace self.old))
             (min (length into.new) (length rest)))) }
         ensures pace { feed_pace self.new ≡ next_pace (feed_pace self.old) }

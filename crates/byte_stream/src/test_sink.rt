@@ -4,6 +4,7 @@ ghost use Rattle.std.specs.Prelude.{◌≡◌, ◌+◌, ◌-◌, ◌^◌, ◌<�
 ghost use Rattle.std.specs.Io.KnownBytes.{Keeps, WriteAppends};
 ghost use Rattle.byte_stream.specs.Double.{sink_pace, sink_room, fails_to_finish};
 ghost use Rattle.byte_stream.specs.Fault.{CountsFault};
+ghost use Rattle.byte_stream.specs.State.{IsWritable};
 ghost use Rattle.byte_stream.specs.Pace.{pace_of, most_of, is_failing, next_pace};
 ghost use Rattle.byte_stream.specs.declared.pace.Cut.TheVariants.{Fixed};
 
@@ -35,9 +36,8 @@ impl TestSink {
         failing: Option<u64>,
         finish_fails: bool,
     ) -> Result<TestSink, AllocError>
-        ensures known { IfOk result (λ sink. ⟦<TestSink as Sink>⟧.contents sink ≡ Some []) }
-        ensures is_open { IfOk result (λ sink. ⟦<TestSink as Sink>⟧.is_open sink ≡ true) }
-        ensures unfailed { IfOk result (λ sink. ⟦<TestSink as Sink>⟧.fault_count sink ≡ 0) }
+        ensures state { IfOk result (λ sink. ⟦<TestSink as Sink>⟧.state sink
+            ≡ record { contents = Some []; is_open = true; faults = 0 }) }
         ensures pace { IfOk result (λ sink. sink_pace sink ≡ pace_of (Fixed most) failing) }
         ensures room { IfOk result (λ sink. sink_room sink ≡ room) }
         ensures finish { IfOk result (λ sink. fails_to_finish sink ≡ finish_fails) }
@@ -53,7 +53,7 @@ impl TestSink {
 
     /// What was pushed.
     pub fn bytes(&self) -> &[u8]
-        ensures { ⟦<TestSink as Sink>⟧.contents self.now ≡ Some result.now }
+        ensures { (⟦<TestSink as Sink>⟧.state self.now).contents ≡ Some result.now }
     {
         self.held.bytes.as_slice()
     }
@@ -69,23 +69,19 @@ impl TestSink {
 }
 
 impl Sink for TestSink {
-    ghost contents = { λ s. Some s.held.bytes.items };
-
-    ghost is_open = { λ s. s.usable };
-
-    ghost fault_count = { λ s. s.faults };
+    ghost state = { λ s.
+        record { contents = Some s.held.bytes.items; is_open = s.usable; faults = s.faults } };
 
     fn push(&mut self, bytes: &[u8]) -> Result<usize, SinkFault>
-        requires is_open { IsTrue (⟦<TestSink as Sink>⟧.is_open self.old) }
-        requires room { ⟦<TestSink as Sink>⟧.fault_count self.old < 2 ^ 64 - 1 }
+        requires { IsWritable (⟦<TestSink as Sink>⟧.state self.old) }
         ensures within { IfOk result (λ n. n ≤ length bytes.now) }
         ensures goes_on { IfOk result (λ n. 0 < length bytes.now → 0 < n) }
-        ensures known { WriteAppends (⟦<TestSink as Sink>⟧.contents self.old)
-            (⟦<TestSink as Sink>⟧.contents self.new) result bytes.now }
-        ensures stays_open { ⟦<TestSink as Sink>⟧.is_open self.new ≡ is_ok result }
+        ensures known { WriteAppends (⟦<TestSink as Sink>⟧.state self.old).contents
+            (⟦<TestSink as Sink>⟧.state self.new).contents result bytes.now }
+        ensures stays_open { (⟦<TestSink as Sink>⟧.state self.new).is_open ≡ is_ok result }
         ensures counts_fault { CountsFault (is_err result)
-            (⟦<TestSink as Sink>⟧.fault_count self.old)
-            (⟦<TestSink as Sink>⟧.fault_count self.new) }
+            (⟦<TestSink as Sink>⟧.state self.old).faults
+            (⟦<TestSink as Sink>⟧.state self.new).faults }
 
         // Which push fails, and how much any other takes.
         ensures fails { is_err result ≡ (is_failing (sink_pace self.old)
@@ -109,14 +105,13 @@ impl Sink for TestSink {
     }
 
     fn finish(&mut self) -> Result<(), SinkFault>
-        requires is_open { IsTrue (⟦<TestSink as Sink>⟧.is_open self.old) }
-        requires room { ⟦<TestSink as Sink>⟧.fault_count self.old < 2 ^ 64 - 1 }
-        ensures known { Keeps (⟦<TestSink as Sink>⟧.contents self.old)
-            (⟦<TestSink as Sink>⟧.contents self.new) }
-        ensures closes { ⟦<TestSink as Sink>⟧.is_open self.new ≡ false }
+        requires { IsWritable (⟦<TestSink as Sink>⟧.state self.old) }
+        ensures known { Keeps (⟦<TestSink as Sink>⟧.state self.old).contents
+            (⟦<TestSink as Sink>⟧.state self.new).contents }
+        ensures closes { (⟦<TestSink as Sink>⟧.state self.new).is_open ≡ false }
         ensures counts_fault { CountsFault (is_err result)
-            (⟦<TestSink as Sink>⟧.fault_count self.old)
-            (⟦<TestSink as Sink>⟧.fault_count self.new) }
+            (⟦<TestSink as Sink>⟧.state self.old).faults
+            (⟦<TestSink as Sink>⟧.state self.new).faults }
         ensures fails { is_err result ≡ fails_to_finish self.old }
     {
         if self.finish_fails {

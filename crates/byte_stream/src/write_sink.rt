@@ -3,14 +3,15 @@
 ghost use Rattle.std.specs.Prelude.{◌≡◌, ◌+◌, ◌<◌, ◌≤◌, ℕ, length, take, MatchOption, true};
 ghost use Rattle.std.specs.Io.KnownBytes.{Appends, Keeps};
 
+use crate::interruption::MOST_TRIES;
 use crate::sink::{Sink, SinkFault};
 use std::io::{ErrorKind, Write};
 
 /// A sink that appends to a writer, and flushes it to finish.
 ///
-/// A write or a flush that was interrupted is tried again. Any other failed one, also one that
-/// would block, and a write that takes nothing, is a fault at once, and nothing is written after
-/// it.
+/// A write or a flush that was interrupted is tried again, up to a thousand times in all. Any other
+/// failed one, also one that would block, and a write that takes nothing, is a fault at once, and
+/// nothing is written after it.
 #[derive(Debug, Drop)]
 pub struct WriteSink<W> {
     writer: W,
@@ -21,9 +22,8 @@ pub struct WriteSink<W> {
 impl<W: Write> WriteSink<W> {
     /// An open sink that hasn't failed yet.
     pub fn new(writer: W) -> WriteSink<W>
-        ensures known { ⟦<WriteSink<W> as Sink>⟧.contents result ≡ W.contents writer }
-        ensures is_open { ⟦<WriteSink<W> as Sink>⟧.is_open result ≡ true }
-        ensures unfailed { ⟦<WriteSink<W> as Sink>⟧.fault_count result ≡ 0 }
+        ensures { ⟦<WriteSink<W> as Sink>⟧.state result
+            ≡ record { contents = W.contents writer; is_open = true; faults = 0 } }
     {
         WriteSink {
             writer,
@@ -40,7 +40,7 @@ fn write_some<W: Write>(writer: &mut W, bytes: &[u8]) -> Option<usize>
         (λ n. (0 < n) × (n ≤ length bytes.now)
         × Appends (W.contents writer.old) (W.contents writer.new) (take n bytes.now)) }
 {
-    for _ in 0..u64::MAX {
+    for _ in 0..MOST_TRIES {
         match writer.write(bytes) {
             Ok(0) => return None,
             Ok(n) => return Some(n),
@@ -58,7 +58,7 @@ fn write_some<W: Write>(writer: &mut W, bytes: &[u8]) -> Option<usize>
 fn flush_all<W: Write>(writer: &mut W) -> bool
     ensures { Keeps (W.contents writer.old) (W.contents writer.new) }
 {
-    for _ in 0..u64::MAX {
+    for _ in 0..MOST_TRIES {
         match writer.flush() {
             Ok(()) => return true,
             Err(error) => {
@@ -72,11 +72,8 @@ fn flush_all<W: Write>(writer: &mut W) -> bool
 }
 
 impl<W: Write> Sink for WriteSink<W> {
-    ghost contents = { λ s. W.contents s.writer };
-
-    ghost is_open = { λ s. s.usable };
-
-    ghost fault_count = { λ s. s.faults };
+    ghost state = { λ s.
+        record { contents = W.contents s.writer; is_open = s.usable; faults = s.faults } };
 
     fn push(&mut self, bytes: &[u8]) -> Result<usize, SinkFault> {
         if bytes.is_empty() {

@@ -4,24 +4,23 @@ use Rattle.std.specs.Prelude.{IfSome}
 use Rattle.std.specs.List.{concat}
 use Rattle.std.specs.Option.{option_map}
 use Rattle.std.proofs.lemmas.List.Folds.{concat-append}
-use Rattle.byte_stream.specs.Fault.{CountsFault}
+use Rattle.byte_stream.specs.State.{SinkState}
 use Rattle.pcap_reader.specs.declared.fault.CaptureFault.{CaptureFault}
 use Rattle.pcap_reader.specs.declared.fault.CaptureFault.TheVariants as captures
 use Rattle.pcap_reader.specs.Remaining.{Coming, broken_end}
 use Rattle.pcap_reader.specs.Source.{SourceState, IsStep, IsNext, TakesFrom, TakesFrom-trans}
-use Rattle.report.specs.declared.fault.Input.{Input}
 use Rattle.report.specs.declared.fault.Input.TheVariants as inputs
 use Rattle.report.specs.declared.fault.Outcome.{Outcome}
 use Rattle.report.specs.declared.fault.Outcome.TheVariants as outcomes
 use Rattle.report.specs.declared.fault.RunFault.{RunFault}
 use Rattle.report.specs.declared.fault.RunFault.TheVariants as faults
-use Rattle.report.specs.Closing.{HasRun, Closes}
+use Rattle.report.specs.Closing.{HasRun, Closes, StaysOrWrites}
 use Rattle.report.specs.Fault.{run_fault_of}
-use Rattle.report.specs.Output.{SinkState, OutputState, Puts, fresh_output, put_count}
-use Rattle.report.specs.Reports.{Report, GetsText, is_device, only_capture}
+use Rattle.report.specs.Output.{OutputState, Puts, fresh_output, put_count}
+use Rattle.report.specs.Reports.{Report, GetsText}
 use Rattle.listing.specs.Listing.{lines_of, closing_line, listing}
 use Rattle.listing.specs.Progress.{HasGiven, HasPassed, IsUnderWay, HasListed, Lists, moment, most_line}
-use Rattle.listing.proofs.Devices.{no_device, capture_device}
+use Rattle.listing.proofs.Devices.{closed_counts}
 use Rattle.listing.proofs.ProgressLemmas.{at_some, lines-listing, cut_in_lines, listing-whole, listing-broken}
 use Rattle.listing.proofs.UnderWay.{ready_after}
 
@@ -65,7 +64,7 @@ module _ {start : SourceState} {sink : SinkState} where
         text = text;
         can_close = puts.is_open;
         stops = omega (arith, puts.faults, u.sink_faults);
-        source = no_device (Err (faults.Write stop.sent)) (λ input. refl) (same ∙ u.same_faults);
+        device = record { claim = refl; second = refl; capture = same ∙ u.same_faults };
         takes = TakesFrom-trans start.supply s.supply s'.supply u.takes takes;
         in_memory = λ wrong. cc;
       })
@@ -91,7 +90,7 @@ module _ {start : SourceState} {sink : SinkState} where
             (λ c. IsNext c (Ok None) s'.remaining s'.lent) u.passed step.next_is whole_text;
         can_close = ready_after u.ready puts (omega (arith, u.short, u.few));
         stops = omega (arith, puts.faults, u.sink_faults);
-        source = no_device (Ok outcomes.Yes) (λ input. refl) (step.counts_fault ∙ u.same_faults);
+        device = record { claim = refl; second = refl; capture = step.counts_fault ∙ u.same_faults };
         takes = TakesFrom-trans start.supply s.supply s'.supply u.takes step.takes;
         in_memory = λ wrong. cc;
       }
@@ -113,7 +112,7 @@ module _ {start : SourceState} {sink : SinkState} where
             (λ c. c ≡ broken_end fault) u.passed next broken_text;
         can_close = u.ready;
         stops = omega (arith, u.sink_faults);
-        source = no_device answer (λ input. refl) (same ∙ u.same_faults);
+        device = record { claim = refl; second = refl; capture = same ∙ u.same_faults };
         takes = TakesFrom-trans start.supply s.supply s'.supply u.takes takes;
         in_memory = λ wrong. cc;
       }
@@ -127,7 +126,7 @@ module _ {start : SourceState} {sink : SinkState} where
         (λ whole rest given. (u.done, lines_of rest.records, first_lines given, u.put));
     can_close = u.ready;
     stops = omega (arith, u.sink_faults);
-    source = capture_device start.fault_count s'.fault_count (step.counts_fault ∙ ap (λ n. n + 1) u.same_faults);
+    device = record { claim = refl; second = refl; capture = step.counts_fault ∙ ap (λ n. n + 1) u.same_faults };
     takes = TakesFrom-trans start.supply s.supply s'.supply u.takes step.takes;
     in_memory = λ wrong. cc;
   }
@@ -151,6 +150,21 @@ module _ {start : SourceState} {sink : SinkState} where
   listed_refused captures.Link u step = absurd step.may_answer
   listed_refused captures.Memory u step = absurd step.may_answer
 
+-- no answer becomes that memory was refused
+module _ (sent : ℕ) where
+  written : (answer : Result Outcome RunFault) → answer ≡ Err (faults.Write sent) → answer ≡ Err faults.Memory → ⊥
+  written answer is wrong = let same : Err (faults.Write sent) ≡ Err faults.Memory = sym is ∙ wrong in cc
+
+stays_in_memory : (ran answer : Result Outcome RunFault) → (ran ≡ Err faults.Memory → ⊥) →
+    StaysOrWrites ran answer → answer ≡ Err faults.Memory → ⊥
+stays_in_memory (Err faults.Memory) answer in_memory stays wrong = in_memory refl
+stays_in_memory (Err (faults.Device input)) answer in_memory stays wrong = in_memory (sym stays ∙ wrong)
+stays_in_memory (Err (faults.Write sent)) answer in_memory stays wrong = in_memory (sym stays ∙ wrong)
+stays_in_memory ran answer in_memory stays wrong = elim stays [
+  | inl same ↦ in_memory (sym same ∙ wrong)
+  | inr stop ↦ written stop.0 answer stop.1 wrong
+]
+
 -- A listing is closed.
 module _ {o : OutputState} {after : SinkState} {ran answer : Result Outcome RunFault}
     (closes : Closes o after ran answer) where
@@ -161,28 +175,25 @@ module _ {o : OutputState} {after : SinkState} {ran answer : Result Outcome RunF
   lists_text (Some coming) before listed = closes.text (listing coming) before listed
 
   not_memory : (ran ≡ Err faults.Memory → ⊥) → answer ≡ Err faults.Memory → ⊥
-  not_memory in_memory refused = elim closes.stays [
-    | inl same ↦ in_memory (sym same ∙ refused)
-    | inr written ↦ let wrong : Err (faults.Write written.0) ≡ Err faults.Memory = sym written.1 ∙ refused in cc
-  ]
+  not_memory in_memory refused = stays_in_memory ran answer in_memory closes.stays refused
 
 module _ {start end : SourceState} {sink after : SinkState} {o : OutputState}
     {ran answer : Result Outcome RunFault} where
-  counts_source : HasListed start sink (moment end o) ran → Closes o after ran answer → (input : Input) →
-      CountsFault (is_device input answer) (only_capture start.fault_count input) (only_capture end.fault_count input)
-  counts_source listed closes input = rw (closes.source input) (listed.source input)
-
   lists_closed : HasListed start sink (moment end o) ran → Closes o after ran answer → Lists start end sink after answer
-  lists_closed listed closes = record {
-    reports = record {
-      text = lists_text closes start.remaining sink.contents listed.text;
-      closed = closes.closed;
-      sink = closes.sink sink.faults listed.stops;
-      source = counts_source listed closes;
-    };
-    takes = listed.takes;
-    in_memory = not_memory closes listed.in_memory;
-  }
+  lists_closed listed closes =
+      let device = closed_counts closes.device listed.device in
+      record {
+        reports = record {
+          text = lists_text closes start.remaining sink.contents listed.text;
+          closed = closes.closed;
+          sink = closes.sink sink.faults listed.stops;
+          claim = rw device.claim refl;
+          second = rw device.second refl;
+          capture = device.capture;
+        };
+        takes = listed.takes;
+        in_memory = not_memory closes listed.in_memory;
+      }
 
   -- a listing whose output began over this sink
   pub lists_over : {first : OutputState} → first ≡ fresh_output sink → HasListed start first.sink (moment end o) ran →

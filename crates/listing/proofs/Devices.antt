@@ -1,25 +1,18 @@
--- How often the devices of a listing fail.
-use Rattle.std.proofs.Common.{◌≡◌, ◌+◌, ℕ, Result, Err, false, refl}
+-- How often the device of a listing fails.
+use Rattle.std.proofs.Common.{◌≡◌, ◌∙◌, ℕ, Result, Bool, sym, subst}
 use Rattle.byte_stream.specs.Fault.{CountsFault}
 use Rattle.report.specs.declared.fault.Input.{Input}
-use Rattle.report.specs.declared.fault.Input.TheVariants as inputs
 use Rattle.report.specs.declared.fault.Outcome.{Outcome}
 use Rattle.report.specs.declared.fault.RunFault.{RunFault}
-use Rattle.report.specs.declared.fault.RunFault.TheVariants as faults
-use Rattle.report.specs.Reports.{is_device, only_capture}
+use Rattle.report.specs.Reports.{is_device, is_claim, is_second, is_capture}
+use Rattle.listing.specs.Progress.{CountsCapture}
 
--- what an answer says of each input's device, where only a capture is read
-abbrev pub CountsCapture : Result Outcome RunFault → ℕ → ℕ → Type 0
-CountsCapture answer before after =
-    (input : Input) → CountsFault (is_device input answer) (only_capture before input) (only_capture after input)
-
--- no input's device failed
-pub no_device : {before after : ℕ} (answer : Result Outcome RunFault) →
-    ((input : Input) → is_device input answer ≡ false) → after ≡ before → CountsCapture answer before after
-no_device answer none same input = rw (none input, same) refl
-
--- the capture's device failed
-pub capture_device : (before after : ℕ) → after ≡ before + 1 →
-    CountsCapture (Err (faults.Device inputs.Capture)) before after
-capture_device before after once inputs.Capture = once
-capture_device before after once input = refl
+-- ending a run asks no input's device
+pub closed_counts : {ran answer : Result Outcome RunFault} {before after : ℕ} →
+    ((which : Input → Bool) → is_device which answer ≡ is_device which ran) →
+    CountsCapture ran before after → CountsCapture answer before after
+closed_counts {before = before} {after = after} same counts = record {
+  claim = same is_claim ∙ counts.claim;
+  second = same is_second ∙ counts.second;
+  capture = subst (λ (b : Bool). CountsFault b before after) (sym (same is_capture)) counts.capture;
+}

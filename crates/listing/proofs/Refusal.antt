@@ -3,6 +3,7 @@ use Rattle.std.proofs.Common.{◌≡◌, ℕ, List, [], Option, Some, None, Resu
 use Rattle.std.specs.Prelude.{IfSome}
 use Rattle.std.specs.Option.{option_map}
 use Rattle.byte_stream.specs.Fault.{CountsFault}
+use Rattle.byte_stream.specs.State.{FeedState, SinkState}
 use Rattle.pcap_reader.specs.declared.fault.CaptureFault.{CaptureFault}
 use Rattle.pcap_reader.specs.declared.fault.CaptureFault.TheVariants as captures
 use Rattle.pcap_reader.specs.Refusal.{IsRefusal}
@@ -12,11 +13,11 @@ use Rattle.report.specs.declared.fault.Outcome.{Outcome}
 use Rattle.report.specs.declared.fault.RunFault.{RunFault}
 use Rattle.report.specs.declared.fault.RunFault.TheVariants as faults
 use Rattle.report.specs.Fault.{run_fault_of}
-use Rattle.report.specs.Output.{SinkState}
 use Rattle.report.specs.Publication.{IsMadeFor, Publishes}
-use Rattle.report.specs.Reports.{Report, Reports, text_of, GetsText}
-use Rattle.listing.proofs.Devices.{CountsCapture, no_device, capture_device}
-use Rattle.listing.specs.Listing.{listing, report_on, report_of, list_report, list_devices}
+use Rattle.report.specs.Reports.{Report, Reports, text_of, GetsText, refused}
+use Rattle.report.specs.Run.{capture_state}
+use Rattle.listing.specs.Listing.{listing, report_on, report_of, list_report}
+use Rattle.listing.specs.Progress.{CountsCapture}
 
 -- the report on what is to come
 pub listing-of : (coming : Coming) → listing coming ≡ report_on coming.records coming.fault
@@ -30,7 +31,7 @@ unfolding list_report
 list_report-read bytes coming is = ap report_of is
 
 list_report-refused : (bytes : List ℕ) (fault : CaptureFault) → capture_of bytes ≡ Err fault →
-    list_report bytes ≡ record { lines = []; closing = []; answer = Err (faults.Capture fault) }
+    list_report bytes ≡ refused (faults.Capture fault)
 unfolding list_report
 list_report-refused bytes fault is = ap report_of is
 
@@ -50,30 +51,34 @@ made_refused (Some bytes) captures.Version refusal = made_by bytes captures.Vers
 made_refused (Some bytes) captures.Link refusal = made_by bytes captures.Link refusal.1
 made_refused (Some bytes) fault refusal = absurd refusal.0
 
--- a capture's device is asked as often by the run
+-- the run counts a refusal's device as the capture does
 pub counts_refused : (fault : CaptureFault) (before after : ℕ) → CountsFault (is_read fault) before after →
     CountsCapture (Err (run_fault_of fault)) before after
-counts_refused captures.Read before after counts input = capture_device before after counts input
-counts_refused fault before after counts input =
-    no_device (Err (run_fault_of fault)) (λ i. refl) counts input
+counts_refused captures.Read before after counts = record { claim = refl; second = refl; capture = counts }
+counts_refused fault before after counts = record { claim = refl; second = refl; capture = counts }
 
--- a refusal is published
-published_text : {before after : SinkState} {answer : Result Outcome RunFault} (report : Option Report)
-    (fault : RunFault) → IfSome report (λ r. IsMadeFor r (Err fault)) → Publishes before after (Err fault) answer →
-    IfSome report (λ r. GetsText r before.contents after.contents answer)
-published_text None fault made p = tt
-published_text (Some r) fault made p = p.text r made
+module _ {before after : SinkState} {answer : Result Outcome RunFault} (fault : RunFault) where
+  -- a refusal is published
+  published_text : (report : Option Report) → IfSome report (λ r. IsMadeFor r (Err fault)) →
+      Publishes before after (Err fault) answer →
+      IfSome report (λ r. GetsText r before.contents after.contents answer)
+  published_text None made p = tt
+  published_text (Some r) made p = p.text r made
 
-pub reports_published : {count count' : ℕ} {before after : SinkState} {answer : Result Outcome RunFault}
-    (report : Option Report) (fault : RunFault) → IfSome report (λ r. IsMadeFor r (Err fault)) →
-    Publishes before after (Err fault) answer → CountsCapture (Err fault) count count' →
-    Reports report (list_devices count before) (list_devices count' after) answer
-reports_published report fault made p counts = record {
-  text = published_text report fault made p;
-  closed = p.closed;
-  sink = p.sink;
-  source = λ input. rw (p.source input) (counts input);
-}
+  pub reports_published : {feed feed' : FeedState} (report : Option Report) →
+      IfSome report (λ r. IsMadeFor r (Err fault)) → Publishes before after (Err fault) answer →
+      CountsCapture (Err fault) feed.faults feed'.faults →
+      Reports report (capture_state feed before) (capture_state feed' after) answer
+  reports_published report made p counts =
+      let same : answer ≡ Err fault = p.stays in
+      record {
+        text = published_text report made p;
+        closed = p.closed;
+        sink = p.sink;
+        claim = rw (same, counts.claim) refl;
+        second = rw (same, counts.second) refl;
+        capture = rw same counts.capture;
+      }
 
 -- What was listed of a source is what the bytes' report calls for.
 module _ (answer : Result Outcome RunFault) where
@@ -87,30 +92,27 @@ module _ (answer : Result Outcome RunFault) where
       let same : c ≡ coming = cc in
       rw (list_report-read bytes coming is) (subst (λ (x : Coming). GetsText (listing x) old new answer) same text)
 
-  same_counts : (count count' n m : ℕ) → n ≡ count → count' ≡ m → CountsCapture answer n m →
-      CountsCapture answer count count'
-  same_counts count count' n m first last counts input = rw (sym first, last) (counts input)
-
-  pub reports_of_bytes : {count count' n m : ℕ} {before after : SinkState} (known : Option (List ℕ))
-      (remaining : Option Coming) → IfSome known (λ bytes. AllRemains bytes remaining) → n ≡ count → count' ≡ m →
-      Reports (option_map listing remaining) (list_devices n before) (list_devices m after) answer →
-      Reports (option_map list_report known) (list_devices count before) (list_devices count' after) answer
-  reports_of_bytes {count = count} {count' = count'} {n = n} {m = m} {before = before} {after = after}
-      known remaining all first last listed =
-      record {
-        text = bytes_text known remaining before.contents after.contents all listed.text;
-        closed = listed.closed;
-        sink = listed.sink;
-        source = same_counts count count' n m first last listed.source;
-      }
+  pub reports_of_bytes : {feed feed' source source' : FeedState} {before after : SinkState}
+      (known : Option (List ℕ)) (remaining : Option Coming) → IfSome known (λ bytes. AllRemains bytes remaining) →
+      source.faults ≡ feed.faults → feed'.faults ≡ source'.faults →
+      Reports (option_map listing remaining) (capture_state source before) (capture_state source' after) answer →
+      Reports (option_map list_report known) (capture_state feed before) (capture_state feed' after) answer
+  reports_of_bytes {before = before} {after = after} known remaining all first last listed = record {
+    text = bytes_text known remaining before.contents after.contents all listed.text;
+    closed = listed.closed;
+    sink = listed.sink;
+    claim = listed.claim;
+    second = listed.second;
+    capture = rw (sym first, last) listed.capture;
+  }
 
 nothing_made : (report : Option Report) → IfSome report (λ r. IsMadeFor r (Err faults.Memory))
 nothing_made None = tt
 nothing_made (Some r) = tt
 
 -- memory was refused before anything was taken or pushed
-pub reports_refused_memory : {count : ℕ} {before after : SinkState} {answer : Result Outcome RunFault}
+pub reports_refused_memory : {feed : FeedState} {before after : SinkState} {answer : Result Outcome RunFault}
     (report : Option Report) → Publishes before after (Err faults.Memory) answer →
-    Reports report (list_devices count before) (list_devices count after) answer
-reports_refused_memory report p =
-    reports_published report faults.Memory (nothing_made report) p (no_device (Err faults.Memory) (λ i. refl) refl)
+    Reports report (capture_state feed before) (capture_state feed after) answer
+reports_refused_memory report p = reports_published faults.Memory report (nothing_made report) p
+    (record { claim = refl; second = refl; capture = refl })

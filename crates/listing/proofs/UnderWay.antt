@@ -3,7 +3,8 @@ use Rattle.std.proofs.Common.{◌≡◌, ◌∙◌, ◌++◌, ◌+◌, ◌<◌, 
 use Rattle.std.proofs.KnownBytes.{Appends-nil}
 use Rattle.pcap_reader.specs.declared.format.RecordHead.{RecordHead}
 use Rattle.pcap_reader.specs.Source.{SourceState, IsFresh, IsStep, TakesFrom-none, TakesFrom-trans}
-use Rattle.report.specs.Output.{SinkState, OutputState, HasPut, IsReady, Puts, fresh_output, put_count}
+use Rattle.byte_stream.specs.State.{SinkState}
+use Rattle.report.specs.Output.{OutputState, HasPut, IsReady, Puts, fresh_output, put_count}
 use Rattle.listing.specs.PacketLine.{line_of}
 use Rattle.listing.specs.Progress.{HasPassed, IsUnderWay, PutsLine, moment, most_line, texts_of}
 use Rattle.listing.proofs.ProgressLemmas.{passed_start, passed_more}
@@ -11,7 +12,10 @@ use Rattle.listing.proofs.ProgressLemmas.{passed_start, passed_more}
 -- an output that has just taken texts may take more
 pub ready_after : {o o' : OutputState} {added : List (List ℕ)} → IsReady o → Puts o o' added (Ok tt) →
     put_count o' < 2 ^ 64 → IsReady o'
-ready_after ready puts few = record { is_open = puts.is_open; room = rw puts.faults ready.room; few = few }
+ready_after ready puts few = record {
+  sink = record { is_open = puts.is_open; room = rw puts.faults ready.sink.room };
+  few = few;
+}
 
 texts_few : (line : Option (List ℕ)) → length (texts_of line) ≤ 1
 texts_few None = omega arith

@@ -8,8 +8,7 @@ use Rattle.pcap_reader.specs.Capture.{Record}
 use Rattle.pcap_reader.specs.Remaining.{Coming, capture_of}
 use Rattle.report.specs.declared.fault.Outcome.TheVariants as outcomes
 use Rattle.report.specs.declared.fault.RunFault.TheVariants as faults
-use Rattle.report.specs.Output.{SinkState}
-use Rattle.report.specs.Reports.{Report, Devices, only_capture}
+use Rattle.report.specs.Reports.{Report, refused}
 use Rattle.listing.specs.PacketLine.{line_of}
 
 -- the last line: how many records, and how many of them hold an NTP packet
@@ -39,12 +38,8 @@ listing coming = report_on coming.records coming.fault
 -- the report on a capture, or on a file with a faulty header, which has no lines
 abbrev pub report_of : Result Coming CaptureFault → Report
 report_of (Ok coming) = listing coming
-report_of (Err fault) = record { lines = []; closing = []; answer = Err (faults.Capture fault) }
+report_of (Err fault) = refused (faults.Capture fault)
 
 -- the report on the bytes of a file
 unfoldable pub list_report : List ℕ → Report
 list_report bytes = report_of (capture_of bytes)
-
--- the devices of a listing at one moment: how often that of the capture has failed, and the sink
-abbrev pub list_devices : ℕ → SinkState → Devices
-list_devices count sink = record { source = only_capture count; sink = sink }

@@ -2,23 +2,28 @@
 use Rattle.std.specs.Prelude.{◌≡◌, ◌+◌, ◌-◌, ◌*◌, ◌^◌, ◌<◌, ◌≤◌, ℕ, List, [], ◌∷◌, ◌++◌, length, Option, Some, None, Ok, IfSome, false, Result, Err}
 use Rattle.std.specs.Option.{option_map}
 use Rattle.byte_stream.specs.Fault.{CountsFault}
+use Rattle.byte_stream.specs.State.{FeedState, SinkState, IsWritable}
 use Rattle.pcap_reader.specs.Capture.{most_records}
 use Rattle.pcap_reader.specs.Remaining.{Coming}
 use Rattle.pcap_reader.specs.Source.{SourceState, IsFresh, TakesFrom}
-use Rattle.report.specs.declared.fault.Input.{Input}
 use Rattle.report.specs.declared.fault.Outcome.{Outcome}
 use Rattle.report.specs.declared.fault.RunFault.{RunFault}
 use Rattle.report.specs.declared.fault.RunFault.TheVariants.{Memory}
 use Rattle.report.specs.Closing.{HasRun, CanClose, stops_of}
-use Rattle.report.specs.Output.{SinkState, OutputState, HasPut, IsReady, IsWritable, Puts, put_count}
-use Rattle.report.specs.Reports.{Reports, is_device, only_capture}
-use Rattle.listing.specs.Listing.{lines_of, listing, list_devices}
+use Rattle.report.specs.Output.{OutputState, HasPut, IsReady, Puts, put_count}
+use Rattle.report.specs.Reports.{Reports, is_device, is_claim, is_second, is_capture}
+use Rattle.report.specs.Run.{capture_state}
+use Rattle.listing.specs.Listing.{lines_of, listing}
 
 -- A source may be listed on a sink: it has given nothing, and both may be used.
 pub record CanList (source : SourceState) (sink : SinkState) : Type 0 where
   pub fresh : IsFresh source
   pub source_room : source.fault_count < 2 ^ 64 - 1
   pub writable : IsWritable sink
+
+-- the feed that a source reads, as far as a run speaks of it
+abbrev pub feed_of : SourceState → FeedState
+feed_of source = record { remaining = source.supply.unread; faults = source.fault_count }
 
 -- Of a capture some records were given, and these are the lines of those that hold an NTP packet.
 pub record HasGiven (whole rest : Coming) (done : List (List ℕ)) (records : ℕ) : Type 0 where
@@ -71,14 +76,20 @@ pub record IsUnderWay (start : SourceState) (sink : SinkState) (now : Moment) (p
   pub put : HasPut sink.contents now.output done
   pub passed : HasPassed start.remaining now.source.remaining done now.source.given
 
+-- The capture's device failed in the run exactly where the answer says so, and it says so of no
+-- other input.
+pub record CountsCapture (ran : Result Outcome RunFault) (before after : ℕ) : Type 0 where
+  pub claim : is_device is_claim ran ≡ false
+  pub second : is_device is_second ran ≡ false
+  pub capture : CountsFault (is_device is_capture ran) before after
+
 -- A listing that came to this answer and is still to be closed.
 pub record HasListed (start : SourceState) (sink : SinkState) (now : Moment)
     (ran : Result Outcome RunFault) : Type 0 where
   pub text : IfSome start.remaining (λ coming. HasRun (listing coming) sink.contents now.output ran)
   pub can_close : CanClose now.output ran
   pub stops : now.output.sink.faults ≡ sink.faults + stops_of ran
-  pub source : (input : Input) → CountsFault (is_device input ran)
-      (only_capture start.fault_count input) (only_capture now.source.fault_count input)
+  pub device : CountsCapture ran start.fault_count now.source.fault_count
   pub takes : TakesFrom start.supply now.source.supply
   pub in_memory : ran ≡ Err Memory → ⊥
 
@@ -87,6 +98,6 @@ pub record HasListed (start : SourceState) (sink : SinkState) (now : Moment)
 pub record Lists (start end : SourceState) (before after : SinkState)
     (answer : Result Outcome RunFault) : Type 0 where
   pub reports : Reports (option_map listing start.remaining)
-      (list_devices start.fault_count before) (list_devices end.fault_count after) answer
+      (capture_state (feed_of start) before) (capture_state (feed_of end) after) answer
   pub takes : TakesFrom start.supply end.supply
   pub in_memory : answer ≡ Err Memory → ⊥

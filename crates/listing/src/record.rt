@@ -32,21 +32,21 @@ fn write_line(line: &mut Line, head: &RecordHead, bytes: &[u8]) -> bool
 }
 
 /// Puts the line of a record, where it has one, and answers how many lines that are.
-pub(crate) fn list_record<K: Sink>(
+pub(crate) fn list_record<S: Sink>(
     line: &mut Line,
-    out: &mut Output<'_, K>,
+    out: &mut Output<'_, S>,
     head: &RecordHead,
     bytes: &[u8],
 ) -> Result<u32, RunFault>
     requires lawful { head.now.sub < per_second head.now.unit }
-    requires ready { IsReady (output_state K.contents K.is_open K.fault_count out.old) }
+    requires ready { IsReady (output_state S.state out.old) }
     ensures same_sink { sink_name out.new ≡ sink_name out.old }
     ensures puts { PutsLine (line_of (record { head = head.now; bytes = bytes.now }))
-        (output_state K.contents K.is_open K.fault_count out.old)
-        (output_state K.contents K.is_open K.fault_count out.new) result }
+        (output_state S.state out.old)
+        (output_state S.state out.new) result }
     ensures at_most { OnOk result
-        (put_count (output_state K.contents K.is_open K.fault_count out.new)
-        ≤ put_count (output_state K.contents K.is_open K.fault_count out.old) + most_line) }
+        (put_count (output_state S.state out.new)
+        ≤ put_count (output_state S.state out.old) + most_line) }
 {
     if !write_line(line, head, bytes) {
         return Ok(0);

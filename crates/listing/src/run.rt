@@ -1,17 +1,17 @@
 //! The run of `list` over a feed and a sink.
 
-ghost use Rattle.std.specs.Prelude.{◌≡◌, ◌-◌, ◌^◌, ◌<◌, IfSome, Err};
+ghost use Rattle.std.specs.Prelude.{◌≡◌, IfSome, Err};
 ghost use Rattle.std.specs.Option.{option_map};
 ghost use Rattle.byte_stream.specs.Intake.{TakesAtMost};
+ghost use Rattle.byte_stream.specs.State.{IsReadable, IsWritable};
 ghost use Rattle.pcap_reader.specs.declared.fault.CaptureFault.{CaptureFault};
 ghost use Rattle.pcap_reader.specs.Limit.{most_taken, buffer_size};
 ghost use Rattle.pcap_reader.specs.Remaining.{capture_of};
-ghost use Rattle.report.specs.Output.{IsWritable};
 ghost use Rattle.report.specs.Reports.{Reports};
-ghost use Rattle.report.specs.State.{sink_state};
-ghost use Rattle.listing.specs.Listing.{list_report, list_devices};
+ghost use Rattle.report.specs.Run.{capture_state};
+ghost use Rattle.listing.specs.Listing.{list_report};
 
-use crate::list::list_in;
+use crate::list::list_from;
 use byte_stream::{Feed, Sink};
 use pcap_reader::Capture;
 use report::{Outcome, RunFault, output_buffer, publish};
@@ -28,23 +28,22 @@ use std::alloc::Global;
 ///
 /// Of a feed whose bytes are known at most 1,048,640,000,025 are taken, and where they begin with
 /// no lawful header at most one buffer.
-pub fn run_list<F: Feed, K: Sink>(
+pub fn run_list<F: Feed, S: Sink>(
     alloc: Global,
     capture: F,
-    out: &mut K,
+    out: &mut S,
 ) -> (F, Result<Outcome, RunFault>)
-    requires feed_room { F.fault_count capture < 2 ^ 64 - 1 }
-    requires sink { IsWritable (sink_state K.contents K.is_open K.fault_count out.old) }
-    ensures reports { Reports (option_map list_report (F.remaining capture))
-        (list_devices (F.fault_count capture)
-        (sink_state K.contents K.is_open K.fault_count out.old))
-        (list_devices (F.fault_count result.0)
-        (sink_state K.contents K.is_open K.fault_count out.new)) result.1 }
+    requires feed { IsReadable (F.state capture) }
+    requires sink { IsWritable (S.state out.old) }
+    ensures reports { Reports (option_map list_report (F.state capture).remaining)
+        (capture_state (F.state capture) (S.state out.old))
+        (capture_state (F.state result.0) (S.state out.new)) result.1 }
     ensures memory { result.1 ≡ Err RunFault.Memory → result.0 ≡ capture }
-    ensures at_most { TakesAtMost most_taken (F.remaining capture) (F.remaining result.0) }
-    ensures refused_header { IfSome (F.remaining capture) (λ bytes.
-        (fault : CaptureFault) → capture_of bytes ≡ Err fault →
-        TakesAtMost buffer_size (F.remaining capture) (F.remaining result.0)) }
+    ensures at_most { TakesAtMost most_taken
+        (F.state capture).remaining (F.state result.0).remaining }
+    ensures refused_header { IfSome (F.state capture).remaining (λ bytes.
+        (fault : CaptureFault) → capture_of bytes ≡ Err fault → TakesAtMost buffer_size
+        (F.state capture).remaining (F.state result.0).remaining) }
 {
     let mut buffer = match output_buffer(alloc) {
         Ok(buffer) => buffer,
@@ -52,7 +51,7 @@ pub fn run_list<F: Feed, K: Sink>(
     };
     match Capture::begin(alloc, capture) {
         Ok(mut source) => {
-            let answer = list_in(&mut source, &mut buffer, out);
+            let answer = list_from(&mut source, &mut buffer, out);
             (source.into_feed(), answer)
         }
         Err((feed, fault)) => {

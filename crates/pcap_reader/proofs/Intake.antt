@@ -2,25 +2,24 @@
 use Rattle.std.proofs.Common.{◌≡◌, ◌+◌, ◌-◌, ◌≤◌, ℕ, List, Result, [], ◌++◌, length, Option, Some, None, sym, ap, ◌∙◌, arith, append_assoc, append-nil, length-append, take, drop, length-take, length-drop}
 use Rattle.std.proofs.KnownBytes.{Consumes-nil, Consumes-trans, Keeps-trans}
 use Rattle.std.specs.Io.KnownBytes.{Consumes, Keeps, prepend_known}
+use Rattle.byte_stream.specs.State.{FeedState}
 use Rattle.byte_stream.specs.declared.feed.FeedFault.{FeedFault}
 use Rattle.pcap_reader.specs.declared.buffered.Buffered.{Buffered}
 use Rattle.pcap_reader.specs.Buffered.{Pulls, Refills, held_bytes, last_bytes, still_has, supply_of}
 use Rattle.pcap_reader.specs.Limit.{most_taken}
 use Rattle.pcap_reader.specs.Source.{TakesFrom}
 
-pub Pulls-none : {F : Type 0} (remaining : F → Option (List ℕ)) (a : F) (held held' : List ℕ) → held' ≡ held →
-    Pulls remaining a a held held'
-Pulls-none remaining a held held' same =
-    record { pulled = []; consumed = Consumes-nil (remaining a); joined = same ∙ sym (append-nil held) }
+pub Pulls-none : (a : FeedState) (held held' : List ℕ) → held' ≡ held → Pulls a a held held'
+Pulls-none a held held' same =
+    record { pulled = []; consumed = Consumes-nil a.remaining; joined = same ∙ sym (append-nil held) }
 
 -- one pull more
-pub Pulls-more : {F : Type 0} (remaining : F → Option (List ℕ)) (a b c : F) (held held' held'' part : List ℕ) →
-    Pulls remaining a b held held' → Consumes (remaining b) (remaining c) part → held'' ≡ held' ++ part →
-    Pulls remaining a c held held''
-Pulls-more remaining a b c held held' held'' part p consumed joined =
+pub Pulls-more : (a b c : FeedState) (held held' held'' part : List ℕ) → Pulls a b held held' →
+    Consumes b.remaining c.remaining part → held'' ≡ held' ++ part → Pulls a c held held''
+Pulls-more a b c held held' held'' part p consumed joined =
     record {
       pulled = p.pulled ++ part;
-      consumed = Consumes-trans (remaining a) (remaining b) (remaining c) p.pulled part p.consumed consumed;
+      consumed = Consumes-trans a.remaining b.remaining c.remaining p.pulled part p.consumed consumed;
       joined = joined ∙ ap (λ l. l ++ part) p.joined ∙ append_assoc held p.pulled part;
     }
 
@@ -32,17 +31,17 @@ keeps (Some x) (Some y) pulled held held' consumed joined =
     ap (λ l. l ++ y) joined ∙ append_assoc held pulled y ∙ ap (λ l. held ++ l) (sym consumed)
 
 -- what is still to come stays known, over one refill and over two
-pub refilled : {F : Type 0} (remaining : F → Option (List ℕ)) (a b : Buffered F) →
-    Pulls remaining a.feed b.feed (held_bytes a) (held_bytes b) → Keeps (still_has remaining a) (still_has remaining b)
-refilled remaining a b p =
-    keeps (remaining a.feed) (remaining b.feed) p.pulled (held_bytes a) (held_bytes b) p.consumed p.joined
+pub refilled : {F : Type 0} (state : F → FeedState) (a b : Buffered F) →
+    Pulls (state a.feed) (state b.feed) (held_bytes a) (held_bytes b) → Keeps (still_has state a) (still_has state b)
+refilled state a b p =
+    keeps (state a.feed).remaining (state b.feed).remaining p.pulled (held_bytes a) (held_bytes b) p.consumed p.joined
 
-pub refilled_twice : {F : Type 0} (remaining : F → Option (List ℕ)) (a b c : Buffered F) →
-    Pulls remaining a.feed b.feed (held_bytes a) (held_bytes b) →
-    Pulls remaining b.feed c.feed (held_bytes b) (held_bytes c) → Keeps (still_has remaining a) (still_has remaining c)
-refilled_twice remaining a b c p q =
-    Keeps-trans (still_has remaining a) (still_has remaining b) (still_has remaining c)
-    (refilled remaining a b p) (refilled remaining b c q)
+pub refilled_twice : {F : Type 0} (state : F → FeedState) (a b c : Buffered F) →
+    Pulls (state a.feed) (state b.feed) (held_bytes a) (held_bytes b) →
+    Pulls (state b.feed) (state c.feed) (held_bytes b) (held_bytes c) → Keeps (still_has state a) (still_has state c)
+refilled_twice state a b c p q =
+    Keeps-trans (still_has state a) (still_has state b) (still_has state c)
+    (refilled state a b p) (refilled state b c q)
 
 -- so many bytes are held
 pub length-held : {F : Type 0} (b : Buffered F) → length (held_bytes b) ≡ b.end - b.start
@@ -51,11 +50,10 @@ length-held b =
     simp (length-take, length-drop) (omega arith)
 
 -- what was pulled was taken of what might be
-pub Refills-takes : {F : Type 0} (remaining : F → Option (List ℕ)) (fault_count : F → ℕ) (wanted : ℕ)
-    (old : Buffered F)
-    (result : Result (Unit {0}) FeedFault) (new : Buffered F) → Refills remaining fault_count wanted old result new →
-    TakesFrom (supply_of remaining old) (supply_of remaining new)
-Refills-takes remaining fault_count wanted old result new h =
+pub Refills-takes : {F : Type 0} (state : F → FeedState) (wanted : ℕ) (old : Buffered F)
+    (result : Result (Unit {0}) FeedFault) (new : Buffered F) → Refills state wanted old result new →
+    TakesFrom (supply_of state old) (supply_of state new)
+Refills-takes state wanted old result new h =
     let size : length (held_bytes new) ≡ length (held_bytes old) + length h.pulls.pulled =
     ap length h.pulls.joined ∙ length-append (held_bytes old) h.pulls.pulled in
     let before = length-held old in

@@ -2,6 +2,7 @@
 use Rattle.std.specs.Prelude.{◌≡◌, ◌+◌, ◌-◌, ◌<◌, ℕ, List, ◌++◌, slice_range, Option, Result, OnOk, OnErr, is_err}
 use Rattle.std.specs.Io.KnownBytes.{Consumes, IsAtEnd, prepend_known}
 use Rattle.byte_stream.specs.Fault.{CountsFault}
+use Rattle.byte_stream.specs.State.{FeedState}
 use Rattle.byte_stream.specs.declared.feed.FeedFault.{FeedFault}
 use Rattle.pcap_reader.specs.declared.buffered.Buffered.{Buffered}
 use Rattle.pcap_reader.specs.Limit.{most_taken}
@@ -16,27 +17,25 @@ abbrev pub last_bytes : {F : Type 0} → Buffered F → ℕ → List ℕ
 last_bytes b count = slice_range b.buffer.items (b.start - count) b.start
 
 -- what it still has, where the feed's bytes are known
-abbrev pub still_has : {F : Type 0} → (F → Option (List ℕ)) → Buffered F → Option (List ℕ)
-still_has remaining b = prepend_known (held_bytes b) (remaining b.feed)
+abbrev pub still_has : {F : Type 0} → (F → FeedState) → Buffered F → Option (List ℕ)
+still_has state b = prepend_known (held_bytes b) (state b.feed).remaining
 
 -- what its feed still has, and how many bytes of it may be pulled
-abbrev pub supply_of : {F : Type 0} → (F → Option (List ℕ)) → Buffered F → Supply
-supply_of remaining b =
-    record { unread = remaining b.feed; most = most_taken - (b.place + (b.end - b.start)) }
+abbrev pub supply_of : {F : Type 0} → (F → FeedState) → Buffered F → Supply
+supply_of state b =
+    record { unread = (state b.feed).remaining; most = most_taken - (b.place + (b.end - b.start)) }
 
 -- Bytes were pulled from a feed, and stand after those that were held.
-pub record Pulls {F : Type 0} (remaining : F → Option (List ℕ)) (before after : F)
-    (held held' : List ℕ) : Type 0 where
+pub record Pulls (before after : FeedState) (held held' : List ℕ) : Type 0 where
   pub pulled : List ℕ
-  pub consumed : Consumes (remaining before) (remaining after) pulled
+  pub consumed : Consumes before.remaining after.remaining pulled
   pub joined : held' ≡ held ++ pulled
 
 -- Bytes were pulled until so many are held or the feed is at its end. It failed only before that.
-pub record Refills {F : Type 0} (remaining : F → Option (List ℕ)) (fault_count : F → ℕ)
-    (wanted : ℕ) (old : Buffered F) (result : Result (Unit {0}) FeedFault) (new : Buffered F)
-    : Type 0 where
-  pub pulls : Pulls remaining old.feed new.feed (held_bytes old) (held_bytes new)
+pub record Refills {F : Type 0} (state : F → FeedState) (wanted : ℕ) (old : Buffered F)
+    (result : Result (Unit {0}) FeedFault) (new : Buffered F) : Type 0 where
+  pub pulls : Pulls (state old.feed) (state new.feed) (held_bytes old) (held_bytes new)
   pub place : new.place ≡ old.place
-  pub enough : OnOk result (new.end - new.start < wanted → IsAtEnd (remaining new.feed))
+  pub enough : OnOk result (new.end - new.start < wanted → IsAtEnd (state new.feed).remaining)
   pub short : OnErr result (new.end - new.start < wanted)
-  pub counts_fault : CountsFault (is_err result) (fault_count old.feed) (fault_count new.feed)
+  pub counts_fault : CountsFault (is_err result) (state old.feed).faults (state new.feed).faults

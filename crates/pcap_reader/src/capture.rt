@@ -4,6 +4,7 @@ ghost use Rattle.std.specs.Prelude.{◌≡◌, ◌≢◌, ◌+◌, ◌-◌, ◌*
 ghost use Rattle.std.specs.Option.{option_map};
 ghost use Rattle.byte_stream.specs.Fault.{CountsFault};
 ghost use Rattle.byte_stream.specs.Intake.{TakesAtMost};
+ghost use Rattle.byte_stream.specs.State.{IsReadable};
 ghost use Rattle.pcap_reader.specs.Buffered.{still_has, last_bytes, supply_of};
 ghost use Rattle.pcap_reader.specs.Capture.{most_captured, most_records};
 ghost use Rattle.pcap_reader.specs.Header.{header_of};
@@ -47,24 +48,25 @@ impl<F: Feed> Capture<F> {
     /// bytes begin with no lawful header. Nothing is taken after a header that is there. A
     /// refusal hands the feed back.
     pub fn begin(alloc: Global, feed: F) -> Result<Capture<F>, (F, CaptureFault)>
-        requires { F.fault_count feed < 2 ^ 64 - 1 }
+        requires { IsReadable (F.state feed) }
 
         // Where the bytes are known, they are those of a capture.
         ensures fresh { IfOk result (λ source.
             IsFresh (⟦<Capture<F> as RecordSource>⟧.state source)) }
-        ensures known { IfOk result (λ source. IfSome (F.remaining feed) (λ bytes.
+        ensures known { IfOk result (λ source. IfSome (F.state feed).remaining (λ bytes.
             AllRemains bytes (⟦<Capture<F> as RecordSource>⟧.state source).remaining)) }
         ensures unfailed { IfOk result (λ source.
-            (⟦<Capture<F> as RecordSource>⟧.state source).fault_count ≡ F.fault_count feed) }
-        ensures takes { IfOk result (λ source. TakesFrom (whole_supply (F.remaining feed))
+            (⟦<Capture<F> as RecordSource>⟧.state source).fault_count ≡ (F.state feed).faults) }
+        ensures takes { IfOk result (λ source. TakesFrom (whole_supply (F.state feed).remaining)
             (⟦<Capture<F> as RecordSource>⟧.state source).supply) }
 
         // Which faults come, and what they leave.
-        ensures refusal { IfErr result (λ refused. IsRefusal (F.remaining feed) refused.1) }
+        ensures refusal { IfErr result (λ refused. IsRefusal (F.state feed).remaining refused.1) }
         ensures counts_fault { IfErr result (λ refused.
-            CountsFault (is_read refused.1) (F.fault_count feed) (F.fault_count refused.0)) }
+            CountsFault (is_read refused.1) (F.state feed).faults (F.state refused.0).faults) }
         ensures at_most { IfErr result (λ refused.
-            TakesAtMost (most_refused refused.1) (F.remaining feed) (F.remaining refused.0)) }
+            TakesAtMost (most_refused refused.1) (F.state feed).remaining
+            (F.state refused.0).remaining) }
         ensures memory { IfErr result (λ refused.
             refused.1 ≡ CaptureFault.Memory → refused.0 ≡ feed) }
     {
@@ -86,9 +88,9 @@ impl<F: Feed> Capture<F> {
 
     /// The feed, at the byte after those that were taken.
     pub fn into_feed(self) -> F
-        ensures known { F.remaining result
+        ensures known { (F.state result).remaining
             ≡ (⟦<Capture<F> as RecordSource>⟧.state self).supply.unread }
-        ensures unfailed { F.fault_count result
+        ensures unfailed { (F.state result).faults
             ≡ (⟦<Capture<F> as RecordSource>⟧.state self).fault_count }
     {
         self.input.into_feed()
@@ -97,7 +99,7 @@ impl<F: Feed> Capture<F> {
     /// The next record, of a source that hasn't failed.
     fn read_record(&mut self) -> Result<Option<RecordHead>, CaptureFault>
         requires unfailed { self.old.failed ≡ false }
-        requires faults { F.fault_count self.old.input.feed < 2 ^ 64 - 1 }
+        requires faults { IsReadable (F.state self.old.input.feed) }
         ensures { let after = ⟦<Capture<F> as RecordSource>⟧.state self.new in
             IsStep (⟦<Capture<F> as RecordSource>⟧.state self.old) result
             (record after { has_failed = is_err result }) }
@@ -128,12 +130,12 @@ impl<F: Feed> RecordSource for Capture<F> {
     ghost state = { λ s.
         record {
           remaining = option_map (coming_from s.format s.given s.input.place)
-              (still_has F.remaining s.input);
+              (still_has F.state s.input);
           given = s.given;
           has_failed = s.failed;
           lent = last_bytes s.input s.lent;
-          fault_count = F.fault_count s.input.feed;
-          supply = supply_of F.remaining s.input;
+          fault_count = (F.state s.input.feed).faults;
+          supply = supply_of F.state s.input;
           held = s.input.end - s.input.start;
         } };
 
@@ -168,17 +170,17 @@ impl<F: Feed> RecordSource for Capture<F> {
 fn read_header<F: Feed>(input: &mut Buffered<F>) -> Result<Format, CaptureFault>
     requires none_held { input.old.end ≡ 0 }
     requires none_consumed { input.old.place ≡ 0 }
-    requires faults { F.fault_count input.old.feed < 2 ^ 64 - 1 }
-    ensures known { IfOk result (λ format. IfSome (F.remaining input.old.feed) (λ bytes.
-        (header_of bytes ≡ Ok format) × (still_has F.remaining input.new ≡ Some (drop 24 bytes)))) }
+    requires faults { IsReadable (F.state input.old.feed) }
+    ensures known { IfOk result (λ format. IfSome (F.state input.old.feed).remaining (λ bytes.
+        (header_of bytes ≡ Ok format) × (still_has F.state input.new ≡ Some (drop 24 bytes)))) }
     ensures place { OnOk result (input.new.place ≡ 24) }
-    ensures takes { TakesFrom (supply_of F.remaining input.old) (supply_of F.remaining input.new) }
-    ensures counts_fault { CountsFault (read_failed result) (F.fault_count input.old.feed)
-        (F.fault_count input.new.feed) }
-    ensures refusal { IfErr result (IsRefusal (F.remaining input.old.feed)) }
+    ensures takes { TakesFrom (supply_of F.state input.old) (supply_of F.state input.new) }
+    ensures counts_fault { CountsFault (read_failed result) (F.state input.old.feed).faults
+        (F.state input.new.feed).faults }
+    ensures refusal { IfErr result (IsRefusal (F.state input.old.feed).remaining) }
     ensures not_memory { IfErr result (λ fault. fault ≢ CaptureFault.Memory) }
     ensures at_most { IfErr result (λ fault. TakesAtMost (most_refused fault)
-        (F.remaining input.old.feed) (F.remaining input.new.feed)) }
+        (F.state input.old.feed).remaining (F.state input.new.feed).remaining) }
 {
     let Ok(()) = input.hold(FILE_HEADER) else {
         return Err(CaptureFault::Read);

@@ -36,7 +36,7 @@ impl<F: Feed> Buffered<F> {
         ensures room { count ≤ self.new.start }
         ensures last { (n k : ℕ) → n + k ≡ count →
             last_bytes self.new k ≡ take k (drop n (held_bytes self.old)) }
-        ensures supply { supply_of F.remaining self.new ≡ supply_of F.remaining self.old }
+        ensures supply { supply_of F.state self.new ≡ supply_of F.state self.old }
     {
         self.start += count;
         self.place += count as u64;

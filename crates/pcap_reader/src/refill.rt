@@ -1,8 +1,9 @@
 //! How the buffer of a feed is filled.
 
-ghost use Rattle.std.specs.Prelude.{◌≡◌, ◌+◌, ◌-◌, ◌^◌, ◌<◌, ◌≤◌, min, length, take, slice_range, OnOk, OnErr, is_err};
+ghost use Rattle.std.specs.Prelude.{◌≡◌, ◌+◌, ◌-◌, ◌<◌, ◌≤◌, min, length, take, slice_range, OnOk, OnErr, is_err};
 ghost use Rattle.std.specs.Io.KnownBytes.{IsAtEnd};
 ghost use Rattle.byte_stream.specs.Fault.{CountsFault};
+ghost use Rattle.byte_stream.specs.State.{IsReadable};
 ghost use Rattle.pcap_reader.specs.Buffered.{Pulls, Refills};
 ghost use Rattle.pcap_reader.specs.Limit.{most_taken, buffer_size};
 
@@ -20,8 +21,8 @@ impl<F: Feed> Buffered<F> {
     pub(crate) fn hold(&mut self, wanted: usize) -> Result<(), FeedFault>
         requires fits { wanted ≤ buffer_size }
         requires limit { self.old.place + wanted ≤ most_taken }
-        requires faults { F.fault_count self.old.feed < 2 ^ 64 - 1 }
-        ensures { Refills F.remaining F.fault_count wanted self.old result self.new }
+        requires faults { IsReadable (F.state self.old.feed) }
+        ensures { Refills F.state wanted self.old result self.new }
     {
         if self.end - self.start < wanted {
             self.fill(wanted)
@@ -34,8 +35,8 @@ impl<F: Feed> Buffered<F> {
         requires lacking { self.old.end - self.old.start < wanted }
         requires fits { wanted ≤ buffer_size }
         requires limit { self.old.place + wanted ≤ most_taken }
-        requires faults { F.fault_count self.old.feed < 2 ^ 64 - 1 }
-        ensures { Refills F.remaining F.fault_count wanted self.old result self.new }
+        requires faults { IsReadable (F.state self.old.feed) }
+        ensures { Refills F.state wanted self.old result self.new }
     {
         let mut held = self.end - self.start;
         move_to_front(self.buffer.as_mut_slice(), self.start, self.end);
@@ -87,14 +88,14 @@ fn pull_until<F: Feed>(
     requires lacking { held.old ≤ wanted }
     requires fits { wanted ≤ most }
     requires in_bounds { most ≤ length buffer.old }
-    requires faults { F.fault_count feed.old < 2 ^ 64 - 1 }
+    requires faults { IsReadable (F.state feed.old) }
     ensures at_most { held.new ≤ most }
-    ensures pulls { Pulls F.remaining feed.old feed.new
+    ensures pulls { Pulls (F.state feed.old) (F.state feed.new)
         (take held.old buffer.old) (take held.new buffer.new) }
-    ensures enough { OnOk result (held.new < wanted → IsAtEnd (F.remaining feed.new)) }
+    ensures enough { OnOk result (held.new < wanted → IsAtEnd (F.state feed.new).remaining) }
     ensures short { OnErr result (held.new < wanted) }
-    ensures counts_fault { CountsFault (is_err result) (F.fault_count feed.old)
-        (F.fault_count feed.new) }
+    ensures counts_fault { CountsFault (is_err result) (F.state feed.old).faults
+        (F.state feed.new).faults }
 {
     while *held < wanted {
         let count = feed.pull(&mut buffer[*held..most])?;

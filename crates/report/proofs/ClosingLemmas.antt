@@ -1,17 +1,18 @@
 -- How a run ends.
-use Rattle.std.proofs.Common.{◌≡◌, ◌∙◌, ◌++◌, ◌+◌, ℕ, List, [], ◌∷◌, Option, Some, None, Bool, true, false, Result, Ok, Err, refl, sym, ap, subst, inl, inr, length, take, arith}
+use Rattle.std.proofs.Common.{◌≡◌, ◌∙◌, ◌++◌, ◌+◌, ℕ, List, [], ◌∷◌, Option, Some, None, Bool, true, false, Ok, Err, refl, sym, ap, subst, inl, inr, length, take, arith, IsOk}
 use Rattle.std.proofs.Math.Seq.{take-length}
 use Rattle.std.proofs.lemmas.List.{append-nil}
 use Rattle.std.specs.List.{concat}
 use Rattle.std.specs.Io.KnownBytes.{Appends, Keeps}
 use Rattle.byte_stream.specs.Fault.{CountsFault, CountsFault-after}
+use Rattle.byte_stream.specs.State.{SinkState}
 use Rattle.report.specs.declared.fault.Input.{Input}
 use Rattle.report.specs.declared.fault.Outcome.{Outcome}
 use Rattle.report.specs.declared.fault.RunFault.{RunFault}
 use Rattle.report.specs.declared.fault.RunFault.TheVariants.{Device, Write, Memory}
-use Rattle.report.specs.Output.{OutputState, SinkState, Puts, IsWrite}
-use Rattle.report.specs.Reports.{Report, text_of, GetsText, CountsSink, StaysOrWrites, is_device}
-use Rattle.report.specs.Closing.{IsPut, HasRun, Closes, IsRefusal, stops_of}
+use Rattle.report.specs.Output.{OutputState, Puts, IsWrite}
+use Rattle.report.specs.Reports.{Report, text_of, GetsText, CountsSink, is_device}
+use Rattle.report.specs.Closing.{IsPut, HasRun, Closes, IsRefusal, StaysOrWrites, stops_of}
 use Rattle.report.proofs.Known.{appends_kept, appends_same}
 use Rattle.report.proofs.OutputLemmas.{put_all}
 
@@ -44,7 +45,7 @@ module _ (report : Report) (before : Option (List ℕ)) where
       let same : stops.sent ≡ n = let e : Write n ≡ Write stops.sent = stops.fault_is in cc in
       let sent = λ (k : ℕ) (t : List ℕ). Appends before mid.sink.contents (take k t) in
       let went = subst (sent stops.sent) whole stops.cut.went in (
-        omega (arith, same, ap length whole, stops.cut.short),
+        inl (omega (arith, same, ap length whole, stops.cut.short)),
         subst (λ (k : ℕ). sent k (text_of report)) same went,
       )
   gets_part old mid (Device i) put p w = absurd w
@@ -67,23 +68,39 @@ module _ (report : Report) (before : Option (List ℕ)) where
   gets_refusal after fault r same went = (same, went)
 
 -- no input's device failed where the sink did, or where an input is refused
-write_device : (fault : RunFault) → IsWrite fault → (input : Input) → is_device input (Err fault) ≡ false
-write_device (Write sent) w input = refl
-write_device (Device i) w input = absurd w
-write_device Memory w input = absurd w
-write_device fault w input = absurd w
+write_device : (fault : RunFault) → IsWrite fault → (which : Input → Bool) →
+    is_device {A = Outcome} which (Err fault) ≡ false
+write_device (Write sent) w which = refl
+write_device (Device i) w which = absurd w
+write_device Memory w which = absurd w
+write_device fault w which = absurd w
 
-refusal_device : (fault : RunFault) → IsRefusal fault → (input : Input) → is_device input (Err fault) ≡ false
-refusal_device (Write sent) r input = absurd r
-refusal_device (Device i) r input = absurd r
-refusal_device Memory r input = absurd r
-refusal_device fault r input = refl
+refusal_device : (fault : RunFault) → IsRefusal fault → (which : Input → Bool) →
+    is_device {A = Outcome} which (Err fault) ≡ false
+refusal_device (Write sent) r which = absurd r
+refusal_device (Device i) r which = absurd r
+refusal_device Memory r which = absurd r
+refusal_device fault r which = refl
 
-write_answer : (ran : Result Outcome RunFault) (fault : RunFault) → IsWrite fault → StaysOrWrites ran (Err fault)
-write_answer ran (Write n) w = inr (n, refl)
-write_answer ran (Device i) w = absurd w
-write_answer ran Memory w = absurd w
-write_answer ran fault w = absurd w
+is_write : (fault : RunFault) → IsWrite fault → (n : ℕ) × (fault ≡ Write n)
+is_write (Write n) w = (n, refl)
+is_write (Device i) w = absurd w
+is_write Memory w = absurd w
+is_write fault w = absurd w
+
+-- a refusal stays, or a failed write follows it
+refusal_stays : (refusal : RunFault) → IsRefusal refusal → StaysOrWrites (Err refusal) (Err refusal)
+refusal_stays (Write n) r = absurd r
+refusal_stays (Device i) r = absurd r
+refusal_stays Memory r = absurd r
+refusal_stays fault r = inl refl
+
+refusal_writes : (refusal fault : RunFault) → IsRefusal refusal → IsWrite fault →
+    StaysOrWrites (Err refusal) (Err fault)
+refusal_writes (Write n) fault r w = absurd r
+refusal_writes (Device i) fault r w = absurd r
+refusal_writes Memory fault r w = absurd r
+refusal_writes refusal fault r w = let (n, is) = is_write fault w in inr (n, ap Err is)
 
 counts_write : (fault : RunFault) (before after : ℕ) → IsWrite fault → CountsFault true before after →
     CountsSink (Err fault) before after
@@ -113,7 +130,7 @@ closes_ok old mid after outcome p finishes = record {
   stays = inl refl;
   closed = finishes.closed;
   sink = λ before start. omega (arith, finishes.counts, p.puts.faults, start);
-  source = λ input. refl;
+  device = λ which. refl;
 }
 
 -- an outcome that couldn't be finished
@@ -124,11 +141,12 @@ closes_unfinished old mid after outcome p finishes = record {
       let all = gets_all report before after.contents old mid ran.1 p finishes.kept in
       let text = text_of report in
       let taken : text ≡ take mid.sent text = sym (ap (λ n. take n text) all.1 ∙ take-length text) in
-      (omega (arith, all.1), appends_same before after.contents _ _ taken all.0);
+      let ended : IsOk report.answer = subst IsOk ran.0 refl in
+      (inr (all.1, ended), appends_same before after.contents _ _ taken all.0);
   stays = inr (mid.sent, refl);
   closed = finishes.closed;
   sink = λ before start. omega (arith, finishes.counts, p.puts.faults, start);
-  source = λ input. refl;
+  device = λ which. refl;
 }
 
 -- the sink failed before the whole text had gone out
@@ -136,10 +154,10 @@ pub closes_short : (old mid : OutputState) (outcome : Outcome) (fault : RunFault
     Closes old mid.sink (Ok outcome) (Err fault)
 closes_short old mid outcome fault p = record {
   text = λ report before ran. gets_part report before old mid fault ran.1 p p.fault;
-  stays = write_answer (Ok outcome) fault p.fault;
+  stays = let (n, is) = is_write fault p.fault in inr (n, ap Err is);
   closed = p.is_open;
   sink = λ before start. counts_write fault before mid.sink.faults p.fault (omega (arith, p.faults, start));
-  source = write_device fault p.fault;
+  device = write_device fault p.fault;
 }
 
 -- A refusal, with all that it leaves of the text. The sink may have failed as it was finished.
@@ -150,12 +168,12 @@ closes_refused old mid after refusal failed r p finishes = record {
       let put = put_refused report before old refusal r ran in
       let all = gets_all report before after.contents old mid put.1 p finishes.kept in
       gets_refusal report before after.contents refusal r put.0 all.0;
-  stays = inl refl;
+  stays = refusal_stays refusal r;
   closed = finishes.closed;
   sink = λ before start.
       let same : mid.sink.faults ≡ before = omega (arith, p.puts.faults, start, no_stop refusal r) in
       counts_refusal refusal failed before after.faults r (CountsFault-after failed before _ _ same finishes.counts);
-  source = λ input. refl;
+  device = λ which. refl;
 }
 
 -- a refusal whose lines couldn't go out
@@ -164,19 +182,19 @@ pub closes_refused_short : (old mid : OutputState) (refusal fault : RunFault) �
 closes_refused_short old mid refusal fault r p = record {
   text = λ report before ran.
       gets_part report before old mid fault (put_refused report before old refusal r ran).1 p p.fault;
-  stays = write_answer (Err refusal) fault p.fault;
+  stays = refusal_writes refusal fault r p.fault;
   closed = p.is_open;
   sink = λ before start.
       let once : mid.sink.faults ≡ before + 1 = omega (arith, p.faults, start, no_stop refusal r) in
       counts_write fault before mid.sink.faults p.fault once;
-  source = λ input. write_device fault p.fault input ∙ sym (refusal_device refusal r input);
+  device = λ which. write_device fault p.fault which ∙ sym (refusal_device refusal r which);
 }
 
-left_nil : (a b : List (List ℕ)) → [] ≡ a ++ b → a ≡ []
+pub left_nil : (a b : List (List ℕ)) → [] ≡ a ++ b → a ≡ []
 left_nil [] b e = refl
 left_nil (x ∷ a) b e = cc
 
-keeps_nothing : (a b : Option (List ℕ)) → Appends a b [] → Keeps a b
+pub keeps_nothing : (a b : Option (List ℕ)) → Appends a b [] → Keeps a b
 keeps_nothing None b p = tt
 keeps_nothing (Some old) None p = absurd p
 keeps_nothing (Some old) (Some now) p = p ∙ append-nil old
@@ -189,10 +207,10 @@ closes_memory old after failed finishes = record {
       let none = ap concat (left_nil put.gone put.kept put.parts) in
       let went = appends_same before old.sink.contents (concat put.gone) [] none put.went in
       keeps_nothing before after.contents (appends_kept before old.sink.contents after.contents [] went finishes.kept);
-  stays = inl refl;
+  stays = refl;
   closed = finishes.closed;
   sink = λ before start.
       let same : old.sink.faults ≡ before = omega (arith, start) in
       (failed, CountsFault-after failed before _ _ same finishes.counts);
-  source = λ input. refl;
+  device = λ which. refl;
 }

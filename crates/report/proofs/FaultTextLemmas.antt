@@ -12,11 +12,13 @@ use Rattle.claim_file.specs.declared.fault.ClaimFault.{ClaimFault}
 use Rattle.claim_file.specs.declared.fault.ClaimFault.TheVariants.{Field}
 use Rattle.certificate.specs.declared.fault.CertificateFault.{CertificateFault}
 use Rattle.certificate.specs.declared.fault.CertificateFault.TheVariants.{Shape, TooManyEntries}
+use Rattle.certificate.specs.declared.refutation_fault.RefutationFault.{RefutationFault}
+use Rattle.certificate.specs.declared.refutation_fault.RefutationFault.TheVariants as refutations
 use Rattle.report.specs.declared.fault.Input.{Input}
-use Rattle.report.specs.declared.fault.Input.TheVariants.{Claim, Capture, Certificate}
+use Rattle.report.specs.declared.fault.Input.TheVariants.{Claim, Capture, Certificate, Refutation}
 use Rattle.report.specs.declared.fault.RunFault.{RunFault}
 use Rattle.report.specs.declared.fault.RunFault.TheVariants as faults
-use Rattle.report.specs.FaultText.{fault_text, capture_text, claim_text, certificate_text, input_word}
+use Rattle.report.specs.FaultText.{fault_text, capture_text, claim_text, certificate_text, refutation_text, input_word}
 
 -- each byte is below 128
 abbrev is_low : List ℕ → Bool
@@ -76,15 +78,23 @@ certificate_is_low (TooManyEntries piece) =
     low_append (codes "ntpaudit: certificate 4 too-many-entries piece ") (decimal piece) tt (decimal_is_low piece)
 certificate_is_low fault = tt
 
+refutation_is_low : (fault : RefutationFault) → T (is_low (refutation_text fault))
+unfolding refutation_text digits
+refutation_is_low refutations.Json = tt
+refutation_is_low refutations.Shape = tt
+refutation_is_low refutations.Memory = tt
+
 input_is_low : (words : List ℕ) (input : Input) → T (is_low words) → T (is_low (words ++ input_word input))
 input_is_low words Claim low = low_append words _ low tt
 input_is_low words Capture low = low_append words _ low tt
 input_is_low words Certificate low = low_append words _ low tt
+input_is_low words Refutation low = low_append words _ low tt
 
 fault_is_low : (fault : RunFault) → T (is_low (fault_text fault))
 fault_is_low (faults.Capture fault) = capture_is_low fault
 fault_is_low (faults.Claim fault) = claim_is_low fault
 fault_is_low (faults.Certificate fault) = certificate_is_low fault
+fault_is_low (faults.Refutation fault) = refutation_is_low fault
 fault_is_low (faults.TooBig input) = input_is_low (codes "ntpaudit: too-big ") input tt
 fault_is_low (faults.Device input) = input_is_low (codes "ntpaudit: device ") input tt
 fault_is_low (faults.Write sent) =

@@ -2,3 +2,5 @@ pub mod Known
 pub mod OutputLemmas
 pub mod ClosingLemmas
 pub mod FaultTextLemmas
+pub mod ReadingLemmas
+pub mod RefusalLemmas

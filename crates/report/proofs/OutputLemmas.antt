@@ -7,8 +7,9 @@ use Rattle.std.proofs.Math.Seq.{take-append-add}
 use Rattle.std.proofs.KnownBytes.{Appends-nil, Appends-trans}
 use Rattle.std.specs.List.{concat}
 use Rattle.std.specs.Io.KnownBytes.{Appends}
+use Rattle.byte_stream.specs.State.{SinkState}
 use Rattle.report.specs.declared.fault.RunFault.TheVariants.{Write}
-use Rattle.report.specs.Output.{OutputState, SinkState, HasPut, IsCut, StopsIn, Puts, IsReady, fresh_output, with_text}
+use Rattle.report.specs.Output.{OutputState, HasPut, IsCut, StopsIn, Puts, IsReady, fresh_output, with_text}
 use Rattle.report.proofs.Known.{appends_same}
 
 -- at the start nothing was put
@@ -93,7 +94,7 @@ puts_none o ready = record {
   texts = λ before texts put. subst (λ (l : List (List ℕ)). HasPut before o l) (sym (append-nil texts)) put;
   fault = tt;
   count = omega arith;
-  is_open = ready.is_open;
+  is_open = ready.sink.is_open;
   faults = refl;
 }
 

@@ -1,12 +1,13 @@
 -- How a run ends: what it has put by then, and what its sink has got in the end.
-use Rattle.std.specs.Prelude.{◌≡◌, ◌+◌, ℕ, List, [], ◌++◌, Option, false, Result, Err}
+use Rattle.std.specs.Prelude.{◌≡◌, ◌⊎◌, ◌+◌, ℕ, List, [], ◌++◌, Option, Bool, false, Result, Err}
 use Rattle.std.specs.List.{concat}
+use Rattle.byte_stream.specs.State.{SinkState}
 use Rattle.report.specs.declared.fault.Input.{Input}
 use Rattle.report.specs.declared.fault.Outcome.{Outcome}
 use Rattle.report.specs.declared.fault.RunFault.{RunFault}
 use Rattle.report.specs.declared.fault.RunFault.TheVariants.{Device, Write, Memory}
-use Rattle.report.specs.Output.{SinkState, OutputState, HasPut, IsCut, IsReady}
-use Rattle.report.specs.Reports.{Report, text_of, GetsText, CountsSink, StaysOrWrites, is_device}
+use Rattle.report.specs.Output.{OutputState, HasPut, IsCut, IsReady}
+use Rattle.report.specs.Reports.{Report, text_of, GetsText, CountsSink, is_device}
 
 -- the whole of a report was put
 abbrev pub IsPut : Report → Option (List ℕ) → OutputState → Type 0
@@ -38,6 +39,14 @@ IsRefusal (Write sent) = ⊥
 IsRefusal Memory = ⊥
 IsRefusal _ = Unit {0}
 
+-- The answer that a run came to stays. Only an outcome and a refusal, whose lines are still to go
+-- out, may be followed by a failed write.
+abbrev pub StaysOrWrites : Result Outcome RunFault → Result Outcome RunFault → Type 0
+StaysOrWrites (Err Memory) answer = answer ≡ Err Memory
+StaysOrWrites (Err (Device input)) answer = answer ≡ Err (Device input)
+StaysOrWrites (Err (Write sent)) answer = answer ≡ Err (Write sent)
+StaysOrWrites ran answer = (answer ≡ ran) ⊎ ((sent : ℕ) × (answer ≡ Err (Write sent)))
+
 -- how often the sink has failed in a run that came to this answer
 abbrev pub stops_of : Result Outcome RunFault → ℕ
 stops_of (Err (Write sent)) = 1
@@ -53,4 +62,4 @@ pub record Closes (old : OutputState) (after : SinkState)
   pub closed : after.is_open ≡ false
   pub sink : (before : ℕ) → old.sink.faults ≡ before + stops_of ran →
       CountsSink answer before after.faults
-  pub source : (input : Input) → is_device input answer ≡ is_device input ran
+  pub device : (which : Input → Bool) → is_device which answer ≡ is_device which ran

@@ -2,7 +2,7 @@
 use Rattle.std.specs.Prelude.{◌≡◌, ◌≤◌, ℕ, List, length, take, false, Result, Ok, Err, IfErr, is_err}
 use Rattle.std.specs.Io.KnownBytes.{Appends}
 use Rattle.byte_stream.specs.Fault.{CountsFault}
-use Rattle.report.specs.Output.{SinkState}
+use Rattle.byte_stream.specs.State.{SinkState}
 
 -- what a sink gets of a text: all of it, or so many bytes where it fails
 abbrev pub delivered : List ℕ → Result (Unit {0}) ℕ → List ℕ

@@ -6,15 +6,18 @@ use Rattle.claim_file.specs.declared.fault.ClaimFault.{ClaimFault}
 use Rattle.claim_file.specs.declared.fault.ClaimFault.TheVariants as claims
 use Rattle.certificate.specs.declared.fault.CertificateFault.{CertificateFault}
 use Rattle.certificate.specs.declared.fault.CertificateFault.TheVariants as certificates
+use Rattle.certificate.specs.declared.refutation_fault.RefutationFault.{RefutationFault}
+use Rattle.certificate.specs.declared.refutation_fault.RefutationFault.TheVariants as refutations
 use Rattle.report.specs.declared.fault.Input.TheVariants as inputs
 use Rattle.report.specs.declared.fault.RunFault.{RunFault}
-use Rattle.report.specs.declared.fault.RunFault.TheVariants.{Capture, Claim, Certificate, Exchanges, Pieces, TooBig, Device, Write, Memory}
+use Rattle.report.specs.declared.fault.RunFault.TheVariants.{Capture, Claim, Certificate, Refutation, Exchanges, Pieces, TooBig, Device, Write, Memory}
 
--- each fault's number. 4 is kept for an input that another command will read.
+-- each fault's number
 abbrev pub number_of : RunFault → ℕ
 number_of (Capture fault) = 1
 number_of (Claim fault) = 2
 number_of (Certificate fault) = 3
+number_of (Refutation fault) = 4
 number_of Exchanges = 5
 number_of Pieces = 6
 number_of (TooBig input) = 7
@@ -22,18 +25,23 @@ number_of (Device input) = 8
 number_of (Write sent) = 9
 number_of Memory = 10
 
--- what a run answers where its capture has this fault
+-- what a run answers whose capture has this fault
 abbrev pub run_fault_of : CaptureFault → RunFault
 run_fault_of captures.Read = Device inputs.Capture
 run_fault_of captures.Memory = Memory
 run_fault_of fault = Capture fault
 
--- what a run answers where its claim has this fault
+-- what a run answers whose claim has this fault
 abbrev pub claim_run_fault_of : ClaimFault → RunFault
 claim_run_fault_of claims.Memory = Memory
 claim_run_fault_of fault = Claim fault
 
--- what a run answers where its certificate has this fault
+-- what a run answers whose certificate has this fault
 abbrev pub certificate_run_fault_of : CertificateFault → RunFault
 certificate_run_fault_of certificates.Memory = Memory
 certificate_run_fault_of fault = Certificate fault
+
+-- what a run answers whose refutation has this fault
+abbrev pub refutation_run_fault_of : RefutationFault → RunFault
+refutation_run_fault_of refutations.Memory = Memory
+refutation_run_fault_of fault = Refutation fault

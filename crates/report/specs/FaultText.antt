@@ -10,6 +10,9 @@ use Rattle.claim_file.specs.declared.fault.ClaimFault.TheVariants as claims
 use Rattle.certificate.specs.Fault.{number_of as certificate_number}
 use Rattle.certificate.specs.declared.fault.CertificateFault.{CertificateFault}
 use Rattle.certificate.specs.declared.fault.CertificateFault.TheVariants as certificates
+use Rattle.certificate.specs.RefutationFault.{number_of as refutation_number}
+use Rattle.certificate.specs.declared.refutation_fault.RefutationFault.{RefutationFault}
+use Rattle.certificate.specs.declared.refutation_fault.RefutationFault.TheVariants as refutations
 use Rattle.report.specs.declared.fault.Input.TheVariants as inputs
 use Rattle.report.specs.declared.fault.Input.{Input}
 use Rattle.report.specs.declared.fault.RunFault.{RunFault}
@@ -85,17 +88,31 @@ certificate_text fault =
     codes "ntpaudit: certificate " ++ decimal (certificate_number fault) ++ codes " "
     ++ certificate_word fault ++ piece_text fault
 
+-- the word for each fault of a refutation
+abbrev pub refutation_word : RefutationFault → List ℕ
+refutation_word refutations.Json = codes "json"
+refutation_word refutations.Shape = codes "shape"
+refutation_word refutations.Memory = codes "memory"
+
+-- the line for a refutation's fault
+unfoldable pub refutation_text : RefutationFault → List ℕ
+refutation_text fault =
+    codes "ntpaudit: refutation " ++ decimal (refutation_number fault) ++ codes " "
+    ++ refutation_word fault
+
 -- the word for an input
 abbrev pub input_word : Input → List ℕ
 input_word inputs.Claim = codes "claim"
 input_word inputs.Capture = codes "capture"
 input_word inputs.Certificate = codes "certificate"
+input_word inputs.Refutation = codes "refutation"
 
 -- the line for each fault
 abbrev pub fault_text : RunFault → List ℕ
 fault_text (faults.Capture fault) = capture_text fault
 fault_text (faults.Claim fault) = claim_text fault
 fault_text (faults.Certificate fault) = certificate_text fault
+fault_text (faults.Refutation fault) = refutation_text fault
 fault_text faults.Exchanges = codes "ntpaudit: exchanges over 1000000"
 fault_text faults.Pieces = codes "ntpaudit: pieces over 100000"
 fault_text (faults.TooBig input) = codes "ntpaudit: too-big " ++ input_word input

@@ -1,11 +1,17 @@
 pub mod Fault
 pub mod Output
 pub mod State
+pub mod Run
 pub mod Reports
 pub mod Closing
 pub mod ExitStatus
 pub mod FaultText
 pub mod Input
+pub mod Reading
+pub mod ClaimInput
+pub mod CertificateInput
+pub mod RefutationInput
 pub mod Delivery
 pub mod Publication
+pub mod Runs
 pub mod Telling

@@ -1,24 +1,12 @@
 -- The way of texts to a sink: which have gone out, which are gathered, and where a sink that fails
 -- cuts them off.
-use Rattle.std.specs.Prelude.{◌≡◌, ◌+◌, ◌-◌, ◌^◌, ◌<◌, ℕ, List, [], ◌++◌, length, take, Option, Bool, IsTrue, Result, MatchResult, OnOk, IfErr, is_ok, is_err}
+use Rattle.std.specs.Prelude.{◌≡◌, ◌+◌, ◌^◌, ◌<◌, ℕ, List, [], ◌++◌, length, take, Option, Result, MatchResult, OnOk, IfErr, is_ok, is_err}
 use Rattle.std.specs.List.{concat}
 use Rattle.std.specs.Io.KnownBytes.{Appends}
 use Rattle.byte_stream.specs.Fault.{CountsFault}
+use Rattle.byte_stream.specs.State.{SinkState, IsWritable}
 use Rattle.report.specs.declared.fault.RunFault.{RunFault}
 use Rattle.report.specs.declared.fault.RunFault.TheVariants.{Write}
-
--- a sink at one moment: its bytes where they are known, whether it's open, and how often it has
--- failed
-pub record SinkState : Type 0 where
-  pub contents : Option (List ℕ)
-  pub is_open : Bool
-  pub faults : ℕ
-
--- A sink may be pushed to and finished: it's open, and the count of its faults has room for one
--- more.
-pub record IsWritable (sink : SinkState) : Type 0 where
-  pub is_open : IsTrue sink.is_open
-  pub room : sink.faults < 2 ^ 64 - 1
 
 -- an output at one moment: its sink, the text that is gathered, and how many bytes have gone out
 pub record OutputState : Type 0 where
@@ -38,11 +26,9 @@ with_text o text = record { sink = o.sink; gathered = o.gathered ++ text; sent =
 abbrev pub put_count : OutputState → ℕ
 put_count o = o.sent + length o.gathered
 
--- An output may be used: its sink is open and may fail once more, and the count of its bytes has
--- room.
+-- An output may be used: its sink may be pushed to, and the count of its bytes has room.
 pub record IsReady (o : OutputState) : Type 0 where
-  pub is_open : IsTrue o.sink.is_open
-  pub room : o.sink.faults < 2 ^ 64 - 1
+  pub sink : IsWritable o.sink
   pub few : put_count o < 2 ^ 64
 
 -- Texts were put, one after another. The first of them have gone out, after what the sink held

@@ -1,17 +1,12 @@
 -- How a run ends that makes its whole text before it writes any.
-use Rattle.std.specs.Prelude.{◌≡◌, [], false, Result, Ok, Err}
+use Rattle.std.specs.Prelude.{◌≡◌, ◌⊎◌, ℕ, [], Bool, false, Result, Ok, Err}
+use Rattle.byte_stream.specs.State.{SinkState}
 use Rattle.report.specs.declared.fault.Input.{Input}
 use Rattle.report.specs.declared.fault.Outcome.{Outcome}
 use Rattle.report.specs.declared.fault.RunFault.{RunFault}
 use Rattle.report.specs.declared.fault.RunFault.TheVariants.{Device, Write, Memory}
 use Rattle.report.specs.declared.publication.Made.{Made}
-use Rattle.report.specs.Output.{SinkState}
-use Rattle.report.specs.Reports.{Report, text_of, GetsText, CountsSink, StaysOrWrites, is_device}
-
--- the answer of a run that comes to its end with this
-abbrev pub answer_of : Result Made RunFault → Result Outcome RunFault
-answer_of (Ok made) = Ok made.outcome
-answer_of (Err fault) = Err fault
+use Rattle.report.specs.Reports.{Report, text_of, GetsText, CountsSink, is_device}
 
 -- What was made is what the report calls for: its whole text and outcome, or its refusal, which has
 -- no text. That a device failed and that memory was refused say nothing of the report, and no run
@@ -28,13 +23,20 @@ abbrev pub IsUnwritten : Result Made RunFault → Type 0
 IsUnwritten (Err (Write sent)) = ⊥
 IsUnwritten made = Unit {0}
 
+-- The answer is what was made of the run: its outcome, unless the sink failed, and its fault, even
+-- if the sink failed.
+abbrev pub IsAnswerFor : Result Made RunFault → Result Outcome RunFault → Type 0
+IsAnswerFor (Ok made) answer =
+    (answer ≡ Ok made.outcome) ⊎ ((sent : ℕ) × (answer ≡ Err (Write sent)))
+IsAnswerFor (Err fault) answer = answer ≡ Err fault
+
 -- What publishing does: the sink gets the text of whatever report was made, and is closed, and no
 -- input's device is asked.
 pub record Publishes (before after : SinkState) (made : Result Made RunFault)
     (answer : Result Outcome RunFault) : Type 0 where
   pub text : (report : Report) → IsMadeFor report made →
       GetsText report before.contents after.contents answer
-  pub stays : StaysOrWrites (answer_of made) answer
+  pub stays : IsAnswerFor made answer
   pub closed : after.is_open ≡ false
   pub sink : CountsSink answer before.faults after.faults
-  pub source : (input : Input) → is_device input answer ≡ is_device input (answer_of made)
+  pub device : (which : Input → Bool) → is_device which answer ≡ is_device which made

@@ -1,5 +1,5 @@
 -- What every engine promises of its answer, of its sink and of its inputs.
-use Rattle.std.specs.Prelude.{◌≡◌, ◌≤◌, ◌⊎◌, ℕ, List, [], ◌++◌, length, take, Option, IfSome, Bool, true, false, Result, Ok, Err}
+use Rattle.std.specs.Prelude.{◌≡◌, ◌<◌, ◌⊎◌, ℕ, List, [], ◌++◌, length, take, Option, IfSome, Bool, true, false, Result, Ok, Err, IsOk}
 use Rattle.std.specs.List.{concat}
 use Rattle.std.specs.Io.KnownBytes.{Appends, Keeps}
 use Rattle.byte_stream.specs.Fault.{CountsFault}
@@ -8,7 +8,7 @@ use Rattle.report.specs.declared.fault.Input.TheVariants as inputs
 use Rattle.report.specs.declared.fault.Outcome.{Outcome}
 use Rattle.report.specs.declared.fault.RunFault.{RunFault}
 use Rattle.report.specs.declared.fault.RunFault.TheVariants.{Device, Write, Memory}
-use Rattle.report.specs.Output.{SinkState}
+use Rattle.report.specs.Run.{RunState}
 
 -- What an engine is to write and to answer: lines that may go out while its inputs are read, then a
 -- text that goes out only after all of them.
@@ -25,11 +25,22 @@ text_of report = concat report.lines ++ report.closing
 abbrev pub whole_text : List ℕ → Outcome → Report
 whole_text text outcome = record { lines = []; closing = text; answer = Ok outcome }
 
+-- the report where an input is refused before any line: no text
+abbrev pub refused : RunFault → Report
+refused fault = record { lines = []; closing = []; answer = Err fault }
+
 -- The sink has got the first lines of the report, whole, and no more.
 abbrev pub GetsLines : Report → Option (List ℕ) → Option (List ℕ) → Type 0
 GetsLines report before after =
     (first others : List (List ℕ)) × (report.lines ≡ first ++ others)
     × Appends before after (concat first)
+
+-- The sink may fail after so many bytes of a report: while its text goes out, or, where it has an
+-- outcome, as the whole of it is finished. A refusal stays, whatever `finish` gives.
+abbrev pub MayStop : Report → ℕ → Type 0
+MayStop report sent =
+    (sent < length (text_of report))
+    ⊎ ((sent ≡ length (text_of report)) × IsOk report.answer)
 
 -- What the sink has got at each answer: nothing where memory was refused, some first lines where a
 -- device failed, and at a failed write exactly as many bytes of the text as it says. Any other
@@ -38,7 +49,7 @@ abbrev pub GetsText : Report → Option (List ℕ) → Option (List ℕ) → Res
 GetsText report before after (Err Memory) = Keeps before after
 GetsText report before after (Err (Device input)) = GetsLines report before after
 GetsText report before after (Err (Write sent)) =
-    (sent ≤ length (text_of report)) × Appends before after (take sent (text_of report))
+    MayStop report sent × Appends before after (take sent (text_of report))
 GetsText report before after answer =
     (answer ≡ report.answer) × Appends before after (text_of report)
 
@@ -50,43 +61,33 @@ CountsSink (Ok outcome) before after = CountsFault false before after
 CountsSink (Err (Write sent)) before after = CountsFault true before after
 CountsSink (Err fault) before after = (failed : Bool) × CountsFault failed before after
 
--- The answer that a run came to stays, unless a write fails.
-abbrev pub StaysOrWrites : Result Outcome RunFault → Result Outcome RunFault → Type 0
-StaysOrWrites ran answer = (answer ≡ ran) ⊎ ((sent : ℕ) × (answer ≡ Err (Write sent)))
+-- which input it is
+abbrev pub is_claim : Input → Bool
+is_claim inputs.Claim = true
+is_claim _ = false
 
--- whether two inputs are the same
-abbrev pub is_same : Input → Input → Bool
-is_same inputs.Claim inputs.Claim = true
-is_same inputs.Capture inputs.Capture = true
-is_same inputs.Certificate inputs.Certificate = true
-is_same _ _ = false
+abbrev pub is_second : Input → Bool
+is_second inputs.Certificate = true
+is_second inputs.Refutation = true
+is_second _ = false
 
--- whether the answer is that the device of this input failed
-abbrev pub is_device : Input → Result Outcome RunFault → Bool
-is_device which (Err (Device input)) = is_same input which
+abbrev pub is_capture : Input → Bool
+is_capture inputs.Capture = true
+is_capture _ = false
+
+-- whether the answer is that the device of such an input failed
+abbrev pub is_device : {A : Type 0} → (Input → Bool) → Result A RunFault → Bool
+is_device which (Err (Device input)) = which input
 is_device which answer = false
-
--- the devices of a run at one moment: how often that of each input has failed, and the sink
-pub record Devices : Type 0 where
-  pub source : Input → ℕ
-  pub sink : SinkState
-
--- the counts of a run whose only input is a capture
-abbrev pub only_capture : ℕ → Input → ℕ
-only_capture count inputs.Capture = count
-only_capture count _ = 0
-
--- the counts of a run that has no input
-abbrev pub no_input : Input → ℕ
-no_input input = 0
 
 -- What an engine promises of its answer and of its devices, for the report that its inputs' bytes
 -- call for, where they are known. The sink is closed in the end: after the last byte it was
 -- finished, unless a push failed.
-pub record Reports (report : Option Report) (before after : Devices)
+pub record Reports (report : Option Report) (before after : RunState)
     (answer : Result Outcome RunFault) : Type 0 where
   pub text : IfSome report (λ r. GetsText r before.sink.contents after.sink.contents answer)
   pub closed : after.sink.is_open ≡ false
   pub sink : CountsSink answer before.sink.faults after.sink.faults
-  pub source : (input : Input) →
-      CountsFault (is_device input answer) (before.source input) (after.source input)
+  pub claim : CountsFault (is_device is_claim answer) before.claim.faults after.claim.faults
+  pub second : CountsFault (is_device is_second answer) before.second.faults after.second.faults
+  pub capture : CountsFault (is_device is_capture answer) before.capture.faults after.capture.faults

@@ -1,21 +1,13 @@
--- The state of a sink and of an output over it, from what a sink says of itself.
-use Rattle.std.specs.Prelude.{ℕ, List, Option, Bool}
+-- The state of an output over a sink, from what a sink says of itself.
+use Rattle.std.specs.Prelude.{ℕ}
+use Rattle.byte_stream.specs.State.{SinkState}
 use Rattle.report.specs.declared.output.Output.{Output}
-use Rattle.report.specs.Output.{SinkState, OutputState}
+use Rattle.report.specs.Output.{OutputState}
 
-abbrev pub sink_state : {K : Type 0} → (K → Option (List ℕ)) → (K → Bool) → (K → ℕ) → K → SinkState
-sink_state contents is_open fault_count out =
-    record { contents = contents out; is_open = is_open out; faults = fault_count out }
-
-abbrev pub output_state : {K : Type 0} → (K → Option (List ℕ)) → (K → Bool) → (K → ℕ) →
-    Output K → OutputState
-output_state contents is_open fault_count o =
-    record {
-      sink = sink_state contents is_open fault_count o.sink.now;
-      gathered = o.text.now.items;
-      sent = o.sent;
-    }
+abbrev pub output_state : {S : Type 0} → (S → SinkState) → Output S → OutputState
+output_state state o =
+    record { sink = state o.sink.now; gathered = o.text.now.items; sent = o.sent }
 
 -- the borrow by which an output holds its sink
-abbrev pub sink_name : {K : Type 0} → Output K → ℕ
+abbrev pub sink_name : {S : Type 0} → Output S → ℕ
 sink_name o = o.sink.ghost_name

@@ -1,12 +1,13 @@
 -- How an answer is told beside its status: a fault by its line, and an outcome by nothing.
 use Rattle.std.specs.Prelude.{◌≡◌, ℕ, List, [], ◌++◌, codes, Option, Result, Ok, Err}
+use Rattle.byte_stream.specs.State.{SinkState}
 use Rattle.report.specs.declared.fault.Outcome.{Outcome}
 use Rattle.report.specs.declared.fault.RunFault.{RunFault}
 use Rattle.report.specs.Delivery.{IsDelivered}
-use Rattle.report.specs.Output.{SinkState}
 use Rattle.report.specs.ExitStatus.{status_of}
 use Rattle.report.specs.FaultText.{fault_text}
-use Rattle.report.specs.Reports.{Report, Devices, Reports}
+use Rattle.report.specs.Run.{RunState}
+use Rattle.report.specs.Reports.{Report, Reports}
 
 -- the line that tells an answer, with its line feed: none for an outcome
 abbrev pub told_text : Result Outcome RunFault → List ℕ
@@ -20,7 +21,7 @@ Tells answer before after = IsDelivered (told_text answer) before after
 
 -- What a caller of a whole command sees: there is one answer, of which the report stands in the
 -- output's sink, the fault's line in the sink for errors, and the status in the result.
-pub record Answers (report : Option Report) (before after : Devices) (err err' : SinkState)
+pub record Answers (report : Option Report) (before after : RunState) (err err' : SinkState)
     (status : ℕ) : Type 0 where
   pub answer : Result Outcome RunFault
   pub reports : Reports report before after answer

@@ -17,6 +17,7 @@ pub fn status(answer: &Result<Outcome, RunFault>) -> u8
             RunFault::Capture(_)
             | RunFault::Claim(_)
             | RunFault::Certificate(_)
+            | RunFault::Refutation(_)
             | RunFault::Exchanges
             | RunFault::Pieces
             | RunFault::TooBig(_),

@@ -2,9 +2,9 @@
 
 ghost use Rattle.std.specs.Prelude.{◌≡◌};
 ghost use Rattle.report.specs.declared.fault.RunFault.TheVariants.{Memory};
-ghost use Rattle.report.specs.Fault.{number_of, run_fault_of, claim_run_fault_of, certificate_run_fault_of};
+ghost use Rattle.report.specs.Fault.{number_of, run_fault_of, claim_run_fault_of, certificate_run_fault_of, refutation_run_fault_of};
 
-use certificate::CertificateFault;
+use certificate::{CertificateFault, RefutationFault};
 use claim_file::ClaimFault;
 use pcap_reader::CaptureFault;
 use std::alloc::AllocError;
@@ -28,6 +28,8 @@ pub enum Input {
     Capture,
     /// The certificate.
     Certificate,
+    /// The refutation.
+    Refutation,
 }
 
 /// Why a run was given up.
@@ -42,6 +44,9 @@ pub enum RunFault {
     /// The certificate is refused.
     #[error("the certificate is refused: {0}")]
     Certificate(CertificateFault),
+    /// The refutation is refused.
+    #[error("the refutation is refused: {0}")]
+    Refutation(RefutationFault),
     /// The capture has over 1,000,000 exchanges.
     #[error("over 1000000 exchanges")]
     Exchanges,
@@ -63,9 +68,7 @@ pub enum RunFault {
 }
 
 impl RunFault {
-    /// The fault's number, from 1 to 10: 1 a capture, 2 a claim, 3 a certificate, 5 too many
-    /// exchanges, 6 too many pieces, 7 to 10 the last four. 4 is kept for an input that another
-    /// command will read.
+    /// The fault's number, from 1 to 10 in the order of the variants.
     pub fn number(&self) -> u8
         ensures { result ≡ number_of self.now }
     {
@@ -73,6 +76,7 @@ impl RunFault {
             RunFault::Capture(_) => 1,
             RunFault::Claim(_) => 2,
             RunFault::Certificate(_) => 3,
+            RunFault::Refutation(_) => 4,
             RunFault::Exchanges => 5,
             RunFault::Pieces => 6,
             RunFault::TooBig(_) => 7,
@@ -113,6 +117,17 @@ impl From<CertificateFault> for RunFault {
         match fault {
             CertificateFault::Memory => RunFault::Memory,
             fault => RunFault::Certificate(fault),
+        }
+    }
+}
+
+impl From<RefutationFault> for RunFault {
+    ghost from_gives = { λ fault e. e ≡ refutation_run_fault_of fault };
+
+    fn from(fault: RefutationFault) -> RunFault {
+        match fault {
+            RefutationFault::Memory => RunFault::Memory,
+            fault => RunFault::Refutation(fault),
         }
     }
 }

@@ -4,10 +4,10 @@ ghost use Rattle.std.specs.Prelude.{◌≡◌, ◌+◌, ◌≤◌, ◌++◌, len
 ghost use Rattle.std.specs.Fmt.{decimal};
 ghost use Rattle.line_writer.specs.declared.line.TheConstants.{CAPACITY};
 ghost use Rattle.report.specs.FaultText.{fault_text, capture_text, capture_word, place_text, claim_text, claim_word, field_text, input_word};
-ghost use Rattle.report.specs.FaultText.{certificate_text, certificate_word, piece_text};
+ghost use Rattle.report.specs.FaultText.{certificate_text, certificate_word, piece_text, refutation_text, refutation_word};
 
 use crate::fault::{Input, RunFault};
-use certificate::CertificateFault;
+use certificate::{CertificateFault, RefutationFault};
 use claim_file::ClaimFault;
 use line_writer::Line;
 use pcap_reader::CaptureFault;
@@ -117,6 +117,31 @@ fn put_certificate(line: &mut Line, fault: &CertificateFault)
     line.put_text("ntpaudit: certificate ");
 }
 
+/// Writes the word for a refutation's fault.
+fn put_refutation_word(line: &mut Line, fault: &RefutationFault)
+    requires { length line.old + 43 ≤ CAPACITY }
+    ensures text { line.new ≡ refutation_word fault.now ++ line.old }
+    ensures at_most { length line.new ≤ length line.old + 43 }
+{
+    match fault {
+        RefutationFault::Json => line.put_text("json"),
+        RefutationFault::Shape => line.put_text("shape"),
+        RefutationFault::Memory => line.put_text("memory"),
+    }
+}
+
+/// Writes the line for a refutation's fault.
+#[tactic(auto, unfolding(crate::specs::FaultText::refutation_text))]
+fn put_refutation(line: &mut Line, fault: &RefutationFault)
+    requires { length line.old + 69 ≤ CAPACITY }
+    ensures { line.new ≡ refutation_text fault.now ++ line.old }
+{
+    put_refutation_word(line, fault);
+    line.put_byte(b' ');
+    line.put_number(fault.number());
+    line.put_text("ntpaudit: refutation ");
+}
+
 /// Writes the word for an input.
 fn put_input(line: &mut Line, input: &Input)
     requires { length line.old + 11 ≤ CAPACITY }
@@ -127,6 +152,7 @@ fn put_input(line: &mut Line, input: &Input)
         Input::Claim => line.put_text("claim"),
         Input::Capture => line.put_text("capture"),
         Input::Certificate => line.put_text("certificate"),
+        Input::Refutation => line.put_text("refutation"),
     }
 }
 
@@ -140,6 +166,7 @@ pub(crate) fn put_fault(line: &mut Line, fault: &RunFault)
         RunFault::Capture(fault) => put_capture(line, fault),
         RunFault::Claim(fault) => put_claim(line, fault),
         RunFault::Certificate(fault) => put_certificate(line, fault),
+        RunFault::Refutation(fault) => put_refutation(line, fault),
         RunFault::Exchanges => line.put_text("ntpaudit: exchanges over 1000000"),
         RunFault::Pieces => line.put_text("ntpaudit: pieces over 100000"),
         RunFault::TooBig(input) => {

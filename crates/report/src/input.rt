@@ -1,8 +1,9 @@
 //! An input that is read whole.
 
-ghost use Rattle.std.specs.Prelude.{◌≡◌, ◌+◌, ◌-◌, ◌^◌, ◌<◌, Ok, Err, IfOk, IfErr, IfSome, MatchResult, length};
+ghost use Rattle.std.specs.Prelude.{◌≡◌, ◌+◌, Ok, Err, IfOk, IfErr, IfSome, MatchResult, length};
 ghost use Rattle.byte_stream.specs.Fault.{CountsFault};
 ghost use Rattle.byte_stream.specs.Intake.{TakesAtMost};
+ghost use Rattle.byte_stream.specs.State.{IsReadable};
 ghost use Rattle.report.specs.declared.fault.RunFault.TheVariants.{Memory};
 ghost use Rattle.report.specs.Input.{ReadsWhole, IsInputFault, read_failed};
 
@@ -24,16 +25,17 @@ pub fn read_input<F: Feed>(
     which: Input,
     limit: u64,
 ) -> Result<Vec<u8>, RunFault>
-    requires { F.fault_count feed.old < 2 ^ 64 - 1 }
-    ensures whole { IfSome (F.remaining feed.old) (λ bytes. MatchResult result
+    requires { IsReadable (F.state feed.old) }
+    ensures whole { IfSome (F.state feed.old).remaining (λ bytes. MatchResult result
         (λ read. ReadsWhole bytes limit (Ok read.items))
         (λ fault. ReadsWhole bytes limit (Err fault))) }
     ensures fault { IfErr result (IsInputFault which) }
     ensures counts_fault { CountsFault (read_failed result)
-        (F.fault_count feed.old) (F.fault_count feed.new) }
-    ensures at_most { TakesAtMost (limit + 1) (F.remaining feed.old) (F.remaining feed.new) }
+        (F.state feed.old).faults (F.state feed.new).faults }
+    ensures at_most { TakesAtMost (limit + 1)
+        (F.state feed.old).remaining (F.state feed.new).remaining }
     ensures memory { result ≡ Err Memory →
-        TakesAtMost limit (F.remaining feed.old) (F.remaining feed.new) }
+        TakesAtMost limit (F.state feed.old).remaining (F.state feed.new).remaining }
 {
     let mut chunk = make_chunk(alloc)?;
     let mut read = Vec::new(alloc);

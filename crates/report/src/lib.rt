@@ -1,25 +1,37 @@
-//! What every engine shares: its answer and how that is told, its text on the way to a sink, its
-//! inputs, and the words for what it promises.
+//! What every engine shares: its answer and how that is told, its text on the way to a sink, the
+//! inputs that it reads whole, and the words for what it promises.
 //!
 //! `specs/Reports` says for each answer of an engine what its sink has got and how often its
-//! devices have failed. An `Output` is the way of a text to a sink; ended by `close` it keeps that
-//! promise.
+//! devices have failed, and `specs/Runs` what is left of its inputs. An `Output` is the way of a
+//! text to a sink; ended by `close` it keeps that promise, and so does `publish` for a text that is
+//! made whole before.
 #![tactic(auto)]
 
+mod certificate_input;
+mod claim_input;
 mod delivery;
 mod exit_status;
 mod fault;
 mod fault_text;
+mod help;
 mod input;
+pub mod laws;
 mod output;
 mod publication;
+mod refusal;
+mod refutation_input;
 mod telling;
 
+pub use certificate_input::read_certificate_from;
+pub use claim_input::read_claim_from;
 pub use delivery::deliver;
 pub use exit_status::status;
 pub use fault::{Input, Outcome, RunFault};
 pub use fault_text::fault_line;
+pub use help::show;
 pub use input::read_input;
 pub use output::{OUTPUT_CAPACITY, Output, output_buffer};
 pub use publication::{Made, publish};
+pub use refusal::{refuse, refuse_time};
+pub use refutation_input::read_refutation_from;
 pub use telling::tell;

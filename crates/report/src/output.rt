@@ -14,14 +14,14 @@ pub const OUTPUT_CAPACITY: usize = 65536;
 /// memory.
 ///
 /// It borrows its sink and the buffer that it gathers in, and hands both back where it's dropped.
-pub struct Output<'a, K> {
-    sink: &'a mut K,
+pub struct Output<'a, S> {
+    sink: &'a mut S,
     text: &'a mut Vec<u8>,
     sent: u64,
     ghost room: { 65536 ≤ vec_capacity text.now },
 }
 
-impl<K> Drop for Output<'_, K> {
+impl<S> Drop for Output<'_, S> {
     fn drop(self)
         ensures { self.exit.0.now ≡ self.entry.sink.now }
     {
@@ -40,18 +40,18 @@ pub fn output_buffer(alloc: Global) -> Result<Vec<u8>, AllocError>
     Vec::with_capacity(alloc, OUTPUT_CAPACITY)
 }
 
-impl<'a, K: Sink> Output<'a, K> {
+impl<'a, S: Sink> Output<'a, S> {
     ghost use Rattle.report.specs.Output.{IsReady, Puts, fresh_output, with_text};
     ghost use Rattle.report.specs.Closing.{CanClose, Closes, IsRefusal};
-    ghost use Rattle.report.specs.State.{output_state, sink_state, sink_name};
+    ghost use Rattle.report.specs.State.{output_state, sink_name};
 
     /// An output over this sink that has got nothing, and gathers in this buffer, in place of what
     /// it held.
-    pub fn new(sink: &'a mut K, buffer: &'a mut Vec<u8>) -> Output<'a, K>
+    pub fn new(sink: &'a mut S, buffer: &'a mut Vec<u8>) -> Output<'a, S>
         requires { OUTPUT_CAPACITY ≤ vec_capacity buffer.old }
         ensures same_sink { sink_name result ≡ sink.entry.ghost_name }
-        ensures state { output_state K.contents K.is_open K.fault_count result
-            ≡ fresh_output (sink_state K.contents K.is_open K.fault_count sink.old) }
+        ensures state { output_state S.state result
+            ≡ fresh_output (S.state sink.old) }
     {
         buffer.clear();
         Output {
@@ -65,12 +65,12 @@ impl<'a, K: Sink> Output<'a, K> {
     ///
     /// The answer is `Write(n)` where the sink failed after exactly n bytes of all that was put.
     pub fn flush(&mut self) -> Result<(), RunFault>
-        requires { IsReady (output_state K.contents K.is_open K.fault_count self.old) }
+        requires { IsReady (output_state S.state self.old) }
         ensures same_sink { sink_name self.new ≡ sink_name self.old }
-        ensures puts_nothing { Puts (output_state K.contents K.is_open K.fault_count self.old)
-            (output_state K.contents K.is_open K.fault_count self.new) [] result }
+        ensures puts_nothing { Puts (output_state S.state self.old)
+            (output_state S.state self.new) [] result }
         ensures empty { OnOk result
-            ((output_state K.contents K.is_open K.fault_count self.new).gathered ≡ []) }
+            ((output_state S.state self.new).gathered ≡ []) }
     {
         match push_all(self.sink, self.text.as_slice()) {
             Ok(()) => {
@@ -86,11 +86,11 @@ impl<'a, K: Sink> Output<'a, K> {
     ///
     /// The answer is `Write(n)` where the sink failed after exactly n bytes of what was put before.
     pub fn put(&mut self, text: &[u8]) -> Result<(), RunFault>
-        requires ready { IsReady (output_state K.contents K.is_open K.fault_count self.old) }
+        requires ready { IsReady (output_state S.state self.old) }
         requires fits { length text.now ≤ OUTPUT_CAPACITY }
         ensures same_sink { sink_name self.new ≡ sink_name self.old }
-        ensures puts { Puts (output_state K.contents K.is_open K.fault_count self.old)
-            (output_state K.contents K.is_open K.fault_count self.new) (text.now ∷ []) result }
+        ensures puts { Puts (output_state S.state self.old)
+            (output_state S.state self.new) (text.now ∷ []) result }
     {
         if self.text.len() <= OUTPUT_CAPACITY - text.len() {
             self.gather(text);
@@ -103,11 +103,11 @@ impl<'a, K: Sink> Output<'a, K> {
 
     /// Gathers a text for which there is room.
     fn gather(&mut self, text: &[u8])
-        requires { length (output_state K.contents K.is_open K.fault_count self.old).gathered
+        requires { length (output_state S.state self.old).gathered
             + length text.now ≤ OUTPUT_CAPACITY }
         ensures same_sink { sink_name self.new ≡ sink_name self.old }
-        ensures gathers { output_state K.contents K.is_open K.fault_count self.new
-            ≡ with_text (output_state K.contents K.is_open K.fault_count self.old) text.now }
+        ensures gathers { output_state S.state self.new
+            ≡ with_text (output_state S.state self.old) text.now }
     {
         self.text.extend_from_slice(text).unwrap();
     }
@@ -119,10 +119,10 @@ impl<'a, K: Sink> Output<'a, K> {
     /// The answer stays, but where a push fails, or `finish` fails after an outcome: then it's
     /// `Write`.
     pub fn close(&mut self, ran: Result<Outcome, RunFault>) -> Result<Outcome, RunFault>
-        requires { CanClose (output_state K.contents K.is_open K.fault_count self.old) ran }
+        requires { CanClose (output_state S.state self.old) ran }
         ensures same_sink { sink_name self.new ≡ sink_name self.old }
-        ensures closes { Closes (output_state K.contents K.is_open K.fault_count self.old)
-            (output_state K.contents K.is_open K.fault_count self.new).sink ran result }
+        ensures closes { Closes (output_state S.state self.old)
+            (output_state S.state self.new).sink ran result }
     {
         match ran {
             Ok(outcome) => self.end(outcome),
@@ -132,10 +132,10 @@ impl<'a, K: Sink> Output<'a, K> {
 
     /// Ends a run whose text was put whole.
     fn end(&mut self, outcome: Outcome) -> Result<Outcome, RunFault>
-        requires { IsReady (output_state K.contents K.is_open K.fault_count self.old) }
+        requires { IsReady (output_state S.state self.old) }
         ensures same_sink { sink_name self.new ≡ sink_name self.old }
-        ensures closes { Closes (output_state K.contents K.is_open K.fault_count self.old)
-            (output_state K.contents K.is_open K.fault_count self.new).sink (Ok outcome) result }
+        ensures closes { Closes (output_state S.state self.old)
+            (output_state S.state self.new).sink (Ok outcome) result }
     {
         match self.flush() {
             Ok(()) => match self.sink.finish() {
@@ -148,10 +148,10 @@ impl<'a, K: Sink> Output<'a, K> {
 
     /// Ends a run that is given up, and answers its fault, or that the sink failed meanwhile.
     fn give_up(&mut self, fault: RunFault) -> RunFault
-        requires { CanClose (output_state K.contents K.is_open K.fault_count self.old) (Err fault) }
+        requires { CanClose (output_state S.state self.old) (Err fault) }
         ensures same_sink { sink_name self.new ≡ sink_name self.old }
-        ensures closes { Closes (output_state K.contents K.is_open K.fault_count self.old)
-            (output_state K.contents K.is_open K.fault_count self.new).sink
+        ensures closes { Closes (output_state S.state self.old)
+            (output_state S.state self.new).sink
             (Err fault) (Err result) }
     {
         match fault {
@@ -171,11 +171,11 @@ impl<'a, K: Sink> Output<'a, K> {
     /// Ends a run whose input is refused, and answers that, or that the sink failed before all
     /// lines had gone out.
     fn refuse(&mut self, refusal: RunFault) -> RunFault
-        requires ready { IsReady (output_state K.contents K.is_open K.fault_count self.old) }
+        requires ready { IsReady (output_state S.state self.old) }
         requires refusal { IsRefusal refusal }
         ensures same_sink { sink_name self.new ≡ sink_name self.old }
-        ensures closes { Closes (output_state K.contents K.is_open K.fault_count self.old)
-            (output_state K.contents K.is_open K.fault_count self.new).sink
+        ensures closes { Closes (output_state S.state self.old)
+            (output_state S.state self.new).sink
             (Err refusal) (Err result) }
     {
         match self.flush() {

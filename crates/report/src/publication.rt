@@ -1,8 +1,7 @@
 //! The end of a run that makes its whole text before it writes any.
 
-ghost use Rattle.std.specs.Prelude.{◌-◌, ◌^◌, ◌<◌, IsTrue};
+ghost use Rattle.byte_stream.specs.State.{IsWritable};
 ghost use Rattle.report.specs.Publication.{IsUnwritten, Publishes};
-ghost use Rattle.report.specs.State.{sink_state};
 
 use crate::delivery::deliver;
 use crate::fault::{Outcome, RunFault};
@@ -22,12 +21,10 @@ pub struct Made {
 ///
 /// `Write(n)` comes where the sink failed after exactly n bytes of the text; n is the whole length
 /// where only `finish` failed.
-pub fn publish<K: Sink>(out: &mut K, made: &Result<Made, RunFault>) -> Result<Outcome, RunFault>
-    requires is_open { IsTrue (K.is_open out.old) }
-    requires room { K.fault_count out.old < 2 ^ 64 - 1 }
+pub fn publish<S: Sink>(out: &mut S, made: &Result<Made, RunFault>) -> Result<Outcome, RunFault>
+    requires writable { IsWritable (S.state out.old) }
     requires unwritten { IsUnwritten made.now }
-    ensures { Publishes (sink_state K.contents K.is_open K.fault_count out.old)
-        (sink_state K.contents K.is_open K.fault_count out.new) made.now result }
+    ensures { Publishes (S.state out.old) (S.state out.new) made.now result }
 {
     match made {
         Ok(made) => match deliver(made.text.as_slice(), out) {

@@ -2,9 +2,8 @@
 
 ghost use Rattle.std.specs.Prelude.{◌≡◌, ◌+◌, ◌≤◌, ◌++◌, length};
 ghost use Rattle.line_writer.specs.declared.line.TheConstants.{CAPACITY};
+ghost use Rattle.byte_stream.specs.State.{IsWritable};
 ghost use Rattle.report.specs.ExitStatus.{status_of};
-ghost use Rattle.report.specs.Output.{IsWritable};
-ghost use Rattle.report.specs.State.{sink_state};
 ghost use Rattle.report.specs.Telling.{Tells, told_text};
 
 use crate::delivery::deliver;
@@ -30,9 +29,8 @@ fn put_answer(line: &mut Line, answer: &Result<Outcome, RunFault>)
 ///
 /// It takes no memory, so that a run that is out of memory is told too.
 pub fn tell<E: Sink>(answer: &Result<Outcome, RunFault>, err: &mut E) -> u8
-    requires { IsWritable (sink_state E.contents E.is_open E.fault_count err.old) }
-    ensures tells { Tells answer.now (sink_state E.contents E.is_open E.fault_count err.old)
-        (sink_state E.contents E.is_open E.fault_count err.new) }
+    requires { IsWritable (E.state err.old) }
+    ensures tells { Tells answer.now (E.state err.old) (E.state err.new) }
     ensures status { result ≡ status_of answer.now }
 {
     let mut line = Line::new();

@@ -281,9 +281,7 @@ struct Replies {
 }
 
 impl Feed for Replies {
-    ghost remaining = { λ _. None };
-
-    ghost fault_count = { λ _. 0 };
+    ghost state = { λ _. record { remaining = None; faults = 0 } };
 
     fn pull(&mut self, into: &mut [u8]) -> Result<usize, FeedFault> {
         if self.at >= V1.len() && self.more > 0 {

@@ -1,5 +1,9 @@
-use Rattle.listing.proofs.Refusal.{reports_refused_memory}
+use Rattle.std.proofs.Common.{◌∙◌, sym}
+use Rattle.listing.proofs.Answer.{lists_over}
 use Rattle.listing.proofs.list.list_from.Goals as goal
 
-pub returns-in-Err-clause-reports : goal.returns-in-Err-clause-reports
-returns-in-Err-clause-reports g c = reports_refused_memory _ c.publish.ensures
+pub returns : goal.returns
+returns g c =
+    let same = c.close.ensures.same_sink ∙ (c.list_records-ran.ensures.same_sink ∙ c.new-output.ensures.same_sink) in
+    let back = c.out-1.given.1 (sym same) ∙ c.drop-output.ensures in
+    rw back (lists_over c.new-output.ensures.state c.list_records-ran.ensures.listed c.close.ensures.closes)

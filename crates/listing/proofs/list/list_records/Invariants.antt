@@ -6,12 +6,12 @@ use Rattle.listing.proofs.list.list_records.Given as goal
 
 abbrev pub invariant-records : goal.invariant-records
 invariant-records g l =
-    let state = output_state g.K.Sink.contents g.K.Sink.is_open g.K.Sink.fault_count in
+    let state = output_state g.S.Sink.state in
     record {
       same_sink : sink_name l.out ≡ sink_name l.fn.out;
-      given : l.records ≡ (g.S.RecordSource.state l.source).given;
-      under_way : IsUnderWay (g.S.RecordSource.state l.fn.source) (state l.fn.out).sink
-          (moment (g.S.RecordSource.state l.source) (state l.out)) l.packets;
+      given : l.records ≡ (g.R.RecordSource.state l.source).given;
+      under_way : IsUnderWay (g.R.RecordSource.state l.fn.source) (state l.fn.out).sink
+          (moment (g.R.RecordSource.state l.source) (state l.out)) l.packets;
     }
 
 abbrev pub decreases-records : goal.decreases-records

@@ -8,12 +8,12 @@ returns-in-Err-clause-reports g c = reports_refused_memory _ c.publish.ensures
 pub returns-in-Ok-begin-clause-reports : goal.returns-in-Ok-begin-clause-reports
 returns-in-Ok-begin-clause-reports g c =
     reports_of_bytes _ _ _ c.in-Ok-begin.ensures.known c.in-Ok-begin.ensures.unfailed
-    c.into_feed.ensures.unfailed c.list_in-answer.ensures.reports
+    c.into_feed.ensures.unfailed c.list_from-answer.ensures.reports
 
 pub returns-in-Ok-begin-clause-at_most : goal.returns-in-Ok-begin-clause-at_most
 returns-in-Ok-begin-clause-at_most g c =
     rw c.into_feed.ensures.known (
-    TakesFrom-at_most _ _ (TakesFrom-trans _ _ _ c.in-Ok-begin.ensures.takes c.list_in-answer.ensures.takes))
+    TakesFrom-at_most _ _ (TakesFrom-trans _ _ _ c.in-Ok-begin.ensures.takes c.list_from-answer.ensures.takes))
 
 pub returns-clause-reports : goal.returns-clause-reports
 returns-clause-reports g c =

@@ -21,17 +21,17 @@ returns-in_err-format-clause-refusal g c =
     let p = err_from_is_err_and c.from_residual.result c.from_residual.ensures.1 in
     let s = c.args.input.now in
     let i = c.hold.new.self in
-    let rem = g.F.Feed.remaining in
+    let state = g.F.Feed.state in
     let h = c.in-Ok.ensures in
-    let keeps = Keeps-first (rem s.feed) (rem i.feed) (held_bytes s) (held_bytes i) (held-none s c.requires.none_held)
-    (refilled rem s i h.pulls) in
+    let keeps = Keeps-first (state s.feed).remaining (state i.feed).remaining (held_bytes s) (held_bytes i) (held-none s c.requires.none_held)
+    (refilled state s i h.pulls) in
     let end =
     λ (short : length (held_bytes i) < 24).
     let less : i.end - i.start < 24 = omega (arith, length-held i) in
     h.enough less
     in
     let value = ap header_of (sym c.held.ensures.value) ∙ sym c.in_err-format.ensures.value in
-    rw (p.1, p.2) (header_refused (rem s.feed) (rem i.feed) (held_bytes i) c.in_err-format.field-0.0 keeps end value)
+    rw (p.1, p.2) (header_refused (state s.feed).remaining (state i.feed).remaining (held_bytes i) c.in_err-format.field-0.0 keeps end value)
 
 pub returns-in_err-format-clause-not_memory : goal.returns-in_err-format-clause-not_memory
 returns-in_err-format-clause-not_memory g c =
@@ -57,13 +57,13 @@ returns-clause-known g c =
     let s = c.args.input.now in
     let i = c.hold.new.self in
     let k = c.consume.new.self in
-    let rem = g.F.Feed.remaining in
-    let keeps = Keeps-first (rem s.feed) (rem i.feed) (held_bytes s) (held_bytes i) (held-none s c.requires.none_held)
-    (refilled rem s i c.in-Ok.ensures.pulls) in
-    let keeps' = subst (λ f. Keeps (rem s.feed) (prepend_known (held_bytes i) (rem f)))
+    let state = g.F.Feed.state in
+    let keeps = Keeps-first (state s.feed).remaining (state i.feed).remaining (held_bytes s) (held_bytes i) (held-none s c.requires.none_held)
+    (refilled state s i c.in-Ok.ensures.pulls) in
+    let keeps' = subst (λ f. Keeps (state s.feed).remaining (prepend_known (held_bytes i) (state f).remaining))
     (sym c.consume.ensures.feed) keeps in
     let long : 24 ≤ length (held_bytes i) = omega (arith, c.in_ok-format.ensures.long, ap length c.held.ensures.value)
     in
     let value = ap header_of (sym c.held.ensures.value) ∙ sym c.in_ok-format.ensures.value in
-    header_begun (rem s.feed) (rem k.feed) (held_bytes i) (held_bytes k) c.in_ok-format.format keeps' long value
+    header_begun (state s.feed).remaining (state k.feed).remaining (held_bytes i) (held_bytes k) c.in_ok-format.format keeps' long value
     c.consume.ensures.rest

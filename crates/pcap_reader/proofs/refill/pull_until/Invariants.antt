@@ -7,9 +7,9 @@ abbrev pub invariant-loop-held : goal.invariant-loop-held
 invariant-loop-held g l =
     record {
       at_most : l.held ≤ l.most;
-      unfailed : g.F.Feed.fault_count l.feed ≡ g.F.Feed.fault_count l.initial.feed;
-      pulls : Pulls g.F.Feed.remaining l.initial.feed l.feed (take l.initial.held l.initial.buffer)
-          (take l.held l.buffer);
+      unfailed : (g.F.Feed.state l.feed).faults ≡ (g.F.Feed.state l.initial.feed).faults;
+      pulls : Pulls (g.F.Feed.state l.initial.feed) (g.F.Feed.state l.feed)
+          (take l.initial.held l.initial.buffer) (take l.held l.buffer);
     }
 
 abbrev pub decreases-loop-held : goal.decreases-loop-held

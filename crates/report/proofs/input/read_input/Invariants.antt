@@ -4,10 +4,10 @@ use Rattle.report.proofs.input.read_input.Given as goal
 
 abbrev pub invariant-pulls : goal.invariant-pulls
 invariant-pulls g l = record {
-  taken : Consumes (g.F.Feed.remaining l.initial.feed) (g.F.Feed.remaining l.feed) l.read.items;
+  taken : Consumes (g.F.Feed.state l.initial.feed).remaining (g.F.Feed.state l.feed).remaining l.read.items;
   within : length l.read.items ≤ l.limit;
   chunk : length l.chunk.items ≡ 65536;
-  unfailed : g.F.Feed.fault_count l.feed ≡ g.F.Feed.fault_count l.initial.feed;
+  unfailed : (g.F.Feed.state l.feed).faults ≡ (g.F.Feed.state l.initial.feed).faults;
 }
 
 abbrev pub decreases-pulls : goal.decreases-pulls

@@ -20,43 +20,43 @@ pub returns-in_default : goal.returns-in_default
 returns-in_default g c =
     let s = c.args.self.now in
     let i = c.hold.new.self in
-    let rem = g.F.Feed.remaining in
+    let state = g.F.Feed.state in
     let h = c.in_default.ensures in
     let few : i.end - i.start < 16 = omega (arith, h.short, c.head_size.ensures.at_most) in
     let last =
     λ (many : most_records ≤ s.given). let none : i.end - i.start < 1 =
     omega (arith, h.short, c.head_size.ensures.last) in none in
-    let kept = refilled rem s.input i h.pulls in
+    let kept = refilled state s.input i h.pulls in
     record {
       lawful = tt;
       numbers = refl;
       lends = last-none c.hold.new.self;
       next_is = says_nothing _;
       may_answer = tt;
-      in_time = in_time_head s.format s.given s.input.place (still_has rem s.input) (rem i.feed) (held_bytes i) _
+      in_time = in_time_head s.format s.given s.input.place (still_has state s.input) (state i.feed).remaining (held_bytes i) _
           (sym (length-held i)) kept few last;
       counts_fault = h.counts_fault;
       failed_iff = unfailed_iff _ s.failed c.requires.unfailed (λ same. cc);
       stays_failed = refl;
-      takes = Refills-takes _ _ _ _ _ _ h;
+      takes = Refills-takes _ _ _ _ _ h;
     }
 
 pub returns-then-is_empty : goal.returns-then-is_empty
 returns-then-is_empty g c =
     let s = c.args.self.now in
     let i = c.hold.new.self in
-    let rem = g.F.Feed.remaining in
+    let state = g.F.Feed.state in
     let h = c.in-Ok.ensures in
     let empty : length c.held-held.result.now ≡ 0 = eqb-true _ _ (sym c.is_empty.ensures ∙ c.if-is_empty.true) in
     let none : length (held_bytes i) ≡ 0 = sym (ap length c.held-held.ensures.value) ∙ empty in
     let short : i.end - i.start < c.head_size.result =
     omega (arith, c.head_size.ensures.some, c.held-held.ensures.len) in
-    let kept = refilled rem s.input i h.pulls in
+    let kept = refilled state s.input i h.pulls in
     record {
       lawful = tt;
       numbers = refl;
       lends = last-none i;
-      next_is = next_end s.format s.given s.input.place (still_has rem s.input) (rem i.feed) i.place (held_bytes i)
+      next_is = next_end s.format s.given s.input.place (still_has state s.input) (state i.feed).remaining i.place (held_bytes i)
           (last_bytes i 0)
           kept none (h.enough short);
       may_answer = tt;
@@ -64,7 +64,7 @@ returns-then-is_empty g c =
       counts_fault = h.counts_fault;
       failed_iff = unfailed_iff _ s.failed c.requires.unfailed (λ same. cc);
       stays_failed = refl;
-      takes = Refills-takes _ _ _ _ _ _ h;
+      takes = Refills-takes _ _ _ _ _ h;
     }
 
 pub returns-in_err-head : goal.returns-in_err-head
@@ -72,7 +72,7 @@ returns-in_err-head g c =
     let p = err_from_is_err_and c.from_residual.result c.from_residual.ensures.1 in
     let s = c.args.self.now in
     let i = c.hold.new.self in
-    let rem = g.F.Feed.remaining in
+    let state = g.F.Feed.state in
     let h = c.in-Ok.ensures in
     let e = c.in_err-head.field-0.0 in
     let fault = c.in_err-head.ensures in
@@ -85,12 +85,12 @@ returns-in_err-head g c =
     h.enough less
     in
     let shows = subst (λ l. ShowsFault s.format s.given s.input.place l e) c.held-held.ensures.value fault.fault in
-    let kept = refilled rem s.input i h.pulls in
+    let kept = refilled state s.input i h.pulls in
     rw (p.1, p.2) (record {
       lawful = tt;
       numbers = refl;
       lends = last-none i;
-      next_is = next_fault s.format s.given s.input.place (still_has rem s.input) (rem i.feed) _ (held_bytes i)
+      next_is = next_fault s.format s.given s.input.place (still_has state s.input) (state i.feed).remaining _ (held_bytes i)
           (last_bytes i 0) e
           kept some end shows;
       may_answer = record_fault_may e fault.record_fault;
@@ -98,7 +98,7 @@ returns-in_err-head g c =
       counts_fault = record_fault_counts e _ _ fault.record_fault h.counts_fault;
       failed_iff = record_fault_iff e s.failed fault.record_fault c.requires.unfailed;
       stays_failed = refl;
-      takes = Refills-takes _ _ _ _ _ _ h;
+      takes = Refills-takes _ _ _ _ _ h;
     })
 
 pub returns-in_default-hold : goal.returns-in_default-hold
@@ -106,12 +106,12 @@ returns-in_default-hold g c =
     let s = c.args.self.now in
     let i = c.hold.new.self in
     let j = c.hold-2.new.self in
-    let rem = g.F.Feed.remaining in
+    let state = g.F.Feed.state in
     let h = c.in-Ok.ensures in
     let k = c.in_default-hold.ensures in
     let head = c.in_ok-head.head in
     let found = c.in_ok-head.ensures in
-    let kept = refilled_twice rem s.input i j h.pulls k.pulls in
+    let kept = refilled_twice state s.input i j h.pulls k.pulls in
     let front = subst (λ l. (16 ≤ length l) × ShowsHead s.format s.given s.input.place l head) (sym k.pulls.joined)
     (head_held head s.format s.given s.input.place _ (held_bytes i) _ c.held-held.ensures.value found.long
     found.shows)
@@ -123,13 +123,13 @@ returns-in_default-hold g c =
       lends = last-none c.hold-2.new.self;
       next_is = says_nothing _;
       may_answer = tt;
-      in_time = in_time_record s.format s.given s.input.place (still_has rem s.input) (rem j.feed)
+      in_time = in_time_record s.format s.given s.input.place (still_has state s.input) (state j.feed).remaining
           (held_bytes j) head _
           kept found.few front.0 front.1 short;
       counts_fault = k.counts_fault ∙ ap (λ n. n + 1) h.counts_fault;
       failed_iff = unfailed_iff _ s.failed c.requires.unfailed (λ same. cc);
       stays_failed = refl;
-      takes = TakesFrom-trans _ _ _ (Refills-takes _ _ _ _ _ _ h) (Refills-takes _ _ _ _ _ _ k);
+      takes = TakesFrom-trans _ _ _ (Refills-takes _ _ _ _ _ h) (Refills-takes _ _ _ _ _ k);
     }
 
 pub returns-in_err-check_whole : goal.returns-in_err-check_whole
@@ -139,14 +139,14 @@ returns-in_err-check_whole g c =
     let s = c.args.self.now in
     let i = c.hold.new.self in
     let j = c.hold-2.new.self in
-    let rem = g.F.Feed.remaining in
+    let state = g.F.Feed.state in
     let h = c.in-Ok.ensures in
     let k = c.in-Ok-hold.ensures in
     let head = c.in_ok-head.head in
     let found = c.in_ok-head.ensures in
     let torn : c.in_err-check_whole.field-0.0 ≡ TornRecord s.input.place =
     c.in_err-check_whole.ensures.torn ∙ ap TornRecord found.place in
-    let kept = refilled_twice rem s.input i j h.pulls k.pulls in
+    let kept = refilled_twice state s.input i j h.pulls k.pulls in
     let front = subst (λ l. (16 ≤ length l) × ShowsHead s.format s.given s.input.place l head) (sym k.pulls.joined)
     (head_held head s.format s.given s.input.place _ (held_bytes i) _ c.held-held.ensures.value found.long
     found.shows)
@@ -155,12 +155,12 @@ returns-in_err-check_whole g c =
     let short : length (held_bytes j) < 16 + head.captured =
     omega (arith, c.held.ensures.len, c.in_err-check_whole.ensures.cut_off) in
     let less : j.end - j.start < c.record_size-size.result = omega (arith, c.record_size-size.ensures) in
-    let after = option_map (coming_from s.format s.given j.place) (still_has rem j) in
+    let after = option_map (coming_from s.format s.given j.place) (still_has state j) in
     rw (p.1, p.2, torn) (record {
       lawful = tt;
       numbers = refl;
       lends = last-none j;
-      next_is = next_torn s.format s.given s.input.place (still_has rem s.input) (rem j.feed) after (held_bytes j)
+      next_is = next_torn s.format s.given s.input.place (still_has state s.input) (state j.feed).remaining after (held_bytes j)
           (last_bytes j 0) head
           kept found.few front.0 front.1 short (k.enough less);
       may_answer = tt;
@@ -168,7 +168,7 @@ returns-in_err-check_whole g c =
       counts_fault = k.counts_fault ∙ h.counts_fault;
       failed_iff = unfailed_iff _ s.failed c.requires.unfailed (λ same. cc);
       stays_failed = refl;
-      takes = TakesFrom-trans _ _ _ (Refills-takes _ _ _ _ _ _ h) (Refills-takes _ _ _ _ _ _ k);
+      takes = TakesFrom-trans _ _ _ (Refills-takes _ _ _ _ _ h) (Refills-takes _ _ _ _ _ k);
     })
 
 pub returns : goal.returns
@@ -177,13 +177,13 @@ returns g c =
     let i = c.hold.new.self in
     let j = c.hold-2.new.self in
     let l = c.consume.new.self in
-    let rem = g.F.Feed.remaining in
+    let state = g.F.Feed.state in
     let h = c.in-Ok.ensures in
     let k = c.in-Ok-hold.ensures in
     let head = c.in_ok-head.head in
     let found = c.in_ok-head.ensures in
     let size = 16 + head.captured in
-    let kept = refilled_twice rem s.input i j h.pulls k.pulls in
+    let kept = refilled_twice state s.input i j h.pulls k.pulls in
     let front = subst (λ l. (16 ≤ length l) × ShowsHead s.format s.given s.input.place l head) (sym k.pulls.joined)
     (head_held head s.format s.given s.input.place _ (held_bytes i) _ c.held-held.ensures.value found.long
     found.shows)
@@ -200,15 +200,15 @@ returns g c =
     ∙ ap (λ n. drop n (held_bytes j)) size_is in
     let lent : last_bytes l head.captured ≡ take head.captured (drop 16 (held_bytes j)) =
     c.consume.ensures.last 16 head.captured (sym size_is) in
-    let has : still_has rem l ≡ prepend_known (drop size (held_bytes j)) (rem j.feed) =
-    ap (λ xs. prepend_known xs (rem l.feed)) rest
-    ∙ ap (λ f. prepend_known (drop size (held_bytes j)) (rem f)) c.consume.ensures.feed in
-    let after : option_map (coming_from s.format (s.given + 1) l.place) (still_has rem l)
+    let has : still_has state l ≡ prepend_known (drop size (held_bytes j)) (state j.feed).remaining =
+    ap (λ xs. prepend_known xs (state l.feed).remaining) rest
+    ∙ ap (λ f. prepend_known (drop size (held_bytes j)) (state f).remaining) c.consume.ensures.feed in
+    let after : option_map (coming_from s.format (s.given + 1) l.place) (still_has state l)
     ≡ option_map (coming_from s.format (s.given + 1) (s.input.place + size)) (prepend_known (drop size (held_bytes j))
-    (rem j.feed)) =
-    ap (λ p. option_map (coming_from s.format (s.given + 1) p) (still_has rem l)) place
+    (state j.feed).remaining) =
+    ap (λ p. option_map (coming_from s.format (s.given + 1) p) (still_has state l)) place
     ∙ ap (option_map (coming_from s.format (s.given + 1) (s.input.place + size))) has in
-    let next = next_whole s.format s.given s.input.place (still_has rem s.input) (rem j.feed)
+    let next = next_whole s.format s.given s.input.place (still_has state s.input) (state j.feed).remaining
     (held_bytes j) head kept found.few front.1
     whole in
     record {
@@ -218,9 +218,9 @@ returns g c =
       next_is = IsNext-same _ (Ok (Some head)) _ _ _ _ after lent next;
       may_answer = tt;
       in_time = says_nothing _;
-      counts_fault = ap g.F.Feed.fault_count c.consume.ensures.feed ∙ k.counts_fault ∙ h.counts_fault;
+      counts_fault = ap (λ f. (g.F.Feed.state f).faults) c.consume.ensures.feed ∙ k.counts_fault ∙ h.counts_fault;
       failed_iff = unfailed_iff _ s.failed c.requires.unfailed (λ same. cc);
       stays_failed = refl;
-      takes = subst (TakesFrom (supply_of rem s.input)) (sym c.consume.ensures.supply)
-          (TakesFrom-trans _ _ _ (Refills-takes _ _ _ _ _ _ h) (Refills-takes _ _ _ _ _ _ k));
+      takes = subst (TakesFrom (supply_of state s.input)) (sym c.consume.ensures.supply)
+          (TakesFrom-trans _ _ _ (Refills-takes _ _ _ _ _ h) (Refills-takes _ _ _ _ _ k));
     }

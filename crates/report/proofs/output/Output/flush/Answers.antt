@@ -22,7 +22,8 @@ returns-in-Err-clause-puts_nothing g c =
     let short = rw c.as_slice.ensures.value at c.in-Err.ensures.cut in
     let went = rw c.as_slice.ensures.value at c.in-Err.ensures.err in
     record {
-      texts = λ before texts put. put_stopped before _ _ texts c.in-Err.gone put (record { short = short; went = went });
+      texts = λ before texts put.
+          put_stopped before _ _ texts c.in-Err.gone put (record { short = short; went = went });
       fault = tt;
       count = tt;
       is_open = c.in-Err.ensures.stays_open;

@@ -2,7 +2,7 @@ use Rattle.std.proofs.Common.{Err, sym, subst}
 use Rattle.std.specs.Prelude.{is_err}
 use Rattle.report.specs.declared.fault.RunFault.{RunFault}
 use Rattle.report.specs.declared.fault.RunFault.TheVariants.{Memory}
-use Rattle.report.specs.State.{output_state, sink_state}
+use Rattle.report.specs.State.{output_state}
 use Rattle.report.specs.Closing.{Closes}
 use Rattle.report.proofs.ClosingLemmas.{closes_memory}
 use Rattle.report.proofs.output.Output.give_up.Goals as goal
@@ -10,8 +10,8 @@ use Rattle.report.proofs.output.Output.give_up.Goals as goal
 pub returns-in-Memory-clause-closes : goal.returns-in-Memory-clause-closes
 returns-in-Memory-clause-closes g c =
     let finishes = c.finish-in-Memory.ensures in
-    let old = output_state g.K.Sink.contents g.K.Sink.is_open g.K.Sink.fault_count c.args.self.now in
-    let after = sink_state g.K.Sink.contents g.K.Sink.is_open g.K.Sink.fault_count c.finish-in-Memory.new.self in
+    let old = output_state g.S.Sink.state c.args.self.now in
+    let after = g.S.Sink.state c.finish-in-Memory.new.self in
     subst (λ (ran : RunFault). Closes old after (Err ran) (Err Memory)) (sym c.in-Memory.is)
     (closes_memory _ _ (is_err c.finish-in-Memory.result)
     (record { kept = finishes.known; closed = finishes.closes; counts = finishes.counts_fault }))

@@ -1,0 +1,84 @@
+-- What is read of a capture is what its bytes give.
+use Rattle.std.proofs.Common.{◌≡◌, ◌∙◌, ◌++◌, ℕ, List, Option, Some, None, Result, Ok, Err, refl, sym, ap, inl, inr, arith, length-append}
+use Rattle.std.proofs.KnownBytes.{Consumes-trans}
+use Rattle.std.specs.Prelude.{IfSome, IsOk}
+use Rattle.byte_stream.specs.Intake.{TakesAtMost}
+use Rattle.pcap_reader.specs.declared.fault.CaptureFault.{CaptureFault}
+use Rattle.pcap_reader.specs.declared.fault.CaptureFault.TheVariants as captures
+use Rattle.pcap_reader.specs.Remaining.{Coming, capture_of}
+use Rattle.pcap_reader.specs.Refusal.{IsRefusal}
+use Rattle.pcap_reader.specs.Source.{AllRemains, Supply, TakesFrom}
+use Rattle.claim_file.specs.Claim.{ClaimData}
+use Rattle.pairing.specs.declared.collected.Collected.{Collected}
+use Rattle.pairing.specs.declared.fault.PairFault.{PairFault}
+use Rattle.pairing.specs.declared.fault.PairFault.TheVariants as pairs
+use Rattle.pairing.specs.Answer.{IsAnswerTo, IsFromOutside as is_pair_from_outside}
+use Rattle.pairing.specs.Pairing.{Collection, data_of as collection_data}
+use Rattle.report.specs.Fault.{run_fault_of}
+use Rattle.report.specs.Reading.{IsFromOutside, Reads}
+use Rattle.report.specs.Runs.{HasLawfulHeader}
+use Rattle.audit.specs.CaptureInput.{capture_read, collection_read, pair_run_fault_of}
+
+-- what is taken as a capture is begun and then read is no more than may be taken of a capture
+pub taken_in_all : (a b c : Supply) → TakesFrom a b → TakesFrom b c → TakesAtMost a.most a.unread c.unread
+taken_in_all a b c begun read = (
+  begun.taken ++ read.taken,
+  Consumes-trans a.unread b.unread c.unread begun.taken read.taken begun.consumed read.consumed,
+  omega (arith, length-append begun.taken read.taken, begun.at_most, read.at_most),
+)
+
+module _ (claim : ClaimData) where
+  of_capture : (bytes : List ℕ) (c : Result Coming CaptureFault) → capture_of bytes ≡ c →
+      capture_read claim bytes ≡ collection_read claim c
+  unfolding capture_read
+  of_capture bytes c is = ap (collection_read claim) is
+
+  -- the exchanges were collected
+  pub capture_is_read : (known : Option (List ℕ)) (remaining : Option Coming) (collected : Collected) →
+      IfSome known (λ bytes. AllRemains bytes remaining) → IfSome remaining (IsAnswerTo claim (Ok collected)) →
+      IfSome known (λ bytes. Reads collection_data (capture_read claim bytes) (Ok collected))
+  capture_is_read None remaining collected all exact = tt
+  capture_is_read (Some bytes) None collected (coming, is, same) exact = cc
+  capture_is_read (Some bytes) (Some now) collected (coming, is, same) exact =
+      let here : coming ≡ now = cc in
+      of_capture bytes (Ok coming) is ∙
+      ap (λ c. collection_read claim (Ok c)) here ∙ rw exact refl
+
+  outside : (fault : PairFault) → is_pair_from_outside fault → IsFromOutside (pair_run_fault_of fault)
+  outside pairs.Memory h = tt
+  outside (pairs.Capture captures.Read) h = tt
+  outside fault h = absurd h
+
+  -- they couldn't be
+  pub capture_unread : (known : Option (List ℕ)) (remaining : Option Coming) (fault : PairFault) →
+      IfSome known (λ bytes. AllRemains bytes remaining) → IfSome remaining (IsAnswerTo claim (Err fault)) →
+      IfSome known (λ bytes. Reads collection_data (capture_read claim bytes) (Err (pair_run_fault_of fault)))
+  capture_unread None remaining fault all exact = tt
+  capture_unread (Some bytes) None fault (coming, is, same) exact = cc
+  capture_unread (Some bytes) (Some now) fault (coming, is, same) (inl h) = inl (outside fault h)
+  capture_unread (Some bytes) (Some now) fault (coming, is, same) (inr exact) =
+      let here : coming ≡ now = cc in
+      inr (of_capture bytes (Ok coming) is ∙ (ap (λ c. collection_read claim (Ok c)) here ∙ rw exact refl))
+
+  -- the capture's header is refused
+  pub capture_refused : (known : Option (List ℕ)) (fault : CaptureFault) → IsRefusal known fault →
+      IfSome known (λ bytes. Reads collection_data (capture_read claim bytes) (Err (run_fault_of fault)))
+  capture_refused None fault refusal = tt
+  capture_refused (Some bytes) captures.Read refusal = inl tt
+  capture_refused (Some bytes) captures.Memory refusal = inl tt
+  capture_refused (Some bytes) fault refusal = inr (of_capture bytes (Err fault) refusal.1)
+
+-- ---- the header
+
+lawful_header : (claim : ClaimData) (c : Result Coming CaptureFault) (collection : Collection) →
+    collection_read claim c ≡ Ok collection → IsOk c
+lawful_header claim (Ok coming) collection is = refl
+lawful_header claim (Err fault) collection is = cc
+
+-- a capture that was read has a lawful header
+pub header_was_read : (claim : ClaimData) (known : Option (List ℕ)) (collected : Collected) →
+    IfSome known (λ bytes. Reads collection_data (capture_read claim bytes) (Ok collected)) → HasLawfulHeader known
+header_was_read claim None collected reads = tt
+header_was_read claim (Some bytes) collected reads =
+    lawful_header claim (capture_of bytes) (collection_data collected)
+    (sym (of_capture claim bytes (capture_of bytes) refl) ∙ reads)

@@ -1,0 +1,142 @@
+-- A run, once its text is made.
+use Rattle.std.proofs.Common.{◌≡◌, ◌+◌, ◌∙◌, ◌⊎◌, ◌++◌, ℕ, List, [], ◌∷◌, Option, Some, None, Result, Ok, Err, refl, sym, subst, inl, inr, append-nil}
+use Rattle.std.specs.List.{concat}
+use Rattle.std.specs.Prelude.{IfSome, IfErr}
+use Rattle.std.specs.Io.KnownBytes.{Appends, Keeps}
+use Rattle.byte_stream.specs.Fault.{CountsFault}
+use Rattle.byte_stream.specs.Intake.{TakesAtMost}
+use Rattle.byte_stream.specs.State.{SinkState}
+use Rattle.pcap_reader.specs.Limit.{most_taken}
+use Rattle.report.specs.declared.fault.Outcome.{Outcome}
+use Rattle.report.specs.declared.fault.RunFault.{RunFault}
+use Rattle.report.specs.declared.fault.RunFault.TheVariants as faults
+use Rattle.report.specs.declared.publication.Made.{Made}
+use Rattle.claim_file.specs.declared.claim.Claim.{Claim}
+use Rattle.claim_file.specs.Claim.{ClaimData, data_of as claim_data}
+use Rattle.report.specs.ClaimInput.{claim_read, max_claim}
+use Rattle.report.specs.Publication.{IsAnswerFor, IsMadeFor, IsUnwritten, Publishes}
+use Rattle.report.specs.Reports.{Report, Reports, GetsText, is_claim, is_second, is_capture, is_device, refused}
+use Rattle.report.specs.Reading.{Reads}
+use Rattle.report.specs.Run.{RunState}
+use Rattle.report.specs.Runs.{Runs, HasLawfulHeader, IsBeforeCapture, IsBeforeSecond, IsUnwrittenAt}
+use Rattle.audit.specs.Question.{QuestionData}
+use Rattle.audit.specs.Report.{after_claim, report_of_bytes}
+
+-- ---- the fault of an answer
+
+-- what holds of the fault of what was made, and of any failed write, holds of the answer's
+pub of_fault : (P : RunFault → Type 0) → ((sent : ℕ) → P (faults.Write sent)) → (made : Result Made RunFault)
+    (answer : Result Outcome RunFault) → IsAnswerFor made answer → IfErr made P → IfErr answer P
+of_fault P write (Ok m) answer (inl same) h = subst (λ (a : Result Outcome RunFault). IfErr a P) (sym same) tt
+of_fault P write (Ok m) answer (inr (sent, is)) h =
+    subst (λ (a : Result Outcome RunFault). IfErr a P) (sym is) (write sent)
+of_fault P write (Err fault) answer same h = subst (λ (a : Result Outcome RunFault). IfErr a P) (sym same) h
+
+-- being out of memory was known before
+pub was_memory : (made : Result Made RunFault) (answer : Result Outcome RunFault) → IsAnswerFor made answer →
+    answer ≡ Err faults.Memory → made ≡ Err faults.Memory
+was_memory (Ok m) answer (inl same) is = cc
+was_memory (Ok m) answer (inr (sent, writes)) is = cc
+was_memory (Err fault) answer same is = cc
+
+-- ---- nothing is written where a run is given up
+
+keeps : (before after : Option (List ℕ)) → Appends before after [] → Keeps before after
+keeps None after h = tt
+keeps (Some old) None h = absurd h
+keeps (Some old) (Some new) h = h ∙ append-nil old
+
+-- the first lines of no lines
+no_lines : (before after : Option (List ℕ)) (first others : List (List ℕ)) → [] ≡ first ++ others →
+    Appends before after (concat first) → Keeps before after
+no_lines before after [] others none h = keeps before after h
+no_lines before after (x ∷ xs) others none h = cc
+
+given_up : (fault : RunFault) (before after : Option (List ℕ)) → GetsText (refused fault) before after (Err fault) →
+    IsUnwrittenAt fault before after
+given_up faults.Memory before after h = inr h
+given_up (faults.Write sent) before after h = inl tt
+given_up (faults.Device input) before after h = inr (no_lines before after h.0 h.1 h.2 h.3)
+given_up fault before after h = inr (keeps before after h.1)
+
+refusal_for : (fault : RunFault) → IsUnwritten (Err fault) → IsMadeFor (refused fault) (Err fault)
+refusal_for (faults.Write sent) h = absurd h
+refusal_for faults.Memory h = tt
+refusal_for (faults.Device input) h = tt
+refusal_for fault h = (refl, refl)
+
+unwritten : (before after : SinkState) (made : Result Made RunFault) (answer : Result Outcome RunFault) →
+    IsUnwritten made → Publishes before after made answer →
+    IfErr made (λ fault. IsUnwrittenAt fault before.contents after.contents)
+unwritten before after (Ok m) answer h p = tt
+unwritten before after (Err fault) answer h p =
+    given_up fault before.contents after.contents
+    (subst (GetsText (refused fault) before.contents after.contents) p.stays
+    (p.text (refused fault) (refusal_for fault h)))
+
+-- ---- the whole
+
+-- what was made is published
+published_text : {before after : SinkState} {answer : Result Outcome RunFault} (report : Option Report)
+    (made : Result Made RunFault) → IfSome report (λ r. IsMadeFor r made) → Publishes before after made answer →
+    IfSome report (λ r. GetsText r before.contents after.contents answer)
+published_text None made h p = tt
+published_text (Some r) made h p = p.text r h
+
+-- what is known of a run once its text is made
+pub record HasMade {T F : Type 0} (report : Option Report) (most : ℕ) (before after : RunState)
+    (second second' : T) (capture capture' : F) (made : Result Made RunFault) : Type 0 where
+  pub is_made : IfSome report (λ r. IsMadeFor r made)
+  pub unwritten : IsUnwritten made
+  pub claim_faults : CountsFault (is_device is_claim made) before.claim.faults after.claim.faults
+  pub second_faults : CountsFault (is_device is_second made) before.second.faults after.second.faults
+  pub capture_faults : CountsFault (is_device is_capture made) before.capture.faults after.capture.faults
+  pub second_untouched : IfErr made (λ fault. IsBeforeSecond fault → second' ≡ second)
+  pub capture_untouched : IfErr made (λ fault. IsBeforeCapture fault → capture' ≡ capture)
+  pub claim_at_most : TakesAtMost (max_claim + 1) before.claim.remaining after.claim.remaining
+  pub second_at_most : TakesAtMost most before.second.remaining after.second.remaining
+  pub capture_at_most : TakesAtMost most_taken before.capture.remaining after.capture.remaining
+  pub memory : made ≡ Err faults.Memory → (capture' ≡ capture) ⊎ HasLawfulHeader before.capture.remaining
+
+module _ {T F : Type 0} (report : Option Report) (most : ℕ) (before after : RunState)
+    (second second' : T) (capture capture' : F) (made : Result Made RunFault)
+    (answer : Result Outcome RunFault) where
+  pub run_reports : HasMade report most before after second second' capture capture' made →
+      Publishes before.sink after.sink made answer → Reports report before after answer
+  run_reports h p = record {
+    text = published_text report made h.is_made p;
+    closed = p.closed;
+    sink = p.sink;
+    claim = rw (p.device is_claim) h.claim_faults;
+    second = rw (p.device is_second) h.second_faults;
+    capture = rw (p.device is_capture) h.capture_faults;
+  }
+
+  -- what was made is published, and the promise is kept
+  pub made_runs : HasMade report most before after second second' capture capture' made →
+      Publishes before.sink after.sink made answer →
+      Runs report most before after second second' capture capture' answer
+  made_runs h p = record {
+    reports = run_reports h p;
+    unwritten = of_fault (λ fault. IsUnwrittenAt fault before.sink.contents after.sink.contents)
+        (λ sent. inl tt) made answer p.stays (unwritten before.sink after.sink made answer h.unwritten p);
+    second_untouched = of_fault (λ fault. IsBeforeSecond fault → second' ≡ second) (λ sent no. absurd no)
+        made answer p.stays h.second_untouched;
+    capture_untouched = of_fault (λ fault. IsBeforeCapture fault → capture' ≡ capture) (λ sent no. absurd no)
+        made answer p.stays h.capture_untouched;
+    claim_at_most = h.claim_at_most;
+    second_at_most = h.second_at_most;
+    capture_at_most = h.capture_at_most;
+    memory = λ is. h.memory (was_memory made answer p.stays is);
+  }
+
+-- ---- from the claim's bytes
+
+-- what was made of a claim that was read, or refused, is what its bytes call for
+pub made_of_bytes : (question : QuestionData) (claim second capture : Option (List ℕ)) (read : Result Claim RunFault)
+    (made : Result Made RunFault) → IfSome claim (λ bytes. Reads claim_data (claim_read bytes) read) →
+    ((expected : Result ClaimData RunFault) → Reads claim_data expected read →
+    IfSome (after_claim question expected second capture) (λ report. IsMadeFor report made)) →
+    IfSome (report_of_bytes question claim second capture) (λ report. IsMadeFor report made)
+made_of_bytes question None second capture read made reads is = tt
+made_of_bytes question (Some bytes) second capture read made reads is = is (claim_read bytes) reads

@@ -1,0 +1,43 @@
+-- The status of an outcome.
+use Rattle.std.proofs.Common.{◌≡◌, ◌≤◌, ◌∙◌, ℕ, Result, Ok, Err, refl, sym, ap, subst, arith}
+use Rattle.std.specs.Prelude.{IfOk}
+use Rattle.report.specs.declared.fault.Outcome.{Outcome}
+use Rattle.report.specs.declared.fault.Outcome.TheVariants.{Yes, No}
+use Rattle.report.specs.declared.fault.RunFault.{RunFault}
+use Rattle.report.specs.declared.fault.RunFault.TheVariants.{Capture, Claim, Certificate, Refutation, Exchanges, Pieces, TooBig, Device, Write, Memory}
+use Rattle.report.specs.ExitStatus.{status_of}
+
+fault_status : (fault : RunFault) → 2 ≤ status_of (Err fault)
+fault_status (Capture fault) = omega arith
+fault_status (Claim fault) = omega arith
+fault_status (Certificate fault) = omega arith
+fault_status (Refutation fault) = omega arith
+fault_status Exchanges = omega arith
+fault_status Pieces = omega arith
+fault_status (TooBig input) = omega arith
+fault_status Memory = omega arith
+fault_status (Device input) = omega arith
+fault_status (Write sent) = omega arith
+
+outcome_status : (outcome : Outcome) → status_of (Ok outcome) ≤ 1
+outcome_status Yes = omega arith
+outcome_status No = omega arith
+
+same_outcome : (a o : Outcome) → status_of (Ok a) ≡ status_of (Ok o) → a ≡ o
+same_outcome Yes Yes same = refl
+same_outcome No No same = refl
+same_outcome Yes No same = absurd (omega arith)
+same_outcome No Yes same = absurd (omega arith)
+
+-- an answer with the status of an outcome is that outcome
+pub outcome_told : (answer : Result Outcome RunFault) (outcome : Outcome) →
+    status_of answer ≡ status_of (Ok outcome) → answer ≡ Ok outcome
+outcome_told (Ok a) outcome same = ap (λ o. Ok o) (same_outcome a outcome same)
+outcome_told (Err fault) outcome same =
+    absurd (omega (arith, fault_status fault, outcome_status outcome))
+
+-- what an outcome shows, by its status
+pub shown_by_status : (P : Outcome → Type 0) (answer : Result Outcome RunFault) (status : ℕ) →
+    status ≡ status_of answer → IfOk answer P → (outcome : Outcome) → status ≡ status_of (Ok outcome) → P outcome
+shown_by_status P answer status is shows outcome told =
+    subst (λ (a : Result Outcome RunFault). IfOk a P) (outcome_told answer outcome (sym is ∙ told)) shows

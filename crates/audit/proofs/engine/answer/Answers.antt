@@ -1,0 +1,45 @@
+use Rattle.std.proofs.Common.{subst}
+use Rattle.report.specs.declared.fault.Outcome.TheVariants.{Yes}
+use Rattle.audit.specs.declared.question.Question.{Question}
+use Rattle.audit.specs.Question.{Shows, data_of}
+use Rattle.audit.proofs.StatusLemmas.{shown_by_status}
+use Rattle.audit.proofs.RunLemmas.{made_of_bytes, run_reports}
+use Rattle.audit.proofs.ShowsLemmas.{run_shows}
+use Rattle.audit.proofs.engine.answer.Goals as goal
+
+pub returns-clause-answers : goal.returns-clause-answers
+returns-clause-answers g c =
+    let read = c.read_claim_from-claim.ensures in
+    let made = c.make_report-capture.ensures in
+    record {
+      answer = c.publish-answer.result;
+      reports = run_reports _ _ _ _ _ _ _ _ c.make_report-capture.result.1 _ (record {
+        is_made = made_of_bytes _ _ _ _ c.read_claim_from-claim.result _ read.known made.made;
+        unwritten = made.unwritten;
+        claim_faults = rw made.claim_device read.counts_fault;
+        second_faults = made.second_faults;
+        capture_faults = made.capture_faults;
+        second_untouched = made.second_untouched;
+        capture_untouched = made.capture_untouched;
+        claim_at_most = read.at_most;
+        second_at_most = made.second_at_most;
+        capture_at_most = made.capture_at_most;
+        memory = made.memory;
+      }) c.publish-answer.ensures;
+      tells = c.tell.ensures.tells;
+      status_is = c.tell.ensures.status;
+    }
+
+pub returns-clause-shows : goal.returns-clause-shows
+returns-clause-shows g c =
+    let made = c.make_report-capture.ensures in
+    shown_by_status (Shows (data_of c.args.question) _ _ _) c.publish-answer.result c.tell.result
+    c.tell.ensures.status
+    (run_shows (data_of c.args.question) _ _ _ c.read_claim_from-claim.result c.make_report-capture.result.1 _
+    c.read_claim_from-claim.ensures.known made.read made.shows c.publish-answer.ensures.stays)
+
+pub returns-clause-traceable : goal.returns-clause-traceable
+returns-clause-traceable g c = λ is zero.
+    let shown = returns-clause-shows g c Yes zero in
+    subst (λ (question : Question). Shows (data_of question) (g.C.Feed.state c.args.claim.now)
+    (g.T.Feed.state c.args.second.now) (g.F.Feed.state c.args.capture) Yes) is shown

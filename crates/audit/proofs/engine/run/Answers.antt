@@ -1,0 +1,28 @@
+use Rattle.audit.specs.Question.{data_of}
+use Rattle.audit.proofs.RunLemmas.{made_of_bytes, made_runs}
+use Rattle.audit.proofs.ShowsLemmas.{run_shows}
+use Rattle.audit.proofs.engine.run.Goals as goal
+
+pub returns-clause-runs : goal.returns-clause-runs
+returns-clause-runs g c =
+    let read = c.read_claim_from-claim.ensures in
+    let made = c.make_report-capture.ensures in
+    made_runs _ _ _ _ _ _ _ _ c.make_report-capture.result.1 _ (record {
+      is_made = made_of_bytes _ _ _ _ c.read_claim_from-claim.result _ read.known made.made;
+      unwritten = made.unwritten;
+      claim_faults = rw made.claim_device read.counts_fault;
+      second_faults = made.second_faults;
+      capture_faults = made.capture_faults;
+      second_untouched = made.second_untouched;
+      capture_untouched = made.capture_untouched;
+      claim_at_most = read.at_most;
+      second_at_most = made.second_at_most;
+      capture_at_most = made.capture_at_most;
+      memory = made.memory;
+    }) c.publish-answer.ensures
+
+pub returns-clause-shows : goal.returns-clause-shows
+returns-clause-shows g c =
+    let made = c.make_report-capture.ensures in
+    run_shows (data_of c.args.question) _ _ _ c.read_claim_from-claim.result c.make_report-capture.result.1 _
+    c.read_claim_from-claim.ensures.known made.read made.shows c.publish-answer.ensures.stays

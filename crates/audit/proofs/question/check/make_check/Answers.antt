@@ -1,0 +1,14 @@
+use Rattle.certificate.specs.Certificate.{data_of as certificate_data}
+use Rattle.audit.specs.Evidence.{evidence_data}
+use Rattle.audit.proofs.CheckLemmas.{verdict_shows}
+use Rattle.audit.proofs.question.check.make_check.Goals as goal
+
+pub returns-in-Ok-clause-shows : goal.returns-in-Ok-clause-shows
+returns-in-Ok-clause-shows c =
+    let verdict = c.check_exchanges-verdict in
+    verdict_shows (certificate_data c.args.certificate.now) (evidence_data c.args.evidence.now) verdict.result
+    c.outcome_of.result c.outcome_of.ensures (record {
+      exact = rw c.deref.ensures.value at verdict.ensures.exact;
+      yes = rw c.deref.ensures.value at verdict.ensures.yes;
+      contradiction = rw c.deref.ensures.value at verdict.ensures.contradiction;
+    })

@@ -1,0 +1,112 @@
+-- Every question: what its second input adds to it, the report that is made, and what the outcome
+-- shows.
+use Rattle.std.specs.Prelude.{◌≡◌, ◌+◌, ◌≤◌, ℕ, List, Option, Some, Result, Ok, Err, vec_len}
+use Rattle.std.specs.Option.{option_map}
+use Rattle.byte_stream.specs.State.{FeedState}
+use Rattle.certificate.specs.Certificate.{CertificateData, data_of as certificate_data, max_pieces}
+use Rattle.checker.specs.Traceability.{IsTraceable}
+use Rattle.report.specs.CertificateInput.{certificate_read, max_certificate}
+use Rattle.report.specs.Reports.{Report}
+use Rattle.report.specs.declared.fault.Outcome.{Outcome}
+use Rattle.report.specs.declared.fault.Outcome.TheVariants.{Yes, No}
+use Rattle.report.specs.declared.fault.RunFault.{RunFault}
+use Rattle.audit.specs.At.{at_report}
+use Rattle.audit.specs.Check.{HasVerdictNo, IsNotTraced, IsTraced, check_report}
+use Rattle.audit.specs.Evidence.{EvidenceData, samples_in}
+use Rattle.audit.specs.Find.{IsAccepted, IsFoundOf, IsNotFound, IsNothingOf, find_report}
+use Rattle.audit.specs.Samples.{samples_report}
+use Rattle.audit.specs.declared.question.Question.{Question}
+use Rattle.audit.specs.declared.question.Question.TheVariants as questions
+use Rattle.audit.specs.declared.question.Task.{Task}
+use Rattle.audit.specs.declared.question.Task.TheVariants as tasks
+
+-- a question, as numbers: a moment in Unix seconds, the length of a piece in seconds
+pub data QuestionData : Type 0 where
+  samples : QuestionData
+  at : ℕ → QuestionData
+  find : ℕ → QuestionData
+  check : QuestionData
+
+-- a question with what its second input says
+pub data TaskData : Type 0 where
+  show_samples : TaskData
+  show_at : ℕ → TaskData
+  find_with : ℕ → TaskData
+  check_of : CertificateData → TaskData
+
+-- ---- what values of the program say
+
+abbrev pub data_of : Question → QuestionData
+data_of questions.Samples = samples
+data_of (questions.At second) = at second
+data_of (questions.Find step) = find step.seconds
+data_of questions.Check = check
+
+abbrev pub task_data : Task → TaskData
+task_data tasks.Samples = show_samples
+task_data (tasks.At second) = show_at second
+task_data (tasks.Find step) = find_with step.seconds
+task_data (tasks.Check certificate) = check_of (certificate_data certificate)
+
+-- its certificate keeps its limits
+abbrev pub IsLawfulTask : Task → Type 0
+IsLawfulTask (tasks.Check certificate) = vec_len certificate.pieces ≤ max_pieces
+IsLawfulTask task = Unit {0}
+
+-- ---- the second input
+
+-- the certificate that is to be checked
+abbrev pub check_read : Result CertificateData RunFault → Result TaskData RunFault
+check_read (Ok certificate) = Ok (check_of certificate)
+check_read (Err fault) = Err fault
+
+-- what a question becomes by the bytes of its second input, as far as they are known: without such
+-- an input it becomes itself
+abbrev pub task_read : QuestionData → Option (List ℕ) → Option (Result TaskData RunFault)
+task_read samples second = Some (Ok show_samples)
+task_read (at moment) second = Some (Ok (show_at moment))
+task_read (find step) second = Some (Ok (find_with step))
+task_read check second = option_map (λ bytes. check_read (certificate_read bytes)) second
+
+-- this is what a question became
+abbrev pub IsTaskOf : QuestionData → TaskData → Type 0
+IsTaskOf samples show_samples = Unit {0}
+IsTaskOf (at moment) (show_at same) = same ≡ moment
+IsTaskOf (find step) (find_with same) = same ≡ step
+IsTaskOf check (check_of certificate) = Unit {0}
+IsTaskOf _ _ = ⊥
+
+-- how many bytes are taken of the second input at most
+abbrev pub most_second : QuestionData → ℕ
+most_second check = max_certificate + 1
+most_second _ = 0
+
+-- a question that has no second input
+abbrev pub AsksNoSecond : QuestionData → Type 0
+AsksNoSecond check = ⊥
+AsksNoSecond _ = Unit {0}
+
+-- ---- the report, and what its outcome shows
+
+-- the report of each task on a claim and the exchanges of a capture
+abbrev pub report_on : TaskData → EvidenceData → Report
+report_on show_samples e = samples_report e
+report_on (show_at second) e = at_report second e
+report_on (find_with step) e = find_report step e
+report_on (check_of certificate) e = check_report certificate e
+
+-- what its outcome shows of them
+abbrev pub ShowsOf : TaskData → EvidenceData → Outcome → Type 0
+ShowsOf (find_with step) e Yes = IsFoundOf step e
+ShowsOf (find_with step) e No = IsNothingOf step e
+ShowsOf (check_of certificate) e Yes = IsTraceable e.claim (samples_in e)
+ShowsOf (check_of certificate) e No = HasVerdictNo certificate e
+ShowsOf _ e outcome = Unit {0}
+
+-- what the outcome of a run shows whose claim, second input and capture begin so
+abbrev pub Shows : QuestionData → FeedState → FeedState → FeedState → Outcome → Type 0
+Shows (find step) claim second capture Yes = IsAccepted step claim capture
+Shows (find step) claim second capture No = IsNotFound step claim capture
+Shows check claim second capture Yes = IsTraced claim capture
+Shows check claim second capture No = IsNotTraced claim second capture
+Shows _ claim second capture outcome = Unit {0}

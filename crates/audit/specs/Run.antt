@@ -1,0 +1,42 @@
+-- What a run needs and what it promises.
+use Rattle.std.specs.Prelude.{ℕ, ◌≤◌, Result}
+use Rattle.byte_stream.specs.State.{IsReadable, IsWritable, SinkState}
+use Rattle.report.specs.declared.fault.Outcome.{Outcome}
+use Rattle.report.specs.declared.fault.RunFault.{RunFault}
+use Rattle.report.specs.Run.{RunState}
+use Rattle.report.specs.Runs.{Runs}
+use Rattle.report.specs.Telling.{Answers}
+use Rattle.audit.specs.Question.{QuestionData, most_second}
+use Rattle.audit.specs.Report.{run_report}
+
+-- A run may begin: each input may be pulled from, and its sink may be written to.
+pub record MayRun (before : RunState) : Type 0 where
+  pub claim : IsReadable before.claim
+  pub second : IsReadable before.second
+  pub capture : IsReadable before.capture
+  pub sink : IsWritable before.sink
+
+-- What a run promises that a question is asked of: the text and the answer are those that the
+-- bytes of its inputs call for.
+abbrev pub RunsFor : {T F : Type 0} → QuestionData → RunState → RunState → T → T → F → F →
+    Result Outcome RunFault → Type 0
+RunsFor question before after second second' capture capture' answer =
+    Runs (run_report question before) (most_second question) before after second second'
+    capture capture' answer
+
+-- the same of a question without a second input
+abbrev pub RunsAlone : {F : Type 0} → QuestionData → RunState → RunState → F → F →
+    Result Outcome RunFault → Type 0
+RunsAlone question before after capture capture' answer =
+    RunsFor {T = Unit {0}} question before after (tt {0}) (tt {0}) capture capture' answer
+
+-- What a caller of a whole command sees that asks a question: the same, told by a line and a status.
+abbrev pub AnswersFor :
+    QuestionData → RunState → RunState → SinkState → SinkState → ℕ → Type 0
+AnswersFor question before after err err' status =
+    Answers (run_report question before) before after err err' status
+
+-- a length that pieces may have, in seconds
+pub record IsStep (seconds : ℕ) : Type 0 where
+  pub least : 1 ≤ seconds
+  pub most : seconds ≤ 86400

@@ -1,0 +1,170 @@
+//! One engine for every question on a claim and a capture.
+//!
+//! The inputs are read in the order claim, second input, capture, and what stands after a refusal
+//! isn't read. Of what they say the whole text is made, and only then is it written. The contract
+//! of each function here is one promise, `RunsFor`: the text and the answer are those that the
+//! bytes of the inputs call for; with it stands what an outcome shows.
+
+ghost use Rattle.std.specs.Prelude.{◌≡◌, ◌⊎◌, Result, Ok, Err, IfOk, IfErr, IfSome};
+ghost use Rattle.byte_stream.specs.Fault.{CountsFault};
+ghost use Rattle.byte_stream.specs.Intake.{TakesAtMost};
+ghost use Rattle.byte_stream.specs.State.{IsReadable, IsWritable};
+ghost use Rattle.pcap_reader.specs.Limit.{most_taken};
+ghost use Rattle.claim_file.specs.Claim.{ClaimData, IsLawful, data_of as claim_data};
+ghost use Rattle.report.specs.ClaimInput.{IsOfClaim};
+ghost use Rattle.report.specs.ExitStatus.{status_of};
+ghost use Rattle.report.specs.Publication.{IsMadeFor, IsUnwritten};
+ghost use Rattle.report.specs.Reading.{Reads};
+ghost use Rattle.report.specs.Reports.{is_claim, is_second, is_capture, is_device};
+ghost use Rattle.report.specs.Run.{run_state};
+ghost use Rattle.report.specs.Runs.{HasLawfulHeader, IsBeforeCapture, IsBeforeSecond};
+ghost use Rattle.report.specs.declared.fault.Outcome.{Outcome as TheOutcome};
+ghost use Rattle.report.specs.declared.fault.RunFault.{RunFault as TheFault};
+ghost use Rattle.audit.specs.Check.{IsTraced};
+ghost use Rattle.audit.specs.Question.{AsksNoSecond, Shows, data_of, most_second};
+ghost use Rattle.audit.specs.Report.{ShowsAfter, after_claim};
+ghost use Rattle.audit.specs.Run.{AnswersFor, MayRun, RunsFor};
+
+use crate::capture_input::read_capture_from;
+use crate::evidence::Evidence;
+use crate::question::{Question, make, read_task};
+use byte_stream::{Feed, Sink};
+use claim_file::Claim;
+use report::{Made, Outcome, RunFault, publish, read_claim_from, tell};
+use std::alloc::Global;
+use std::hash::BuildHasher;
+
+/// Where a command writes: its report, and the line that tells a fault.
+#[derive(Debug, Drop)]
+pub struct Outputs<S, E> {
+    /// The report's sink.
+    pub out: S,
+    /// The sink for the line of a fault.
+    pub err: E,
+}
+
+/// Reads the second input and the capture for a claim that was read, or refused, and makes the
+/// whole text. The capture's feed is handed back beside it.
+fn make_report<T: Feed, F: Feed, H: BuildHasher + Drop>(
+    alloc: Global,
+    question: Question,
+    claim: Result<Claim, RunFault>,
+    second: &mut T,
+    capture: F,
+    hasher: H,
+) -> (F, Result<Made, RunFault>)
+    requires lawful { IfOk claim (λ c. IsLawful (claim_data c)) }
+    requires claim_fault { IfErr claim IsOfClaim }
+    requires second { IsReadable (T.state second.old) }
+    requires capture { IsReadable (F.state capture) }
+    ensures made { (expected : Result ClaimData TheFault) → Reads claim_data expected claim →
+        IfSome (after_claim (data_of question) expected
+        (T.state second.old).remaining (F.state capture).remaining)
+        (λ report. IsMadeFor report result.1) }
+    ensures unwritten { IsUnwritten result.1 }
+    ensures shows { IfOk result.1 (λ made. IfOk claim (λ c.
+        ShowsAfter (data_of question) (claim_data c)
+        (T.state second.old).remaining (F.state capture).remaining made.outcome)) }
+    ensures read { IfErr claim (λ fault. result.1 ≡ Err fault) }
+    ensures claim_device { is_device is_claim result.1 ≡ is_device is_claim claim }
+    ensures second_faults { CountsFault (is_device is_second result.1)
+        (T.state second.old).faults (T.state second.new).faults }
+    ensures capture_faults { CountsFault (is_device is_capture result.1)
+        (F.state capture).faults (F.state result.0).faults }
+    ensures second_untouched { IfErr result.1 (λ fault.
+        IsBeforeSecond fault → second.new ≡ second.old) }
+    ensures capture_untouched { IfErr result.1 (λ fault.
+        IsBeforeCapture fault → result.0 ≡ capture) }
+    ensures unasked { AsksNoSecond (data_of question) → second.new ≡ second.old }
+    ensures second_at_most { TakesAtMost (most_second (data_of question))
+        (T.state second.old).remaining (T.state second.new).remaining }
+    ensures capture_at_most { TakesAtMost most_taken
+        (F.state capture).remaining (F.state result.0).remaining }
+    ensures memory { result.1 ≡ Err RunFault.Memory →
+        (result.0 ≡ capture) ⊎ HasLawfulHeader (F.state capture).remaining }
+{
+    let claim = match claim {
+        Ok(claim) => claim,
+        Err(fault) => return (capture, Err(fault)),
+    };
+    let task = match read_task(alloc, question, second) {
+        Ok(task) => task,
+        Err(fault) => return (capture, Err(fault)),
+    };
+    let (capture, collected) = read_capture_from(alloc, capture, &claim, hasher);
+    match collected {
+        Ok(collected) => {
+            let evidence = Evidence { claim, collected };
+            (capture, make(alloc, &task, &evidence))
+        }
+        Err(fault) => (capture, Err(fault)),
+    }
+}
+
+/// Answers a question by a claim, the question's second input and a capture: the text goes to
+/// `out`, and the capture's feed is handed back. A question without a second input takes nothing of
+/// `second`.
+///
+/// The claim is read first, then the second input, then the capture; what stands later isn't read
+/// after a refusal. Nothing is written before all of it is made. `Device` comes where a feed
+/// failed, and `Write(n)` where the sink failed after exactly n bytes of the text. The index of
+/// requests hashes by `hasher`: who doesn't trust the capture's writer passes one with a random
+/// key.
+pub fn run<C: Feed, T: Feed, F: Feed, S: Sink, H: BuildHasher + Drop>(
+    alloc: Global,
+    question: Question,
+    claim: &mut C,
+    second: &mut T,
+    capture: F,
+    out: &mut S,
+    hasher: H,
+) -> (F, Result<Outcome, RunFault>)
+    requires { MayRun
+        (run_state (C.state claim.old) (T.state second.old) (F.state capture) (S.state out.old)) }
+    ensures runs { RunsFor (data_of question)
+        (run_state (C.state claim.old) (T.state second.old) (F.state capture) (S.state out.old))
+        (run_state (C.state claim.new) (T.state second.new) (F.state result.0) (S.state out.new))
+        second.old second.new capture result.0 result.1 }
+    ensures shows { IfOk result.1 (Shows (data_of question)
+        (C.state claim.old) (T.state second.old) (F.state capture)) }
+    ensures unasked { AsksNoSecond (data_of question) → second.new ≡ second.old }
+{
+    let claim = read_claim_from(alloc, claim);
+    let (capture, made) = make_report(alloc, question, claim, second, capture, hasher);
+    let answer = publish(out, &made);
+    (capture, answer)
+}
+
+/// Answers a question as `run` does, with the text on `outputs.out`, and tells a fault on
+/// `outputs.err`. Beside the capture's feed stands the exit status.
+pub fn answer<C: Feed, T: Feed, F: Feed, S: Sink, E: Sink, H: BuildHasher + Drop>(
+    alloc: Global,
+    question: Question,
+    claim: &mut C,
+    second: &mut T,
+    capture: F,
+    outputs: &mut Outputs<S, E>,
+    hasher: H,
+) -> (F, u8)
+    requires run { MayRun (run_state (C.state claim.old) (T.state second.old)
+        (F.state capture) (S.state outputs.old.out)) }
+    requires err { IsWritable (E.state outputs.old.err) }
+    ensures answers { AnswersFor (data_of question)
+        (run_state (C.state claim.old) (T.state second.old)
+        (F.state capture) (S.state outputs.old.out))
+        (run_state (C.state claim.new) (T.state second.new)
+        (F.state result.0) (S.state outputs.new.out))
+        (E.state outputs.old.err) (E.state outputs.new.err) result.1 }
+
+    // At status 0 of a check the error is within the bound in every course of events that fits.
+    ensures traceable { question ≡ Question.Check → result.1 ≡ 0 →
+        IsTraced (C.state claim.old) (F.state capture) }
+    ensures shows { (outcome : TheOutcome) → result.1 ≡ status_of (Ok outcome) →
+        Shows (data_of question)
+        (C.state claim.old) (T.state second.old) (F.state capture) outcome }
+{
+    let claim = read_claim_from(alloc, claim);
+    let (capture, made) = make_report(alloc, question, claim, second, capture, hasher);
+    let answer = publish(&mut outputs.out, &made);
+    (capture, tell(&answer, &mut outputs.err))
+}

@@ -1,0 +1,108 @@
+//! What may be asked of a claim and a capture.
+//!
+//! A [`Question`] is what is known before any input is read, and a [`Task`] is a question with what
+//! its second input says. What is particular to a question, how its report is made of a claim and
+//! the exchanges of a capture, stands in its own module, and here it is named.
+
+ghost use Rattle.std.specs.Prelude.{◌≡◌, IfOk, IfErr, IfSome};
+ghost use Rattle.byte_stream.specs.Fault.{CountsFault};
+ghost use Rattle.byte_stream.specs.Intake.{TakesAtMost};
+ghost use Rattle.byte_stream.specs.State.{IsReadable};
+ghost use Rattle.report.specs.CertificateInput.{IsOfCertificate};
+ghost use Rattle.report.specs.Publication.{IsMadeFor};
+ghost use Rattle.report.specs.Reading.{Reads};
+ghost use Rattle.report.specs.Reports.{is_device, is_second};
+ghost use Rattle.audit.specs.Evidence.{IsLawfulEvidence, evidence_data};
+ghost use Rattle.audit.specs.Question.{AsksNoSecond, IsTaskOf, most_second, task_read};
+ghost use Rattle.audit.specs.Question.{IsLawfulTask, ShowsOf, data_of, report_on, task_data};
+ghost use Rattle.audit.specs.Report.{IsOfMaking};
+
+mod at;
+mod check;
+mod find;
+mod samples;
+
+use crate::evidence::Evidence;
+use crate::question::at::make_at;
+use crate::question::check::make_check;
+use crate::question::find::make_find;
+use crate::question::samples::make_samples;
+use crate::step::Step;
+use byte_stream::Feed;
+use certificate::Certificate;
+use report::{Made, RunFault, read_certificate_from};
+use std::alloc::Global;
+
+/// What is asked of a claim and a capture.
+#[derive(Clone, Copy, Debug)]
+pub enum Question {
+    /// What does each exchange say of the clock?
+    Samples,
+    /// What does each server say of the clock at a moment, in Unix seconds?
+    At(u32),
+    /// Is there a certificate with pieces of this length?
+    Find(Step),
+    /// Does a certificate, the second input, show the claim?
+    Check,
+}
+
+/// What is to be done for a question, once its second input is read.
+#[derive(Debug, Drop)]
+pub(crate) enum Task {
+    /// Show the samples.
+    Samples,
+    /// Show what each server says at a moment, in Unix seconds.
+    At(u32),
+    /// Look for a certificate with pieces of this length.
+    Find(Step),
+    /// Settle the claim by a certificate.
+    Check(Certificate),
+}
+
+/// Reads the second input of a question, where it has one.
+///
+/// The faults are those of that input, and come as its reader has them.
+pub(crate) fn read_task<T: Feed>(
+    alloc: Global,
+    question: Question,
+    second: &mut T,
+) -> Result<Task, RunFault>
+    requires { IsReadable (T.state second.old) }
+    ensures known { IfSome (task_read (data_of question) (T.state second.old).remaining)
+        (λ expected. Reads task_data expected result) }
+    ensures kind { IfOk result (λ task. IsTaskOf (data_of question) (task_data task)) }
+    ensures lawful { IfOk result IsLawfulTask }
+    ensures fault { IfErr result IsOfCertificate }
+    ensures counts_fault { CountsFault (is_device is_second result)
+        (T.state second.old).faults (T.state second.new).faults }
+    ensures at_most { TakesAtMost (most_second (data_of question))
+        (T.state second.old).remaining (T.state second.new).remaining }
+    ensures unasked { AsksNoSecond (data_of question) → second.new ≡ second.old }
+{
+    match question {
+        Question::Samples => Ok(Task::Samples),
+        Question::At(second) => Ok(Task::At(second)),
+        Question::Find(step) => Ok(Task::Find(step)),
+        Question::Check => match read_certificate_from(alloc, second) {
+            Ok(certificate) => Ok(Task::Check(certificate)),
+            Err(fault) => Err(fault),
+        },
+    }
+}
+
+/// Makes the whole text and the outcome of a task, of a claim and the exchanges of a capture.
+pub(crate) fn make(alloc: Global, task: &Task, evidence: &Evidence) -> Result<Made, RunFault>
+    requires task { IsLawfulTask task.now }
+    requires evidence { IsLawfulEvidence evidence.now }
+    ensures made { IsMadeFor (report_on (task_data task.now) (evidence_data evidence.now)) result }
+    ensures fault { IfErr result IsOfMaking }
+    ensures shows { IfOk result (λ made.
+        ShowsOf (task_data task.now) (evidence_data evidence.now) made.outcome) }
+{
+    match task {
+        Task::Samples => make_samples(alloc, evidence),
+        Task::At(second) => make_at(alloc, *second, evidence),
+        Task::Find(step) => make_find(alloc, *step, evidence),
+        Task::Check(certificate) => make_check(alloc, certificate, evidence),
+    }
+}

@@ -1,0 +1,87 @@
+//! What is made for `find`.
+
+ghost use Rattle.std.specs.Prelude.{◌≡◌, ◌++◌, IfOk, IfErr, codes};
+ghost use Rattle.certificate.specs.Certificate.{data_of as certificate_data};
+ghost use Rattle.certificate.specs.Writing.{certificate_text};
+ghost use Rattle.finder.specs.Found.{data_of as found_data};
+ghost use Rattle.report.specs.Publication.{IsMadeFor};
+ghost use Rattle.audit.specs.Evidence.{IsLawfulEvidence, evidence_data};
+ghost use Rattle.audit.specs.Find as spec;
+ghost use Rattle.audit.specs.Find.{find_report, find_run_fault_of, found_outcome};
+ghost use Rattle.audit.specs.Question.{ShowsOf, find_with};
+ghost use Rattle.audit.specs.Report.{IsOfMaking};
+
+use crate::evidence::Evidence;
+use crate::sample_list::samples_of;
+use crate::step::Step;
+use audit_text::nothing_text;
+use certificate::{Certificate, write_certificate};
+use finder::{FindFault, Found, find};
+use report::{Made, Outcome, RunFault};
+use std::alloc::{AllocError, Global};
+
+/// What a run answers where no certificate could be looked for.
+fn run_fault_of(fault: FindFault) -> RunFault
+    ensures { result ≡ find_run_fault_of fault }
+{
+    match fault {
+        FindFault::TooManyPieces => RunFault::Pieces,
+        FindFault::Memory => RunFault::Memory,
+    }
+}
+
+/// The outcome of a search.
+fn outcome_of(found: &Found) -> Outcome
+    ensures { result ≡ found_outcome (found_data found.now) }
+{
+    match found {
+        Found::Certificate(_) => Outcome::Yes,
+        Found::Nothing { .. } => Outcome::No,
+    }
+}
+
+/// The text of a certificate, with a line feed.
+fn certificate_line(alloc: Global, certificate: &Certificate) -> Result<Vec<u8>, AllocError>
+    ensures { IfOk result (λ text.
+        text.items ≡ certificate_text (certificate_data certificate.now) ++ codes "\n") }
+{
+    let mut text = write_certificate(alloc, certificate)?;
+    text.push_str("\n")?;
+    Ok(text.into_bytes())
+}
+
+/// The whole text.
+#[tactic(auto, unfolding(crate::specs::Find::found_text))]
+fn found_text(alloc: Global, found: &Found) -> Result<Vec<u8>, AllocError>
+    ensures { IfOk result (λ text. text.items ≡ spec.found_text (found_data found.now)) }
+{
+    match found {
+        Found::Certificate(certificate) => certificate_line(alloc, certificate),
+        Found::Nothing { piece, hull } => nothing_text(alloc, *piece, *hull),
+    }
+}
+
+/// Looks for a certificate with pieces of this length: `Yes` with one that `check` accepts, or `No`
+/// with the first piece for which the samples show too little.
+pub(crate) fn make_find(alloc: Global, step: Step, evidence: &Evidence) -> Result<Made, RunFault>
+    requires { IsLawfulEvidence evidence.now }
+    ensures made { IsMadeFor (find_report step.seconds (evidence_data evidence.now)) result }
+    ensures fault { IfErr result IsOfMaking }
+    ensures shows { IfOk result (λ made. ShowsOf (find_with step.seconds)
+        (evidence_data evidence.now) made.outcome) }
+{
+    let claim = &evidence.claim;
+    let Ok(samples) = samples_of(alloc, claim, &evidence.collected.exchanges) else {
+        return Err(RunFault::Memory);
+    };
+    match find(alloc, samples.as_slice(), claim, step.seconds) {
+        Ok(found) => match found_text(alloc, &found) {
+            Ok(text) => Ok(Made {
+                text,
+                outcome: outcome_of(&found),
+            }),
+            Err(AllocError) => Err(RunFault::Memory),
+        },
+        Err(fault) => Err(run_fault_of(fault)),
+    }
+}

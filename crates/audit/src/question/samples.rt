@@ -1,0 +1,27 @@
+//! What is made for `samples`.
+
+ghost use Rattle.std.specs.Prelude.{IfErr};
+ghost use Rattle.report.specs.Publication.{IsMadeFor};
+ghost use Rattle.audit.specs.Evidence.{IsLawfulEvidence, evidence_data};
+ghost use Rattle.audit.specs.Report.{IsOfMaking};
+ghost use Rattle.audit.specs.Samples.{samples_report};
+
+use crate::evidence::Evidence;
+use audit_text::samples_text;
+use report::{Made, Outcome, RunFault};
+use std::alloc::{AllocError, Global};
+
+/// The text with a line for each sample, and the counts.
+pub(crate) fn make_samples(alloc: Global, evidence: &Evidence) -> Result<Made, RunFault>
+    requires { IsLawfulEvidence evidence.now }
+    ensures made { IsMadeFor (samples_report (evidence_data evidence.now)) result }
+    ensures fault { IfErr result IsOfMaking }
+{
+    match samples_text(alloc, &evidence.claim, &evidence.collected) {
+        Ok(text) => Ok(Made {
+            text,
+            outcome: Outcome::Yes,
+        }),
+        Err(AllocError) => Err(RunFault::Memory),
+    }
+}

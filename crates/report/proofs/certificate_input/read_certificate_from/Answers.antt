@@ -1,0 +1,43 @@
+use Rattle.std.proofs.Common.{◌≡◌, ◌⊎◌, List, ℕ, Err, sym, ap, subst, inl, inr}
+use Rattle.std.specs.Prelude.{IfSome}
+use Rattle.certificate.specs.declared.fault.CertificateFault.{CertificateFault}
+use Rattle.certificate.specs.declared.fault.CertificateFault.TheVariants as certificates
+use Rattle.certificate.specs.Certificate.{data_of}
+use Rattle.certificate.specs.Reading.{certificate_of}
+use Rattle.report.specs.declared.fault.Input.TheVariants as inputs
+use Rattle.report.specs.declared.fault.RunFault.{RunFault}
+use Rattle.report.specs.Fault.{certificate_run_fault_of}
+use Rattle.report.specs.Reading.{IsFromOutside, Reads}
+use Rattle.report.specs.CertificateInput.{certificate_or_fault, certificate_read}
+use Rattle.report.proofs.ReadingLemmas.{input_is_read, input_refused, input_unread}
+use Rattle.report.proofs.certificate_input.read_certificate_from.Goals as goal
+
+-- a certificate's refusal is the run's
+refusal : (text : List ℕ) (fault : CertificateFault) →
+    (fault ≡ certificates.Memory) ⊎ (certificate_of text ≡ Err fault) →
+    IsFromOutside (certificate_run_fault_of fault)
+    ⊎ (certificate_or_fault (certificate_of text) ≡ Err (certificate_run_fault_of fault))
+refusal text certificates.Memory exact = inl tt
+refusal text fault (inl memory) = cc
+refusal text fault (inr exact) = inr (ap certificate_or_fault exact)
+
+pub returns-clause-known : goal.returns-clause-known
+returns-clause-known g c =
+    input_unread data_of 134217728 inputs.Certificate (λ b. certificate_or_fault (certificate_of b)) _ c.in-Err.fault
+    c.in-Err.ensures.fault c.in-Err.ensures.whole
+
+pub returns-in-Ok-read_certificate-clause-known : goal.returns-in-Ok-read_certificate-clause-known
+returns-in-Ok-read_certificate-clause-known g c =
+    input_is_read data_of 134217728 inputs.Certificate (λ b. certificate_or_fault (certificate_of b)) _ _
+    c.in-Ok-read_certificate.certificate c.in-Ok.ensures.whole
+    (ap certificate_or_fault (rw c.as_slice.ensures.value at c.in-Ok-read_certificate.ensures.exact))
+
+pub returns-in-Ok-clause-known : goal.returns-in-Ok-clause-known
+returns-in-Ok-clause-known g c =
+    let known = (g.T.Feed.state c.args.feed.now).remaining in
+    subst (λ (f : RunFault). IfSome known (λ (bytes : List ℕ). Reads data_of (certificate_read bytes) (Err f)))
+    (sym c.from.ensures)
+    (input_refused data_of 134217728 inputs.Certificate (λ b. certificate_or_fault (certificate_of b)) _ _ _
+    c.in-Ok.ensures.whole
+    (refusal _ c.in-Err-read_certificate.fault
+    (rw c.as_slice.ensures.value at c.in-Err-read_certificate.ensures.exact)))

@@ -1,0 +1,33 @@
+-- What the bytes of a certificate give.
+use Rattle.std.specs.Prelude.{ℕ, List, Result, Ok, Err}
+use Rattle.certificate.specs.declared.fault.CertificateFault.{CertificateFault}
+use Rattle.certificate.specs.Certificate.{CertificateData}
+use Rattle.certificate.specs.Reading.{certificate_of}
+use Rattle.report.specs.declared.fault.Input.TheVariants as inputs
+use Rattle.report.specs.declared.fault.RunFault.{RunFault}
+use Rattle.report.specs.declared.fault.RunFault.TheVariants.{Certificate, TooBig, Device, Memory}
+use Rattle.report.specs.Reading.{whole_read}
+
+-- the greatest length of a certificate's text, in bytes
+abbrev pub max_certificate : ℕ
+max_certificate = 134217728
+
+-- a certificate's fault is the run's
+abbrev pub certificate_or_fault :
+    Result CertificateData CertificateFault → Result CertificateData RunFault
+certificate_or_fault (Ok certificate) = Ok certificate
+certificate_or_fault (Err fault) = Err (Certificate fault)
+
+-- what the bytes of a certificate give
+abbrev pub certificate_read : List ℕ → Result CertificateData RunFault
+certificate_read bytes =
+    whole_read max_certificate inputs.Certificate
+    (λ text. certificate_or_fault (certificate_of text)) bytes
+
+-- the faults of reading a certificate
+abbrev pub IsOfCertificate : RunFault → Type 0
+IsOfCertificate (Certificate fault) = Unit {0}
+IsOfCertificate (TooBig inputs.Certificate) = Unit {0}
+IsOfCertificate (Device inputs.Certificate) = Unit {0}
+IsOfCertificate Memory = Unit {0}
+IsOfCertificate _ = ⊥

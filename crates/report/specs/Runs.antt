@@ -1,0 +1,58 @@
+-- What every engine promises that holds a capture against a claim.
+use Rattle.std.specs.Prelude.{◌≡◌, ◌⊎◌, ◌+◌, ℕ, List, Option, Result, Err, IfErr, IfSome, IsOk}
+use Rattle.std.specs.Io.KnownBytes.{Keeps}
+use Rattle.byte_stream.specs.Intake.{TakesAtMost}
+use Rattle.pcap_reader.specs.Limit.{most_taken}
+use Rattle.pcap_reader.specs.Remaining.{capture_of}
+use Rattle.report.specs.declared.fault.Input.TheVariants as inputs
+use Rattle.report.specs.declared.fault.Outcome.{Outcome}
+use Rattle.report.specs.declared.fault.RunFault.{RunFault}
+use Rattle.report.specs.declared.fault.RunFault.TheVariants.{Claim, Certificate, Refutation, TooBig, Device, Memory}
+use Rattle.report.specs.ClaimInput.{max_claim}
+use Rattle.report.specs.Output.{IsWrite}
+use Rattle.report.specs.Reports.{Report, Reports}
+use Rattle.report.specs.Run.{RunState}
+
+-- the faults that are found before the second input is read, memory aside
+abbrev pub IsBeforeSecond : RunFault → Type 0
+IsBeforeSecond (Claim fault) = Unit {0}
+IsBeforeSecond (TooBig inputs.Claim) = Unit {0}
+IsBeforeSecond (Device inputs.Claim) = Unit {0}
+IsBeforeSecond _ = ⊥
+
+-- the faults that are found before the capture is read, memory aside
+abbrev pub IsBeforeCapture : RunFault → Type 0
+IsBeforeCapture (Claim fault) = Unit {0}
+IsBeforeCapture (Certificate fault) = Unit {0}
+IsBeforeCapture (Refutation fault) = Unit {0}
+IsBeforeCapture (TooBig input) = Unit {0}
+IsBeforeCapture (Device inputs.Claim) = Unit {0}
+IsBeforeCapture (Device inputs.Certificate) = Unit {0}
+IsBeforeCapture (Device inputs.Refutation) = Unit {0}
+IsBeforeCapture _ = ⊥
+
+-- But for a fault of the sink itself, nothing is written where a run is given up.
+abbrev pub IsUnwrittenAt : RunFault → Option (List ℕ) → Option (List ℕ) → Type 0
+IsUnwrittenAt fault before after = IsWrite fault ⊎ Keeps before after
+
+-- The bytes, where they are known, begin with a lawful header of a capture.
+abbrev pub HasLawfulHeader : Option (List ℕ) → Type 0
+HasLawfulHeader known = IfSome known (λ bytes. IsOk (capture_of bytes))
+
+-- What an engine promises for the report that its inputs' bytes call for, of whose second input at
+-- most so many bytes are taken: its text and answer, and each device's failures (`reports`); that
+-- nothing is written where it is given up (`unwritten`); that the feeds of later inputs are as they
+-- were after an earlier refusal; that no more than the limits is taken of each input; and that a
+-- refused header of the capture isn't told as being out of memory (`memory`).
+pub record Runs {T F : Type 0} (report : Option Report) (most : ℕ) (before after : RunState)
+    (second second' : T) (capture capture' : F) (answer : Result Outcome RunFault) : Type 0 where
+  pub reports : Reports report before after answer
+  pub unwritten : IfErr answer (λ fault.
+      IsUnwrittenAt fault before.sink.contents after.sink.contents)
+  pub second_untouched : IfErr answer (λ fault. IsBeforeSecond fault → second' ≡ second)
+  pub capture_untouched : IfErr answer (λ fault. IsBeforeCapture fault → capture' ≡ capture)
+  pub claim_at_most : TakesAtMost (max_claim + 1) before.claim.remaining after.claim.remaining
+  pub second_at_most : TakesAtMost most before.second.remaining after.second.remaining
+  pub capture_at_most : TakesAtMost most_taken before.capture.remaining after.capture.remaining
+  pub memory : answer ≡ Err Memory →
+      (capture' ≡ capture) ⊎ HasLawfulHeader before.capture.remaining

@@ -1,0 +1,43 @@
+//! The reading of a claim.
+
+ghost use Rattle.std.specs.Prelude.{◌+◌, IfOk, IfErr, IfSome};
+ghost use Rattle.byte_stream.specs.Fault.{CountsFault};
+ghost use Rattle.byte_stream.specs.Intake.{TakesAtMost};
+ghost use Rattle.byte_stream.specs.State.{IsReadable};
+ghost use Rattle.claim_file.specs.Claim.{IsLawful, data_of};
+ghost use Rattle.report.specs.ClaimInput.{IsOfClaim, claim_read, max_claim};
+ghost use Rattle.report.specs.Reading.{Reads};
+ghost use Rattle.report.specs.Reports.{is_claim, is_device};
+
+use crate::fault::{Input, RunFault};
+use crate::input::read_input;
+use byte_stream::Feed;
+use claim_file::{Claim, read_claim};
+use std::alloc::Global;
+
+/// The greatest length of a claim, in bytes.
+const MAX_CLAIM: u64 = 65536;
+
+/// Reads a claim whole: at most 65,536 bytes, and one more where there are more.
+///
+/// `TooBig` comes where there are more, `Claim` where they aren't a claim, `Device` where the feed
+/// failed.
+pub fn read_claim_from<C: Feed>(alloc: Global, feed: &mut C) -> Result<Claim, RunFault>
+    requires { IsReadable (C.state feed.old) }
+    ensures known { IfSome (C.state feed.old).remaining (λ bytes.
+        Reads data_of (claim_read bytes) result) }
+    ensures lawful { IfOk result (λ claim. IsLawful (data_of claim)) }
+    ensures fault { IfErr result IsOfClaim }
+    ensures counts_fault { CountsFault (is_device is_claim result)
+        (C.state feed.old).faults (C.state feed.new).faults }
+    ensures at_most { TakesAtMost (max_claim + 1)
+        (C.state feed.old).remaining (C.state feed.new).remaining }
+{
+    match read_input(alloc, feed, Input::Claim, MAX_CLAIM) {
+        Ok(bytes) => match read_claim(alloc, bytes.as_slice()) {
+            Ok(claim) => Ok(claim),
+            Err(fault) => Err(RunFault::from(fault)),
+        },
+        Err(fault) => Err(fault),
+    }
+}

@@ -1,0 +1,42 @@
+//! The reading of a refutation.
+
+ghost use Rattle.std.specs.Prelude.{◌+◌, IfErr, IfSome};
+ghost use Rattle.byte_stream.specs.Fault.{CountsFault};
+ghost use Rattle.byte_stream.specs.Intake.{TakesAtMost};
+ghost use Rattle.byte_stream.specs.State.{IsReadable};
+ghost use Rattle.certificate.specs.Refutation.{data_of};
+ghost use Rattle.report.specs.Reading.{Reads};
+ghost use Rattle.report.specs.RefutationInput.{IsOfRefutation, refutation_read, max_refutation};
+ghost use Rattle.report.specs.Reports.{is_second, is_device};
+
+use crate::fault::{Input, RunFault};
+use crate::input::read_input;
+use byte_stream::Feed;
+use certificate::{Refutation, read_refutation};
+use std::alloc::Global;
+
+/// The greatest length of a refutation, in bytes.
+const MAX_REFUTATION: u64 = 65536;
+
+/// Reads a refutation whole: at most 65,536 bytes, and one more where there are more.
+///
+/// `TooBig` comes where there are more, `Refutation` where they aren't a refutation, `Device` where
+/// the feed failed.
+pub fn read_refutation_from<T: Feed>(alloc: Global, feed: &mut T) -> Result<Refutation, RunFault>
+    requires { IsReadable (T.state feed.old) }
+    ensures known { IfSome (T.state feed.old).remaining (λ bytes.
+        Reads data_of (refutation_read bytes) result) }
+    ensures fault { IfErr result IsOfRefutation }
+    ensures counts_fault { CountsFault (is_device is_second result)
+        (T.state feed.old).faults (T.state feed.new).faults }
+    ensures at_most { TakesAtMost (max_refutation + 1)
+        (T.state feed.old).remaining (T.state feed.new).remaining }
+{
+    match read_input(alloc, feed, Input::Refutation, MAX_REFUTATION) {
+        Ok(bytes) => match read_refutation(alloc, bytes.as_slice()) {
+            Ok(refutation) => Ok(refutation),
+            Err(fault) => Err(RunFault::from(fault)),
+        },
+        Err(fault) => Err(fault),
+    }
+}
