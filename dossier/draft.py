@@ -35,17 +35,20 @@ class Traffic:
 
 def read_traffic(program: Program, folder: str, capture: Operand) -> Traffic:
     seen = Traffic()
-    for line in program.lines(["list", capture], folder):
-        words = line.decode("ascii").split(" ", 12)
-        if words[0] == "records":
-            seen.packets = int(words[3])
-            continue
-        (source, source_port), (destination, destination_port) = (word.split(":") for word in words[2:4])
-        if words[5] == "m3" and destination_port == "123":
-            seen.asked[source] += 1
-        elif words[5] == "m4" and source_port == "123":
-            seen.answered[destination][source] += 1
-            seen.references[destination, source].add((int(words[7][1:]), words[11]))
+
+    def take(lines: list[bytes]) -> None:
+        for line in lines:
+            words = line.decode("ascii").split(" ", 12)
+            if words[0] == "records":
+                seen.packets = int(words[3])
+                continue
+            (source, source_port), (destination, destination_port) = (word.split(":") for word in words[2:4])
+            if words[5] == "m3" and destination_port == "123":
+                seen.asked[source] += 1
+            elif words[5] == "m4" and source_port == "123":
+                seen.answered[destination][source] += 1
+                seen.references[destination, source].add((int(words[7][1:]), words[11]))
+    program.lines(["list", capture], folder, take)
     return seen
 
 
