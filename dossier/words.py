@@ -159,7 +159,7 @@ def warning_words(warning: dict[str, Any]) -> str:
                 f"{between(warning)}: no course of events has a reading of the clock there, so an assumption of the claim fails in this capture.")
     if kind == "outside":
         parts = [f"begins {span_of_seconds(warning['before'] / SECOND)} before the first NTP packet"] if warning["before"] else []
-        parts += [f"ends {span_of_seconds(warning['after'] / SECOND)} after the last"] if warning["after"] else []
+        parts += [f"ends {span_of_seconds(warning['after'] / SECOND)} after the last{'' if warning['before'] else ' NTP packet'}"] if warning["after"] else []
         return f"The span leaves the recording: it {' and '.join(parts)}. There it rests on the drift that the claim grants, and on nothing recorded."
     if kind == "no-drift":
         return "The claim grants no drift at all (drift_ppb is 0). No oscillator is so good, and no NTP client corrects a clock without it."
