@@ -20,6 +20,8 @@ from .units import DAY, civil, ns_up_ms
 MOST_SERVERS = 32
 COARSEST = 64
 NO_BOUND = 1_000_000_000
+"""Nanoseconds that stand in a draft for which no bound is known."""
+GREATEST_BOUND = 10**15
 DRIFT_PPB, READING_NS = 100_000, 100_000
 
 
@@ -170,6 +172,9 @@ class Draft:
             word, k = envelope.hulls[envelope.worst], envelope.worst
             claim["bound_ns"] = NO_BOUND
             self.remarks.append(f"bound_ns: no bound is carried, since the piece from {civil(envelope.begins[k])} is {word}; one second stands there for now.")
+        elif envelope.least_ns > GREATEST_BOUND:
+            claim["bound_ns"] = NO_BOUND
+            self.remarks.append(f"bound_ns: the least bound is {ns_up_ms(envelope.least_ns)} ms, more than a claim can say; one second stands there for now.")
         else:
             claim["bound_ns"] = round_up(envelope.least_ns)
             self.remarks.append(f"bound_ns: the least bound that pieces of {step} s carry is {ns_up_ms(envelope.least_ns)} ms; rounded up.")
