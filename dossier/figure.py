@@ -31,6 +31,9 @@ Height = Callable[[float], float]
 MARKS = {"empty": "empty: no course of events fits", "beyond": "beyond the bound", "unbounded": "unbounded: nothing follows"}
 
 
+HULL = '<path class="hull" d="M0 2H26V12H0Z"/><path class="edge" d="M0 2H26M0 12H26"/>'
+
+
 def picture(envelope: Envelope, bound_ns: int, name: str, label: str) -> str:
     """The picture, with ids that begin with a name of its own."""
     bound = bound_ticks(bound_ns)
@@ -55,11 +58,18 @@ def picture(envelope: Envelope, bound_ns: int, name: str, label: str) -> str:
 
 
 def extent(cells: list[Cell], bound: int) -> tuple[int, int]:
-    """What is shown, in ticks: the hull and the bound, and a margin. A server far from both stands outside."""
-    lows = [-bound, *(cell.hull[0] for cell in cells if cell.hull)]
-    highs = [bound, *(cell.hull[1] for cell in cells if cell.hull)]
-    margin = max(1000, (max(highs) - min(lows)) * 12 // 100)
-    return min(lows) - margin, max(highs) + margin
+    """What is shown, in ticks: the hull and the bound, the servers that go not much beyond them, and a margin. The others
+    go through the picture, or stand outside."""
+    low = min([-bound, *(cell.hull[0] for cell in cells if cell.hull)])
+    high = max([bound, *(cell.hull[1] for cell in cells if cell.hull)])
+    most = (high - low) * 8 // 5
+    for place in range(len(cells[0].servers)):
+        own = [cell.servers[place] for cell in cells if cell.servers[place]]
+        lower, higher = min([low, *(end for end, _ in own)]), max([high, *(end for _, end in own)])
+        if higher - lower <= most:
+            low, high = lower, higher
+    margin = max(1000, (high - low) * 12 // 100)
+    return low - margin, high + margin
 
 
 def x(part: float) -> int:
@@ -168,7 +178,7 @@ def described(envelope: Envelope, bound_ns: int) -> str:
 
 def legend(names: list[str], fails: set[str]) -> str:
     """What stands for what, beside a picture in a page."""
-    drawn = [item('<path class="hull" d="M0 2H26V12H0Z"/>', "hull: what is left, if no more were wrong than granted")]
+    drawn = [item(HULL, "hull: what is left, if no more were wrong than granted")]
     drawn += [item(f'<path class="server {server_class(place)}" d="M0 7H26"/>', name) for place, name in enumerate(names)]
     drawn += [item('<path class="bound" d="M0 7H26"/>', "claimed bound")]
     drawn += [item(f'<path class="mark {kind}" d="M0 7H26"/>', text) for kind, text in MARKS.items() if kind in fails]
@@ -181,19 +191,22 @@ def item(swatch: str, text: str) -> str:
 
 def standing_alone(envelope: Envelope, bound_ns: int, label: str, wide: int = 900) -> str:
     """The picture as a file of its own, with its legend in it."""
-    names = ["hull", *envelope.servers]
-    top, across, drawn = 40, 0, []
-    for place, name in enumerate(names):
-        if across + 50 + 8 * len(name) > wide - 20:
+    fails = {cell.mark for cell in cells_of(envelope, bound_ticks(bound_ns))}
+    items = [(HULL, "hull")]
+    items += [(f'<path class="server {server_class(place)}" d="M0 7H26"/>', name) for place, name in enumerate(envelope.servers)]
+    items += [(f'<path class="mark {kind}" d="M0 7H26"/>', text) for kind, text in MARKS.items() if kind in fails]
+    top, across, drawn = 36, 0, []
+    for swatch, text in items:
+        if across + 50 + 7 * len(text) > wide - 20:
             top, across = top + 20, 0
-        swatch = '<path class="hull" d="M0 2H26V12H0Z"/>' if not place else f'<path class="server {server_class(place - 1)}" d="M0 7H26"/>'
-        drawn.append(f'<g transform="translate({10 + across} {top - 32})">{swatch}<text x="32" y="12">{html(name)}</text></g>')
-        across += 56 + 8 * len(name)
+        drawn.append(f'<g transform="translate({10 + across} {top - 28})">{swatch}<text x="32" y="12">{html(text)}</text></g>')
+        across += 52 + 7 * len(text)
     height = top + TOP + HEIGHT + STRIP + FOOT
     return "\n".join([
         f'<svg xmlns="http://www.w3.org/2000/svg" width="{wide}" height="{height}">',
         f"<style>{PICTURE}</style>", '<rect class="paper" width="100%" height="100%"/>', *drawn,
-        f'<svg x="10" y="{top}" width="{wide - 20}" height="{height - top}">', picture(envelope, bound_ns, "p", label), "</svg>", "</svg>"])
+        f'<svg x="10" y="{top}" width="{wide - 20}" height="{height - top}">', picture(envelope, bound_ns, "p", label),
+        "</svg>", "</svg>"])
 
 
 def print_picture(program: Program, claim: str, capture: str, step: int) -> int:

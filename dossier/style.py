@@ -17,11 +17,13 @@ svg path{{vector-effect:non-scaling-stroke;fill:none}}
 .grid{{stroke:var(--rule)}}
 .zero{{stroke:var(--soft)}}
 .tick{{stroke:var(--soft)}}
-svg .hull{{fill:var(--hull);stroke:var(--hulledge);stroke-width:1}}
+svg .hull{{fill:var(--hull)}}
+.edge{{stroke:var(--hulledge);stroke-width:1.5}}
 .bound{{stroke:var(--bound);stroke-width:1.5;stroke-dasharray:7 4}}
 svg .claimed{{fill:var(--ink)}}
 .server{{stroke-width:2}}
-.dense{{stroke-width:1;opacity:.55}}
+.dense{{stroke-width:1;opacity:.45}}
+.wide{{stroke-width:1.5;opacity:.3}}
 .mark{{stroke-width:12;stroke:var(--bad)}}
 .beyond{{stroke-dasharray:3 2}}
 .unbounded{{stroke-dasharray:1 5;stroke:var(--soft)}}
