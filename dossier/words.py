@@ -39,7 +39,9 @@ def between(piece: dict[str, Any]) -> str:
 
 def span(claim: dict[str, Any]) -> str:
     first, last = (shown_time(seconds_of(claim[name])) for name in ("from", "to"))
-    return f"at {first} UTC" if first == last else f"from {first} to {last} UTC"
+    if first == last:
+        return f"at {first} UTC"
+    return f"from {first} to {last[11:] if first[:10] == last[:10] else last} UTC"
 
 
 def granted(claim: dict[str, Any]) -> str:
@@ -62,7 +64,7 @@ def sentence(entry: Entry) -> str:
     claim = entry.claim
     within = f"the clock of {claim['client']} was within {ns_ms(claim['bound_ns'])} ms of UTC"
     if entry.verdict == YES:
-        off = f"The widest it may have been off was {ns_up_ms(entry.least_ns)} ms, {between(entry.worst)}."
+        off = f"Then the widest it may have been off was {ns_up_ms(entry.least_ns)} ms, {between(entry.worst)}."
         return f"{capital(span(claim))} {within}, {granted(claim)} and what else the claim grants is true. {off}"
     if entry.verdict == NEITHER:
         first = next(warning for warning in entry.warnings if warning["kind"] == "empty")
