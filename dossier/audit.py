@@ -10,7 +10,7 @@ from typing import Any
 
 from . import folder as files
 from .answers import read_nothing
-from .entry import REFUSED, Entry, Record, read_record, record_json
+from .entry import REFUSED, Entry, Record, read_record, record_text
 from .folder import compact, write_beside
 from .judgement import Texts, at_bound_0, judge
 from .program import Fault, Operand, Program, Ran, now, sum_of, sum_of_file
@@ -79,7 +79,7 @@ def audit_folder(folder: Path, options: Options, program: Program) -> tuple[Reco
     if old:
         remove_files(folder, old.outputs.keys() - record.outputs.keys() - set(record.inputs))
     record.seconds = round(time.monotonic() - begun, 3)
-    write_beside(folder / files.AUDIT, json.dumps(record_json(record), indent=1).encode() + b"\n")
+    write_beside(folder / files.AUDIT, record_text(record))
     return record, False
 
 

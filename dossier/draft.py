@@ -20,6 +20,8 @@ from .units import DAY, civil, ns_up_ms
 MOST_SERVERS = 32
 COARSEST = 64
 NO_BOUND = 1_000_000_000
+"""Nanoseconds that stand in a draft for which no bound is known."""
+GREATEST_BOUND = 10**15
 DRIFT_PPB, READING_NS = 100_000, 100_000
 
 
@@ -35,17 +37,20 @@ class Traffic:
 
 def read_traffic(program: Program, folder: str, capture: Operand) -> Traffic:
     seen = Traffic()
-    for line in program.lines(["list", capture], folder):
-        words = line.decode("ascii").split(" ", 12)
-        if words[0] == "records":
-            seen.packets = int(words[3])
-            continue
-        (source, source_port), (destination, destination_port) = (word.split(":") for word in words[2:4])
-        if words[5] == "m3" and destination_port == "123":
-            seen.asked[source] += 1
-        elif words[5] == "m4" and source_port == "123":
-            seen.answered[destination][source] += 1
-            seen.references[destination, source].add((int(words[7][1:]), words[11]))
+
+    def take(lines: list[bytes]) -> None:
+        for line in lines:
+            words = line.decode("ascii").split(" ", 12)
+            if words[0] == "records":
+                seen.packets = int(words[3])
+                continue
+            (source, source_port), (destination, destination_port) = (word.split(":") for word in words[2:4])
+            if words[5] == "m3" and destination_port == "123":
+                seen.asked[source] += 1
+            elif words[5] == "m4" and source_port == "123":
+                seen.answered[destination][source] += 1
+                seen.references[destination, source].add((int(words[7][1:]), words[11]))
+    program.lines(["list", capture], folder, take)
     return seen
 
 
@@ -167,6 +172,9 @@ class Draft:
             word, k = envelope.hulls[envelope.worst], envelope.worst
             claim["bound_ns"] = NO_BOUND
             self.remarks.append(f"bound_ns: no bound is carried, since the piece from {civil(envelope.begins[k])} is {word}; one second stands there for now.")
+        elif envelope.least_ns > GREATEST_BOUND:
+            claim["bound_ns"] = NO_BOUND
+            self.remarks.append(f"bound_ns: the least bound is {ns_up_ms(envelope.least_ns)} ms, more than a claim can say; one second stands there for now.")
         else:
             claim["bound_ns"] = round_up(envelope.least_ns)
             self.remarks.append(f"bound_ns: the least bound that pieces of {step} s carry is {ns_up_ms(envelope.least_ns)} ms; rounded up.")

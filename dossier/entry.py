@@ -1,8 +1,9 @@
 """What audit.json holds: a record of a folder, with an entry for each audit in it."""
 from __future__ import annotations
 
+import json
 import re
-from dataclasses import asdict, dataclass, field, fields
+from dataclasses import dataclass, field, fields
 from pathlib import Path
 from typing import Any
 
@@ -77,8 +78,11 @@ class Record:
         return {name: sum_ for entry in self.entries for name, sum_ in entry.outputs.items()}
 
 
-def record_json(record: Record) -> dict[str, Any]:
-    return asdict(record)
+def record_text(record: Record) -> bytes:
+    """A record as JSON, a line for each field."""
+    lines = [f' "{name}": {json.dumps(value)}' for name, value in vars(record).items() if name != "entries"]
+    entries = ["  {\n" + ",\n".join(f'   "{name}": {json.dumps(value)}' for name, value in vars(entry).items()) + "\n  }" for entry in record.entries]
+    return ("{\n" + ",\n".join([*lines, ' "entries": [\n' + ",\n".join(entries) + "\n ]"]) + "\n}\n").encode()
 
 
 def read_record(folder: Path) -> Record | None:

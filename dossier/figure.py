@@ -6,7 +6,9 @@ picture that is stretched, and the words stand beside it at parts of the width.
 """
 from __future__ import annotations
 
+import json
 import sys
+from collections.abc import Callable
 
 from .answers import Envelope, read_envelope
 from .cells import Cell, cells_of
@@ -14,13 +16,22 @@ from .program import Operand, Program
 from .scale import ms_marks, time_marks
 from .style import PICTURE
 from .text import html, minus
-from .units import bound_ticks, ns_ms, range_ms, seconds_of, shown_time
+from .units import bound_ticks, ns_ms, range_ms, shown_time
 
 WIDTH, HEIGHT, TOP, STRIP, FOOT = 10_000, 300, 10, 12, 40
 """The inner picture's width in its own units; heights in pixels."""
 
+LEAST = 6
+"""Pixels of a stroke at least, so that a short interval is seen."""
+
 COLOURS, DASHES = 7, 4
+Height = Callable[[float], float]
+"""The height in the picture, in pixels from its top, of an error in ticks."""
+
 MARKS = {"empty": "empty: no course of events fits", "beyond": "beyond the bound", "unbounded": "unbounded: nothing follows"}
+
+
+HULL = '<path class="hull" d="M0 2H26V12H0Z"/><path class="edge" d="M0 2H26M0 12H26"/>'
 
 
 def picture(envelope: Envelope, bound_ns: int, name: str, label: str) -> str:
@@ -31,7 +42,8 @@ def picture(envelope: Envelope, bound_ns: int, name: str, label: str) -> str:
 
     def y(ticks: float) -> float:
         return HEIGHT * (high - ticks) / (high - low)
-    inner = [band(cells, y), *strokes(cells, y)]
+    hull = band(cells, y)
+    inner = [f'<path class="hull" d="{hull}"/>', *strokes(cells, y), f'<path class="edge" d="{hull}"/>']
     inner += [line(y(mark), "grid" if mark else "zero") for mark, _ in ms_marks(low, high)]
     inner += [line(y(side), "bound") for side in (bound, -bound)]
     height = TOP + HEIGHT + STRIP + FOOT
@@ -46,19 +58,26 @@ def picture(envelope: Envelope, bound_ns: int, name: str, label: str) -> str:
 
 
 def extent(cells: list[Cell], bound: int) -> tuple[int, int]:
-    """What is shown, in ticks: the hull and the bound, and a margin. A server far from both stands outside."""
-    lows = [-bound, *(cell.hull[0] for cell in cells if cell.hull)]
-    highs = [bound, *(cell.hull[1] for cell in cells if cell.hull)]
-    margin = max(1000, (max(highs) - min(lows)) * 12 // 100)
-    return min(lows) - margin, max(highs) + margin
+    """What is shown, in ticks: the hull and the bound, the servers that go not much beyond them, and a margin. The others
+    go through the picture, or stand outside."""
+    low = min([-bound, *(cell.hull[0] for cell in cells if cell.hull)])
+    high = max([bound, *(cell.hull[1] for cell in cells if cell.hull)])
+    most = (high - low) * 8 // 5
+    for place in range(len(cells[0].servers)):
+        own = [cell.servers[place] for cell in cells if cell.servers[place]]
+        lower, higher = min([low, *(end for end, _ in own)]), max([high, *(end for _, end in own)])
+        if higher - lower <= most:
+            low, high = lower, higher
+    margin = max(1000, (high - low) * 12 // 100)
+    return low - margin, high + margin
 
 
 def x(part: float) -> int:
     return round(WIDTH * part)
 
 
-def band(cells: list[Cell], y) -> str:
-    """The hull: from cell to cell along its high ends, and back along its low ones. A cell without a hull is a gap."""
+def band(cells: list[Cell], y: Height) -> str:
+    """The hull's path: from cell to cell along its high ends, and back along its low ones. A cell without one is a gap."""
     drawn, run = [], []
     for cell in [*cells, None]:
         if cell is not None and cell.hull and (not run or run[-1].end == cell.begin):
@@ -69,10 +88,10 @@ def band(cells: list[Cell], y) -> str:
             back = "".join(f"V{y(c.hull[0]):.1f}H{x(c.begin)}" for c in reversed(run))
             drawn.append(f"M{x(run[0].begin)} {y(run[0].hull[1]):.1f}{there}{back}Z")
         run = [cell] if cell is not None and cell.hull else []
-    return f'<path class="hull" d="{"".join(drawn)}"/>'
+    return "".join(drawn)
 
 
-def strokes(cells: list[Cell], y) -> list[str]:
+def strokes(cells: list[Cell], y: Height) -> list[str]:
     """Of each server a stroke in each cell, side by side. Where it goes through the whole picture it is faint, and where it
     lies outside there is a short one at the edge."""
     servers = len(cells[0].servers)
@@ -92,7 +111,8 @@ def strokes(cells: list[Cell], y) -> list[str]:
             elif top < 0 and bottom > HEIGHT:
                 wide.append(f"M{at} 0v{HEIGHT}")
             else:
-                plain.append(f"M{at} {min(bottom, HEIGHT):.1f}V{max(top, 0):.1f}")
+                short = max(0.0, (LEAST - bottom + top) / 2)
+                plain.append(f"M{at} {min(bottom + short, HEIGHT):.1f}V{max(top - short, 0):.1f}")
         for path, kind in ((wide, " wide"), (plain, is_dense)):
             if path:
                 drawn.append(f'<path class="server {server_class(place)}{kind}" d="{"".join(path)}"/>')
@@ -123,7 +143,7 @@ def marks(cells: list[Cell]) -> list[str]:
     return drawn
 
 
-def words(envelope: Envelope, bound: int, bound_ns: int, low: int, high: int, y) -> list[str]:
+def words(envelope: Envelope, bound: int, bound_ns: int, low: int, high: int, y: Height) -> list[str]:
     """What is written: milliseconds at the left, the bound at the right, times below."""
     first, last = envelope.begins[0], envelope.ends[-1]
     bottom = TOP + HEIGHT + STRIP
@@ -158,7 +178,7 @@ def described(envelope: Envelope, bound_ns: int) -> str:
 
 def legend(names: list[str], fails: set[str]) -> str:
     """What stands for what, beside a picture in a page."""
-    drawn = [item('<path class="hull" d="M0 2H26V12H0Z"/>', "hull: what is left, if no more were wrong than granted")]
+    drawn = [item(HULL, "hull: what is left, if no more were wrong than granted")]
     drawn += [item(f'<path class="server {server_class(place)}" d="M0 7H26"/>', name) for place, name in enumerate(names)]
     drawn += [item('<path class="bound" d="M0 7H26"/>', "claimed bound")]
     drawn += [item(f'<path class="mark {kind}" d="M0 7H26"/>', text) for kind, text in MARKS.items() if kind in fails]
@@ -171,27 +191,28 @@ def item(swatch: str, text: str) -> str:
 
 def standing_alone(envelope: Envelope, bound_ns: int, label: str, wide: int = 900) -> str:
     """The picture as a file of its own, with its legend in it."""
-    names = ["hull", *envelope.servers]
-    top, across, drawn = 40, 0, []
-    for place, name in enumerate(names):
-        if across + 50 + 8 * len(name) > wide - 20:
+    fails = {cell.mark for cell in cells_of(envelope, bound_ticks(bound_ns))}
+    items = [(HULL, "hull")]
+    items += [(f'<path class="server {server_class(place)}" d="M0 7H26"/>', name) for place, name in enumerate(envelope.servers)]
+    items += [(f'<path class="mark {kind}" d="M0 7H26"/>', text) for kind, text in MARKS.items() if kind in fails]
+    top, across, drawn = 36, 0, []
+    for swatch, text in items:
+        if across + 50 + 7 * len(text) > wide - 20:
             top, across = top + 20, 0
-        swatch = '<path class="hull" d="M0 2H26V12H0Z"/>' if not place else f'<path class="server {server_class(place - 1)}" d="M0 7H26"/>'
-        drawn.append(f'<g transform="translate({10 + across} {top - 32})">{swatch}<text x="32" y="12">{html(name)}</text></g>')
-        across += 56 + 8 * len(name)
+        drawn.append(f'<g transform="translate({10 + across} {top - 28})">{swatch}<text x="32" y="12">{html(text)}</text></g>')
+        across += 52 + 7 * len(text)
     height = top + TOP + HEIGHT + STRIP + FOOT
     return "\n".join([
         f'<svg xmlns="http://www.w3.org/2000/svg" width="{wide}" height="{height}">',
         f"<style>{PICTURE}</style>", '<rect class="paper" width="100%" height="100%"/>', *drawn,
-        f'<svg x="10" y="{top}" width="{wide - 20}" height="{height - top}">', picture(envelope, bound_ns, "p", label), "</svg>", "</svg>"])
+        f'<svg x="10" y="{top}" width="{wide - 20}" height="{height - top}">', picture(envelope, bound_ns, "p", label),
+        "</svg>", "</svg>"])
 
 
 def print_picture(program: Program, claim: str, capture: str, step: int) -> int:
     """Prints the picture of a claim and a capture, from what `envelope` says of them."""
-    import json
     text = program.run(["envelope", Operand(claim), Operand(capture), "--servers", "--step", str(step)], ".").text
     with open(claim, "rb") as opened:
         given = json.load(opened)
-    assert seconds_of(given["from"]) <= seconds_of(given["to"])
     sys.stdout.write(standing_alone(read_envelope(text), given["bound_ns"], f"The error of the clock of {given['client']}") + "\n")
     return 0

@@ -55,8 +55,9 @@ def write_beside(path: Path, data: bytes) -> None:
         try:
             part.write_bytes(data)
             part.replace(path)
-        finally:
+        except BaseException:
             part.unlink(missing_ok=True)
+            raise
     except OSError as error:
         raise Fault(f"ntpaudit-dossier: {path.name} can't be written ({error.strerror})", DEVICE) from None
 

@@ -68,19 +68,23 @@ def tally(rows: list[Row]) -> str:
     return f'<ul class="tally">{"".join(items)}</ul>'
 
 
-COLUMNS = ["Machine", "Day", "Verdict", "Claimed", "Least bound", "Worst piece", "Samples", "Servers", "Why, and what to do"]
-CLASSES = {"Claimed": "number", "Least bound": "number", "Samples": "number", "Machine": "machine", "Worst piece": "time", "Servers": "few",
-           "Why, and what to do": "why"}
+COLUMNS = ["Machine", "Day", "Verdict", "Claimed", "Least bound", "Worst piece", "Samples", "Servers", "Granted"]
+CLASSES = {"Claimed": "number", "Least bound": "number", "Samples": "number", "Machine": "machine", "Worst piece": "time"}
 
 
 def table(rows: list[Row], names: list[str]) -> str:
-    """Machines and days. A column that would be empty throughout is left out."""
+    """Machines and days, and below each line why it isn't a plain yes. A column that would be empty throughout is left out."""
     cells = [cells_of(row, name) for row, name in zip(rows, names)]
     shown = [k for k, _ in enumerate(COLUMNS) if any(row[k] for row in cells)]
-    head = "".join(f'<th{of_column(COLUMNS[k])}>{COLUMNS[k]}</th>' for k in shown)
-    body = ["".join(f'<td data-label="{COLUMNS[k]}"{of_column(COLUMNS[k])}>{row[k]}</td>' for k in shown) for row in cells]
-    lines = "\n".join(f"<tr>{row}</tr>" for row in body)
-    return f"<table>\n<thead><tr>{head}</tr></thead>\n<tbody>\n{lines}\n</tbody>\n</table>"
+    head = "".join(f"<th{of_column(COLUMNS[k])}>{COLUMNS[k]}</th>" for k in shown)
+    groups = []
+    for row, line in zip(rows, cells):
+        said = "".join(f'<td data-label="{COLUMNS[k]}"{of_column(COLUMNS[k])}>{line[k]}</td>' for k in shown)
+        why = "<br>".join(why_of(row))
+        under = f'<tr class="why"><td colspan="{len(shown)}">{why}</td></tr>' if why else ""
+        groups.append(f"<tbody><tr>{said}</tr>{under}</tbody>")
+    body = "\n".join(groups)
+    return f'<table class="audits">\n<thead><tr>{head}</tr></thead>\n{body}\n</table>'
 
 
 def of_column(column: str) -> str:
@@ -88,13 +92,17 @@ def of_column(column: str) -> str:
 
 
 def cells_of(row: Row, name: str) -> list[str]:
-    worst = f"<span>{row.worst_begin[:10]} {row.worst_begin[11:19]}</span>" if row.worst_begin else ""
-    of = "" if row.servers is None else f"{row.servers} in {row.groups} groups" if row.groups != row.servers else str(row.servers)
-    most = "" if row.false_max is None else f" ({row.false_max} wrong at most)" if row.false_max else " (none wrong)"
-    said = [minus(html(f"{row.reason} {row.to_do}".strip())), *(f"<b>Warning:</b> {html(words)}" for words in row.warnings)]
-    why = "<br>".join(words for words in said if words)
-    return [f'<a href="#{name}">{html(row.machine)}</a>', html(row.day), badge(row.verdict),
-            "" if row.bound_ns is None else f"{ns_ms(row.bound_ns)} ms",
-            "" if row.bound_ns is None else "none" if row.least_bound_ns is None else f"{ns_up_ms(row.least_bound_ns)} ms", worst,
-            "" if row.samples is None else f"{row.samples:,}", of + most,
-            f"<span>{why}</span>" if why else ""]
+    """The cells of a line. Where there is no verdict there are no figures."""
+    cells = [f'<a href="#{name}">{html(row.machine)}</a>', row.day, badge(row.verdict)]
+    if row.bound_ns is None:
+        return [*cells, *[""] * (len(COLUMNS) - len(cells))]
+    least = "none" if row.least_bound_ns is None else f"{ns_up_ms(row.least_bound_ns)} ms"
+    servers = f"{row.servers} in {count(row.groups, 'group')}" if row.groups != row.servers else f"{row.servers}"
+    return [*cells, f"{ns_ms(row.bound_ns)} ms", least, f"<span>{row.worst_begin[:10]}</span> <span>{row.worst_begin[11:19]}</span>",
+            f"{row.samples:,}", servers, f"{row.false_max or 'none'} wrong"]
+
+
+def why_of(row: Row) -> list[str]:
+    """Why it isn't a yes, what to do, and the warnings."""
+    said = minus(html(f"{row.reason} {row.to_do}".strip()))
+    return ([said] if said else []) + [f"<b>Warning:</b> {html(words)}" for words in row.warnings]

@@ -6,10 +6,11 @@ import os
 import shutil
 import subprocess
 import time
-from collections.abc import Iterator
-from contextlib import contextmanager
+from collections.abc import Callable
 from dataclasses import dataclass
 from pathlib import Path
+
+from .call import Call
 
 ROOT = Path(__file__).resolve().parent.parent
 
@@ -39,7 +40,7 @@ class Operand:
     @property
     def is_sayable(self) -> bool:
         """Whether the program takes the name as a word: it has to be UTF-8."""
-        return not any("\udc80" <= c <= "\udcff" for c in self.name)
+        return self.name.isascii() or not any("\udc80" <= c <= "\udcff" for c in self.name)
 
     @property
     def word(self) -> str:
@@ -59,41 +60,41 @@ class Program:
 
     def run(self, words: list[Word], folder: str) -> Ran:
         """Calls the program in a folder. At most one operand may have a name that isn't UTF-8."""
-        with given(words, folder) as stdin:
-            ran = subprocess.run([self.path, *map(said, words)], cwd=folder, stdin=stdin, capture_output=True)
-        if ran.returncode not in (0, 1):
-            raise fault_of(ran.returncode, ran.stderr)
-        return Ran(ran.returncode, ran.stdout)
+        blocks: list[bytes] = []
+        return Ran(self.call(words, folder, blocks.append), b"".join(blocks))
 
-    def lines(self, words: list[Word], folder: str) -> Iterator[bytes]:
-        """The lines of a text that may be long, one by one."""
-        with given(words, folder) as stdin:
-            call = subprocess.Popen([self.path, *map(said, words)], cwd=folder, stdin=stdin, stdout=subprocess.PIPE,
-                                    stderr=subprocess.PIPE)
-        with call:
-            try:
-                yield from call.stdout
-                error = call.stderr.read()
-            except BaseException:
-                call.kill()
-                raise
-        if call.returncode not in (0, 1):
-            raise fault_of(call.returncode, error)
+    def call(self, words: list[Word], folder: str, take: Callable[[bytes], object]) -> int:
+        """Hands on what the program prints, as it comes. The status, which is 0 or 1."""
+        call = Call([self.path, *map(said, words)], folder, unsayable(words))
+        try:
+            for block in call.blocks():
+                take(block)
+        except BaseException:
+            call.kill()
+            raise
+        status, error = call.end()
+        if status not in (0, 1):
+            raise fault_of(status, error)
+        return status
+
+    def lines(self, words: list[Word], folder: str, take: Callable[[list[bytes]], object]) -> None:
+        """Hands on the lines of a text that may be long, many at a time and without their line feeds."""
+        rest = b""
+
+        def take_block(block: bytes) -> None:
+            nonlocal rest
+            *whole, rest = (rest + block).split(b"\n")
+            take(whole)
+        self.call(words, folder, take_block)
 
 
 def said(word: Word) -> str:
     return word.word if isinstance(word, Operand) else word
 
 
-@contextmanager
-def given(words: list[Word], folder: str) -> Iterator[object]:
-    """Standard input for the one operand that can't be said, or none."""
-    for word in words:
-        if isinstance(word, Operand) and not word.is_sayable:
-            with open(os.path.join(folder, word.name), "rb") as opened:
-                yield opened
-            return
-    yield subprocess.DEVNULL
+def unsayable(words: list[Word]) -> str:
+    """The file that is given on standard input, since its name can't be said."""
+    return next((word.name for word in words if isinstance(word, Operand) and not word.is_sayable), "/dev/null")
 
 
 def fault_of(status: int, error: bytes) -> Fault:

@@ -6,7 +6,9 @@ from __future__ import annotations
 
 from array import array
 from bisect import bisect_left
+from collections import Counter
 from dataclasses import dataclass, field
+from operator import itemgetter, lt
 
 from .answers import read_counts
 from .program import Operand, Program
@@ -41,46 +43,66 @@ class Recording:
         return max(0, min(found)) if found else None
 
 
-def nanoseconds(time: bytes) -> int:
-    """Field 2 of the listing: seconds, a dot, and 6 or 9 digits."""
-    digits = time.replace(b".", b"")
-    return int(digits) * (1000 if len(time) - time.index(b".") == 7 else 1)
-
-
 def read_recording(program: Program, folder: str, claim: Operand, capture: Operand) -> Recording:
     """Runs `samples` and `list`."""
-    found, requests, replies = Recording(), [], array("q")
-    for line in program.lines(["samples", claim, capture], folder):
-        words = line.split(None, 4)
-        if words[0] == b"records":
-            found.counts = read_counts(line.decode("ascii"))
-            continue
-        server = words[1].decode("ascii")
-        found.by_server[server] = found.by_server.get(server, 0) + 1
-        requests.append(int(words[2]))
-        replies.append(int(words[3]))
-    read_times(program, folder, capture, min(requests, default=None), set(replies), found)
+    found, requests, replies, servers = Recording(), [], array("q"), Counter()
+
+    def take(lines: list[bytes]) -> None:
+        if lines and lines[-1].startswith(b"records "):
+            found.counts = read_counts(lines.pop().decode("ascii"))
+        words = [line.split(None, 4) for line in lines]
+        servers.update(map(itemgetter(1), words))
+        requests.append(min(map(int, map(itemgetter(2), words)), default=None))
+        replies.extend(map(int, map(itemgetter(3), words)))
+    program.lines(["samples", claim, capture], folder, take)
+    found.by_server = {server.decode("ascii"): number for server, number in servers.items()}
+    first = min((request for request in requests if request is not None), default=None)
+    Times(found, first, replies).read(program, folder, capture)
     return found
 
 
-def read_times(program: Program, folder: str, capture: Operand, first: int | None, replies: set[int], found: Recording) -> None:
-    before = None
-    for line in program.lines(["list", capture], folder):
-        number, word, _ = line.split(b" ", 2)
-        if number == b"records":
-            continue
-        time = nanoseconds(word)
-        if before is None:
-            found.first = found.last = time
-        elif time < before:
-            found.falls += 1
-            found.fall = found.fall or (int(number), before, time)
-        before = time
-        found.first, found.last = min(found.first, time), max(found.last, time)
-        record = int(number)
-        if record == first:
-            found.first_request = time
-        if record in replies:
-            found.times.append(time)
-            found.last_reply = time if found.last_reply is None else max(found.last_reply, time)
-    found.times = array("q", sorted(found.times))
+class Times:
+    """The times of all packets, of the first exchange and of the samples, whose records come in rising order."""
+
+    def __init__(self, found: Recording, first: int | None, replies: array):
+        self.found, self.first, self.replies = found, first, replies
+        self.before: int | None = None
+        self.taken = 0
+
+    def read(self, program: Program, folder: str, capture: Operand) -> None:
+        program.lines(["list", capture], folder, self.take)
+        self.found.last_reply = max(self.found.times, default=None)
+        self.found.times = array("q", sorted(self.found.times))
+
+    def take(self, lines: list[bytes]) -> None:
+        if lines and lines[-1].startswith(b"records "):
+            lines.pop()
+        if not lines:
+            return
+        words, found = [line.split(b" ", 2) for line in lines], self.found
+        numbers = list(map(int, map(itemgetter(0), words)))
+        times = nanoseconds(list(map(itemgetter(1), words)))
+        find_falls(numbers, times, self.before, found)
+        self.before = times[-1]
+        found.first = min(times) if found.first is None else min(found.first, min(times))
+        found.last = max(times) if found.last is None else max(found.last, max(times))
+        at = dict(zip(numbers, times))
+        found.first_request = at.get(self.first, found.first_request)
+        while self.taken < len(self.replies) and self.replies[self.taken] in at:
+            found.times.append(at[self.replies[self.taken]])
+            self.taken += 1
+
+
+def nanoseconds(words: list[bytes]) -> list[int]:
+    """Fields 2 of the listing: seconds, a dot, and 6 or 9 digits."""
+    unit = 1000 if len(words[0]) - words[0].index(b".") == 7 else 1
+    return [int(word.replace(b".", b"")) * unit for word in words]
+
+
+def find_falls(numbers: list[int], times: list[int], before: int | None, found: Recording) -> None:
+    """Counts the records whose time is before that of the one before them."""
+    earlier = [times[0] if before is None else before, *times[:-1]]
+    if any(map(lt, times, earlier)):
+        falls = [fall for fall in zip(numbers, earlier, times) if fall[2] < fall[1]]
+        found.falls += len(falls)
+        found.fall = found.fall or falls[0]

@@ -17,11 +17,13 @@ svg path{{vector-effect:non-scaling-stroke;fill:none}}
 .grid{{stroke:var(--rule)}}
 .zero{{stroke:var(--soft)}}
 .tick{{stroke:var(--soft)}}
-svg .hull{{fill:var(--hull);stroke:var(--hulledge);stroke-width:1}}
+svg .hull{{fill:var(--hull)}}
+.edge{{stroke:var(--hulledge);stroke-width:1.5}}
 .bound{{stroke:var(--bound);stroke-width:1.5;stroke-dasharray:7 4}}
 svg .claimed{{fill:var(--ink)}}
 .server{{stroke-width:2}}
-.dense{{stroke-width:1;opacity:.55}}
+.dense{{stroke-width:1;opacity:.45}}
+.wide{{stroke-width:1.5;opacity:.3}}
 .mark{{stroke-width:12;stroke:var(--bad)}}
 .beyond{{stroke-dasharray:3 2}}
 .unbounded{{stroke-dasharray:1 5;stroke:var(--soft)}}
@@ -44,12 +46,15 @@ article{border-top:3px solid var(--ink);margin-top:44px;padding-top:16px}
 table{border-collapse:collapse;width:100%;font-size:14px;line-height:1.4}
 th,td{text-align:left;vertical-align:top;padding:6px 10px 6px 0;border-bottom:1px solid var(--rule);overflow-wrap:anywhere}
 th{font-weight:600;color:var(--soft)}
-.number{text-align:right;white-space:nowrap;font-variant-numeric:tabular-nums}
+.number{text-align:right;padding-right:16px;white-space:nowrap;font-variant-numeric:tabular-nums}
 .narrow{width:1%;white-space:nowrap}
 .machine{min-width:9em}
 .time{min-width:6em}
-.few{min-width:8em}
-.why{width:34%}
+.audits td{border:0}
+.audits th,.audits td{white-space:nowrap;overflow-wrap:normal}
+.audits td.machine,.audits .why td{white-space:normal;overflow-wrap:anywhere}
+.audits tbody{border-bottom:1px solid var(--rule)}
+.why td{padding:0 0 10px 18px}
 .verdict{display:inline-block;padding:0 9px;border:2px solid;border-radius:5px;font-weight:700;white-space:nowrap}
 .yes{color:var(--good)}
 .no{color:var(--paper);background:var(--bad);border-color:var(--bad)}
@@ -64,6 +69,7 @@ figcaption{font-size:14px;color:var(--soft);margin-bottom:4px}
 .picture{display:block;overflow:visible}
 .legend{display:flex;flex-wrap:wrap;gap:2px 18px;list-style:none;padding:0;margin:8px 0;font-size:13px}
 .legend svg,td svg{vertical-align:-2px}
+td>span{white-space:nowrap}
 .sums td{font-family:ui-monospace,monospace;font-size:12px}
 pre{background:var(--panel);padding:10px 14px;overflow-x:auto;font-size:13px;white-space:pre-wrap;overflow-wrap:anywhere}
 .sign{min-width:11em}
@@ -72,18 +78,26 @@ body{padding:16px 14px 40px}
 h1{font-size:24px}
 thead{display:none}
 tr{display:block;border-bottom:2px solid var(--rule);padding:8px 0}
-td,td.number,td.narrow,td.why{display:flex;gap:12px;border:0;padding:2px 0;text-align:left;white-space:normal;width:auto}
+td,td.number,td.narrow{display:flex;gap:12px;border:0;padding:2px 0;text-align:left;white-space:normal;width:auto}
 td>*{min-width:0}
 td::before{content:attr(data-label);flex:0 0 7.5em;color:var(--soft)}
-td:empty,td.blank:empty{display:none}
+td:empty{display:none}
+tr.why td{display:block;padding:0 0 8px}
+tr.why td::before{content:none}
+.audits tr{border:0;padding:4px 0}
 }
 @media print{
+@page{margin:14mm}
 body{max-width:none;padding:0;font-size:11pt}
 article{break-before:page;border-top:0;margin-top:0}
 figure,tr,.warnings,.legend{break-inside:avoid}
 h3{break-after:avoid}
 thead{display:table-header-group}
+table{font-size:9pt}
+th,td{padding-right:7px}
+.audits td.time{white-space:normal}
 .sign{height:2.6em}
+tbody tr,.audits tbody{break-inside:avoid}
 *{print-color-adjust:exact;-webkit-print-color-adjust:exact}
 }
 """

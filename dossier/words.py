@@ -39,7 +39,9 @@ def between(piece: dict[str, Any]) -> str:
 
 def span(claim: dict[str, Any]) -> str:
     first, last = (shown_time(seconds_of(claim[name])) for name in ("from", "to"))
-    return f"at {first} UTC" if first == last else f"from {first} to {last} UTC"
+    if first == last:
+        return f"at {first} UTC"
+    return f"from {first} to {last[11:] if first[:10] == last[:10] else last} UTC"
 
 
 def granted(claim: dict[str, Any]) -> str:
@@ -62,7 +64,7 @@ def sentence(entry: Entry) -> str:
     claim = entry.claim
     within = f"the clock of {claim['client']} was within {ns_ms(claim['bound_ns'])} ms of UTC"
     if entry.verdict == YES:
-        off = f"The widest it may have been off was {ns_up_ms(entry.least_ns)} ms, {between(entry.worst)}."
+        off = f"Then the widest it may have been off was {ns_up_ms(entry.least_ns)} ms, {between(entry.worst)}."
         return f"{capital(span(claim))} {within}, {granted(claim)} and what else the claim grants is true. {off}"
     if entry.verdict == NEITHER:
         first = next(warning for warning in entry.warnings if warning["kind"] == "empty")
@@ -159,7 +161,7 @@ def warning_words(warning: dict[str, Any]) -> str:
                 f"{between(warning)}: no course of events has a reading of the clock there, so an assumption of the claim fails in this capture.")
     if kind == "outside":
         parts = [f"begins {span_of_seconds(warning['before'] / SECOND)} before the first NTP packet"] if warning["before"] else []
-        parts += [f"ends {span_of_seconds(warning['after'] / SECOND)} after the last"] if warning["after"] else []
+        parts += [f"ends {span_of_seconds(warning['after'] / SECOND)} after the last{'' if warning['before'] else ' NTP packet'}"] if warning["after"] else []
         return f"The span leaves the recording: it {' and '.join(parts)}. There it rests on the drift that the claim grants, and on nothing recorded."
     if kind == "no-drift":
         return "The claim grants no drift at all (drift_ppb is 0). No oscillator is so good, and no NTP client corrects a clock without it."
