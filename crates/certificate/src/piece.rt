@@ -71,8 +71,8 @@ impl Parts {
     ) -> Result<(), Invalid>
         ensures { MatchResult result
             (λ _. (value : Data) × (next_value depth reader.old ≡ Some (value, reader.new))
-                × ((found : Members) → parts_data self.old ≡ parts_of number found →
-                    parts_data self.new ≡ parts_of number (put name.now value found)))
+            × ((found : Members) → parts_data self.old ≡ parts_of number found →
+            parts_data self.new ≡ parts_of number (put name.now value found)))
             (λ _. next_value depth reader.old ≡ None) }
     {
         match name {

@@ -1,8 +1,8 @@
 //! What the text of a certificate says.
 //!
-//! It is read token by token, in one pass. Of what is no part of a certificate, only the tokens are
-//! looked at, so no text takes more memory than its own bytes once more, and the pieces that it
-//! lists.
+//! A text that `write_certificate` wrote is read by the reader of that form alone. Any other is
+//! read token by token. What is no part of a certificate is only judged, so beside the pieces that
+//! are listed a reading takes no more memory than the text has bytes.
 
 ghost use Rattle.std.specs.Prelude.{◌≡◌, ◌≤◌, ◌⊎◌, Some, None, IfOk, MatchResult, length, option_map};
 ghost use Rattle.json.specs.Json.{parse_map};
@@ -19,6 +19,7 @@ ghost use Rattle.certificate.specs.Parts.{certificate_of_parts, judged, pieces_i
 ghost use Rattle.certificate.specs.Reading as spec;
 
 use crate::certificate::{Certificate, Piece};
+use crate::compact::read_compact;
 use crate::fault::CertificateFault;
 use crate::pieces::read_pieces;
 use json::{Reader, Scratch};
@@ -34,6 +35,9 @@ pub fn read_certificate(alloc: Global, bytes: &[u8]) -> Result<Certificate, Cert
     ensures exact { Answers result data_of (spec.certificate_of bytes.now) }
     ensures few { IfOk result (λ certificate. length certificate.pieces.items ≤ max_pieces) }
 {
+    if let Some(certificate) = read_compact(alloc, bytes)? {
+        return Ok(certificate);
+    }
     match std::str::from_utf8(bytes) {
         Ok(text) => read_text(alloc, text, &mut Scratch::new(alloc)),
         Err(_) => Err(CertificateFault::Json),
@@ -111,10 +115,10 @@ impl Whole {
     ) -> Result<(), CertificateFault>
         ensures { MatchResult result
             (λ _. (value : Data) × (next_value depth reader.old ≡ Some (value, reader.new))
-                × ((found : Members) → whole_data self.old ≡ top_parts_of found →
-                    whole_data self.new ≡ top_parts_of (put name.now value found)))
+            × ((found : Members) → whole_data self.old ≡ top_parts_of found →
+            whole_data self.new ≡ top_parts_of (put name.now value found)))
             (λ fault. (fault ≡ Memory)
-                ⊎ ((fault ≡ Json) × (next_value depth reader.old ≡ None))) }
+            ⊎ ((fault ≡ Json) × (next_value depth reader.old ≡ None))) }
     {
         match name {
             "pieces" => self.pieces = read_listed(alloc, reader, depth)?,

@@ -1,5 +1,5 @@
 -- What comes next, under what is made of it.
-use Rattle.std.proofs.Common.{◌≡◌, ℕ, ◌<◌, List, length, Option, Some, None, option_map, refl, sym, ap, ◌∙◌}
+use Rattle.std.proofs.Common.{◌≡◌, ℕ, ◌<◌, List, length, Option, Some, None, refl, sym, ap, ◌∙◌}
 use Rattle.json.specs.Json.{parse_map, after_end_array}
 use Rattle.json.specs.Token.{Token}
 use Rattle.json.proofs.Grammar.{left_some}
@@ -52,9 +52,11 @@ module _ {B : Type 0} (m : Items → B) (depth : ℕ) (ts : List Token) where
       (v : Data) × (f v ≡ a)
       × (parse_map m (next_items depth ts) ≡ parse_map (λ rest. m (item v rest)) (next_items depth r))
   element_read f a r going is =
-      let (v, same, read) = mapped_some f (next_value depth ts) a r is in
-      (v, same,
-      ap (parse_map m) (item_read depth ts r v going read) ∙ mapped_twice (item v) m (next_items depth r))
+      let (v, same, read) = mapped_some f (next_value depth ts) a r is in (
+        v,
+        same,
+        ap (parse_map m) (item_read depth ts r v going read) ∙ mapped_twice (item v) m (next_items depth r),
+      )
 
   pub elements_passed : (r : List Token) → rest_after (next_items depth ts) ≡ Some r →
       (items : Items) × (parse_map m (next_items depth ts) ≡ Some (m items, r))

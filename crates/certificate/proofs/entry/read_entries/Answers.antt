@@ -1,11 +1,10 @@
-use Rattle.std.proofs.Common.{◌≡◌, ◌+◌, ◌<◌, ◌≤◌, length, Some, None, Ok, Err, true, false, sym, ap, ◌∙◌, arith, length-append}
+use Rattle.std.proofs.Common.{◌≡◌, ◌+◌, ◌≤◌, length, Some, None, Ok, sym, ap, ◌∙◌, arith, length-append}
 use Rattle.json.specs.Json.{parse_map, after_end_array}
 use Rattle.json_text.proofs.NextMapped.{mapped_same, mapped-shorter, array_ends, element_refused, element_read, goes_on}
 use Rattle.json_text.specs.Next.{next_items}
 use Rattle.json_text.specs.Step.{given}
-use Rattle.certificate.specs.Parts.{entries_in}
 use Rattle.certificate.specs.Reading.{entry_of}
-use Rattle.certificate.specs.declared.fault.CertificateFault.TheVariants.{Shape, TooManyEntries}
+use Rattle.certificate.specs.declared.fault.CertificateFault.TheVariants.{Shape}
 use Rattle.certificate.proofs.EntriesRead.{so_far, and_one, entries_after, entries_first, entries_next, entries_last, entries_too_many, pushed_one, pushed_none}
 use Rattle.certificate.proofs.entry.read_entries.Goals as goal
 use Rattle.certificate.proofs.entry.read_entries.Goals.{Joined-branch-3, in-Some, in-None}
@@ -52,21 +51,21 @@ added : (c : Joined-branch-3) →
 added c =
     let l = c.entries in
     elim c.match-branch-3.branch [
-    in-Some w ↦
-        rw (w.are_pairs-is, w.entries-is, w.in-Some.is)
-        (pushed_one l.are_pairs l.entries.items w.push.new.self.items w.in-Some.entry w.push.ensures.items)
-    | in-None w ↦
-        rw (w.are_pairs-is, w.in-None.is) (pushed_none l.are_pairs l.entries.items l.entries.items)
+      | in-Some w ↦
+          rw (w.are_pairs-is, w.entries-is, w.in-Some.is)
+          (pushed_one l.are_pairs l.entries.items w.push.new.self.items w.in-Some.entry w.push.ensures.items)
+      | in-None w ↦
+          rw (w.are_pairs-is, w.in-None.is) (pushed_none l.are_pairs l.entries.items l.entries.items)
     ]
 
 counted : (c : Joined-branch-3) → length c.match-branch-3.entries.items ≤ c.entries.count + 1
 counted c =
     let l = c.entries in
     elim c.match-branch-3.branch [
-    in-Some w ↦
-        rw (w.entries-is, w.push.ensures.items)
-        (simp length-append (omega (arith, l.invariant.held)))
-    | in-None w ↦ rw w.entries-is (omega (arith, l.invariant.held))
+      | in-Some w ↦
+          rw (w.entries-is, w.push.ensures.items)
+          (simp length-append (omega (arith, l.invariant.held)))
+      | in-None w ↦ rw w.entries-is (omega (arith, l.invariant.held))
     ]
 
 pub entries-preserved : goal.entries-preserved

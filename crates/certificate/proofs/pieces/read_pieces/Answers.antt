@@ -1,10 +1,10 @@
-use Rattle.std.proofs.Common.{◌≡◌, ◌+◌, ◌<◌, ◌≤◌, length, [], Some, None, Ok, Err, inl, inr, map, sym, ap, ◌∙◌, arith}
+use Rattle.std.proofs.Common.{◌≡◌, ◌+◌, Some, None, Ok, inl, inr, map, sym, ap, ◌∙◌, arith}
 use Rattle.json.specs.Json.{parse_map, after_end_array}
 use Rattle.json_text.proofs.NextMapped.{mapped_same, mapped-shorter, array_ends, element_refused, element_read, goes_on}
 use Rattle.json_text.specs.Next.{next_items}
 use Rattle.certificate.specs.Certificate.{piece_data}
 use Rattle.certificate.specs.Parted.{pieces_data}
-use Rattle.certificate.specs.Parts.{judged, pieces_in, pieces_and}
+use Rattle.certificate.specs.Parts.{judged, pieces_and}
 use Rattle.certificate.proofs.PiecesRead.{pieces_after, pieces_first, pieces_next, pieces_last, pieces_too_many}
 use Rattle.certificate.proofs.pieces.read_pieces.Goals as goal
 
@@ -32,12 +32,12 @@ returns-in_err-found c =
     let found = judged pieces_data l.found in
     let going : (after_end_array l.reader ≡ None) × (c.take_end_array.new.self ≡ l.reader) = grind arith in
     elim c.in_err-found.ensures [
-    inl memory ↦ grind (arith, memory)
-    | inr none ↦
-        let refused = l.invariant.read
-        ∙ element_refused (pieces_after l.count found) c.args.depth l.reader (pieces_and l.count found) going.0
-        (rw (← going.1) none.1) in
-        grind (arith, refused)
+      | inl memory ↦ grind (arith, memory)
+      | inr none ↦
+          let refused = l.invariant.read
+          ∙ element_refused (pieces_after l.count found) c.args.depth l.reader (pieces_and l.count found) going.0
+          (rw (← going.1) none.1) in
+          grind (arith, refused)
     ]
 
 pub pieces-smaller : goal.pieces-smaller
