@@ -3,7 +3,7 @@ use Rattle.json.specs.Json.{parse_map, after_end_array}
 use Rattle.json_text.proofs.NextMapped.{mapped_same, mapped-shorter, array_ends, element_refused, element_read, goes_on}
 use Rattle.json_text.specs.Next.{next_items}
 use Rattle.certificate.specs.Certificate.{piece_data}
-use Rattle.certificate.specs.Parted.{pieces_data}
+use Rattle.certificate.specs.PartsData.{pieces_data}
 use Rattle.certificate.specs.Parts.{judged, pieces_and}
 use Rattle.certificate.proofs.PiecesRead.{pieces_after, pieces_first, pieces_next, pieces_last, pieces_too_many}
 use Rattle.certificate.proofs.pieces.read_pieces.Goals as goal

@@ -5,7 +5,7 @@ use Rattle.json_text.specs.Member.{unsigned_of}
 use Rattle.json_text.specs.Next.{next_value}
 use Rattle.serde_json.specs.Data.{put}
 use Rattle.serde_json.specs.Find.{as_array}
-use Rattle.certificate.specs.Parted.{parts_data}
+use Rattle.certificate.specs.PartsData.{parts_data}
 use Rattle.certificate.specs.Parts.{entries_in, parts_of, judged}
 use Rattle.certificate.proofs.PartsRead.{parts_entries, parts_upto, parts_other}
 use Rattle.certificate.proofs.piece.Parts.read.Goals as goal

@@ -4,7 +4,7 @@ use Rattle.json_text.proofs.NextMapped.{mapped_some}
 use Rattle.json_text.specs.Next.{next_value}
 use Rattle.serde_json.specs.Data.{put}
 use Rattle.serde_json.specs.Find.{as_array}
-use Rattle.certificate.specs.Parted.{pieces_data, whole_data}
+use Rattle.certificate.specs.PartsData.{pieces_data, whole_data}
 use Rattle.certificate.specs.Parts.{judged, pieces_in, top_parts_of}
 use Rattle.certificate.proofs.WholeRead.{whole_pieces, whole_other}
 use Rattle.certificate.proofs.reading.Whole.read.Goals as goal
