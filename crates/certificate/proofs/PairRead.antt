@@ -50,5 +50,5 @@ module _ (depth : ℕ) (ts ts' : List Token) (low : Option ℕ) (going : after_e
         let (v, v_is, one) = element_read pair_of depth ts sample_of low ts' going first in
         let (w, w_is, two) = element_read (λ rest. pair_of (item v rest)) depth ts' sample_of high ts'' more_to_come
         second in
-        let (x, rest, read) = goes_on depth ts'' r further is in
-        one ∙ two ∙ ap (parse_map (λ rest. pair_of (item v (item w rest)))) read
+        let (x, rest, read) = goes_on (λ rest. pair_of (item v (item w rest))) depth ts'' r further is in
+        one ∙ two ∙ read

@@ -71,7 +71,7 @@ impl Parts {
         ensures { MatchResult result
             (λ _. (value : Data) × (next_value depth reader.old ≡ Some (value, reader.new))
             × AddsMember (parts_of number) name.now value
-                (parts_data self.old) (parts_data self.new))
+            (parts_data self.old) (parts_data self.new))
             (λ _. next_value depth reader.old ≡ None) }
     {
         match name {
