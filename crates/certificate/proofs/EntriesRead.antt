@@ -3,6 +3,10 @@ use Rattle.std.proofs.Common.{◌≡◌, ℕ, suc, ◌+◌, ◌≤◌, List, [],
 use Rattle.std.proofs.lemmas.Bool.Decides.{nat_tests}
 use Rattle.serde_json.specs.Data.{Data, Items, no_items, item}
 use Rattle.serde_json.specs.Events.{items_len}
+use Rattle.json.specs.Json.{parse_map, after_end_array}
+use Rattle.json.specs.Token.{Token}
+use Rattle.json_text.proofs.NextMapped.{mapped_same, element_read, goes_on}
+use Rattle.json_text.specs.Next.{next_value, next_items, rest_after}
 use Rattle.json_text.specs.Step.{given, asked}
 use Rattle.certificate.specs.declared.fault.CertificateFault.{CertificateFault}
 use Rattle.certificate.specs.declared.fault.CertificateFault.TheVariants.{Shape, TooManyEntries}
@@ -44,7 +48,7 @@ one_more (Some es) None more = refl
 one_more (Some es) (Some e) None = refl
 one_more (Some es) (Some e) (Some others) = ap Some (sym (append_assoc es (e ∷ []) others))
 
-pub entries_next : (number count : ℕ) (found : Option (List (ℕ × ℕ))) (value : Data) (rest : Items) →
+entries_next : (number count : ℕ) (found : Option (List (ℕ × ℕ))) (value : Data) (rest : Items) →
     entries_after number count found (item value rest)
     ≡ entries_after number (count + 1) (and_one found (entry_of value)) rest
 entries_next number count found value rest =
@@ -62,7 +66,7 @@ entries_last number count found few =
     let fits : nat_le (count + 0) max_entries ≡ true = grind (arith, nat_tests) in
     ap₂ (λ b more. asked (TooManyEntries number) b (given (Shape number) more Ok)) fits (nothing_more found)
 
-pub entries_too_many : (number count : ℕ) (found : Option (List (ℕ × ℕ))) (value : Data) (rest : Items) →
+entries_too_many : (number count : ℕ) (found : Option (List (ℕ × ℕ))) (value : Data) (rest : Items) →
     count ≡ max_entries → entries_after number count found (item value rest) ≡ Err (TooManyEntries number)
 entries_too_many number count found value rest full =
     let over : nat_le (count + suc (items_len rest)) max_entries ≡ false = grind (arith, nat_tests) in
@@ -79,3 +83,22 @@ pub pushed_none : (are_pairs : Bool) (before after : List (ℕ × ℕ)) →
     so_far false after ≡ and_one (so_far are_pairs before) None
 pushed_none true before after = refl
 pushed_none false before after = refl
+
+-- ---- a turn of the reading
+
+module _ (number count : ℕ) (found : Option (List (ℕ × ℕ))) (depth : ℕ) (ts : List Token)
+    (going : after_end_array ts ≡ None) where
+  pub too_many_there : (r : List Token) → count ≡ max_entries → rest_after (next_items depth ts) ≡ Some r →
+      parse_map (entries_after number count found) (next_items depth ts) ≡ Some (Err (TooManyEntries number), r)
+  too_many_there r full is =
+      let (v, rest, read) = goes_on (entries_after number count found) depth ts r going is in
+      read ∙ ap (λ e. Some (e, r)) (entries_too_many number count found v rest full)
+
+  pub one_more_there : (entry : Option (ℕ × ℕ)) (r : List Token) →
+      parse_map entry_of (next_value depth ts) ≡ Some (entry, r) →
+      parse_map (entries_after number count found) (next_items depth ts)
+      ≡ parse_map (entries_after number (count + 1) (and_one found entry)) (next_items depth r)
+  one_more_there entry r is =
+      let (v, same, more) = element_read (entries_after number count found) depth ts entry_of entry r going is in
+      more ∙ mapped_same _ _ (entries_next number count found v) (next_items depth r)
+      ∙ ap (λ e. parse_map (entries_after number (count + 1) (and_one found e)) (next_items depth r)) same

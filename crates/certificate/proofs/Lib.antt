@@ -7,7 +7,6 @@ pub mod Limits
 pub mod LineFeed
 pub mod Outlined
 pub mod PairRead
-pub mod Pairs
 pub mod PartsRead
 pub mod PiecesRead
 pub mod ReadBack

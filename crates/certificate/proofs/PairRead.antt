@@ -1,10 +1,10 @@
 -- A pair of sample numbers, read an element at a time.
-use Rattle.std.proofs.Common.{◌≡◌, ℕ, List, Option, Some, None, option_map, option_and_then, sym, ap, ap₂, ◌∙◌}
+use Rattle.std.proofs.Common.{◌≡◌, ℕ, List, Option, Some, None, option_map, option_and_then, ap, ap₂, ◌∙◌}
 use Rattle.json.specs.Json.{parse_map, after_end_array}
 use Rattle.json.specs.Token.{Token}
 use Rattle.json_text.proofs.NextMapped.{array_ends, element_refused, element_read, goes_on}
 use Rattle.json_text.specs.Next.{next_value, next_items, rest_after}
-use Rattle.serde_json.specs.Data.{Data, item}
+use Rattle.serde_json.specs.Data.{item}
 use Rattle.certificate.specs.Reading.{sample_of, pair_of}
 
 -- the sample that comes next
@@ -50,5 +50,5 @@ module _ (depth : ℕ) (ts ts' : List Token) (low : Option ℕ) (going : after_e
         let (v, v_is, one) = element_read pair_of depth ts sample_of low ts' going first in
         let (w, w_is, two) = element_read (λ rest. pair_of (item v rest)) depth ts' sample_of high ts'' more_to_come
         second in
-        let (x, rest, read) = goes_on depth ts'' r further is in
-        one ∙ two ∙ ap (parse_map (λ rest. pair_of (item v (item w rest)))) read
+        let (x, rest, read) = goes_on (λ rest. pair_of (item v (item w rest))) depth ts'' r further is in
+        one ∙ two ∙ read

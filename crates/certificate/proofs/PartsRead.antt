@@ -14,7 +14,7 @@ use Rattle.json_text.specs.Step.{given, asked, after}
 use Rattle.json_text.specs.Member.{has_only, unsigned_of}
 use Rattle.certificate.specs.declared.fault.CertificateFault.{CertificateFault}
 use Rattle.certificate.specs.declared.fault.CertificateFault.TheVariants.{Shape, TooManyEntries}
-use Rattle.certificate.specs.Certificate.{PieceData, max_entries}
+use Rattle.certificate.specs.Certificate.{max_entries}
 use Rattle.certificate.specs.Reading.{entries_of, piece_of}
 use Rattle.certificate.specs.Parts.{PieceParts, entries_in, parts_of, piece_from}
 

@@ -1,8 +1,12 @@
 -- The pieces of a certificate, read one after another.
-use Rattle.std.proofs.Common.{◌≡◌, ℕ, suc, ◌+◌, ◌≤◌, List, [], ◌∷◌, ◌++◌, true, false, nat_le, Result, Ok, Err, refl, sym, ap, ap₂, ◌∙◌, arith, append-nil, append_assoc}
+use Rattle.std.proofs.Common.{◌≡◌, ℕ, suc, ◌+◌, ◌≤◌, List, [], ◌∷◌, ◌++◌, true, false, nat_le, Some, None, Result, Ok, Err, refl, sym, ap, ap₂, ◌∙◌, arith, append-nil, append_assoc}
 use Rattle.std.proofs.lemmas.Bool.Decides.{nat_tests}
 use Rattle.serde_json.specs.Data.{Data, Items, no_items, item}
 use Rattle.serde_json.specs.Events.{items_len}
+use Rattle.json.specs.Json.{parse_map, after_end_array}
+use Rattle.json.specs.Token.{Token}
+use Rattle.json_text.proofs.NextMapped.{mapped_same, element_read, goes_on}
+use Rattle.json_text.specs.Next.{next_value, next_items, rest_after}
 use Rattle.json_text.specs.Step.{asked, after}
 use Rattle.certificate.specs.declared.fault.CertificateFault.{CertificateFault}
 use Rattle.certificate.specs.declared.fault.CertificateFault.TheVariants.{TooManyPieces}
@@ -38,7 +42,7 @@ one_more (Ok pieces) (Err fault) more = refl
 one_more (Ok pieces) (Ok piece) (Err fault) = refl
 one_more (Ok pieces) (Ok piece) (Ok others) = ap Ok (sym (append_assoc pieces (piece ∷ []) others))
 
-pub pieces_next : (count : ℕ) (found : Result (List PieceData) CertificateFault) (value : Data) (rest : Items) →
+pieces_next : (count : ℕ) (found : Result (List PieceData) CertificateFault) (value : Data) (rest : Items) →
     pieces_after count found (item value rest) ≡ pieces_after (count + 1) (pieces_and count found value) rest
 pieces_next count found value rest =
     let same : count + suc (items_len rest) ≡ count + 1 + items_len rest = omega arith in
@@ -55,8 +59,27 @@ pieces_last count found few =
     let fits : nat_le (count + 0) max_pieces ≡ true = grind (arith, nat_tests) in
     ap₂ (λ b more. asked TooManyPieces b more) fits (nothing_more found)
 
-pub pieces_too_many : (count : ℕ) (found : Result (List PieceData) CertificateFault) (value : Data) (rest : Items) →
+pieces_too_many : (count : ℕ) (found : Result (List PieceData) CertificateFault) (value : Data) (rest : Items) →
     count ≡ max_pieces → pieces_after count found (item value rest) ≡ Err TooManyPieces
 pieces_too_many count found value rest full =
     let over : nat_le (count + suc (items_len rest)) max_pieces ≡ false = grind (arith, nat_tests) in
     ap (λ b. asked TooManyPieces b (and_more found (pieces_from count (item value rest)))) over
+
+-- ---- a turn of the reading
+
+module _ (count : ℕ) (found : Result (List PieceData) CertificateFault) (depth : ℕ) (ts : List Token)
+    (going : after_end_array ts ≡ None) where
+  pub too_many_there : (r : List Token) → count ≡ max_pieces → rest_after (next_items depth ts) ≡ Some r →
+      parse_map (pieces_after count found) (next_items depth ts) ≡ Some (Err TooManyPieces, r)
+  too_many_there r full is =
+      let (v, rest, read) = goes_on (pieces_after count found) depth ts r going is in
+      read ∙ ap (λ e. Some (e, r)) (pieces_too_many count found v rest full)
+
+  pub one_more_there : (now : Result (List PieceData) CertificateFault) (r : List Token) →
+      parse_map (pieces_and count found) (next_value depth ts) ≡ Some (now, r) →
+      parse_map (pieces_after count found) (next_items depth ts)
+      ≡ parse_map (pieces_after (count + 1) now) (next_items depth r)
+  one_more_there now r is =
+      let (v, same, more) = element_read (pieces_after count found) depth ts (pieces_and count found) now r going is in
+      more ∙ mapped_same _ _ (pieces_next count found v) (next_items depth r)
+      ∙ ap (λ f. parse_map (pieces_after (count + 1) f) (next_items depth r)) same

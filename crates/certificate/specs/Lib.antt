@@ -1,8 +1,8 @@
 pub mod Certificate
 pub mod Compact
 pub mod Fault
-pub mod Parted
 pub mod Parts
+pub mod PartsData
 pub mod Refutation
 pub mod RefutationFault
 pub mod RefutationReading

@@ -1,7 +1,7 @@
 -- What the parts of a certificate's text say, each with the first fault that it has.
-use Rattle.std.specs.Prelude.{ℕ, List, [], ◌∷◌, ◌++◌, Bool, Option, option_map, option_and_then, Result, Ok, Err}
+use Rattle.std.specs.Prelude.{◌≡◌, ℕ, List, [], ◌∷◌, ◌++◌, Bool, Option, option_map, option_and_then, Result, Ok, Err}
 use Rattle.std.specs.Prelude.{codes, nat_le}
-use Rattle.serde_json.specs.Data.{Data, Items, Members}
+use Rattle.serde_json.specs.Data.{Data, Items, Members, put}
 use Rattle.serde_json.specs.Events.{items_len}
 use Rattle.serde_json.specs.Find.{as_array, get_member}
 use Rattle.json_text.specs.Member.{has_only, unsigned_of}
@@ -15,6 +15,11 @@ use Rattle.certificate.specs.Reading.{entries_of, piece_of, pieces_from}
 abbrev pub judged : {A B : Type 0} → (A → B) → Result A CertificateFault → Result B CertificateFault
 judged shown (Ok value) = Ok (shown value)
 judged shown (Err fault) = Err fault
+
+-- what is known of the members of an object, where one more of this name is read
+abbrev pub AddsMember : {A : Type 0} → (Members → A) → List ℕ → Data → A → A → Type 0
+AddsMember known name value before now =
+    (found : Members) → before ≡ known found → now ≡ known (put name value found)
 
 -- ---- the entries of a piece
 

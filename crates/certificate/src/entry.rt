@@ -7,17 +7,20 @@ ghost use Rattle.certificate.specs.Parts.{entries_in, judged};
 ghost use Rattle.certificate.specs.Reading as spec;
 
 use crate::certificate::MAX_ENTRIES;
-use crate::fault::CertificateFault;
+use crate::fault::{CertificateFault, Judged};
 use arrayvec::ArrayVec;
 use json::{Invalid, Reader};
 use json_text::{next_unsigned, open_array, pass_items};
+
+/// The entries of a piece: pairs of sample numbers.
+pub(crate) type Entries = ArrayVec<(u32, u32), 32>;
 
 /// The entries that are left of the array of the piece with this number, or its first fault.
 pub(crate) fn read_entries(
     reader: &mut Reader<'_>,
     depth: usize,
     number: u32,
-) -> Result<Result<ArrayVec<(u32, u32), 32>, CertificateFault>, Invalid>
+) -> Result<Judged<Entries>, Invalid>
     ensures { Reads result (judged (λ entries. entries.items))
         (parse_map (entries_in number) (next_items depth reader.old)) reader.new }
 {

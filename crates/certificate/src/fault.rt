@@ -32,6 +32,9 @@ pub enum CertificateFault {
     Memory,
 }
 
+/// A part of a certificate, or the first fault that it has.
+pub(crate) type Judged<T> = Result<T, CertificateFault>;
+
 impl CertificateFault {
     /// The fault's number, from 1 in the order of the variants.
     pub fn number(&self) -> u8

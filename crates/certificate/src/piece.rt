@@ -1,19 +1,18 @@
 //! The pieces of a certificate, read token by token.
 
-ghost use Rattle.std.specs.Prelude.{◌≡◌, ◌++◌, ◌⊎◌, ◌<◌, ◌^◌, Some, None, MatchResult, map, option_map, length, OnOk, IfOk};
+ghost use Rattle.std.specs.Prelude.{◌≡◌, Some, None, MatchResult, option_map};
 ghost use Rattle.json.specs.Json.{parse_map};
-ghost use Rattle.serde_json.specs.Data.{Data, Members, object, no_members, put};
+ghost use Rattle.serde_json.specs.Data.{Data, no_members};
 ghost use Rattle.serde_json.specs.Find.{as_array};
 ghost use Rattle.json_text.specs.Next.{next_value, next_members, Reads};
 ghost use Rattle.certificate.specs.Certificate.{piece_data};
-ghost use Rattle.certificate.specs.Parts.{PieceParts, entries_in, judged, parts_of, piece_from};
-ghost use Rattle.certificate.specs.Parted.{parts_data};
+ghost use Rattle.certificate.specs.Parts.{AddsMember, entries_in, judged, parts_of, piece_from};
+ghost use Rattle.certificate.specs.PartsData.{parts_data};
 ghost use Rattle.certificate.specs.Reading.{piece_of};
 
 use crate::certificate::Piece;
-use crate::entry::read_entries;
-use crate::fault::CertificateFault;
-use arrayvec::ArrayVec;
+use crate::entry::{Entries, read_entries};
+use crate::fault::{CertificateFault, Judged};
 use json::{Invalid, Reader};
 use json_text::{next_unsigned, open_array, open_object, pass_value};
 
@@ -25,7 +24,7 @@ pub(crate) struct Parts {
     /// The end, where it is an integer below 2^64.
     upto: Option<u64>,
     /// The entries or their first fault, where they are an array.
-    entries: Option<Result<ArrayVec<(u32, u32), 32>, CertificateFault>>,
+    entries: Option<Judged<Entries>>,
 }
 
 /// The piece with this number, or its first fault.
@@ -33,7 +32,7 @@ pub(crate) fn read_piece(
     reader: &mut Reader<'_>,
     depth: usize,
     number: u32,
-) -> Result<Result<Piece, CertificateFault>, Invalid>
+) -> Result<Judged<Piece>, Invalid>
     ensures { Reads result (judged piece_data)
         (parse_map (piece_of number) (next_value depth reader.old)) reader.new }
 {
@@ -71,8 +70,8 @@ impl Parts {
     ) -> Result<(), Invalid>
         ensures { MatchResult result
             (λ _. (value : Data) × (next_value depth reader.old ≡ Some (value, reader.new))
-                × ((found : Members) → parts_data self.old ≡ parts_of number found →
-                    parts_data self.new ≡ parts_of number (put name.now value found)))
+            × AddsMember (parts_of number) name.now value
+            (parts_data self.old) (parts_data self.new))
             (λ _. next_value depth reader.old ≡ None) }
     {
         match name {
@@ -87,7 +86,7 @@ impl Parts {
     }
 
     /// The piece with this number, which has these parts.
-    fn piece(self, number: u32) -> Result<Piece, CertificateFault>
+    fn piece(self, number: u32) -> Judged<Piece>
         ensures { judged piece_data result ≡ piece_from number (parts_data self) }
     {
         if !self.is_known {
@@ -105,7 +104,7 @@ fn read_listed(
     reader: &mut Reader<'_>,
     depth: usize,
     number: u32,
-) -> Result<Option<Result<ArrayVec<(u32, u32), 32>, CertificateFault>>, Invalid>
+) -> Result<Option<Judged<Entries>>, Invalid>
     ensures { Reads result (option_map (judged (λ entries. entries.items)))
         (parse_map (λ value. option_map (entries_in number) (as_array value))
         (next_value depth reader.old)) reader.new }

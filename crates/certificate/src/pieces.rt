@@ -3,11 +3,11 @@
 ghost use Rattle.json.specs.Json.{parse_map};
 ghost use Rattle.json_text.specs.Next.{next_value, next_items};
 ghost use Rattle.certificate.specs.Fault.{ReadsOn};
-ghost use Rattle.certificate.specs.Parted.{pieces_data};
+ghost use Rattle.certificate.specs.PartsData.{pieces_data};
 ghost use Rattle.certificate.specs.Parts.{judged, pieces_and, pieces_in};
 
 use crate::certificate::{MAX_PIECES, Piece};
-use crate::fault::CertificateFault;
+use crate::fault::{CertificateFault, Judged};
 use crate::piece::read_piece;
 use json::Reader;
 use json_text::{pass_items, pass_value};
@@ -18,7 +18,7 @@ pub(crate) fn read_pieces(
     alloc: Global,
     reader: &mut Reader<'_>,
     depth: usize,
-) -> Result<Result<Vec<Piece>, CertificateFault>, CertificateFault>
+) -> Result<Judged<Vec<Piece>>, CertificateFault>
     ensures { ReadsOn result (judged pieces_data)
         (parse_map pieces_in (next_items depth reader.old)) reader.new }
 {
@@ -41,8 +41,8 @@ fn read_next(
     reader: &mut Reader<'_>,
     depth: usize,
     number: u32,
-    found: Result<Vec<Piece>, CertificateFault>,
-) -> Result<Result<Vec<Piece>, CertificateFault>, CertificateFault>
+    found: Judged<Vec<Piece>>,
+) -> Result<Judged<Vec<Piece>>, CertificateFault>
     ensures { ReadsOn result (judged pieces_data)
         (parse_map (pieces_and number (judged pieces_data found)) (next_value depth reader.old))
         reader.new }

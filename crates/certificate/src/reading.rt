@@ -1,12 +1,12 @@
 //! What the text of a certificate says.
 //!
-//! It is read token by token, in one pass. Of what is no part of a certificate, only the tokens are
-//! looked at, so no text takes more memory than its own bytes once more, and the pieces that it
-//! lists.
+//! A text that `write_certificate` wrote is read by the reader of that form alone. Any other is
+//! read token by token. What is no part of a certificate is only judged, so beside the pieces that
+//! are listed a reading takes no more memory than the text has bytes.
 
 ghost use Rattle.std.specs.Prelude.{◌≡◌, ◌≤◌, ◌⊎◌, Some, None, IfOk, MatchResult, length, option_map};
 ghost use Rattle.json.specs.Json.{parse_map};
-ghost use Rattle.serde_json.specs.Data.{Data, Members, no_members, put};
+ghost use Rattle.serde_json.specs.Data.{Data, no_members};
 ghost use Rattle.serde_json.specs.Find.{as_array};
 ghost use Rattle.serde_json.specs.Read.{read};
 ghost use Rattle.json_text.specs.Next.{next_value, next_members};
@@ -14,12 +14,13 @@ ghost use Rattle.json_text.specs.Step.{given};
 ghost use Rattle.certificate.specs.declared.fault.CertificateFault.TheVariants.{Json, Memory};
 ghost use Rattle.certificate.specs.Certificate.{data_of, max_pieces};
 ghost use Rattle.certificate.specs.Fault.{Answers, ReadsOn};
-ghost use Rattle.certificate.specs.Parted.{pieces_data, whole_data};
-ghost use Rattle.certificate.specs.Parts.{certificate_of_parts, judged, pieces_in, top_parts_of};
+ghost use Rattle.certificate.specs.PartsData.{pieces_data, whole_data};
+ghost use Rattle.certificate.specs.Parts.{AddsMember, certificate_of_parts, judged, pieces_in, top_parts_of};
 ghost use Rattle.certificate.specs.Reading as spec;
 
 use crate::certificate::{Certificate, Piece};
-use crate::fault::CertificateFault;
+use crate::compact::read_compact;
+use crate::fault::{CertificateFault, Judged};
 use crate::pieces::read_pieces;
 use json::{Reader, Scratch};
 use json_text::{open_array, open_object, pass_value};
@@ -34,6 +35,9 @@ pub fn read_certificate(alloc: Global, bytes: &[u8]) -> Result<Certificate, Cert
     ensures exact { Answers result data_of (spec.certificate_of bytes.now) }
     ensures few { IfOk result (λ certificate. length certificate.pieces.items ≤ max_pieces) }
 {
+    if let Some(certificate) = read_compact(alloc, bytes)? {
+        return Ok(certificate);
+    }
     match std::str::from_utf8(bytes) {
         Ok(text) => read_text(alloc, text, &mut Scratch::new(alloc)),
         Err(_) => Err(CertificateFault::Json),
@@ -61,7 +65,7 @@ fn read_value(
     alloc: Global,
     reader: &mut Reader<'_>,
     depth: usize,
-) -> Result<Result<Certificate, CertificateFault>, CertificateFault>
+) -> Result<Judged<Certificate>, CertificateFault>
     ensures { ReadsOn result (judged data_of)
         (parse_map spec.certificate_from (next_value depth reader.old)) reader.new }
 {
@@ -78,7 +82,7 @@ pub(crate) struct Whole {
     /// Whether every name so far is the one of the pieces.
     is_known: bool,
     /// The pieces or their first fault, where they are an array.
-    pieces: Option<Result<Vec<Piece>, CertificateFault>>,
+    pieces: Option<Judged<Vec<Piece>>>,
 }
 
 /// What the members that are left of an object say.
@@ -111,10 +115,9 @@ impl Whole {
     ) -> Result<(), CertificateFault>
         ensures { MatchResult result
             (λ _. (value : Data) × (next_value depth reader.old ≡ Some (value, reader.new))
-                × ((found : Members) → whole_data self.old ≡ top_parts_of found →
-                    whole_data self.new ≡ top_parts_of (put name.now value found)))
+            × AddsMember top_parts_of name.now value (whole_data self.old) (whole_data self.new))
             (λ fault. (fault ≡ Memory)
-                ⊎ ((fault ≡ Json) × (next_value depth reader.old ≡ None))) }
+            ⊎ ((fault ≡ Json) × (next_value depth reader.old ≡ None))) }
     {
         match name {
             "pieces" => self.pieces = read_listed(alloc, reader, depth)?,
@@ -127,7 +130,7 @@ impl Whole {
     }
 
     /// The certificate of these parts.
-    fn certificate(self) -> Result<Certificate, CertificateFault>
+    fn certificate(self) -> Judged<Certificate>
         ensures { judged data_of result ≡ certificate_of_parts (whole_data self) }
     {
         if !self.is_known {
@@ -143,7 +146,7 @@ fn read_listed(
     alloc: Global,
     reader: &mut Reader<'_>,
     depth: usize,
-) -> Result<Option<Result<Vec<Piece>, CertificateFault>>, CertificateFault>
+) -> Result<Option<Judged<Vec<Piece>>>, CertificateFault>
     ensures { ReadsOn result (option_map (judged pieces_data))
         (parse_map (λ value. option_map pieces_in (as_array value)) (next_value depth reader.old))
         reader.new }

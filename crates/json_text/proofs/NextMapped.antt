@@ -1,5 +1,5 @@
 -- What comes next, under what is made of it.
-use Rattle.std.proofs.Common.{◌≡◌, ℕ, ◌<◌, List, length, Option, Some, None, option_map, refl, sym, ap, ◌∙◌}
+use Rattle.std.proofs.Common.{◌≡◌, ℕ, ◌<◌, List, length, Option, Some, None, refl, sym, ap, ◌∙◌}
 use Rattle.json.specs.Json.{parse_map, after_end_array}
 use Rattle.json.specs.Token.{Token}
 use Rattle.json.proofs.Grammar.{left_some}
@@ -52,25 +52,28 @@ module _ {B : Type 0} (m : Items → B) (depth : ℕ) (ts : List Token) where
       (v : Data) × (f v ≡ a)
       × (parse_map m (next_items depth ts) ≡ parse_map (λ rest. m (item v rest)) (next_items depth r))
   element_read f a r going is =
-      let (v, same, read) = mapped_some f (next_value depth ts) a r is in
-      (v, same,
-      ap (parse_map m) (item_read depth ts r v going read) ∙ mapped_twice (item v) m (next_items depth r))
+      let (v, same, read) = mapped_some f (next_value depth ts) a r is in (
+        v,
+        same,
+        ap (parse_map m) (item_read depth ts r v going read) ∙ mapped_twice (item v) m (next_items depth r),
+      )
 
   pub elements_passed : (r : List Token) → rest_after (next_items depth ts) ≡ Some r →
       (items : Items) × (parse_map m (next_items depth ts) ≡ Some (m items, r))
   elements_passed r is = let found = left_some (next_items depth ts) r is in (found.0, ap (parse_map m) found.1)
 
--- an array that goes on has an element
-pub goes_on : (depth : ℕ) (ts r : List Token) → after_end_array ts ≡ None → rest_after (next_items depth ts) ≡ Some r →
-    (v : Data) × (rest : Items) × (next_items depth ts ≡ Some (item v rest, r))
-goes_on depth ts r going is =
-    let found = left_some (next_items depth ts) r is in
-    at (next_value depth ts) refl found.0 found.1
-  where
-    at : (o : Option (Data × List Token)) → next_value depth ts ≡ o → (items : Items) →
-        next_items depth ts ≡ Some (items, r) → (v : Data) × (rest : Items) × (next_items depth ts ≡ Some (item v rest, r))
-    at None none items found = absurd (let never = item_refused depth ts going none in cc)
-    at (Some (v, s)) some items found =
-        let (rest, same, more) = mapped_some (item v) (next_items depth s) items r
-        (sym (item_read depth ts s v going some) ∙ found) in
-        (v, rest, found ∙ ap (λ ds. Some (ds, r)) (sym same))
+  -- an array that goes on has an element
+  pub goes_on : (r : List Token) → after_end_array ts ≡ None → rest_after (next_items depth ts) ≡ Some r →
+      (v : Data) × (rest : Items) × (parse_map m (next_items depth ts) ≡ Some (m (item v rest), r))
+  goes_on r going is =
+      let found = left_some (next_items depth ts) r is in
+      at (next_value depth ts) refl found.0 found.1
+    where
+      at : (o : Option (Data × List Token)) → next_value depth ts ≡ o → (items : Items) →
+          next_items depth ts ≡ Some (items, r) →
+          (v : Data) × (rest : Items) × (parse_map m (next_items depth ts) ≡ Some (m (item v rest), r))
+      at None none items found = absurd (let never = item_refused depth ts going none in cc)
+      at (Some (v, s)) some items found =
+          let (rest, same, more) = mapped_some (item v) (next_items depth s) items r
+          (sym (item_read depth ts s v going some) ∙ found) in
+          (v, rest, ap (parse_map m) found ∙ ap (λ ds. Some (m ds, r)) (sym same))

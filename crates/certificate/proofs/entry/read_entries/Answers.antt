@@ -1,12 +1,11 @@
-use Rattle.std.proofs.Common.{◌≡◌, ◌+◌, ◌<◌, ◌≤◌, length, Some, None, Ok, Err, true, false, sym, ap, ◌∙◌, arith, length-append}
+use Rattle.std.proofs.Common.{◌≡◌, ◌+◌, ◌≤◌, length, Some, None, Ok, sym, ap, ◌∙◌, arith, length-append}
 use Rattle.json.specs.Json.{parse_map, after_end_array}
-use Rattle.json_text.proofs.NextMapped.{mapped_same, mapped-shorter, array_ends, element_refused, element_read, goes_on}
+use Rattle.json_text.proofs.NextMapped.{mapped_same, mapped-shorter, array_ends, element_refused}
 use Rattle.json_text.specs.Next.{next_items}
 use Rattle.json_text.specs.Step.{given}
-use Rattle.certificate.specs.Parts.{entries_in}
 use Rattle.certificate.specs.Reading.{entry_of}
-use Rattle.certificate.specs.declared.fault.CertificateFault.TheVariants.{Shape, TooManyEntries}
-use Rattle.certificate.proofs.EntriesRead.{so_far, and_one, entries_after, entries_first, entries_next, entries_last, entries_too_many, pushed_one, pushed_none}
+use Rattle.certificate.specs.declared.fault.CertificateFault.TheVariants.{Shape}
+use Rattle.certificate.proofs.EntriesRead.{so_far, and_one, entries_after, entries_first, entries_last, too_many_there, one_more_there, pushed_one, pushed_none}
 use Rattle.certificate.proofs.entry.read_entries.Goals as goal
 use Rattle.certificate.proofs.entry.read_entries.Goals.{Joined-branch-3, in-Some, in-None}
 
@@ -24,10 +23,9 @@ returns-then-count-eq-MAX_ENTRIES c =
     let l = c.entries in
     let found = so_far l.are_pairs l.entries.items in
     let going : (after_end_array l.reader ≡ None) × (c.take_end_array.new.self ≡ l.reader) = grind arith in
-    let (v, rest, read) = goes_on c.args.depth l.reader c.pass_items.new.reader going.0
-    (rw (← going.1) c.in_ok-pass_items.ensures.passed) in
-    l.invariant.read ∙ ap (parse_map (entries_after c.args.number l.count found)) read
-    ∙ ap (λ e. Some (e, c.pass_items.new.reader)) (entries_too_many c.args.number l.count found v rest (omega arith))
+    l.invariant.read
+    ∙ too_many_there c.args.number l.count found c.args.depth l.reader going.0 c.pass_items.new.reader (omega arith)
+    (rw (← going.1) c.in_ok-pass_items.ensures.passed)
 
 pub returns-in_err-entry : goal.returns-in_err-entry
 returns-in_err-entry c =
@@ -52,21 +50,21 @@ added : (c : Joined-branch-3) →
 added c =
     let l = c.entries in
     elim c.match-branch-3.branch [
-    in-Some w ↦
-        rw (w.are_pairs-is, w.entries-is, w.in-Some.is)
-        (pushed_one l.are_pairs l.entries.items w.push.new.self.items w.in-Some.entry w.push.ensures.items)
-    | in-None w ↦
-        rw (w.are_pairs-is, w.in-None.is) (pushed_none l.are_pairs l.entries.items l.entries.items)
+      | in-Some w ↦
+          rw (w.are_pairs-is, w.entries-is, w.in-Some.is)
+          (pushed_one l.are_pairs l.entries.items w.push.new.self.items w.in-Some.entry w.push.ensures.items)
+      | in-None w ↦
+          rw (w.are_pairs-is, w.in-None.is) (pushed_none l.are_pairs l.entries.items l.entries.items)
     ]
 
 counted : (c : Joined-branch-3) → length c.match-branch-3.entries.items ≤ c.entries.count + 1
 counted c =
     let l = c.entries in
     elim c.match-branch-3.branch [
-    in-Some w ↦
-        rw (w.entries-is, w.push.ensures.items)
-        (simp length-append (omega (arith, l.invariant.held)))
-    | in-None w ↦ rw w.entries-is (omega (arith, l.invariant.held))
+      | in-Some w ↦
+          rw (w.entries-is, w.push.ensures.items)
+          (simp length-append (omega (arith, l.invariant.held)))
+      | in-None w ↦ rw w.entries-is (omega (arith, l.invariant.held))
     ]
 
 pub entries-preserved : goal.entries-preserved
@@ -76,13 +74,10 @@ entries-preserved c =
     let found = so_far l.are_pairs l.entries.items in
     let r = c.read_entry.new.reader in
     let going : (after_end_array l.reader ≡ None) × (c.take_end_array.new.self ≡ l.reader) = grind arith in
-    let (v, same, more) = element_read (entries_after c.args.number l.count found) c.args.depth l.reader entry_of entry r
-    going.0 (rw (← going.1) c.in_ok-entry.ensures) in
     record {
-      read = l.invariant.read ∙ more
-          ∙ mapped_same _ _ (λ rest. entries_next c.args.number l.count found v rest) (next_items c.args.depth r)
-          ∙ ap (λ e. parse_map (entries_after c.args.number (l.count + 1) (and_one found e)) (next_items c.args.depth r))
-          same
+      read = l.invariant.read
+          ∙ one_more_there c.args.number l.count found c.args.depth l.reader going.0 entry r
+          (rw (← going.1) c.in_ok-entry.ensures)
           ∙ ap (λ f. parse_map (entries_after c.args.number (l.count + 1) f) (next_items c.args.depth r)) (sym (added c));
       held = counted c;
       few = omega (arith, l.invariant.few);

@@ -1,8 +1,6 @@
-use Rattle.std.proofs.Common.{◌≡◌, Some, None, sym, ap, ap₂, ◌∙◌, option_map, option_and_then, arith}
-use Rattle.json.specs.Json.{parse_map, after_end_array}
+use Rattle.std.proofs.Common.{◌≡◌, Some, None, sym, ap, ◌∙◌, arith}
+use Rattle.json.specs.Json.{after_end_array}
 use Rattle.json_text.proofs.NextMapped.{array_ends, element_refused}
-use Rattle.json_text.specs.Next.{next_value, next_items}
-use Rattle.serde_json.specs.Data.{item}
 use Rattle.certificate.specs.Reading.{sample_of, pair_of}
 use Rattle.certificate.proofs.PairRead.{one_alone, high_refused, pair_read, third_refused, three}
 use Rattle.certificate.proofs.entry.read_pair.Goals as goal

@@ -1,7 +1,7 @@
 use Rattle.std.proofs.Common.{◌≡◌, length}
 use Rattle.serde_json.specs.Data.{Members, no_members}
 use Rattle.json_text.specs.Next.{next_members}
-use Rattle.certificate.specs.Parted.{parts_data}
+use Rattle.certificate.specs.PartsData.{parts_data}
 use Rattle.certificate.specs.Parts.{parts_of}
 use Rattle.certificate.proofs.piece.read_parts.Given as goal
 

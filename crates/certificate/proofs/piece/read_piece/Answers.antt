@@ -1,9 +1,9 @@
 use Rattle.std.proofs.Common.{◌≡◌, ◌-◌, ◌<◌, Some, sym, ap, ◌∙◌, arith}
 use Rattle.json.specs.Json.{parse_map}
-use Rattle.json_text.proofs.NextMapped.{mapped_some, mapped_twice}
+use Rattle.json_text.proofs.NextMapped.{mapped_some}
 use Rattle.json_text.specs.Next.{next_value, next_members}
 use Rattle.serde_json.specs.Data.{object, no_members}
-use Rattle.certificate.specs.Parted.{parts_data}
+use Rattle.certificate.specs.PartsData.{parts_data}
 use Rattle.certificate.specs.Parts.{parts_of, piece_from}
 use Rattle.certificate.specs.Reading.{piece_of}
 use Rattle.certificate.proofs.PartsRead.{piece_from-parts}

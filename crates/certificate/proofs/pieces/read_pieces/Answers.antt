@@ -1,11 +1,11 @@
-use Rattle.std.proofs.Common.{◌≡◌, ◌+◌, ◌<◌, ◌≤◌, length, [], Some, None, Ok, Err, inl, inr, map, sym, ap, ◌∙◌, arith}
+use Rattle.std.proofs.Common.{◌≡◌, Some, None, Ok, inl, inr, map, sym, ap, ◌∙◌, arith}
 use Rattle.json.specs.Json.{parse_map, after_end_array}
-use Rattle.json_text.proofs.NextMapped.{mapped_same, mapped-shorter, array_ends, element_refused, element_read, goes_on}
+use Rattle.json_text.proofs.NextMapped.{mapped_same, mapped-shorter, array_ends, element_refused}
 use Rattle.json_text.specs.Next.{next_items}
 use Rattle.certificate.specs.Certificate.{piece_data}
-use Rattle.certificate.specs.Parted.{pieces_data}
-use Rattle.certificate.specs.Parts.{judged, pieces_in, pieces_and}
-use Rattle.certificate.proofs.PiecesRead.{pieces_after, pieces_first, pieces_next, pieces_last, pieces_too_many}
+use Rattle.certificate.specs.PartsData.{pieces_data}
+use Rattle.certificate.specs.Parts.{judged, pieces_and}
+use Rattle.certificate.proofs.PiecesRead.{pieces_after, pieces_first, pieces_last, too_many_there, one_more_there}
 use Rattle.certificate.proofs.pieces.read_pieces.Goals as goal
 
 pub pieces-init : goal.pieces-init
@@ -21,10 +21,9 @@ returns-then-count-eq-MAX_PIECES c =
     let l = c.pieces in
     let found = judged pieces_data l.found in
     let going : (after_end_array l.reader ≡ None) × (c.take_end_array.new.self ≡ l.reader) = grind arith in
-    let (v, rest, read) = goes_on c.args.depth l.reader c.pass_items.new.reader going.0
-    (rw (← going.1) c.in_ok-pass_items.ensures.passed) in
-    l.invariant.read ∙ ap (parse_map (pieces_after l.count found)) read
-    ∙ ap (λ e. Some (e, c.pass_items.new.reader)) (pieces_too_many l.count found v rest (omega arith))
+    l.invariant.read
+    ∙ too_many_there l.count found c.args.depth l.reader going.0 c.pass_items.new.reader (omega arith)
+    (rw (← going.1) c.in_ok-pass_items.ensures.passed)
 
 pub returns-in_err-found : goal.returns-in_err-found
 returns-in_err-found c =
@@ -32,12 +31,12 @@ returns-in_err-found c =
     let found = judged pieces_data l.found in
     let going : (after_end_array l.reader ≡ None) × (c.take_end_array.new.self ≡ l.reader) = grind arith in
     elim c.in_err-found.ensures [
-    inl memory ↦ grind (arith, memory)
-    | inr none ↦
-        let refused = l.invariant.read
-        ∙ element_refused (pieces_after l.count found) c.args.depth l.reader (pieces_and l.count found) going.0
-        (rw (← going.1) none.1) in
-        grind (arith, refused)
+      | inl memory ↦ grind (arith, memory)
+      | inr none ↦
+          let refused = l.invariant.read
+          ∙ element_refused (pieces_after l.count found) c.args.depth l.reader (pieces_and l.count found) going.0
+          (rw (← going.1) none.1) in
+          grind (arith, refused)
     ]
 
 pub pieces-smaller : goal.pieces-smaller
@@ -55,12 +54,10 @@ pieces-preserved c =
     let found = judged pieces_data l.found in
     let r = c.read_next.new.reader in
     let going : (after_end_array l.reader ≡ None) × (c.take_end_array.new.self ≡ l.reader) = grind arith in
-    let (v, same, more) = element_read (pieces_after l.count found) c.args.depth l.reader (pieces_and l.count found)
-    (judged pieces_data c.in_ok-found.found) r going.0 (rw (← going.1) c.in_ok-found.ensures) in
     record {
-      read = l.invariant.read ∙ more
-          ∙ mapped_same _ _ (λ rest. pieces_next l.count found v rest) (next_items c.args.depth r)
-          ∙ ap (λ f. parse_map (pieces_after (l.count + 1) f) (next_items c.args.depth r)) same;
+      read = l.invariant.read
+          ∙ one_more_there l.count found c.args.depth l.reader going.0 (judged pieces_data c.in_ok-found.found) r
+          (rw (← going.1) c.in_ok-found.ensures);
       few = omega (arith, l.invariant.few);
     }
 

@@ -2,7 +2,7 @@ use Rattle.std.proofs.Common.{◌≡◌, ◌≤◌, length}
 use Rattle.json.specs.Json.{parse_map}
 use Rattle.json_text.specs.Next.{next_items}
 use Rattle.certificate.specs.Certificate.{max_pieces}
-use Rattle.certificate.specs.Parted.{pieces_data}
+use Rattle.certificate.specs.PartsData.{pieces_data}
 use Rattle.certificate.specs.Parts.{judged, pieces_in}
 use Rattle.certificate.proofs.PiecesRead.{pieces_after}
 use Rattle.certificate.proofs.pieces.read_pieces.Given as goal

@@ -1,5 +1,4 @@
-use Rattle.std.proofs.Common.{◌≡◌, [], ◌∷◌, List, Bool, true, false, Option, Some, None, Result, Ok, Err, inl, inr, is_some, sym, ap, ◌∙◌, arith}
-use Rattle.json.specs.Lex.{tokens}
+use Rattle.std.proofs.Common.{◌≡◌, [], ◌∷◌, List, true, false, Option, Some, None, Result, Ok, Err, inl, inr, is_some, sym, ap, ◌∙◌, arith}
 use Rattle.json.specs.Reads.{Yields}
 use Rattle.json.specs.Token as spec
 use Rattle.json.specs.declared.token.Token.{Token}
@@ -36,13 +35,13 @@ pub returns-in_err-read : goal.returns-in_err-read
 returns-in_err-read c =
     let text = c.args.text.now in
     elim c.in_err-read.ensures [
-    inl memory ↦ grind (arith, memory)
-    | inr none ↦
-        let nothing = whole_refused text
-        (ap (next_value max_depth) (sym c.in_ok-reader.ensures.ok)
-        ∙ mapped_none certificate_from (next_value max_depth c.in_ok-reader.reader) none.1) in
-        let is : given Json (read text) certificate_from ≡ Err Json = ap (λ o. given Json o certificate_from) nothing in
-        grind (arith, none.0, is)
+      | inl memory ↦ grind (arith, memory)
+      | inr none ↦
+          let nothing = whole_refused text
+          (ap (next_value max_depth) (sym c.in_ok-reader.ensures.ok)
+          ∙ mapped_none certificate_from (next_value max_depth c.in_ok-reader.reader) none.1) in
+          let is : given Json (read text) certificate_from ≡ Err Json = ap (λ o. given Json o certificate_from) nothing in
+          grind (arith, none.0, is)
     ]
 
 pub returns-then-is_some : goal.returns-then-is_some

@@ -1,8 +1,7 @@
-use Rattle.std.proofs.Common.{◌≡◌, ◌<◌, length, Some, None, inl, inr, refl, sym, ap, ◌∙◌, arith}
+use Rattle.std.proofs.Common.{◌≡◌, Some, None, inl, inr, refl, sym, ap, ◌∙◌, arith}
 use Rattle.json.proofs.Grammar.{read_key-shorter}
 use Rattle.json.specs.Json.{parse_map, read_key}
 use Rattle.json_text.proofs.NextTokens.{key_refused, member_read, member_refused, members_over, value-shorter}
-use Rattle.json_text.specs.Next.{next_value, next_members}
 use Rattle.serde_json.specs.Data.{no_members, put}
 use Rattle.certificate.specs.Parts.{top_parts_of}
 use Rattle.certificate.proofs.reading.read_whole.Goals as goal
@@ -33,10 +32,11 @@ members-preserved c =
     let s = c.next_key.new.self in
     let k = c.in-Some.name.now in
     let named : read_key l.reader ≡ Some (Some k, s) = grind arith in
-    let done = c.in_ok-read.ensures in
-    (put k done.0 l.invariant.0,
-    l.invariant.1 ∙ member_read c.args.depth l.invariant.0 l.reader k s c.read.new.reader done.0 named done.1,
-    done.2 l.invariant.0 l.invariant.2)
+    let done = c.in_ok-read.ensures in (
+      put k done.0 l.invariant.0,
+      l.invariant.1 ∙ member_read c.args.depth l.invariant.0 l.reader k s c.read.new.reader done.0 named done.1,
+      done.2 l.invariant.0 l.invariant.2,
+    )
 
 pub returns-in_err-read : goal.returns-in_err-read
 returns-in_err-read c =
@@ -45,11 +45,11 @@ returns-in_err-read c =
     let k = c.in-Some.name.now in
     let named : read_key l.reader ≡ Some (Some k, s) = grind arith in
     elim c.in_err-read.ensures [
-    inl memory ↦ grind (arith, memory)
-    | inr none ↦
-        let refused = ap (parse_map top_parts_of)
-        (l.invariant.1 ∙ member_refused c.args.depth l.invariant.0 l.reader k s named none.1) in
-        grind (arith, refused)
+      | inl memory ↦ grind (arith, memory)
+      | inr none ↦
+          let refused = ap (parse_map top_parts_of)
+          (l.invariant.1 ∙ member_refused c.args.depth l.invariant.0 l.reader k s named none.1) in
+          grind (arith, refused)
     ]
 
 pub returns : goal.returns

@@ -1,7 +1,7 @@
 use Rattle.std.proofs.Common.{◌≡◌, length}
 use Rattle.serde_json.specs.Data.{Members, no_members}
 use Rattle.json_text.specs.Next.{next_members}
-use Rattle.certificate.specs.Parted.{whole_data}
+use Rattle.certificate.specs.PartsData.{whole_data}
 use Rattle.certificate.specs.Parts.{top_parts_of}
 use Rattle.certificate.proofs.reading.read_whole.Given as goal
 
