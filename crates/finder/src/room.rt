@@ -101,8 +101,10 @@ fn meet(a: Interval, b: Interval) -> Interval
 
 /// The negatives of the errors.
 pub(crate) fn mirrored(rooms: &[Interval; 32]) -> [Interval; 32]
-    requires low { (server : ℕ) → server < 32 → unsigned_abs (room_at rooms.now server).lo ≤ 2 ^ 80 }
-    requires high { (server : ℕ) → server < 32 → unsigned_abs (room_at rooms.now server).hi ≤ 2 ^ 80 }
+    requires low { (server : ℕ) → server < 32 →
+        unsigned_abs (room_at rooms.now server).lo ≤ 2 ^ 80 }
+    requires high { (server : ℕ) → server < 32 →
+        unsigned_abs (room_at rooms.now server).hi ≤ 2 ^ 80 }
     ensures low { (server : ℕ) → server < 32 →
         (room_at result server).lo ≡ neg_ℤ (room_at rooms.now server).hi }
     ensures high { (server : ℕ) → server < 32 →

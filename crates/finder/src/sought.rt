@@ -50,8 +50,10 @@ pub fn find_refutation(exchanges: &[Exchange], claim: &Claim) -> Option<Refutati
 /// The error that is sought, where each server leaves room for just the errors of its interval.
 fn error_sought(rooms: &[Interval; 32], claim: &Claim) -> Option<i128>
     requires claim { IsLawful (claim_data claim.now) }
-    requires low { (server : ℕ) → server < 32 → unsigned_abs (room_at rooms.now server).lo ≤ 2 ^ 80 }
-    requires high { (server : ℕ) → server < 32 → unsigned_abs (room_at rooms.now server).hi ≤ 2 ^ 80 }
+    requires low { (server : ℕ) → server < 32 →
+        unsigned_abs (room_at rooms.now server).lo ≤ 2 ^ 80 }
+    requires high { (server : ℕ) → server < 32 →
+        unsigned_abs (room_at rooms.now server).hi ≤ 2 ^ 80 }
     ensures exact { (xs : List Exchange) → AreRooms claim.now.reading xs rooms.now →
         result ≡ sought_error (claim_data claim.now) xs }
     ensures in_range { IfSome result IsErrorOf64Bits }
@@ -73,10 +75,12 @@ fn error_sought(rooms: &[Interval; 32], claim: &Claim) -> Option<i128>
 /// looked at.
 fn nearest(rooms: &[Interval; 32], claim: &Claim, limit: i128) -> Option<i128>
     requires claim { IsLawful (claim_data claim.now) }
-    requires low { (server : ℕ) → server < 32 → unsigned_abs (room_at rooms.now server).lo ≤ 2 ^ 80 }
+    requires low { (server : ℕ) → server < 32 →
+        unsigned_abs (room_at rooms.now server).lo ≤ 2 ^ 80 }
     requires beyond { claim.now.bound <ℤ limit }
     requires in_range { limit ≤ℤ pos (2 ^ 63) }
-    ensures { IsNearest (possible_by rooms.now (claim_data claim.now)) claim.now.bound limit result }
+    ensures { IsNearest (possible_by rooms.now (claim_data claim.now))
+        claim.now.bound limit result }
 {
     let next = claim.bound + 1;
     if is_possible(rooms, claim, next) {
