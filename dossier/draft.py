@@ -38,9 +38,9 @@ class Traffic:
 def read_traffic(program: Program, folder: str, capture: Operand) -> Traffic:
     seen = Traffic()
 
-    def take(lines: list[bytes]) -> None:
-        for line in lines:
-            words = line.decode("ascii").split(" ", 12)
+    def take(block: bytes) -> None:
+        for line in block.decode("ascii").splitlines():
+            words = line.split(" ", 12)
             if words[0] == "records":
                 seen.packets = int(words[3])
                 continue
@@ -50,7 +50,7 @@ def read_traffic(program: Program, folder: str, capture: Operand) -> Traffic:
             elif words[5] == "m4" and source_port == "123":
                 seen.answered[destination][source] += 1
                 seen.references[destination, source].add((int(words[7][1:]), words[11]))
-    program.lines(["list", capture], folder, take)
+    program.blocks(["list", capture], folder, take)
     return seen
 
 
