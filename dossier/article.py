@@ -6,6 +6,7 @@ from collections.abc import Iterator
 from pathlib import Path
 
 from . import folder as files
+from .alerts import warning_words
 from .answers import Envelope, read_envelope
 from .entry import REFUSED, Entry, Record
 from .figure import MARKS, legend, picture, stroke
@@ -14,7 +15,7 @@ from .premises import evidence, premises
 from .program import sum_of
 from .text import count, html, minus
 from .units import range_ms
-from .words import capital, fit, sentence, span, to_do, warning_words
+from .words import capital, fit, sentence, span, to_do
 
 COUNTS = {
     "records": "records in the capture",
@@ -76,7 +77,7 @@ def kept_envelope(folder: Path, entry: Entry) -> Envelope | None:
 
 def figure(name: str, entry: Entry, envelope: Envelope) -> str:
     label = (f"The clock's error in ms, {span(entry.claim)}, in pieces of {entry.envelope_step} s. "
-             "Above 0 the clock is ahead of UTC.")
+             "Above 0 the clock is ahead of UTC. The band is the hull: what is left if no more were wrong than granted.")
     fails = {kind for kind in MARKS if entry.failing.get(kind)}
     return "\n".join([
         "<figure>",
@@ -108,7 +109,7 @@ def servers(entry: Entry, drawn: list[str]) -> str:
         remarks = ["<b>stands apart</b>: it never meets the hull"] if server.get("apart") else []
         if server.get("crossed"):
             remarks.append(f"contradicts itself in {count(server['crossed'], 'piece')}")
-        lines.append([f"<span>{swatch}{html(address)}</span>", str(number), str(server["group"]),
+        lines.append([f"<span>{swatch}{html(address)}</span>", str(number), html(server["group"]),
                       f"{server['samples']:,}", outer, "; ".join(remarks)])
     columns = {"Address": "", "Number": "narrow", "Group": "narrow", "Samples": "number",
                "The clock's error by it, at the outermost": "", "Remark": ""}
@@ -130,7 +131,7 @@ def granted(folder: Path, entry: Entry) -> str:
 
 
 def counts(entry: Entry) -> str:
-    lines = [[name, f"{number:,}", html(COUNTS.get(name, ""))] for name, number in entry.counts.items()]
+    lines = [[html(name), f"{number:,}", html(COUNTS.get(name, ""))] for name, number in entry.counts.items()]
     return "<h3>Counts</h3>\n" + rows({"What": "", "How many": "number", "Meaning": ""}, lines)
 
 
@@ -138,7 +139,8 @@ def again(record: Record, entry: Entry) -> str:
     """The calls that settle it, for whoever wants to make them by hand in the folder."""
     capture = quoted(record.capture if entry.part == "." else f"../{record.capture}")
     of_claim = f"{files.CLAIM} {capture}"
-    settled = f"check {of_claim} {files.CERTIFICATE}" if entry.decided_by == "check" else f"find {of_claim} --step {entry.step}"
+    is_checked = entry.decided_by == "check"
+    settled = f"check {of_claim} {files.CERTIFICATE}" if is_checked else f"find {of_claim} --step {entry.step}"
     calls = [settled, f"envelope {of_claim} --servers --step {entry.envelope_step}"]
     if entry.refutation["found"]:
         claim = files.CLAIM_OF_0 if entry.refutation["of"] == "bound 0" else files.CLAIM
@@ -156,9 +158,9 @@ def sums(record: Record, entry: Entry) -> Iterator[str]:
     """The sums of all files and of the program, and when the audit was made."""
     if not record.inputs:
         return
-    lines = [[html(name), "input", sum_] for name, sum_ in record.inputs.items()]
-    lines += [[html(name), "left by the audit", sum_] for name, sum_ in entry.outputs.items()]
-    lines.append([html(record.program["version"] or "ntpaudit"), "the program", record.program["sha256"]])
+    lines = [[html(name), "input", html(sum_)] for name, sum_ in record.inputs.items()]
+    lines += [[html(name), "left by the audit", html(sum_)] for name, sum_ in entry.outputs.items()]
+    lines.append([html(record.program["version"] or "ntpaudit"), "the program", html(record.program["sha256"])])
     yield "<h3>Files</h3>"
-    yield f'<p class="soft">Audited at {html(record.made)}, in {record.seconds} s.</p>'
+    yield f'<p class="soft">Audited at {html(record.made)}, in {html(record.seconds)} s.</p>'
     yield rows({"File": "", "What": "", "SHA-256": ""}, lines, "sums")
