@@ -4,13 +4,14 @@ from __future__ import annotations
 import argparse
 import os
 import sys
+from collections.abc import Callable
 from pathlib import Path
 
-from .program import Fault, find_program
+from .program import Fault, Program, find_program
 
 USAGE, OUTPUT_FAILED, INTERRUPTED = 5, 4, 130
 
-ABOUT = """Puts many audits by ntpaudit together: folders with a claim and captures, and one page that a person can read.
+ABOUT = """Puts many audits by ntpaudit together: folders with a claim and captures, and one page for a person to read.
 
   tcpdump -i eth0 --time-stamp-precision=nano -w web-1/f.pcap udp port 123    record (Ctrl-C when it is enough)
   ntpaudit-dossier draft web-1/f.pcap > web-1/claim.json                      a claim to start from: read it, mend it
@@ -18,8 +19,8 @@ ABOUT = """Puts many audits by ntpaudit together: folders with a claim and captu
   ntpaudit-dossier page web-1 > dossier.html                                  the page
   ntpaudit-dossier verify web-1                                               a year later
 
-docs/DOSSIER.md has more. Statuses are those of ntpaudit: 0 yes, 1 no, 2 an input is refused, 3 out of memory, 4 a device,
-5 the command line; the status of several folders is the worst of theirs."""
+docs/DOSSIER.md has more. Statuses are those of ntpaudit: 0 yes, 1 no, 2 an input is refused, 3 out of memory, 4 a
+device, 5 the command line; the status of several folders is the worst of theirs."""
 
 
 class Parser(argparse.ArgumentParser):
@@ -38,9 +39,11 @@ def parser() -> Parser:
     draft.add_argument("--reading-ns", type=int, default=100_000, metavar="N")
     audit = commands.add_parser("audit", help="audit folders")
     audit.add_argument("folders", nargs="+", metavar="FOLDER")
-    audit.add_argument("--step", type=in_range(1, 86_400), metavar="N", help="seconds of a piece; else the coarsest of 64, 16, 4, 1 that carries the claim")
+    audit.add_argument("--step", type=in_range(1, 86_400), metavar="N",
+                       help="seconds of a piece; else the coarsest of 64, 16, 4, 1 that carries the claim")
     audit.add_argument("--days", action="store_true", help="a verdict for each day (UTC) of the span")
-    audit.add_argument("--jobs", type=in_range(1, 4096), default=0, metavar="N", help="folders side by side; as many as processors where it is left out")
+    audit.add_argument("--jobs", type=in_range(1, 4096), default=0, metavar="N",
+                       help="folders side by side; as many as processors where it is left out")
     audit.add_argument("--again", action="store_true", help="audit folders that are done and unchanged, too")
     page = commands.add_parser("page", help="print a page of audits that were made")
     page.add_argument("folders", nargs="+", metavar="FOLDER")
@@ -59,7 +62,8 @@ def parser() -> Parser:
     return top
 
 
-def in_range(least: int, most: int):
+def in_range(least: int, most: int) -> Callable[[str], int]:
+    """A reader of whole numbers in a range."""
     def number(word: str) -> int:
         if not word.isdecimal() or not least <= int(word) <= most:
             raise argparse.ArgumentTypeError(f"a number from {least} to {most}")
@@ -110,7 +114,8 @@ def run(given: argparse.Namespace) -> int:
         from .audit import Options
         from .work import audit_all
         jobs = given.jobs or len(os.sched_getaffinity(0))
-        return audit_all([tidy(folder) for folder in given.folders], Options(given.step, given.days, given.again), program, jobs)
+        options = Options(given.step, given.days, given.again)
+        return audit_all([tidy(folder) for folder in given.folders], options, program, jobs)
     if given.command == "verify":
         from .verify import verify_all
         return verify_all([tidy(folder) for folder in given.folders], program)
@@ -123,9 +128,10 @@ def tidy(folder: str) -> str:
     return folder.rstrip("/") or "/"
 
 
-def run_draft(given: argparse.Namespace, program) -> int:
-    from .draft import claim_text, draft
-    claim, remarks = draft(program, [str(Path(capture)) for capture in given.captures], given.client, given.day, given.drift_ppb, given.reading_ns)
+def run_draft(given: argparse.Namespace, program: Program) -> int:
+    from .draft import Wanted, claim_text, draft
+    wanted = Wanted(given.client, given.day, given.drift_ppb, given.reading_ns)
+    claim, remarks = draft(program, [str(Path(capture)) for capture in given.captures], wanted)
     for remark in remarks:
         say(remark)
     if claim is None:

@@ -22,7 +22,20 @@ COARSEST = 64
 NO_BOUND = 1_000_000_000
 """Nanoseconds that stand in a draft for which no bound is known."""
 GREATEST_BOUND = 10**15
-DRIFT_PPB, READING_NS = 100_000, 100_000
+UNKNOWN = "00000000"
+FOR_NOW = "one second stands there for now."
+References = dict[str, set[tuple[int, str]]]
+"""Of each server the strata and reference identifiers that it named."""
+
+
+@dataclass(frozen=True)
+class Wanted:
+    """What the command line asks of a draft."""
+
+    client: str | None
+    whole_days: bool
+    drift_ppb: int
+    reading_ns: int
 
 
 @dataclass
@@ -38,9 +51,9 @@ class Traffic:
 def read_traffic(program: Program, folder: str, capture: Operand) -> Traffic:
     seen = Traffic()
 
-    def take(lines: list[bytes]) -> None:
-        for line in lines:
-            words = line.decode("ascii").split(" ", 12)
+    def take(block: bytes) -> None:
+        for line in block.decode("ascii").splitlines():
+            words = line.split(" ", 12)
             if words[0] == "records":
                 seen.packets = int(words[3])
                 continue
@@ -50,7 +63,7 @@ def read_traffic(program: Program, folder: str, capture: Operand) -> Traffic:
             elif words[5] == "m4" and source_port == "123":
                 seen.answered[destination][source] += 1
                 seen.references[destination, source].add((int(words[7][1:]), words[11]))
-    program.lines(["list", capture], folder, take)
+    program.blocks(["list", capture], folder, take)
     return seen
 
 
@@ -59,13 +72,13 @@ def by_number(address: str) -> int:
 
 
 def upstream(stratum: int, reference: str) -> str | None:
-    """The address that a reference identifier is. That of a primary server, and one in 127.0.0.0/8, names a kind of clock
-    and no server."""
+    """The address that a reference identifier is. That of a primary server, and one in 127.0.0.0/8, names a kind of
+    clock and no server."""
     address = ipaddress.IPv4Address(int(reference, 16))
-    return None if stratum < 2 or address.is_loopback or reference == "00000000" else str(address)
+    return None if stratum < 2 or address.is_loopback or reference == UNKNOWN else str(address)
 
 
-def group(servers: list[str], references: dict[str, set[tuple[int, str]]]) -> list[list[int]]:
+def group(servers: list[str], references: References) -> list[list[int]]:
     """Servers that follow one another, or one and the same address, are in one group."""
     of = {server: {server} for server in servers}
     for server in servers:
@@ -102,26 +115,29 @@ class Draft:
         self.program, self.folder, self.capture = program, folder, capture
         self.remarks: list[str] = []
 
-    def claim(self, client: str | None, whole_days: bool, drift_ppb: int, reading_ns: int) -> dict[str, Any] | None:
+    def remark(self, *words: str) -> None:
+        self.remarks.append(" ".join(words))
+
+    def claim(self, wanted: Wanted) -> dict[str, Any] | None:
         """The claim, or None where the capture has no client with a server that answered it."""
         seen = read_traffic(self.program, self.folder, self.capture)
-        client = self.choose(seen, client)
+        client = self.choose(seen, wanted.client)
         if client is None:
             return None
         servers = sorted((server for server, _ in seen.answered[client].most_common(MOST_SERVERS)), key=by_number)
         if len(seen.answered[client]) > MOST_SERVERS:
-            self.remarks.append(f"A claim names at most {MOST_SERVERS} servers: those that answered least are left out.")
+            self.remark(f"A claim names at most {MOST_SERVERS} servers: those that answered least are left out.")
         claim = {"client": client, "servers": servers, "false_max": 0, "from": civil(0), "to": civil(0), "bound_ns": 0,
-                 "drift_ppb": drift_ppb, "reading_ns": reading_ns}
+                 "drift_ppb": wanted.drift_ppb, "reading_ns": wanted.reading_ns}
         with tempfile.TemporaryDirectory(prefix="ntpaudit-") as place:
             own = Operand(str(Path(place) / files.CLAIM))
             Path(own.name).write_bytes(files.compact(claim))
             recording = read_recording(self.program, self.folder, own, self.capture)
             if not recording.times:
-                self.remarks.append(f"None of {client}'s servers gave a sample: {counted(recording.counts)}.")
+                self.remark(f"None of {client}'s servers gave a sample: {counted(recording.counts)}.")
                 return None
             self.name_servers(claim, recording, {server: seen.references[client, server] for server in servers})
-            first, last = span_of(recording, whole_days)
+            first, last = span_of(recording, wanted.whole_days)
             claim |= {"from": civil(first), "to": civil(last)}
             Path(own.name).write_bytes(files.compact(claim))
             self.take_bound(claim, own, last - first)
@@ -131,63 +147,71 @@ class Draft:
     def choose(self, seen: Traffic, client: str | None) -> str | None:
         """The client that asked most, or the one that is named."""
         if not seen.asked:
-            self.remarks.append(f"No NTP client asks anybody in it: {count(seen.packets, 'NTP packet')}.")
+            self.remark(f"No NTP client asks anybody in it: {count(seen.packets, 'NTP packet')}.")
             return None
         clients = sorted(seen.asked, key=lambda address: (-seen.asked[address], by_number(address)))
         chosen = client or clients[0]
         if client is None and len(clients) > 1:
-            self.remarks.append(f"{len(clients)} clients ask in it; this is a claim for the one that asks most, and --client takes another.")
+            self.remark(f"{len(clients)} clients ask in it; this is a claim for the one that asks most,",
+                        "and --client takes another.")
         if client is not None or len(clients) > 1:
             for address in clients:
-                self.remarks.append(f"{address} asks {count(seen.asked[address], 'time')}, and {count(len(seen.answered[address]), 'server')} answer it.")
+                servers = count(len(seen.answered[address]), "server answers", "servers answer")
+                self.remark(f"{address} asks {count(seen.asked[address], 'time')}, and {servers} it.")
         if not seen.answered.get(chosen):
-            self.remarks.append(f"Nobody answers {plain(chosen)}.")
+            self.remark(f"Nobody answers {plain(chosen)}.")
             return None
         return chosen
 
-    def name_servers(self, claim: dict[str, Any], recording: Recording, references: dict[str, set[tuple[int, str]]]) -> None:
-        """Names the servers with a sample, puts them into groups, and grants that fewer than half of these were wrong."""
+    def name_servers(self, claim: dict[str, Any], recording: Recording, references: References) -> None:
+        """Names the servers with a sample and puts them into groups, of which fewer than half may be wrong."""
         silent = [server for server in claim["servers"] if server not in recording.by_server]
         if silent:
-            self.remarks.append(f"Left out, since no reply of theirs is of use: {', '.join(silent)} ({counted(recording.counts)}).")
+            self.remark("Left out, since no reply of theirs is of use:",
+                        f"{', '.join(silent)} ({counted(recording.counts)}).")
         claim["servers"] = [server for server in claim["servers"] if server in recording.by_server]
         groups = group(claim["servers"], references)
         claim["false_max"] = (len(groups) - 1) // 2
         if len(groups) < len(claim["servers"]):
             claim["groups"] = groups
-        kinds = defaultdict(list)
+        kinds = defaultdict(set)
         for server in claim["servers"]:
             for stratum, reference in references[server]:
-                if upstream(stratum, reference) is None and reference != "00000000":
-                    kinds[reference].append(server)
+                if upstream(stratum, reference) is None and reference != UNKNOWN:
+                    kinds[reference].add(server)
         for reference, servers in kinds.items():
-            if len(set(servers)) > 1:
-                self.remarks.append(f"{', '.join(servers)} name one kind of reference clock ({reference}): if it is one and the same clock, put them into one group.")
+            if len(servers) > 1:
+                self.remark(f"{', '.join(sorted(servers, key=by_number))} name one kind of reference clock ({reference}):",
+                            "if it is one and the same clock, put them into one group.")
 
     def take_bound(self, claim: dict[str, Any], own: Operand, span: int) -> None:
         """The least bound that the envelope carries, rounded up to two digits."""
         step = envelope_step_of(claim, COARSEST)
-        envelope = read_envelope(self.program.run(["envelope", own, self.capture, "--servers", "--step", str(step)], self.folder).text)
+        words = ["envelope", own, self.capture, "--servers", "--step", str(step)]
+        envelope = read_envelope(self.program.run(words, self.folder).text)
+        claim["bound_ns"] = NO_BOUND
         if envelope.least_ns is None:
-            word, k = envelope.hulls[envelope.worst], envelope.worst
-            claim["bound_ns"] = NO_BOUND
-            self.remarks.append(f"bound_ns: no bound is carried, since the piece from {civil(envelope.begins[k])} is {word}; one second stands there for now.")
+            begin, word = envelope.begins[envelope.worst], envelope.hulls[envelope.worst]
+            self.remark(f"bound_ns: no bound is carried, since the piece from {civil(begin)} is {word}; {FOR_NOW}")
         elif envelope.least_ns > GREATEST_BOUND:
-            claim["bound_ns"] = NO_BOUND
-            self.remarks.append(f"bound_ns: the least bound is {ns_up_ms(envelope.least_ns)} ms, more than a claim can say; one second stands there for now.")
+            least = ns_up_ms(envelope.least_ns)
+            self.remark(f"bound_ns: the least bound is {least} ms, more than a claim can say; {FOR_NOW}")
         else:
             claim["bound_ns"] = round_up(envelope.least_ns)
-            self.remarks.append(f"bound_ns: the least bound that pieces of {step} s carry is {ns_up_ms(envelope.least_ns)} ms; rounded up.")
+            least = ns_up_ms(envelope.least_ns)
+            self.remark(f"bound_ns: the least bound that pieces of {step} s carry is {least} ms; rounded up.")
 
     def leave_to_a_person(self, claim: dict[str, Any]) -> None:
         """What only a person can answer for."""
-        groups = len(claim.get("groups", claim["servers"]))
-        self.remarks += [
-            f"drift_ppb is {claim['drift_ppb']}: how fast the clock may gain or lose, its oscillator's data sheet and the NTP client's corrections together. Nothing in a capture shows it.",
-            f"reading_ns is {claim['reading_ns']}: how far a record's time may be from what the clock showed. It has to be measured on that machine.",
-            f"false_max is {claim['false_max']}: fewer than half of {count(groups, 'group')} of servers may be wrong. Whether no more were is for a person to say.",
-            "groups: servers of one operator, or on one reference clock, belong together. A capture shows only what they name as their reference.",
-        ]
+        groups = count(len(claim.get("groups", claim["servers"])), "group")
+        self.remark(f"drift_ppb is {claim['drift_ppb']}: how fast the clock may gain or lose, its oscillator's data sheet",
+                    "and the NTP client's corrections together. Nothing in a capture shows it.")
+        self.remark(f"reading_ns is {claim['reading_ns']}: how far a record's time may be from what the clock showed.",
+                    "It has to be measured on that machine.")
+        self.remark(f"false_max is {claim['false_max']}: fewer than half of {groups} of servers may be wrong.",
+                    "Whether no more were is for a person to say.")
+        self.remark("groups: servers of one operator, or on one reference clock, belong together.",
+                    "A capture shows only what they name as their reference.")
 
 
 def counted(counts: dict[str, int]) -> str:
@@ -196,11 +220,11 @@ def counted(counts: dict[str, int]) -> str:
     return ", ".join(f"{name} {counts[name]}" for name in names if counts.get(name))
 
 
-def draft(program: Program, captures: list[str], client: str | None, whole_days: bool, drift_ppb: int, reading_ns: int) -> tuple[dict[str, Any] | None, list[str]]:
+def draft(program: Program, captures: list[str], wanted: Wanted) -> tuple[dict[str, Any] | None, list[str]]:
     """A claim for captures, which are joined where there are several; and remarks for a person."""
     if len(captures) == 1:
         drafting = Draft(program, ".", Operand(captures[0]))
-        return drafting.claim(client, whole_days, drift_ppb, reading_ns), drafting.remarks
+        return drafting.claim(wanted), drafting.remarks
     with tempfile.TemporaryDirectory(prefix="ntpaudit-") as place:
         for number, capture in enumerate(captures):
             try:
@@ -209,7 +233,7 @@ def draft(program: Program, captures: list[str], client: str | None, whole_days:
                 raise Fault("ntpaudit: device capture", files.DEVICE) from None
         files.join(Path(place), [f"{number:06}.pcap" for number in range(len(captures))])
         drafting = Draft(program, place, Operand(files.JOINED))
-        claim = drafting.claim(client, whole_days, drift_ppb, reading_ns)
+        claim = drafting.claim(wanted)
         drafting.remarks.insert(0, f"{len(captures)} captures were joined in order of time.")
         return claim, drafting.remarks
 

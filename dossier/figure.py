@@ -12,10 +12,11 @@ from collections.abc import Callable
 
 from .answers import Envelope, read_envelope
 from .cells import Cell, cells_of
+from .judgement import is_beyond
 from .program import Operand, Program
 from .scale import ms_marks, time_marks
 from .style import PICTURE
-from .text import html, minus
+from .text import count, html, minus
 from .units import bound_ticks, ns_ms, range_ms, shown_time
 
 WIDTH, HEIGHT, TOP, STRIP, FOOT = 10_000, 300, 10, 12, 40
@@ -28,7 +29,11 @@ COLOURS, DASHES = 7, 4
 Height = Callable[[float], float]
 """The height in the picture, in pixels from its top, of an error in ticks."""
 
-MARKS = {"empty": "empty: no course of events fits", "beyond": "beyond the bound", "unbounded": "unbounded: nothing follows"}
+MARKS = {
+    "empty": "empty: no course of events fits",
+    "beyond": "beyond the bound",
+    "unbounded": "unbounded: nothing follows",
+}
 
 
 HULL = '<path class="hull" d="M0 2H26V12H0Z"/><path class="edge" d="M0 2H26M0 12H26"/>'
@@ -48,18 +53,25 @@ def picture(envelope: Envelope, bound_ns: int, name: str, label: str) -> str:
     inner += [line(y(side), "bound") for side in (bound, -bound)]
     height = TOP + HEIGHT + STRIP + FOOT
     return "\n".join([
-        f'<svg class="picture" role="img" aria-labelledby="{name}-t {name}-d" width="100%" height="{height}" xmlns="http://www.w3.org/2000/svg">',
+        f'<svg xmlns="http://www.w3.org/2000/svg" class="picture" width="100%" height="{height}" role="img" '
+        f'aria-labelledby="{name}-t {name}-d">',
         f'<title id="{name}-t">{html(label)}</title>',
         f'<desc id="{name}-d">{html(described(envelope, bound_ns))}</desc>',
-        f'<svg y="{TOP}" width="100%" height="{HEIGHT}" viewBox="0 0 {WIDTH} {HEIGHT}" preserveAspectRatio="none">', *inner, "</svg>",
+        stretched(TOP, HEIGHT, inner),
         f'<rect class="frame" y="{TOP}" width="100%" height="{HEIGHT}"/>',
-        f'<svg y="{TOP + HEIGHT}" width="100%" height="{STRIP}" viewBox="0 0 {WIDTH} {STRIP}" preserveAspectRatio="none">', *marks(cells), "</svg>",
+        stretched(TOP + HEIGHT, STRIP, marks(cells)),
         *words(envelope, bound, bound_ns, low, high, y), "</svg>"])
 
 
+def stretched(top: int, height: int, drawn: list[str]) -> str:
+    """An inner picture, as wide as the outer one whatever that is."""
+    box = f'viewBox="0 0 {WIDTH} {height}" preserveAspectRatio="none"'
+    return "\n".join([f'<svg y="{top}" width="100%" height="{height}" {box}>', *drawn, "</svg>"])
+
+
 def extent(cells: list[Cell], bound: int) -> tuple[int, int]:
-    """What is shown, in ticks: the hull and the bound, the servers that go not much beyond them, and a margin. The others
-    go through the picture, or stand outside."""
+    """What is shown, in ticks: the hull and the bound, the servers that go not much beyond them, and a margin. The
+    others go through the picture, or stand outside."""
     low = min([-bound, *(cell.hull[0] for cell in cells if cell.hull)])
     high = max([bound, *(cell.hull[1] for cell in cells if cell.hull)])
     most = (high - low) * 8 // 5
@@ -77,7 +89,7 @@ def x(part: float) -> int:
 
 
 def band(cells: list[Cell], y: Height) -> str:
-    """The hull's path: from cell to cell along its high ends, and back along its low ones. A cell without one is a gap."""
+    """The hull's path: along the high ends of cells, and back along the low ones. A cell without a hull is a gap."""
     drawn, run = [], []
     for cell in [*cells, None]:
         if cell is not None and cell.hull and (not run or run[-1].end == cell.begin):
@@ -92,8 +104,8 @@ def band(cells: list[Cell], y: Height) -> str:
 
 
 def strokes(cells: list[Cell], y: Height) -> list[str]:
-    """Of each server a stroke in each cell, side by side. Where it goes through the whole picture it is faint, and where it
-    lies outside there is a short one at the edge."""
+    """Of each server a stroke in each cell, side by side. One through the whole picture is faint, and where it lies
+    outside there is a short one at the edge."""
     servers = len(cells[0].servers)
     is_dense = " dense" if len(cells) * servers > 400 else ""
     drawn = []
@@ -151,9 +163,10 @@ def words(envelope: Envelope, bound: int, bound_ns: int, low: int, high: int, y:
     for mark, text in ms_marks(low, high):
         if 12 < y(mark) < HEIGHT - 4:
             drawn.append(f'<text x="4" y="{TOP + y(mark) - 3:.1f}">{minus(text)}{" ms" if not mark else ""}</text>')
-    for side, sign in ((bound, "+"), (-bound, "\u2212"))[: 2 if bound else 1]:
-        shift = -4 if side >= 0 else 13
-        drawn.append(f'<text class="claimed" x="100%" dx="-4" text-anchor="end" y="{TOP + y(side) + shift:.1f}">claimed {sign}{ns_ms(bound_ns)} ms</text>')
+    for side, sign, shift in ((bound, "+", -4), (-bound, "\u2212", 13))[: 2 if bound else 1]:
+        text = f"claimed {sign}{ns_ms(bound_ns)} ms"
+        place = f'x="100%" dx="-4" y="{TOP + y(side) + shift:.1f}" text-anchor="end"'
+        drawn.append(f'<text class="claimed" {place}>{text}</text>')
     for time, text in time_marks(first, last) if first < last else [(first, shown_time(first)[11:])]:
         part = 100 * (time - first) / max(1, last - first)
         anchor = "start" if part < 6 else "end" if part > 94 else "middle"
@@ -166,47 +179,56 @@ def words(envelope: Envelope, bound: int, bound_ns: int, low: int, high: int, y:
 
 def described(envelope: Envelope, bound_ns: int) -> str:
     """The picture in words, for whoever doesn't see it."""
+    first, last, bound = envelope.begins[0], envelope.ends[-1], bound_ticks(bound_ns)
     bounded = [hull for hull in envelope.hulls if not isinstance(hull, str)]
-    text = f"The clock's error from {shown_time(envelope.begins[0])} to {shown_time(envelope.ends[-1])} UTC, in {len(envelope.hulls)} pieces. "
+    said = [f"The clock's error from {shown_time(first)} to {shown_time(last)} UTC, in {len(envelope.hulls)} pieces."]
     if bounded:
-        text += f"The hull lies within {range_ms(min(hull[0] for hull in bounded), max(hull[1] for hull in bounded))}; "
-    text += f"the claimed bound is {ns_ms(bound_ns)} ms to either side. "
-    fails = {word: envelope.hulls.count(word) for word in ("empty", "unbounded")}
-    fails["beyond the bound"] = sum(hull[0] < -bound_ticks(bound_ns) or hull[1] > bound_ticks(bound_ns) for hull in bounded)
-    return text + ", ".join(f"{number} pieces {word}" for word, number in fails.items() if number)
+        ends = range_ms(min(hull[0] for hull in bounded), max(hull[1] for hull in bounded))
+        said.append(f"The hull lies within {ends}.")
+    said.append(f"The claimed bound is {ns_ms(bound_ns)} ms to either side.")
+    fails = {"beyond the bound": sum(is_beyond(hull, bound) for hull in bounded)}
+    fails |= {word: envelope.hulls.count(word) for word in ("empty", "unbounded")}
+    return " ".join([*said, *(f"{count(number, 'piece')} {word}." for word, number in fails.items() if number)])
 
 
-def legend(names: list[str], fails: set[str]) -> str:
-    """What stands for what, beside a picture in a page."""
-    drawn = [item(HULL, "hull: what is left, if no more were wrong than granted")]
-    drawn += [item(f'<path class="server {server_class(place)}" d="M0 7H26"/>', name) for place, name in enumerate(names)]
-    drawn += [item('<path class="bound" d="M0 7H26"/>', "claimed bound")]
-    drawn += [item(f'<path class="mark {kind}" d="M0 7H26"/>', text) for kind, text in MARKS.items() if kind in fails]
-    return f'<ul class="legend">{"".join(drawn)}</ul>'
+def stroke(place: int) -> str:
+    """The stroke of a server, as a small picture for a line of text."""
+    return swatch(f'<path class="server {server_class(place)}" d="M0 7H26"/>')
 
 
-def item(swatch: str, text: str) -> str:
-    return f'<li><svg width="26" height="14" aria-hidden="true">{swatch}</svg> {html(text)}</li>'
+def swatch(drawn: str) -> str:
+    return f'<svg width="26" height="14" aria-hidden="true">{drawn}</svg>'
+
+
+def items(names: list[str], fails: set[str | None]) -> list[tuple[str, str]]:
+    """What stands for what: something drawn, and its name."""
+    servers = [(f'<path class="server {server_class(place)}" d="M0 7H26"/>', name) for place, name in enumerate(names)]
+    marks = [(f'<path class="mark {kind}" d="M0 7H26"/>', text) for kind, text in MARKS.items() if kind in fails]
+    return [(HULL, "hull"), *servers, ('<path class="bound" d="M0 7H26"/>', "claimed bound"), *marks]
+
+
+def legend(names: list[str], fails: set[str | None]) -> str:
+    """The legend beside a picture in a page."""
+    lines = "".join(f"<li>{swatch(drawn)} {html(text)}</li>" for drawn, text in items(names, fails))
+    return f'<ul class="legend">{lines}</ul>'
 
 
 def standing_alone(envelope: Envelope, bound_ns: int, label: str, wide: int = 900) -> str:
     """The picture as a file of its own, with its legend in it."""
     fails = {cell.mark for cell in cells_of(envelope, bound_ticks(bound_ns))}
-    items = [(HULL, "hull")]
-    items += [(f'<path class="server {server_class(place)}" d="M0 7H26"/>', name) for place, name in enumerate(envelope.servers)]
-    items += [(f'<path class="mark {kind}" d="M0 7H26"/>', text) for kind, text in MARKS.items() if kind in fails]
-    top, across, drawn = 36, 0, []
-    for swatch, text in items:
-        if across + 50 + 7 * len(text) > wide - 20:
-            top, across = top + 20, 0
-        drawn.append(f'<g transform="translate({10 + across} {top - 28})">{swatch}<text x="32" y="12">{html(text)}</text></g>')
+    top, across, written = 36, 10, []
+    for drawn, text in items(list(envelope.servers), fails):
+        if across + 52 + 7 * len(text) > wide:
+            top, across = top + 20, 10
+        words = f'<text x="32" y="12">{html(text)}</text>'
+        written.append(f'<g transform="translate({across} {top - 28})">{drawn}{words}</g>')
         across += 52 + 7 * len(text)
     height = top + TOP + HEIGHT + STRIP + FOOT
     return "\n".join([
         f'<svg xmlns="http://www.w3.org/2000/svg" width="{wide}" height="{height}">',
-        f"<style>{PICTURE}</style>", '<rect class="paper" width="100%" height="100%"/>', *drawn,
-        f'<svg x="10" y="{top}" width="{wide - 20}" height="{height - top}">', picture(envelope, bound_ns, "p", label),
-        "</svg>", "</svg>"])
+        f"<style>{PICTURE}</style>", '<rect class="paper" width="100%" height="100%"/>', *written,
+        f'<svg x="10" y="{top}" width="{wide - 20}" height="{height - top}">',
+        picture(envelope, bound_ns, "p", label), "</svg>", "</svg>"])
 
 
 def print_picture(program: Program, claim: str, capture: str, step: int) -> int:
@@ -214,5 +236,6 @@ def print_picture(program: Program, claim: str, capture: str, step: int) -> int:
     text = program.run(["envelope", Operand(claim), Operand(capture), "--servers", "--step", str(step)], ".").text
     with open(claim, "rb") as opened:
         given = json.load(opened)
-    sys.stdout.write(standing_alone(read_envelope(text), given["bound_ns"], f"The error of the clock of {given['client']}") + "\n")
+    label = f"The error of the clock of {given['client']}"
+    sys.stdout.write(standing_alone(read_envelope(text), given["bound_ns"], label) + "\n")
     return 0

@@ -4,6 +4,7 @@ from __future__ import annotations
 import argparse
 import sys
 from collections import Counter
+from dataclasses import dataclass
 from pathlib import Path
 
 from .article import article
@@ -11,7 +12,7 @@ from .entry import NEITHER, NO, REFUSED, YES, Record
 from .folder import write_beside
 from .program import now
 from .style import PAGE
-from .table import Row, as_csv, as_json, records_of, row_of, rows_of
+from .table import MANGLED, Row, as_csv, as_json, not_audited, records_of, row_of, rows_of
 from .text import count, html, minus
 from .units import ns_ms, ns_up_ms
 
@@ -29,7 +30,12 @@ POLICY = "default-src 'none'; style-src 'unsafe-inline'"
 def write_page(folders: list[str], given: argparse.Namespace) -> int:
     """Prints the page or the table, or writes it whole."""
     records = records_of(folders)
-    text = as_json(rows_of(records)) if given.json else as_csv(rows_of(records)) if given.csv else page(records, given.title)
+    if given.json:
+        text = as_json(rows_of(records))
+    elif given.csv:
+        text = as_csv(rows_of(records))
+    else:
+        text = page(records, given.title)
     data = text.encode("utf-8", "backslashreplace")
     if given.output:
         write_beside(Path(given.output), data)
@@ -38,22 +44,62 @@ def write_page(folders: list[str], given: argparse.Namespace) -> int:
     return 0
 
 
+@dataclass(frozen=True)
+class Section:
+    """An audit on the page: the name of its place, its line in the table, and its article."""
+
+    name: str
+    row: Row
+    article: str
+
+
+def sections(records: list[tuple[str, Record]]) -> list[Section]:
+    found: list[Section] = []
+    for folder, record in records:
+        try:
+            found += sections_of(folder, record, len(found))
+        except MANGLED:
+            found += sections_of(folder, not_audited(), len(found))
+    return found
+
+
+def sections_of(folder: str, record: Record, first: int) -> list[Section]:
+    found = []
+    for number, entry in enumerate(record.entries, first):
+        name = f"a{number}"
+        found.append(Section(name, row_of(folder, entry), article(name, Path(folder), record, entry, badge(entry.verdict))))
+    return found
+
+
 def page(records: list[tuple[str, Record]], title: str) -> str:
-    entries = [(folder, record, entry) for folder, record in records for entry in record.entries]
-    rows = [row_of(folder, entry) for folder, _, entry in entries]
-    names = [f"a{number}" for number in range(len(entries))]
-    articles = [article(name, Path(folder), record, entry, badge(entry.verdict)) for name, (folder, record, entry) in zip(names, entries)]
+    found = sections(records)
+    rows = [section.row for section in found]
     return "\n".join([
-        "<!DOCTYPE html>", '<html lang="en">', "<head>", '<meta charset="utf-8">',
+        "<!DOCTYPE html>",
+        '<html lang="en">',
+        "<head>",
+        '<meta charset="utf-8">',
         f'<meta http-equiv="Content-Security-Policy" content="{POLICY}">',
-        '<meta name="viewport" content="width=device-width, initial-scale=1">', '<meta name="color-scheme" content="light dark">',
-        f"<title>{html(title)}</title>", f"<style>{PAGE}</style>", "</head>", "<body>",
-        "<header>", f"<h1>{html(title)}</h1>", f'<p class="soft">{html(made_by(records))}</p>', tally(rows), "</header>",
-        "<main>", table(rows, names), *articles, "</main>", "</body>", "</html>", ""])
+        '<meta name="viewport" content="width=device-width, initial-scale=1">',
+        '<meta name="color-scheme" content="light dark">',
+        f"<title>{html(title)}</title>",
+        f"<style>{PAGE}</style>",
+        "</head>",
+        "<body>",
+        f'<header>\n<h1>{html(title)}</h1>\n<p class="soft">{html(made_by(records))}</p>\n{tally(rows)}\n</header>',
+        "<main>",
+        table(rows, [section.name for section in found]),
+        *(section.article for section in found),
+        "</main>",
+        "</body>",
+        "</html>",
+        "",
+    ])
 
 
 def made_by(records: list[tuple[str, Record]]) -> str:
-    programs = {record.program["sha256"]: record.program["version"] for _, record in records if record.program}
+    """Which programs made the audits."""
+    programs = {str(record.program.get("sha256")): record.program.get("version") for _, record in records if record.program}
     which = "; ".join(f"{version or 'ntpaudit'}, SHA-256 {sum_[:16]}\u2026" for sum_, version in programs.items())
     return f"{count(len(records), 'folder')}, put together at {now()}. Audited by {which or 'nothing yet'}. All times are UTC."
 
@@ -64,22 +110,24 @@ def badge(verdict: str) -> str:
 
 def tally(rows: list[Row]) -> str:
     counts = Counter(row.verdict for row in rows)
-    items = [f"<li>{badge(verdict)} {counts[verdict]:,} {html(MEANINGS[verdict])}</li>" for verdict in MEANINGS if counts[verdict]]
+    items = [f"<li>{badge(verdict)} {counts[verdict]:,} {html(MEANINGS[verdict])}</li>"
+             for verdict in MEANINGS if counts[verdict]]
     return f'<ul class="tally">{"".join(items)}</ul>'
 
 
-COLUMNS = ["Machine", "Day", "Verdict", "Claimed", "Least bound", "Worst piece", "Samples", "Servers", "Granted"]
-CLASSES = {"Claimed": "number", "Least bound": "number", "Samples": "number", "Machine": "machine", "Worst piece": "time"}
+COLUMNS = {"Machine": "machine", "Day": "", "Verdict": "", "Claimed": "number", "Least bound": "number",
+           "Worst piece": "time", "Samples": "number", "Servers": "", "Granted": ""}
+"""The columns of the table, each with its class."""
 
 
 def table(rows: list[Row], names: list[str]) -> str:
-    """Machines and days, and below each line why it isn't a plain yes. A column that would be empty throughout is left out."""
-    cells = [cells_of(row, name) for row, name in zip(rows, names)]
-    shown = [k for k, _ in enumerate(COLUMNS) if any(row[k] for row in cells)]
-    head = "".join(f"<th{of_column(COLUMNS[k])}>{COLUMNS[k]}</th>" for k in shown)
+    """Machines and days, and below each line why it isn't a plain yes. A column that is empty throughout is left out."""
+    cells = [dict(zip(COLUMNS, cells_of(row, name))) for row, name in zip(rows, names)]
+    shown = [column for column in COLUMNS if any(line[column] for line in cells)]
+    head = "".join(f"<th{of_column(column)}>{column}</th>" for column in shown)
     groups = []
     for row, line in zip(rows, cells):
-        said = "".join(f'<td data-label="{COLUMNS[k]}"{of_column(COLUMNS[k])}>{line[k]}</td>' for k in shown)
+        said = "".join(f'<td data-label="{column}"{of_column(column)}>{line[column]}</td>' for column in shown)
         why = "<br>".join(why_of(row))
         under = f'<tr class="why"><td colspan="{len(shown)}">{why}</td></tr>' if why else ""
         groups.append(f"<tbody><tr>{said}</tr>{under}</tbody>")
@@ -88,7 +136,7 @@ def table(rows: list[Row], names: list[str]) -> str:
 
 
 def of_column(column: str) -> str:
-    return f' class="{CLASSES[column]}"' if column in CLASSES else ""
+    return f' class="{COLUMNS[column]}"' if COLUMNS[column] else ""
 
 
 def cells_of(row: Row, name: str) -> list[str]:
@@ -98,8 +146,8 @@ def cells_of(row: Row, name: str) -> list[str]:
         return [*cells, *[""] * (len(COLUMNS) - len(cells))]
     least = "none" if row.least_bound_ns is None else f"{ns_up_ms(row.least_bound_ns)} ms"
     servers = f"{row.servers} in {count(row.groups, 'group')}" if row.groups != row.servers else f"{row.servers}"
-    return [*cells, f"{ns_ms(row.bound_ns)} ms", least, f"<span>{row.worst_begin[:10]}</span> <span>{row.worst_begin[11:19]}</span>",
-            f"{row.samples:,}", servers, f"{row.false_max or 'none'} wrong"]
+    worst = f"<span>{row.worst_begin[:10]}</span> <span>{row.worst_begin[11:19]}</span>"
+    return [*cells, f"{ns_ms(row.bound_ns)} ms", least, worst, f"{row.samples:,}", servers, f"{row.false_max or 'none'} wrong"]
 
 
 def why_of(row: Row) -> list[str]:

@@ -77,14 +77,17 @@ class Program:
             raise fault_of(status, error)
         return status
 
-    def lines(self, words: list[Word], folder: str, take: Callable[[list[bytes]], object]) -> None:
-        """Hands on the lines of a text that may be long, many at a time and without their line feeds."""
+    def blocks(self, words: list[Word], folder: str, take: Callable[[bytes], object]) -> None:
+        """Hands on the lines of a text that may be long, many at a time."""
         rest = b""
 
         def take_block(block: bytes) -> None:
             nonlocal rest
-            *whole, rest = (rest + block).split(b"\n")
-            take(whole)
+            block = rest + block
+            end = block.rfind(b"\n") + 1
+            rest = block[end:]
+            if end:
+                take(block[:end] if rest else block)
         self.call(words, folder, take_block)
 
 

@@ -4,11 +4,13 @@ All of it is read off `list` and `samples`, in one pass over each.
 """
 from __future__ import annotations
 
+import re
 from array import array
 from bisect import bisect_left
 from collections import Counter
 from dataclasses import dataclass, field
-from operator import itemgetter, lt
+from itertools import islice, repeat, takewhile
+from operator import itemgetter, lt, ne
 
 from .answers import read_counts
 from .program import Operand, Program
@@ -43,20 +45,28 @@ class Recording:
         return max(0, min(found)) if found else None
 
 
+SAMPLE = re.compile(rb"^\d+ (\S+) (\d+) (\d+) .*\n", re.MULTILINE)
+"""A line of `samples`: the server, and the records of the request and the reply."""
+
+PACKET = re.compile(rb"^(\d+) (\d+\.\d+) .*\n", re.MULTILINE)
+"""A line of `list`: the record and its time."""
+
+
 def read_recording(program: Program, folder: str, claim: Operand, capture: Operand) -> Recording:
     """Runs `samples` and `list`."""
-    found, requests, replies, servers = Recording(), [], array("q"), Counter()
+    found, replies, servers = Recording(), [], Counter()
+    first, closing = None, b""
 
-    def take(lines: list[bytes]) -> None:
-        if lines and lines[-1].startswith(b"records "):
-            found.counts = read_counts(lines.pop().decode("ascii"))
-        words = [line.split(None, 4) for line in lines]
-        servers.update(map(itemgetter(1), words))
-        requests.append(min(map(int, map(itemgetter(2), words)), default=None))
-        replies.extend(map(int, map(itemgetter(3), words)))
-    program.lines(["samples", claim, capture], folder, take)
+    def take(block: bytes) -> None:
+        nonlocal first, closing
+        samples = SAMPLE.findall(block)
+        servers.update(map(itemgetter(0), samples))
+        replies.extend(map(itemgetter(2), samples))
+        first = min([*([] if first is None else [first]), *map(int, map(itemgetter(1), samples))], default=None)
+        closing = block
+    program.blocks(["samples", claim, capture], folder, take)
+    found.counts = read_counts(closing[closing.rindex(b"records ") :].decode("ascii"))
     found.by_server = {server.decode("ascii"): number for server, number in servers.items()}
-    first = min((request for request in requests if request is not None), default=None)
     Times(found, first, replies).read(program, folder, capture)
     return found
 
@@ -64,45 +74,46 @@ def read_recording(program: Program, folder: str, claim: Operand, capture: Opera
 class Times:
     """The times of all packets, of the first exchange and of the samples, whose records come in rising order."""
 
-    def __init__(self, found: Recording, first: int | None, replies: array):
-        self.found, self.first, self.replies = found, first, replies
+    def __init__(self, found: Recording, first: int | None, replies: list[bytes]):
+        self.found, self.replies = found, replies
+        self.request = b"" if first is None else b"%d" % first
         self.before: int | None = None
         self.taken = 0
 
     def read(self, program: Program, folder: str, capture: Operand) -> None:
-        program.lines(["list", capture], folder, self.take)
+        program.blocks(["list", capture], folder, self.take)
         self.found.last_reply = max(self.found.times, default=None)
         self.found.times = array("q", sorted(self.found.times))
 
-    def take(self, lines: list[bytes]) -> None:
-        if lines and lines[-1].startswith(b"records "):
-            lines.pop()
-        if not lines:
+    def take(self, block: bytes) -> None:
+        packets = dict(PACKET.findall(block))
+        if not packets:
             return
-        words, found = [line.split(b" ", 2) for line in lines], self.found
-        numbers = list(map(int, map(itemgetter(0), words)))
-        times = nanoseconds(list(map(itemgetter(1), words)))
-        find_falls(numbers, times, self.before, found)
-        self.before = times[-1]
-        found.first = min(times) if found.first is None else min(found.first, min(times))
-        found.last = max(times) if found.last is None else max(found.last, max(times))
-        at = dict(zip(numbers, times))
-        found.first_request = at.get(self.first, found.first_request)
-        while self.taken < len(self.replies) and self.replies[self.taken] in at:
-            found.times.append(at[self.replies[self.taken]])
-            self.taken += 1
+        found, words = self.found, list(packets.values())
+        if any(map(ne, map(len, words), repeat(len(words[0])))) or any(map(lt, words[1:], words)):
+            self.find_falls([int(number) for number in packets], [nanoseconds(word) for word in words])
+            low, high = min(words, key=nanoseconds), max(words, key=nanoseconds)
+        else:  # (the times are of one length and rise, so they may be compared as they are written)
+            self.find_falls([int(next(iter(packets)))], [nanoseconds(words[0])])
+            low, high = words[0], words[-1]
+        self.before = nanoseconds(words[-1])
+        found.first = min(nanoseconds(low), nanoseconds(low) if found.first is None else found.first)
+        found.last = max(nanoseconds(high), nanoseconds(high) if found.last is None else found.last)
+        if self.request in packets:
+            found.first_request = nanoseconds(packets[self.request])
+        there = list(takewhile(packets.__contains__, islice(self.replies, self.taken, None)))
+        found.times.extend(map(nanoseconds, map(packets.__getitem__, there)))
+        self.taken += len(there)
 
-
-def nanoseconds(words: list[bytes]) -> list[int]:
-    """Fields 2 of the listing: seconds, a dot, and 6 or 9 digits."""
-    unit = 1000 if len(words[0]) - words[0].index(b".") == 7 else 1
-    return [int(word.replace(b".", b"")) * unit for word in words]
-
-
-def find_falls(numbers: list[int], times: list[int], before: int | None, found: Recording) -> None:
-    """Counts the records whose time is before that of the one before them."""
-    earlier = [times[0] if before is None else before, *times[:-1]]
-    if any(map(lt, times, earlier)):
+    def find_falls(self, numbers: list[int], times: list[int]) -> None:
+        """Counts the records whose time is before that of the one before them."""
+        earlier = [times[0] if self.before is None else self.before, *times[:-1]]
         falls = [fall for fall in zip(numbers, earlier, times) if fall[2] < fall[1]]
-        found.falls += len(falls)
-        found.fall = found.fall or falls[0]
+        self.found.falls += len(falls)
+        self.found.fall = self.found.fall or next(iter(falls), None)
+
+
+def nanoseconds(time: bytes) -> int:
+    """Field 2 of the listing: seconds, a dot, and 6 or 9 digits."""
+    seconds, part = time.split(b".")
+    return int(seconds + part) * (1000 if len(part) == 6 else 1)

@@ -2,58 +2,90 @@
 from __future__ import annotations
 
 import re
+from dataclasses import dataclass
+
+
+@dataclass(frozen=True)
+class Remedy:
+    """A pattern of fault lines, why there is such a line, and what to do."""
+
+    pattern: str
+    why: str
+    what: str
+
 
 REMEDIES = [
-    (r"capture 1 torn-header", "The file has fewer than the 24 bytes of a capture's header.",
-     "Record again, see whether tcpdump says `listening on`, and end it by Ctrl-C or `kill`, not by `kill -9`."),
-    (r"capture 2 magic", "The file isn't a classic capture.",
-     "pcapng: `editcap -F nsecpcap f.pcapng g.pcap` (`-F pcap` if it has microseconds). Compressed: unpack it first."),
-    (r"capture 3 version", "The capture's version isn't 2.4: its header is most likely damaged.",
-     "Record again. Where another tool reads the file, `editcap -F pcap f.pcap g.pcap` writes it anew."),
-    (r"capture 4 link", "The frames aren't Ethernet frames; `-i any` records others.",
-     "Record on one Ethernet interface by its name."),
-    (r"capture 5 torn-record", "The file ends inside a record: the recording was cut off, or copied while it grew.",
-     "Record again and end the tool in order; or keep the part before: `head -c PLACE f.pcap > g.pcap`, with the number in the line."),
-    (r"capture [67] ", "A record's header can't be right: the file is damaged, or of a maker's own format.",
-     "See whether `editcap -F pcap f.pcap g.pcap` reads it; else fetch the file again, in binary mode."),
-    (r"capture 8 too-many", "The capture has more than 4,000,000 records.",
-     "Keep the NTP packets alone (`tcpdump -r f.pcap -w g.pcap udp port 123`), or cut it: `editcap -c 4000000`."),
-    (r"claim 1 json", "claim.json is no JSON.", "`python3 -m json.tool claim.json` shows where."),
-    (r"claim 2 field field 0", "claim.json has a name that isn't known, or is no object.", "See docs/FORMATS.md for its nine names."),
-    (r"claim 2 field", "A field of claim.json is missing, or of another kind.",
-     "docs/FORMATS.md numbers the fields. Numbers are whole and bare: `5000000`, not `5e6` and not `\"5000000\"`."),
-    (r"claim 3 address", "An address in claim.json isn't an IPv4 address.", "Write it as `192.0.2.1`, without leading zeros."),
-    (r"claim 4 time", "`from` or `to` in claim.json isn't a time.", "Write it in UTC as `2026-11-22T07:03:40Z`."),
-    (r"claim 5 range", "A number in claim.json is out of range, or `from` comes after `to`.", "docs/FORMATS.md has the ranges."),
-    (r"claim 6 repeated-server", "A server stands twice in claim.json, or the client is one of them.", "Name each server once."),
-    (r"claim 8 groups", "The groups in claim.json don't hold each server exactly once.", "Number the servers from 0, and put each into one group."),
-    (r"certificate ", "The certificate isn't one.", "Audit the folder again."),
-    (r"refutation ", "The refutation isn't one.", "Audit the folder again."),
-    (r"exchanges over", "The capture has more than 1,000,000 exchanges of this client.",
-     "Cut the capture into parts with `editcap -i SECONDS`, and claim each part's span by itself."),
-    (r"pieces over", "The span has more than 100,000 pieces of this length.",
-     "Cut it into days with `--days`, or take a larger `--step`."),
-    (r"too-big claim", "claim.json has more than 65,536 bytes.", "See whether it is a claim at all."),
-    (r"too-big", "A file is larger than any of its kind.", "See whether it is what its name says."),
-    (r"memory|ended by signal", "The program was refused memory, or was ended from outside.", "See what limits it: `ulimit -v`, a container's limit, or fewer `--jobs`."),
-    (r"device output", "The answer couldn't be written.", "Make room and call again."),
-    (r"device", "A file can't be opened or read.", "`ls -l` and `cat FILE > /dev/null` say more. tcpdump may have left it to another user."),
-    (r"no claim\.json", "The folder has no claim.", "`ntpaudit-dossier draft CAPTURE > claim.json` writes one to start from."),
-    (r"no capture", "The folder has no file *.pcap.", "Put the recording there."),
-    (r"no such folder|folder can't be read", "The folder can't be read.", "See whether its name is right, and who may read it."),
-    (r"mergecap isn't installed", "Several captures are joined by mergecap.", "Install it (`apt install wireshark-common`), or join them beforehand."),
-    (r"no classic capture|can't be joined", "One of several captures can't be joined with the others.", "`ntpaudit list` on each of them says what it is."),
-    (r"can't be written", "The files of the audit can't be written.", "Make room, or see who may write there."),
-    (r"worker", "The process that audited this folder was ended from outside.", "Call again: what is done isn't done again."),
-    (r"not audited", "There is no audit.json of this form in the folder.", "`ntpaudit-dossier audit FOLDER` first."),
-    (r"changed since", "A file isn't what the audit left.", "`ntpaudit-dossier verify FOLDER` says which; audit the folder again."),
-    (r"program is not", "The program ntpaudit isn't there.", "Call `./ntpaudit --version` once, or name it by NTPAUDIT."),
+    Remedy(r"capture 1 torn-header", "The file has fewer than the 24 bytes of a capture's header.",
+           "Record again, see whether tcpdump says `listening on`, and end it by Ctrl-C or `kill`, not by "
+           "`kill -9`."),
+    Remedy(r"capture 2 magic", "The file isn't a classic capture.",
+           "pcapng: `editcap -F nsecpcap f.pcapng g.pcap` (`-F pcap` if it has microseconds). Compressed: "
+           "unpack it first."),
+    Remedy(r"capture 3 version", "The capture's version isn't 2.4: its header is most likely damaged.",
+           "Record again. Where another tool reads the file, `editcap -F pcap f.pcap g.pcap` writes it anew."),
+    Remedy(r"capture 4 link", "The frames aren't Ethernet frames; `-i any` records others.",
+           "Record on one Ethernet interface by its name."),
+    Remedy(r"capture 5 torn-record", "The file ends inside a record: the recording was cut off, or copied while it grew.",
+           "Record again and end the tool in order; or keep the part before: `head -c PLACE f.pcap > "
+           "g.pcap`, with the number in the line."),
+    Remedy(r"capture [67] ", "A record's header can't be right: the file is damaged, or of a maker's own format.",
+           "See whether `editcap -F pcap f.pcap g.pcap` reads it; else fetch the file again, in binary mode."),
+    Remedy(r"capture 8 too-many", "The capture has more than 4,000,000 records.",
+           "Keep the NTP packets alone (`tcpdump -r f.pcap -w g.pcap udp port 123`), or cut it: `editcap "
+           "-c 4000000`."),
+    Remedy(r"claim 1 json", "claim.json is no JSON.", "`python3 -m json.tool claim.json` shows where."),
+    Remedy(r"claim 2 field field 0", "claim.json has a name that isn't known, or is no object.",
+           "See docs/FORMATS.md for its nine names."),
+    Remedy(r"claim 2 field", "A field of claim.json is missing, or of another kind.",
+           "docs/FORMATS.md numbers the fields. Numbers are whole and bare: `5000000`, not `5e6` and not "
+           "`\"5000000\"`."),
+    Remedy(r"claim 3 address", "An address in claim.json isn't an IPv4 address.",
+           "Write it as `192.0.2.1`, without leading zeros."),
+    Remedy(r"claim 4 time", "`from` or `to` in claim.json isn't a time.",
+           "Write it in UTC as `2026-11-22T07:03:40Z`."),
+    Remedy(r"claim 5 range", "A number in claim.json is out of range, or `from` comes after `to`.",
+           "docs/FORMATS.md has the ranges."),
+    Remedy(r"claim 6 repeated-server", "A server stands twice in claim.json, or the client is one of them.",
+           "Name each server once."),
+    Remedy(r"claim 8 groups", "The groups in claim.json don't hold each server exactly once.",
+           "Number the servers from 0, and put each into one group."),
+    Remedy(r"certificate ", "The certificate isn't one.", "Audit the folder again."),
+    Remedy(r"refutation ", "The refutation isn't one.", "Audit the folder again."),
+    Remedy(r"exchanges over", "The capture has more than 1,000,000 exchanges of this client.",
+           "Cut the capture into parts with `editcap -i SECONDS`, and claim each part's span by itself."),
+    Remedy(r"pieces over", "The span has more than 100,000 pieces of this length.",
+           "Cut it into days with `--days`, or take a larger `--step`."),
+    Remedy(r"too-big claim", "claim.json has more than 65,536 bytes.", "See whether it is a claim at all."),
+    Remedy(r"too-big", "A file is larger than any of its kind.", "See whether it is what its name says."),
+    Remedy(r"memory|ended by signal", "The program was refused memory, or was ended from outside.",
+           "See what limits it: `ulimit -v`, a container's limit, or fewer `--jobs`."),
+    Remedy(r"device output", "The answer couldn't be written.", "Make room and call again."),
+    Remedy(r"device", "A file can't be opened or read.",
+           "`ls -l` and `cat FILE > /dev/null` say more. tcpdump may have left it to another user."),
+    Remedy(r"no claim\.json", "The folder has no claim.",
+           "`ntpaudit-dossier draft CAPTURE > claim.json` writes one to start from."),
+    Remedy(r"no capture", "The folder has no file *.pcap.", "Put the recording there."),
+    Remedy(r"no such folder|folder can't be read", "The folder can't be read.",
+           "See whether its name is right, and who may read it."),
+    Remedy(r"mergecap isn't installed", "Several captures are joined by mergecap.",
+           "Install it (`apt install wireshark-common`), or join them beforehand."),
+    Remedy(r"no classic capture|can't be joined", "One of several captures can't be joined with the others.",
+           "`ntpaudit list` on each of them says what it is."),
+    Remedy(r"can't be written", "The files of the audit can't be written.", "Make room, or see who may write there."),
+    Remedy(r"worker", "The process that audited this folder was ended from outside.",
+           "Call again: what is done isn't done again."),
+    Remedy(r"not audited", "There is no audit.json of this form in the folder.",
+           "`ntpaudit-dossier audit FOLDER` first."),
+    Remedy(r"changed since", "A file isn't what the audit left.",
+           "`ntpaudit-dossier verify FOLDER` says which; audit the folder again."),
+    Remedy(r"program is not", "The program ntpaudit isn't there.",
+           "Call `./ntpaudit --version` once, or name it by NTPAUDIT."),
 ]
 
 
 def remedy(line: str) -> tuple[str, str]:
     """Why there was this fault, and what to do."""
-    for pattern, why, what in REMEDIES:
-        if re.search(rf"ntpaudit(-dossier)?: .*?({pattern})", line):
-            return why, what
+    for known in REMEDIES:
+        if re.search(rf"ntpaudit(-dossier)?: .*?({known.pattern})", line):
+            return known.why, known.what
     return "", "See docs/GUIDE.md, `What may be refused`."

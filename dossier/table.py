@@ -7,11 +7,15 @@ import json
 from dataclasses import asdict, dataclass, field
 from pathlib import Path
 
+from .alerts import warning_words
 from .entry import REFUSED, Entry, Record, read_record
 from .judgement import groups_of
 from .text import plain
 from .units import civil
-from .words import reason, to_do, warning_words
+from .words import reason, to_do
+
+MANGLED = (KeyError, TypeError, ValueError, AttributeError, IndexError, StopIteration, OverflowError)
+"""What an audit.json brings about that no audit wrote."""
 
 NOT_AUDITED = {"line": "ntpaudit-dossier: not audited", "status": 4}
 
@@ -37,12 +41,13 @@ class Row:
     warnings: list[str] = field(default_factory=list)
 
 
+def not_audited() -> Record:
+    return Record({}, {}, {}, None, [Entry(part=".", verdict=REFUSED, fault=NOT_AUDITED)], "", 0)
+
+
 def records_of(folders: list[str]) -> list[tuple[str, Record]]:
     """The record of each folder. One that wasn't audited gets a record that says so."""
-    def of(folder: str) -> Record:
-        none = Record({}, {}, {}, None, [Entry(part=".", verdict=REFUSED, fault=NOT_AUDITED)], "", 0)
-        return read_record(Path(folder)) or none
-    return [(folder, of(folder)) for folder in folders]
+    return [(folder, read_record(Path(folder)) or not_audited()) for folder in folders]
 
 
 def row_of(folder: str, entry: Entry) -> Row:
@@ -58,7 +63,14 @@ def row_of(folder: str, entry: Entry) -> Row:
 
 
 def rows_of(records: list[tuple[str, Record]]) -> list[Row]:
-    return [row_of(folder, entry) for folder, record in records for entry in record.entries]
+    """A row for each audit; for a folder whose audit.json was mangled one that says so."""
+    found = []
+    for folder, record in records:
+        try:
+            found += [row_of(folder, entry) for entry in record.entries]
+        except MANGLED:
+            found += [row_of(folder, entry) for entry in not_audited().entries]
+    return found
 
 
 def as_json(rows: list[Row]) -> str:

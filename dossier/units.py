@@ -5,6 +5,7 @@ A low end is rounded down and a high end up, so that what is shown never says mo
 from __future__ import annotations
 
 from datetime import datetime, timedelta, timezone
+from functools import cache
 
 TICKS = 2**32
 """Ticks in a second."""
@@ -65,6 +66,7 @@ def shown_time(seconds: int) -> str:
     return civil(seconds).replace("T", " ").removesuffix("Z")
 
 
+@cache
 def seconds_of(time: str) -> int:
     """Unix seconds of a claim's time."""
     return int((datetime.strptime(time, FORM).replace(tzinfo=timezone.utc) - EPOCH).total_seconds())

@@ -7,12 +7,12 @@ from __future__ import annotations
 
 from typing import Any
 
-from .entry import NEITHER, NO, REFUSED, YES, Entry
+from .entry import NEITHER, REFUSED, YES, Entry
+from .folder import REFUTATION
 from .judgement import groups_of
-from .recording import SECOND
 from .remedies import remedy
 from .text import count, plain
-from .units import high_ms, low_ms, ns_ms, ns_up_ms, range_ms, seconds_of, shown_time, span_of_seconds
+from .units import high_ms, low_ms, ns_ms, ns_up_ms, range_ms, seconds_of, shown_time
 
 
 def line_of(folder: str, entry: Entry | None, fault: str = "") -> str:
@@ -67,15 +67,17 @@ def sentence(entry: Entry) -> str:
         off = f"Then the widest it may have been off was {ns_up_ms(entry.least_ns)} ms, {between(entry.worst)}."
         return f"{capital(span(claim))} {within}, {granted(claim)} and what else the claim grants is true. {off}"
     if entry.verdict == NEITHER:
-        first = next(warning for warning in entry.warnings if warning["kind"] == "empty")
+        empty = next(warning for warning in entry.warnings if warning["kind"] == "empty")
         return (f"Whether {span(claim)} {within} is answered by neither yes nor no. A certificate carries it, but "
-                f"{between(first)} no course of events fits the capture: something that the claim grants isn't so.")
+                f"{between(empty)} no course of events fits the capture: something that the claim grants isn't so.")
     return f"It isn't shown that {span(claim)} {within}. {reason(entry)}"
 
 
 CHECKED = {
-    "cut": "the certificate's pieces don't fit the span", "uncovered": "the certificate's pieces don't cover the span",
-    "bad-sample": "the certificate is of another capture or claim", "mixed-servers": "the certificate is of another capture or claim",
+    "cut": "the certificate's pieces don't fit the span",
+    "uncovered": "the certificate's pieces don't cover the span",
+    "bad-sample": "the certificate is of another capture or claim",
+    "mixed-servers": "the certificate is of another capture or claim",
     "repeated-server": "the certificate is of another capture or claim",
     "unbounded": "too few groups have an entry", "contradiction": "the samples contradict each other",
     "exceeds": "the samples leave errors open beyond the bound",
@@ -89,14 +91,15 @@ def reason(entry: Entry) -> str:
     if entry.verdict == REFUSED:
         return f"{entry.fault['line']}. {remedy(entry.fault['line'])[0]}"
     if entry.verdict == NEITHER:
-        return f"A certificate carries the bound, but {count(entry.failing['empty'], 'piece')} of the envelope " \
-               f"{'is' if entry.failing['empty'] == 1 else 'are'} empty: something that the claim grants isn't so."
+        empty = entry.failing["empty"]
+        return (f"A certificate carries the bound, but {count(empty, 'piece')} of the envelope {is_or_are(empty)} empty: "
+                "something that the claim grants isn't so.")
     found = entry.reason
     if "hull" not in found:
         return f"The check refuses piece {found['piece']} of the certificate: {CHECKED[found['why']]}."
     when = capital(between(found))
     if found["why"] == "unbounded":
-        return f"{when} no more groups of servers have a sample than the claim takes for wrong, so nothing follows."
+        return f"{when} no more groups have a sample than the claim takes for wrong, so nothing follows."
     if found["why"] == "empty":
         return f"{when} the servers contradict each other, whichever of them are taken for wrong."
     ends = range_ms(*found["hull"])
@@ -112,10 +115,11 @@ def to_do(entry: Entry) -> str:
     if entry.verdict == REFUSED:
         return remedy(entry.fault["line"])[1]
     if entry.verdict == NEITHER:
-        return "See in the picture which server stands apart there, and whether the clock was stepped; then mend the claim."
+        return "See in the picture which server stands apart there, and whether the clock was stepped; mend the claim."
     why = entry.reason["why"]
     if why == "unbounded":
-        return "Name more servers, put fewer of them together, or grant fewer wrong ones. The counts tell what became of their replies."
+        return ("Name more servers, put fewer of them together, or grant fewer wrong ones. "
+                "The counts tell what became of their replies.")
     if why in ("empty", "contradiction"):
         return ("See in the picture which server stands apart: grant that it was wrong (false_max), and name more servers. "
                 "Or the claim grants too little (reading_ns, drift_ppb), or the clock was stepped.")
@@ -125,19 +129,24 @@ def to_do(entry: Entry) -> str:
     return f"{least}For a tighter one ask nearer servers, more of them, or more often; or grant less drift, if that is true."
 
 
+def is_or_are(number: int) -> str:
+    return "is" if number == 1 else "are"
+
+
 def fit(entry: Entry) -> str:
     """What the refutation says beside the verdict."""
     found = entry.refutation
     if not found:
         return ""
-    if found["of"] == "bound 0":
-        if found.get("stands"):
-            return (f"The yes isn't empty: a course of events fits the capture, with an error of {error_of(found)} throughout "
-                    f"and {liars_of(entry)} ({'refutation.json'}, checked by refute with the bound 0).")
-        return "No course of events with an error that stays the same was found for this capture, which doesn't show that there is none."
+    is_witness = found["of"] == "bound 0"
     if found.get("stands"):
-        return (f"No certificate can show this claim by this capture: a course of events fits it with an error of "
-                f"{error_of(found)} throughout and {liars_of(entry)} (refutation.json, checked by refute).")
+        course = f"with an error of {error_of(found)} throughout and {liars_of(entry)} ({REFUTATION}, checked by refute"
+        if is_witness:
+            return f"The yes isn't empty: a course of events fits the capture, {course} with the bound 0)."
+        return f"No certificate can show this claim by this capture: a course of events fits it {course})."
+    if is_witness:
+        return ("No course of events with an error that stays the same was found for this capture, "
+                "which doesn't show that there is none.")
     return "No refutation of the claim was found, which shows nothing: other pieces might carry it."
 
 
@@ -151,31 +160,3 @@ def error_of(found: dict[str, Any]) -> str:
 def liars_of(entry: Entry) -> str:
     wrong = [entry.claim["servers"][number] for number in entry.refutation["false"]]
     return f"{', '.join(wrong)} wrong" if wrong else "no server wrong"
-
-
-def warning_words(warning: dict[str, Any]) -> str:
-    """A warning, for a reader who may not know the terms."""
-    kind = warning["kind"]
-    if kind == "empty":
-        return (f"{count(warning['count'], 'piece')} of the envelope {'is' if warning['count'] == 1 else 'are'} empty, the first "
-                f"{between(warning)}: no course of events has a reading of the clock there, so an assumption of the claim fails in this capture.")
-    if kind == "outside":
-        parts = [f"begins {span_of_seconds(warning['before'] / SECOND)} before the first NTP packet"] if warning["before"] else []
-        parts += [f"ends {span_of_seconds(warning['after'] / SECOND)} after the last{'' if warning['before'] else ' NTP packet'}"] if warning["after"] else []
-        return f"The span leaves the recording: it {' and '.join(parts)}. There it rests on the drift that the claim grants, and on nothing recorded."
-    if kind == "no-drift":
-        return "The claim grants no drift at all (drift_ppb is 0). No oscillator is so good, and no NTP client corrects a clock without it."
-    if kind == "falls":
-        before, after = (shown_time(warning[name] // SECOND) for name in ("before", "after"))
-        return (f"The times of the records fall back ({count(warning['count'], 'time')}; first at record {warning['record']}, from {before} to {after}, by "
-                f"{span_of_seconds((warning['before'] - warning['after']) / SECOND)}). If the clock was stepped, the claim can't be made of this span.")
-    if kind == "far":
-        return (f"{count(warning['count'], 'piece')} {'is' if warning['count'] == 1 else 'are'} farther from every sample than a tenth of the span; the "
-                f"farthest, {between(warning)}, by {span_of_seconds(warning['distance'] / SECOND)}. There it rests on the drift that the claim grants.")
-    if kind == "leap":
-        return f"{count(warning['count'], 'reply', 'replies')} announce a leap second. A span with a leap second in it can't be claimed."
-    if kind == "sources":
-        return f"Only {count(warning['count'], 'server')} {'has' if warning['count'] == 1 else 'have'} a sample. With fewer than four, one that is wrong can't be told by the others."
-    if kind == "reference":
-        return f"All exchanges name one reference ({plain(warning['reference'])}): these servers may be wrong together, and belong into one group."
-    return plain(kind)
