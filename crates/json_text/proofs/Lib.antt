@@ -1,3 +1,4 @@
+pub mod Digits
 pub mod Names
 pub mod NextMapped
 pub mod NextTokens

@@ -1,10 +1,11 @@
 //! The text of a number.
 
-ghost use Rattle.std.specs.Prelude.{◌≡◌, ◌==◌, ◌<◌, IsTrue, length, option_map, slice_index, true, false};
+ghost use Rattle.std.specs.Prelude.{◌≡◌, ◌==◌, ◌<◌, IsTrue, IfSome, length, option_map, slice_index, true, false};
+ghost use Rattle.std.specs.Str.Parse.{IsNumeral, digits_value};
 ghost use Rattle.serde_json.specs.Find.{as_u64};
 ghost use Rattle.serde_json.specs.Read.{number_of, number_from, float_of};
 
-use fast_float::Numeral;
+use fast_float::{Numeral, parse_u64};
 
 /// For the text of a number: the number, where it is a whole number from 0 to 2^64 - 1, written
 /// without sign, fraction or exponent; Some(None) where it is another; None where no float holds
@@ -13,11 +14,26 @@ pub(crate) fn unsigned_in(text: &str) -> Option<Option<u64>>
     ensures { result ≡ option_map as_u64 (number_of text.now) }
 {
     let bytes = text.as_bytes();
+    if let Some(number) = digits_in(bytes) {
+        return Some(Some(number));
+    }
     if has_minus(bytes) {
         negative(&Numeral::scan(&bytes[1..]))
     } else {
         positive(&Numeral::scan(bytes))
     }
+}
+
+/// The number that digits alone write, where it is below 2^64. Most numbers are such, and this way
+/// is the short one.
+fn digits_in(bytes: &[u8]) -> Option<u64>
+    ensures numeral { IfSome result (λ _. IsNumeral 10 bytes.now) }
+    ensures value { IfSome result (λ number. number ≡ digits_value 10 bytes.now) }
+{
+    if bytes.first() == Some(&b'+') {
+        return None;
+    }
+    parse_u64(bytes).ok()
 }
 
 /// Whether a text begins with a minus sign.

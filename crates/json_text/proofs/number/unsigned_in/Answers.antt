@@ -1,7 +1,10 @@
-use Rattle.std.proofs.Common.{◌≡◌, drop, get_or, true, false, ◌==◌, option_map, sym, ap, ◌∙◌, arith, take_all, length-drop}
+use Rattle.std.proofs.Common.{◌≡◌, ◌<◌, ◌^◌, Some, drop, get_or, true, false, ◌==◌, option_map, sym, ap, ◌∙◌, arith, take_all, length-drop}
 use Rattle.fast_float.specs.Text.{scan}
+use Rattle.std.specs.Str.Parse.{digits_value}
+use Rattle.serde_json.specs.Data.{unsigned}
 use Rattle.serde_json.specs.Find.{as_u64}
 use Rattle.serde_json.specs.Read.{number_of, number_from}
+use Rattle.json_text.proofs.Digits.{number_of-digits}
 use Rattle.json_text.proofs.number.unsigned_in.Goals as goal
 
 pub returns-then-has_minus : goal.returns-then-has_minus
@@ -24,3 +27,13 @@ returns-else-has_minus c =
     c.positive.ensures
     ∙ ap (option_map as_u64)
     (ap (number_from false) c.scan-else-has_minus.ensures.parts ∙ read ∙ ap number_of c.as_bytes-bytes.ensures.value)
+
+pub returns-in-Some : goal.returns-in-Some
+returns-in-Some c =
+    let bytes = c.as_bytes-bytes.result.now in
+    let value : c.in-Some.number ≡ digits_value 10 bytes = c.in-Some.ensures.value in
+    let fits : digits_value 10 bytes < 2 ^ 64 = omega arith in
+    let read : number_of bytes ≡ Some (unsigned (digits_value 10 bytes)) =
+    number_of-digits bytes c.in-Some.ensures.numeral fits in
+    sym (ap (option_map as_u64) (sym (ap number_of c.as_bytes-bytes.ensures.value) ∙ read)
+    ∙ ap (λ n. Some (Some n)) (sym value))
