@@ -97,8 +97,8 @@ module _ (hulls : HullLaw) (claim : ClaimData) (samples : List Sample) (certific
       let from = from_hull why of_hull in
       let found = no_at samples claim 0 k claim.first certificate.pieces why from e in
       let place : found.place ≡ k = omega (arith, found.counted) in
-      let given = (tested samples claim (begin_of claim.first certificate.pieces found.place) found.piece (Some why) from
-      found.fails).1 in
+      let begin = begin_of claim.first certificate.pieces found.place in
+      let given = (tested samples claim begin found.piece (Some why) from found.fails).1 in
       let hull = piece_hull claim.groups claim.false_max given.parts in (
         hull,
         given.gives,
@@ -109,7 +109,8 @@ module _ (hulls : HullLaw) (claim : ClaimData) (samples : List Sample) (certific
               parts = given.parts;
               said = given.said;
               is_theirs = refl;
-              holds = tested_holds (stretch_of claim certificate found.place found.piece) found.piece.entries (Some why) given;
+              holds = tested_holds (stretch_of claim certificate found.place found.piece) found.piece.entries
+                  (Some why) given;
             }),
       )
 

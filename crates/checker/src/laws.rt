@@ -119,8 +119,9 @@ pub fn hulls_hold_the_error()
 /// Piece by piece a course has to fit no more than what the entries of a piece name, so that other
 /// servers may be false in each.
 pub fn verdicts_are_traceable()
-    ensures by_pieces { (claim : ClaimData) (samples : List Sample) (certificate : CertificateData) →
-        IsLawful claim → All (λ sample. sample.server < length claim.servers) samples →
+    ensures by_pieces { (claim : ClaimData) (samples : List Sample)
+        (certificate : CertificateData) → IsLawful claim →
+        All (λ sample. sample.server < length claim.servers) samples →
         verdict_of samples claim certificate ≡ Yes →
         IsTraceableByPieces claim samples certificate }
     ensures yes { (claim : ClaimData) (samples : List Sample) (certificate : CertificateData) →
