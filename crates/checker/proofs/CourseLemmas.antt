@@ -1,16 +1,17 @@
 -- Courses that fit.
-use Rattle.std.proofs.Common.{◌≡◌, ℕ, zero, suc, ◌+◌, ◌<◌, ℤ, pos, ◌-ℤ◌, ◌+ℤ◌, ◌*ℤ◌, ◌≤ℤ◌, unsigned_abs, Bool, true, false, ◌&&◌, ◌⊎◌, inl, inr, ⊎_elim, List, [], ◌∷◌, length, Some, count_by, refl, ap, ◌∙◌, subst, arith}
+use Rattle.std.proofs.Common.{◌≡◌, ℕ, zero, suc, ◌+◌, ◌<◌, ℤ, pos, ◌-ℤ◌, ◌+ℤ◌, ◌*ℤ◌, ◌≤ℤ◌, unsigned_abs, Bool, true, false, ◌&&◌, ◌⊎◌, inl, inr, ⊎_elim, List, [], ◌∷◌, length, Some, count_by, refl, sym, ap, ◌∙◌, subst, arith}
 use Rattle.std.specs.Prelude.{slice_get, slice_index, ◌==◌}
 use Rattle.std.specs.List.{list_any}
 use Rattle.std.proofs.lemmas.Int.{ints}
 use Rattle.std.proofs.lemmas.List.Sums.{sum_by-cons}
 use Rattle.claim_file.specs.Claim.{ClaimData, IsLawful}
 use Rattle.pairing.specs.declared.exchange.Exchange.{Exchange}
-use Rattle.sample_interval.specs.Moment.{Moment, error_of, error_change, DriftsWithin, IsInWindow}
+use Rattle.sample_interval.specs.Moment.{Moment, error_of, error_change, DriftsWithin, IsInWindow, IsWithinDistance}
 use Rattle.checker.specs.Course.{Fits, IsClientMoment, ReadsInWindows, KeepsRootDistance}
 use Rattle.checker.specs.Groups.{numbers_below, holds_false, false_group_count}
+use Rattle.checker.specs.PieceFit.{OfEachEntry, ReadsEntryInWindows, FitsPiece}
 use Rattle.checker.specs.Traceability.{IsTraceable}
-use Rattle.checker.specs.WorkedCourse.{worked_second, worked_claim, worked_exchange, moment_with, served_course, slow_reply, slow_course, slow_claim, lone_course}
+use Rattle.checker.specs.WorkedCourse.{worked_second, worked_claim, worked_exchange, moment_with, served_course, slow_reply, slow_course, slow_claim, earlier_exchange, stepped_course, lone_course}
 
 -- ---- no false server
 
@@ -122,6 +123,81 @@ slow_fits =
           subst (λ (y : Exchange). KeepsRootDistance slow_course k y) (only_one error reading served k x at)
           (keeps_its_distance error reading served (omega (arith, ints)) (omega (arith, ints)));
     }
+
+-- ---- the clock that is stepped
+
+-- what the one entry names
+record NamesWorked (a b : ℕ) (x y : Exchange) : Type 0 where
+  first : 1 ≡ a
+  second : 1 ≡ b
+  low : worked_exchange ≡ x
+  high : worked_exchange ≡ y
+
+second_of_two : (a : ℕ) (x : Exchange) → 1 ≡ a
+    → slice_get (earlier_exchange ∷ worked_exchange ∷ []) a ≡ Some x → worked_exchange ≡ x
+second_of_two a x is at =
+    let here : slice_get (earlier_exchange ∷ worked_exchange ∷ []) 1 ≡ Some x =
+    ap (slice_get (earlier_exchange ∷ worked_exchange ∷ [])) is ∙ at in
+    cc
+
+names_worked : (j a b : ℕ) (x y : Exchange) → slice_get {X = ℕ × ℕ} ((1, 1) ∷ []) j ≡ Some (a, b)
+    → slice_get (earlier_exchange ∷ worked_exchange ∷ []) a ≡ Some x
+    → slice_get (earlier_exchange ∷ worked_exchange ∷ []) b ≡ Some y → NamesWorked a b x y
+names_worked zero a b x y named at_a at_b =
+    let same : (1, 1) ≡ (a, b) = cc in
+    let first : 1 ≡ a = ap (λ (e : ℕ × ℕ). e.0) same in
+    let second : 1 ≡ b = ap (λ (e : ℕ × ℕ). e.1) same in
+    record {
+      first = first;
+      second = second;
+      low = second_of_two a x first at_a;
+      high = second_of_two b y second at_b;
+    }
+names_worked (suc j) a b x y named at_a at_b = absurd cc
+
+-- what holds of the worked exchange holds of what is named
+of_worked : (P : ℕ → Exchange → ℕ → Exchange → Type 0) → P 1 worked_exchange 1 worked_exchange
+    → OfEachEntry (earlier_exchange ∷ worked_exchange ∷ []) ((1, 1) ∷ []) P
+of_worked P holds j a b x y named at_a at_b =
+    let is = names_worked j a b x y named at_a at_b in
+    rw (sym is.first, sym is.second, sym is.low, sym is.high) holds
+
+pub stepped_fits : FitsPiece worked_claim (earlier_exchange ∷ worked_exchange ∷ []) ((1, 1) ∷ []) stepped_course
+stepped_fits =
+    let error = pos 0 in
+    let reading = pos (worked_second + 85899345) in
+    let served = pos (worked_second + 42949673) in
+    let near = keeps_its_distance error reading served (omega (arith, ints)) (omega (arith, ints)) in
+    record {
+      some_fineness = omega arith;
+      few_false = rw (no_false_group (0 ∷ [])) (omega arith);
+      in_windows = of_worked (ReadsEntryInWindows stepped_course worked_claim)
+          ((omega (arith, ints), omega (arith, ints)), (omega (arith, ints), omega (arith, ints)));
+      drift = of_worked
+          (λ a x b y. DriftsWithin 0 (stepped_course.request a) stepped_course.observation
+          × DriftsWithin 0 (stepped_course.reply b) stepped_course.observation) (
+            one_error 0 (stepped_course.request 1) stepped_course.observation error (omega (arith, ints))
+                (omega (arith, ints)),
+            one_error 0 (stepped_course.reply 1) stepped_course.observation error (omega (arith, ints))
+                (omega (arith, ints)),
+          );
+      ordered = of_worked
+          (λ a x b y. stepped_course.is_false x.server ≡ false → stepped_course.is_false y.server ≡ false
+          → ((stepped_course.request a).time ≤ℤ stepped_course.received a)
+          × (stepped_course.sent b ≤ℤ (stepped_course.reply b).time))
+          (λ true_x true_y. (omega (arith, ints), omega (arith, ints)));
+      within_root_distance = of_worked
+          (λ a x b y. stepped_course.is_false x.server ≡ false → stepped_course.is_false y.server ≡ false
+          → IsWithinDistance 1 x.t2 x.distance (stepped_course.received a)
+          × IsWithinDistance 1 y.t3 y.distance (stepped_course.sent b))
+          (λ true_x true_y. near);
+    }
+
+pub stepped_fits_no_capture : Fits worked_claim (earlier_exchange ∷ worked_exchange ∷ []) stepped_course → ⊥
+stepped_fits_no_capture fits =
+    let drift = fits.drift (stepped_course.request 0) stepped_course.observation
+    (inr (0, omega arith, inl refl)) (inl refl) in
+    omega (arith, ints, drift)
 
 -- ---- no exchange at all
 

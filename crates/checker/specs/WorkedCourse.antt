@@ -3,7 +3,7 @@
 -- One server answers one request. The claim is for one moment, with no drift and no allowance. The
 -- capture's clock counts microseconds, so the windows of its records are 4,295 and 4,296 ticks
 -- long.
-use Rattle.std.specs.Prelude.{ℕ, ◌+◌, ◌*◌, ◌^◌, ℤ, pos, ◌-ℤ◌, false, [], ◌∷◌}
+use Rattle.std.specs.Prelude.{ℕ, ◌+◌, ◌-◌, ◌*◌, ◌^◌, ◌==◌, ℤ, pos, ◌-ℤ◌, false, [], ◌∷◌, if◌then◌else◌}
 use Rattle.claim_file.specs.Claim.{ClaimData}
 use Rattle.pairing.specs.declared.exchange.Exchange.{Exchange}
 use Rattle.sample_interval.specs.Moment.{Moment}
@@ -97,4 +97,25 @@ lone_course n observation = record {
   sent = λ k. observation.time;
   reply = λ k. observation;
   observation = observation;
+}
+
+-- a second exchange, an hour before the worked one, in which the clock was a second ahead
+abbrev pub hour : ℕ
+hour = 3600 * 2 ^ 32
+
+abbrev pub earlier_exchange : Exchange
+earlier_exchange = record worked_exchange {
+  t1_low = pos (worked_second - hour);
+  t1_high = pos (worked_second - hour + 4295);
+  t4_low = pos (worked_second - hour + 85899345);
+  t4_high = pos (worked_second - hour + 85903641);
+}
+
+-- a clock that is stepped between the two: it is right at the worked exchange and when it is
+-- observed
+abbrev pub stepped_course : Course
+stepped_course = record (worked_course (pos 0) (pos (worked_second + 85899345))) {
+  request = λ k.
+      if k == 0 then moment_with (pos (2 ^ 32)) (pos (worked_second - hour))
+      else moment_with (pos 0) (pos worked_second);
 }

@@ -41,6 +41,7 @@ ghost use Rattle.checker.specs.WorkedCapture.{worked_capture, worked_format, wor
 ghost use Rattle.checker.specs.WorkedCourse.{worked_second, worked_claim, worked_exchange};
 ghost use Rattle.checker.specs.WorkedCourse.{worked_course, served_course, lone_course};
 ghost use Rattle.checker.specs.WorkedCourse.{slow_claim, slow_course};
+ghost use Rattle.checker.specs.WorkedCourse.{earlier_exchange, stepped_course};
 ghost use Rattle.checker.specs.declared.part.Part.{Part};
 ghost use Rattle.checker.specs.declared.stretch.Stretch.{Stretch};
 ghost use Rattle.checker.specs.declared.verdict.Verdict.TheVariants.{Yes, No};
@@ -126,7 +127,8 @@ pub fn hulls_hold_the_error()
 /// servers may be false in each.
 pub fn verdicts_are_traceable()
     ensures by_pieces { (claim : ClaimData) (samples : List Sample)
-        (certificate : CertificateData) → IsLawful claim → All (λ sample. sample.server < length claim.servers) samples →
+        (certificate : CertificateData) → IsLawful claim →
+        All (λ sample. sample.server < length claim.servers) samples →
         verdict_of samples claim certificate ≡ Yes →
         IsTraceableByPieces claim samples certificate }
     ensures yes { (claim : ClaimData) (samples : List Sample) (certificate : CertificateData) →
@@ -183,6 +185,16 @@ pub fn worked_courses_fit()
     ensures slow { Fits slow_claim (worked_exchange ∷ []) slow_course }
     ensures least { Fits worked_claim (worked_exchange ∷ []) (served_course (neg_ℤ (pos 42949674))
         (pos (worked_second + 85899345)) (pos (worked_second + 42949674))) }
+{}
+
+/// A step of the clock before the exchanges that a piece names is no matter to the piece: the
+/// course of a clock that was stepped fits what an entry names of the exchange after the step, and
+/// doesn't fit the two exchanges.
+pub fn step_before_a_piece_is_no_matter()
+    ensures piece { FitsPiece worked_claim (earlier_exchange ∷ worked_exchange ∷ [])
+        ((1, 1) ∷ []) stepped_course }
+    ensures capture { ¬ (Fits worked_claim (earlier_exchange ∷ worked_exchange ∷ [])
+        stepped_course) }
 {}
 
 /// The exchange of the worked courses is what a capture of two packets gives under their claim: the
