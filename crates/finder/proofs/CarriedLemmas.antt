@@ -90,7 +90,7 @@ module _ (samples : List Sample) (claim : ClaimData) (step : ℕ) where
 
   module _ (roundings : Roundings) (envelope : EnvelopeData) (found : envelope_of samples claim step ≡ Ok envelope)
     where
-      least_is : (least : LeastBound) → envelope.least ≡ least
+      pub least_is : (least : LeastBound) → envelope.least ≡ least
           → IsLeast (hull_at samples claim step) (count_of claim step) least
       least_is least e =
           rw (← e, ← (says envelope found).is)

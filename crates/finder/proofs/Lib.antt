@@ -11,6 +11,7 @@ pub mod RefusalLemmas
 pub mod BoundLemmas
 pub mod EnvelopeLemmas
 pub mod CarriedLemmas
+pub mod FinerLemmas
 pub mod RoomLemmas
 pub mod GroupLemmas
 pub mod NearestLemmas

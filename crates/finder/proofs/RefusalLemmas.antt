@@ -5,7 +5,7 @@ use Rattle.std.specs.List.{cons_option, range_with_len}
 use Rattle.std.proofs.lemmas.Bool.{cases_lt}
 use Rattle.std.proofs.lemmas.Int.{ints}
 use Rattle.certificate.specs.Certificate.{PieceData, CertificateData}
-use Rattle.claim_file.specs.Claim.{ClaimData, IsLawful}
+use Rattle.claim_file.specs.Claim.{ClaimData, IsLawful, max_drift_ppb}
 use Rattle.intersection.specs.declared.kinds.Hull.{Hull}
 use Rattle.intersection.specs.declared.kinds.Hull.TheVariants.{Empty}
 use Rattle.sample_interval.specs.Sample.{IsLawfulSample}
@@ -98,7 +98,7 @@ pub record Laws : Type 0 where
 
 -- what is given of a claim, its samples and a stretch inside another
 pub record IsGiven (samples : List Sample) (claim : ClaimData) (outer inner : Stretch) : Type 0 where
-  pub lawful : IsLawful claim
+  pub rate : claim.drift_ppb ≤ max_drift_ppb
   pub samples_lawful : All IsLawfulSample samples
   pub listed : All (λ sample. sample.server < length claim.servers) samples
   pub piece : IsPiece inner.begin inner.end
@@ -147,8 +147,7 @@ module _ (laws : Laws) (samples : List Sample) (claim : ClaimData) (outer inner 
       → best_over samples claim inner said.low.server ≡ Some entry → Any (IsNarrower part) best_parts
   better_of part said entry is =
       let ppb = claim.drift_ppb in
-      let lawful = given.lawful in
-      let rate = lawful.drift_in_range in
+      let rate = given.rate in
       let low = said.low in
       let high = said.high in
       let best = best_of_is samples low.server inner.begin inner.end ppb entry is in
@@ -211,7 +210,7 @@ module _ (laws : Laws) (samples : List Sample) (claim : ClaimData) (step : ℕ) 
         let found = some_and (λ outer. HoldsWhole outer inner) _ has.1 in
         let shown = yes_each samples claim 0 claim.first certificate.pieces accepted has.0 found.0 found.1 in
         let given : IsGiven samples claim found.0 inner = record {
-          lawful = lawful;
+          rate = lawful.drift_in_range;
           samples_lawful = samples_lawful;
           listed = listed;
           piece = piece_of_claim claim lawful step k;

@@ -6,16 +6,17 @@
 -- says how good the clock is known to be: the claim's own bound plays no part in it. If a hull has
 -- no ends, or nothing in it, then no bound holds.
 use Rattle.std.specs.Prelude.{◌≡◌, ◌⊎◌, ℕ, zero, suc, ◌*◌, ◌<◌, ◌≤◌, ◌^◌, max, nat_lt, ⊤, if◌then◌else◌}
-use Rattle.std.specs.Prelude.{ℤ, pos, unsigned_abs, true, List, map, All, Result, Ok, Err}
+use Rattle.std.specs.Prelude.{ℤ, pos, unsigned_abs, true, List, map, length, All, Result, Ok, Err}
 use Rattle.std.specs.Int.{int_max, int_min}
 use Rattle.std.specs.List.{range_with_len}
 use Rattle.era_unfold.specs.Nanoseconds.{nanoseconds_per_second, ticks_down}
 use Rattle.era_unfold.specs.Ratio.{ceiling_of}
 use Rattle.era_unfold.specs.Window.{ticks_per_second}
 use Rattle.certificate.specs.Certificate.{CertificateData, max_pieces}
-use Rattle.claim_file.specs.Claim.{ClaimData}
+use Rattle.claim_file.specs.Claim.{ClaimData, IsLawful}
 use Rattle.intersection.specs.declared.kinds.Hull.{Hull}
 use Rattle.intersection.specs.declared.kinds.Hull.TheVariants.{Unbounded, Empty, Bounded}
+use Rattle.sample_interval.specs.Sample.{IsLawfulSample}
 use Rattle.sample_interval.specs.declared.kinds.Sample.{Sample}
 use Rattle.span_cover.specs.Piece.{IsPiece}
 use Rattle.checker.specs.declared.stretch.Stretch.{Stretch}
@@ -145,6 +146,13 @@ module _ (samples : List Sample) (claim : ClaimData) (step : ℕ) where
   envelope_of =
       if nat_lt max_pieces (count_of claim step) then Err TooManyPieces
       else Ok (envelope_to (count_of claim step))
+
+-- what is given of a claim and its samples: they keep their limits, and each sample is of a server
+-- of the claim
+pub record IsGivenOf (samples : List Sample) (claim : ClaimData) : Type 0 where
+  pub lawful : IsLawful claim
+  pub samples_lawful : All IsLawfulSample samples
+  pub listed : All (λ sample. sample.server < length claim.servers) samples
 
 -- ---- a bound that is claimed
 

@@ -1,20 +1,22 @@
 //! What holds of the definitions. A law is a function that does nothing: its contract is the law,
 //! for every number.
-ghost use Rattle.std.specs.Prelude.{◌≡◌, ℕ, ◌<◌, ◌≤◌, ℤ, ◌≤ℤ◌, List, [], Ok};
+ghost use Rattle.std.specs.Prelude.{◌≡◌, ℕ, ◌<◌, ◌≤◌, ◌*◌, ℤ, ◌≤ℤ◌, List, [], Ok};
 ghost use Rattle.claim_file.specs.Claim.{ClaimData};
-ghost use Rattle.intersection.specs.declared.kinds.Hull.{Hull};
 ghost use Rattle.sample_interval.specs.declared.kinds.Sample.{Sample};
 ghost use Rattle.checker.specs.Verdict.{parts_after, parts_fault, hull_fault};
 ghost use Rattle.checker.specs.declared.stretch.Stretch.{Stretch};
 ghost use Rattle.finder.specs.Entry.{best_entries, best_hull, parts_named};
-ghost use Rattle.finder.specs.Envelope.{EnvelopeData, IsCertified, IsLeast, IsNotCertified, envelope_of, least_of, with_bound};
-ghost use Rattle.finder.specs.Found.{found_of};
+ghost use Rattle.finder.specs.Envelope.{EnvelopeData, IsCertified, IsGivenOf, IsLeast, IsNotCertified, envelope_of, least_of, with_bound};
+ghost use Rattle.finder.specs.Found.{found_of, hull_at};
 ghost use Rattle.finder.specs.Piece.{IsPieceCount, piece_count_of};
 ghost use Rattle.finder.specs.declared.least.LeastBound.{LeastBound};
 
+use checker::laws::{narrower_parts_narrow, parts_are_of_samples};
 use era_unfold::laws::{
     nanoseconds_lie_between_their_ticks, ratios_are_rounded_as_little_as_can_be,
 };
+use intersection::kinds::Hull;
+use span_cover::laws::piece_inside_another_is_narrower;
 
 /// The last of the pieces is the first that ends with the span.
 pub fn last_piece_ends_with_the_span()
@@ -65,6 +67,28 @@ pub fn find_carries_the_least_bound()
         envelope.least ≡ LeastBound.NoneHolds k →
         IsNotCertified (found_of samples (with_bound claim m) step) }
 {
+    ratios_are_rounded_as_little_as_can_be();
+    nanoseconds_lie_between_their_ticks();
+}
+
+/// Pieces that are cut finer need no wider bound. And if no bound holds over them, though one does
+/// over the others, then the samples contradict each other in the first such piece.
+pub fn finer_pieces_need_no_wider_bound()
+    ensures holds { (samples : List Sample) (claim : ClaimData) (step times n j m k : ℕ)
+        (coarse fine : EnvelopeData) → IsGivenOf samples claim → 0 < step → 0 < times →
+        envelope_of samples claim (step * times) ≡ Ok coarse →
+        coarse.least ≡ LeastBound.Holds n j → envelope_of samples claim step ≡ Ok fine →
+        fine.least ≡ LeastBound.Holds m k → m ≤ n }
+    ensures contradiction { (samples : List Sample) (claim : ClaimData) (step times n j k : ℕ)
+        (coarse fine : EnvelopeData) → IsGivenOf samples claim → 0 < step → 0 < times →
+        envelope_of samples claim (step * times) ≡ Ok coarse →
+        coarse.least ≡ LeastBound.Holds n j → envelope_of samples claim step ≡ Ok fine →
+        fine.least ≡ LeastBound.NoneHolds k → hull_at samples claim step k ≡ Hull.Empty }
+{
+    last_piece_ends_with_the_span();
+    piece_inside_another_is_narrower();
+    parts_are_of_samples();
+    narrower_parts_narrow();
     ratios_are_rounded_as_little_as_can_be();
     nanoseconds_lie_between_their_ticks();
 }
