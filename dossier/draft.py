@@ -11,9 +11,9 @@ from typing import Any
 
 from . import folder as files
 from .answers import read_envelope
-from .audit import envelope_step_of
 from .program import Fault, Operand, Program
 from .recording import SECOND, Recording, read_recording
+from .settling import envelope_step_of
 from .text import count, plain
 from .units import DAY, civil, ns_up_ms
 
@@ -181,7 +181,8 @@ class Draft:
                     kinds[reference].add(server)
         for reference, servers in kinds.items():
             if len(servers) > 1:
-                self.remark(f"{', '.join(sorted(servers, key=by_number))} name one kind of reference clock ({reference}):",
+                names = ", ".join(sorted(servers, key=by_number))
+                self.remark(f"{names} name one kind of reference clock ({reference}):",
                             "if it is one and the same clock, put them into one group.")
 
     def take_bound(self, claim: dict[str, Any], own: Operand, span: int) -> None:
@@ -204,8 +205,8 @@ class Draft:
     def leave_to_a_person(self, claim: dict[str, Any]) -> None:
         """What only a person can answer for."""
         groups = count(len(claim.get("groups", claim["servers"])), "group")
-        self.remark(f"drift_ppb is {claim['drift_ppb']}: how fast the clock may gain or lose, its oscillator's data sheet",
-                    "and the NTP client's corrections together. Nothing in a capture shows it.")
+        self.remark(f"drift_ppb is {claim['drift_ppb']}: how fast the clock may gain or lose,",
+                    "its oscillator's data sheet and the NTP client's corrections together. Nothing in a capture shows it.")
         self.remark(f"reading_ns is {claim['reading_ns']}: how far a record's time may be from what the clock showed.",
                     "It has to be measured on that machine.")
         self.remark(f"false_max is {claim['false_max']}: fewer than half of {groups} of servers may be wrong.",
