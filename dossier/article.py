@@ -76,8 +76,8 @@ def kept_envelope(folder: Path, entry: Entry) -> Envelope | None:
 
 
 def figure(name: str, entry: Entry, envelope: Envelope) -> str:
-    label = (f"The clock's error in ms, {span(entry.claim)}, in pieces of {entry.envelope_step} s. "
-             "Above 0 the clock is ahead of UTC. The band is the hull: what is left if no more were wrong than granted.")
+    label = (f"The clock's error in ms, {span(entry.claim)}, in pieces of {entry.envelope_step} s. Above 0 the clock is "
+             "ahead of UTC. The band is the hull: what is left if no more were wrong than granted.")
     fails = {kind for kind in MARKS if entry.failing.get(kind)}
     return "\n".join([
         "<figure>",

@@ -193,7 +193,7 @@ class Draft:
         claim["bound_ns"] = NO_BOUND
         if envelope.least_ns is None:
             begin, word = envelope.begins[envelope.worst], envelope.hulls[envelope.worst]
-            self.remark(f"bound_ns: no bound is carried, since the piece from {civil(begin)} is {word}; {FOR_NOW}")
+            self.remark(f"bound_ns: no bound is carried, since the piece from {civil(begin)} is {word};", FOR_NOW)
         elif envelope.least_ns > GREATEST_BOUND:
             least = ns_up_ms(envelope.least_ns)
             self.remark(f"bound_ns: the least bound is {least} ms, more than a claim can say; {FOR_NOW}")

@@ -5,8 +5,8 @@ from html import escape
 
 
 def plain(words: str) -> str:
-    """The text with whatever isn't printable spelled out, as in `a\\x0ab`: line feeds, escape codes, marks that turn the
-    direction of writing, and bytes that are no UTF-8."""
+    """The text with whatever isn't printable spelled out, as in `a\\x0ab`: line feeds, escape codes, marks that turn
+    the direction of writing, and bytes that are no UTF-8."""
     return "".join(c if c.isprintable() else spelled(c) for c in words)
 
 

@@ -8,7 +8,7 @@ from typing import Any
 
 from . import folder as files
 from .audit import parts_of
-from .entry import REFUSED, Entry, Record, differing, read_record
+from .entry import MANGLED, REFUSED, Entry, Record, differing, read_record
 from .judgement import Texts, at_bound_0, judge
 from .program import Fault, Operand, Program, sum_of_file
 from .recording import Recording, read_recording
@@ -28,6 +28,8 @@ def verify_all(folders: list[str], program: Program) -> int:
             status = DIFFERS if findings else 0
         except Fault as fault:
             findings, notes, status = [fault.line], [], fault.status
+        except MANGLED:
+            findings, notes, status = ["audit.json isn't one that an audit wrote"], [], DIFFERS
         for finding in findings or ["verified"]:
             print(f"{plain(folder)}: {plain(finding)}")
         for note in notes:
@@ -67,7 +69,8 @@ def changed(folder: Path, record: Record) -> list[str]:
         try:
             if sum_of_file(folder / name) != wanted:
                 is_input = name in record.inputs
-                found.append(f"{name} isn't the file that was audited" if is_input else f"{name} was changed since the audit")
+                what = "isn't the file that was audited" if is_input else "was changed since the audit"
+                found.append(f"{name} {what}")
         except OSError as error:
             found.append(f"{name} can't be read ({error.strerror})")
     try:
