@@ -5,7 +5,8 @@ from collections.abc import Callable
 from typing import Any
 
 from .recording import SECOND
-from .text import count, plain
+from .text import count
+from .text import reference as letters
 from .units import shown_time, span_of_seconds
 from .words import between, is_or_are
 
@@ -58,7 +59,7 @@ def sources(found: Warning) -> str:
 
 
 def reference(found: Warning) -> str:
-    return (f"All exchanges name one reference ({plain(str(found['reference']))}): "
+    return (f"All exchanges name one reference ({letters(str(found['reference']))}): "
             "these servers may be wrong together, and belong into one group.")
 
 

@@ -15,6 +15,7 @@ from .program import Fault, Operand, Program
 from .recording import SECOND, Recording, read_recording
 from .settling import envelope_step_of
 from .text import count, plain
+from .text import reference as letters
 from .units import DAY, civil, ns_up_ms
 
 MOST_SERVERS = 32
@@ -182,7 +183,7 @@ class Draft:
         for reference, servers in kinds.items():
             if len(servers) > 1:
                 names = ", ".join(sorted(servers, key=by_number))
-                self.remark(f"{names} name one kind of reference clock ({reference}):",
+                self.remark(f"{names} name one kind of reference clock ({letters(reference)}):",
                             "if it is one and the same clock, put them into one group.")
 
     def take_bound(self, claim: dict[str, Any], own: Operand, span: int) -> None:

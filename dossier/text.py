@@ -22,6 +22,15 @@ def html(words: object) -> str:
     return escape(plain(str(words)), quote=True)
 
 
+def reference(digits: str) -> str:
+    """A reference identifier as the program prints it, and in letters where it has any: `47505300, GPS`."""
+    try:
+        letters = bytes.fromhex(digits).rstrip(b"\0").decode("ascii")
+    except ValueError:
+        return plain(digits)
+    return f"{digits}, {letters}" if letters.isalnum() else digits
+
+
 def minus(words: str) -> str:
     """A hyphen before a digit as a minus sign, as print has it."""
     return "".join("\u2212" if c == "-" and words[k + 1 : k + 2].isdigit() and not words[k - 1 : k].isalnum() else c
