@@ -13,7 +13,7 @@ from .folder import write_beside
 from .program import now
 from .style import PAGE
 from .table import Row, as_csv, as_json, not_audited, records_of, row_of, rows_of
-from .text import count, html, minus
+from .text import count, html, minus, with_code
 from .units import ns_ms, ns_up_ms
 
 SYMBOLS = {YES: "\u2713", NO: "\u2717", NEITHER: "?", REFUSED: "!"}
@@ -156,5 +156,5 @@ def cells_of(row: Row, name: str) -> list[str]:
 
 def why_of(row: Row) -> list[str]:
     """Why it isn't a yes, what to do, and the warnings."""
-    said = minus(html(f"{row.reason} {row.to_do}".strip()))
-    return ([said] if said else []) + [f"<b>Warning:</b> {html(words)}" for words in row.warnings]
+    said = [minus(html(row.reason)), minus(with_code(row.to_do))]
+    return ([" ".join(said)] if any(said) else []) + [f"<b>Warning:</b> {html(words)}" for words in row.warnings]

@@ -76,6 +76,7 @@ figcaption{font-size:14px;color:var(--soft);margin-bottom:4px}
 .legend svg,td svg{vertical-align:-2px}
 td>span{white-space:nowrap}
 .sums td{font-family:ui-monospace,monospace;font-size:12px}
+code{font:13px ui-monospace,monospace}
 pre{background:var(--panel);padding:10px 14px;font-size:13px;white-space:pre-wrap;overflow-wrap:anywhere}
 .sign{min-width:11em}
 @media(max-width:700px){

@@ -1,6 +1,7 @@
 """Names and texts of strangers, made fit to be shown: nothing in them is interpreted, by a page or by a terminal."""
 from __future__ import annotations
 
+import re
 from html import escape
 
 
@@ -20,6 +21,11 @@ def spelled(c: str) -> str:
 def html(words: object) -> str:
     """The text for a page, inside an element or a quoted attribute."""
     return escape(plain(str(words)), quote=True)
+
+
+def with_code(words: str) -> str:
+    """The text for a page, with what stands between backticks as code."""
+    return re.sub(r"`([^`]*)`", r"<code>\1</code>", html(words))
 
 
 def reference(digits: str) -> str:

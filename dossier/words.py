@@ -138,7 +138,7 @@ def is_or_are(number: int) -> str:
 def fit(entry: Entry) -> str:
     """What the refutation says beside the verdict."""
     found = entry.refutation
-    if not found:
+    if not found or entry.verdict == NEITHER:
         return ""
     is_witness = found["of"] == "bound 0"
     if found.get("stands"):
