@@ -5,7 +5,8 @@ from collections.abc import Callable
 from typing import Any
 
 from .recording import SECOND
-from .text import count, plain
+from .text import count
+from .text import reference as letters
 from .units import shown_time, span_of_seconds
 from .words import between, is_or_are
 
@@ -14,8 +15,9 @@ ON_DRIFT = "There it rests on the drift that the claim grants, and on nothing re
 
 
 def empty(found: Warning) -> str:
-    return (f"{count(found['count'], 'piece')} of the envelope {is_or_are(found['count'])} empty, the first {between(found)}: "
-            "no course of events has a reading of the clock there, so an assumption of the claim fails in this capture.")
+    pieces = f"{count(found['count'], 'piece')} of the envelope {is_or_are(found['count'])} empty"
+    return (f"{pieces}, the first {between(found)}: no course of events has a reading of the clock there, "
+            "so an assumption of the claim fails in this capture.")
 
 
 def outside(found: Warning) -> str:
@@ -41,7 +43,8 @@ def falls(found: Warning) -> str:
 
 def far(found: Warning) -> str:
     by = span_of_seconds(found["distance"] / SECOND)
-    return (f"{count(found['count'], 'piece')} {is_or_are(found['count'])} farther from every sample than a tenth of the span; "
+    pieces = f"{count(found['count'], 'piece')} {is_or_are(found['count'])}"
+    return (f"{pieces} farther from every sample than a tenth of the span; "
             f"the farthest, {between(found)}, by {by}. {ON_DRIFT}")
 
 
@@ -56,8 +59,8 @@ def sources(found: Warning) -> str:
 
 
 def reference(found: Warning) -> str:
-    return (f"All exchanges name one reference ({plain(str(found['reference']))}): these servers may be wrong together, "
-            "and belong into one group.")
+    return (f"All exchanges name one reference ({letters(str(found['reference']))}): "
+            "these servers may be wrong together, and belong into one group.")
 
 
 WORDS: dict[str, Callable[[Warning], str]] = {

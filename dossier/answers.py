@@ -54,8 +54,8 @@ def read_report(text: bytes) -> Report:
 
 @dataclass(frozen=True)
 class Envelope:
-    """The envelope, in columns: begins and ends in Unix seconds, hulls, and the intervals of each server by its address,
-    low ends and high ends in ticks."""
+    """The envelope, in columns: begins and ends in Unix seconds, hulls, and of each server by its address the low ends
+    and the high ends of its intervals, in ticks."""
 
     begins: list[int]
     ends: list[int]
@@ -80,5 +80,6 @@ def read_envelope(text: bytes) -> Envelope:
         words = " ".join(lines[place :: width + 1]).split(" ")
         servers[words[1]] = list(map(int, words[2::4])), list(map(int, words[3::4]))
     _, least, _, worst = closing.split()
-    return Envelope([int(words[1]) for words in hulls], [int(words[2]) for words in hulls],
-                    [read_hull(words[3:]) for words in hulls], servers, None if least == "none" else int(least), int(worst))
+    begins, ends = [int(words[1]) for words in hulls], [int(words[2]) for words in hulls]
+    least_ns = None if least == "none" else int(least)
+    return Envelope(begins, ends, [read_hull(words[3:]) for words in hulls], servers, least_ns, int(worst))

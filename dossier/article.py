@@ -13,7 +13,7 @@ from .figure import MARKS, legend, picture, stroke
 from .folder import ENVELOPE
 from .premises import evidence, premises
 from .program import sum_of
-from .text import count, html, minus
+from .text import count, html, minus, with_code
 from .units import range_ms
 from .words import capital, fit, sentence, span, to_do
 
@@ -41,7 +41,7 @@ def article(name: str, folder: Path, record: Record, entry: Entry, badge: str) -
         f'<p class="lead">{minus(html(sentence(entry)))}</p>',
     ]
     if entry.verdict == REFUSED:
-        parts += [f"<pre>{html(entry.fault['line'])}</pre>", f"<p>{html(capital(to_do(entry)))}</p>"]
+        parts += [f"<pre>{html(entry.fault['line'])}</pre>", f"<p>{with_code(capital(to_do(entry)))}</p>"]
     else:
         parts += list(body(name, folder, record, entry))
     return "\n".join([*parts, *sums(record, entry), "</article>"])
@@ -50,7 +50,7 @@ def article(name: str, folder: Path, record: Record, entry: Entry, badge: str) -
 def body(name: str, folder: Path, record: Record, entry: Entry) -> Iterator[str]:
     for words in (to_do(entry), fit(entry)):
         if words:
-            yield f"<p>{minus(html(words))}</p>"
+            yield f"<p>{minus(with_code(words))}</p>"
     if entry.warnings:
         items = "".join(f"<li>{html(warning_words(warning))}</li>" for warning in entry.warnings)
         yield f'<ul class="warnings">{items}</ul>'
@@ -76,8 +76,8 @@ def kept_envelope(folder: Path, entry: Entry) -> Envelope | None:
 
 
 def figure(name: str, entry: Entry, envelope: Envelope) -> str:
-    label = (f"The clock's error in ms, {span(entry.claim)}, in pieces of {entry.envelope_step} s. "
-             "Above 0 the clock is ahead of UTC. The band is the hull: what is left if no more were wrong than granted.")
+    label = (f"The clock's error in ms, {span(entry.claim)}, in pieces of {entry.envelope_step} s. Above 0 the clock is "
+             "ahead of UTC. The band is the hull: what is left if no more were wrong than granted.")
     fails = {kind for kind in MARKS if entry.failing.get(kind)}
     return "\n".join([
         "<figure>",

@@ -5,6 +5,7 @@ average.
 """
 from __future__ import annotations
 
+from collections.abc import Iterator
 from dataclasses import dataclass
 
 from .answers import Envelope
@@ -38,16 +39,17 @@ def cells_of(envelope: Envelope, bound: int) -> list[Cell]:
     first, last = envelope.begins[0], envelope.ends[-1]
     width = max(1, last - first)
     columns = min(COLUMNS, MOST_STROKES // max(1, len(envelope.servers)))
-    if len(envelope.hulls) <= columns:
-        edges = [(k, k + 1, (envelope.begins[k] - first) / width, (envelope.ends[k] - first) / width) for k in range(len(envelope.hulls))]
-        if first == last:
-            edges = [(0, 1, 0.0, 1.0)]
+    if first == last:
+        edges = [(0, 1, 0.0, 1.0)]
+    elif len(envelope.hulls) <= columns:
+        edges = [(k, k + 1, (begin - first) / width, (end - first) / width)
+                 for k, (begin, end) in enumerate(zip(envelope.begins, envelope.ends))]
     else:
         edges = list(column_edges(len(envelope.hulls), columns))
     return [cell_of(envelope, bound, *edge) for edge in edges]
 
 
-def column_edges(pieces: int, columns: int):
+def column_edges(pieces: int, columns: int) -> Iterator[tuple[int, int, float, float]]:
     """Each column with the pieces that it touches. The pieces are of one length, but for the last."""
     for column in range(columns):
         yield column * pieces // columns, -(-(column + 1) * pieces // columns), column / columns, (column + 1) / columns

@@ -11,10 +11,11 @@ from typing import Any
 
 from . import folder as files
 from .answers import read_envelope
-from .audit import envelope_step_of
 from .program import Fault, Operand, Program
 from .recording import SECOND, Recording, read_recording
+from .settling import envelope_step_of
 from .text import count, plain
+from .text import reference as letters
 from .units import DAY, civil, ns_up_ms
 
 MOST_SERVERS = 32
@@ -181,7 +182,8 @@ class Draft:
                     kinds[reference].add(server)
         for reference, servers in kinds.items():
             if len(servers) > 1:
-                self.remark(f"{', '.join(sorted(servers, key=by_number))} name one kind of reference clock ({reference}):",
+                names = ", ".join(sorted(servers, key=by_number))
+                self.remark(f"{names} name one kind of reference clock ({letters(reference)}):",
                             "if it is one and the same clock, put them into one group.")
 
     def take_bound(self, claim: dict[str, Any], own: Operand, span: int) -> None:
@@ -192,7 +194,7 @@ class Draft:
         claim["bound_ns"] = NO_BOUND
         if envelope.least_ns is None:
             begin, word = envelope.begins[envelope.worst], envelope.hulls[envelope.worst]
-            self.remark(f"bound_ns: no bound is carried, since the piece from {civil(begin)} is {word}; {FOR_NOW}")
+            self.remark(f"bound_ns: no bound is carried, since the piece from {civil(begin)} is {word};", FOR_NOW)
         elif envelope.least_ns > GREATEST_BOUND:
             least = ns_up_ms(envelope.least_ns)
             self.remark(f"bound_ns: the least bound is {least} ms, more than a claim can say; {FOR_NOW}")
@@ -204,8 +206,8 @@ class Draft:
     def leave_to_a_person(self, claim: dict[str, Any]) -> None:
         """What only a person can answer for."""
         groups = count(len(claim.get("groups", claim["servers"])), "group")
-        self.remark(f"drift_ppb is {claim['drift_ppb']}: how fast the clock may gain or lose, its oscillator's data sheet",
-                    "and the NTP client's corrections together. Nothing in a capture shows it.")
+        self.remark(f"drift_ppb is {claim['drift_ppb']}: how fast the clock may gain or lose,",
+                    "its oscillator's data sheet and the NTP client's corrections together. Nothing in a capture shows it.")
         self.remark(f"reading_ns is {claim['reading_ns']}: how far a record's time may be from what the clock showed.",
                     "It has to be measured on that machine.")
         self.remark(f"false_max is {claim['false_max']}: fewer than half of {groups} of servers may be wrong.",

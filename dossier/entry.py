@@ -13,8 +13,12 @@ from .folder import AUDIT, CERTIFICATE, CLAIM, CLAIM_OF_0, ENVELOPE, JOINED, REF
 YES, NO, NEITHER, REFUSED = "yes", "no", "neither", "refused"
 STATUS = {YES: 0, NO: 1, NEITHER: 1}
 
-PART = re.compile(r"\.|\d{4}-\d\d-\d\d")
+DAY = re.compile(r"\d{4}-\d\d-\d\d")
+PART = re.compile(rf"\.|{DAY.pattern}")
 LEFT = {CERTIFICATE, REPORT, ENVELOPE, REFUTATION, CLAIM_OF_0}
+
+MANGLED = (KeyError, TypeError, ValueError, AttributeError, IndexError, StopIteration, OverflowError)
+"""What an audit.json brings about that no audit wrote."""
 
 
 @dataclass
@@ -81,8 +85,12 @@ class Record:
 def record_text(record: Record) -> bytes:
     """A record as JSON, a line for each field."""
     lines = [f' "{name}": {json.dumps(value)}' for name, value in vars(record).items() if name != "entries"]
-    entries = ["  {\n" + ",\n".join(f'   "{name}": {json.dumps(value)}' for name, value in vars(entry).items()) + "\n  }" for entry in record.entries]
-    return ("{\n" + ",\n".join([*lines, ' "entries": [\n' + ",\n".join(entries) + "\n ]"]) + "\n}\n").encode()
+    entries = ",\n".join(map(entry_text, record.entries))
+    return ("{\n" + ",\n".join([*lines, f' "entries": [\n{entries}\n ]']) + "\n}\n").encode()
+
+
+def entry_text(entry: Entry) -> str:
+    return "  {\n" + ",\n".join(f'   "{name}": {json.dumps(value)}' for name, value in vars(entry).items()) + "\n  }"
 
 
 def read_record(folder: Path) -> Record | None:
@@ -101,7 +109,7 @@ def is_own(entry: Entry) -> bool:
     """Whether an entry names files of its own folder alone: an audit.json may come from anybody."""
     def is_left(name: str) -> bool:
         part, _, file = name.rpartition("/")
-        return name == JOINED or (file in LEFT and part == "") or (file in LEFT | {CLAIM} and bool(PART.fullmatch(part)) and part != ".")
+        return name == JOINED or (file in LEFT if not part else file in LEFT | {CLAIM} and bool(DAY.fullmatch(part)))
     return bool(PART.fullmatch(entry.part)) and all(map(is_left, entry.outputs))
 
 

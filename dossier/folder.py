@@ -29,8 +29,11 @@ DEVICE = 4
 
 def captures(folder: Path) -> list[str]:
     """The names of the captures in a folder, in the order of their names."""
-    return sorted(entry.name for entry in os.scandir(folder)
-                  if CAPTURE.fullmatch(entry.name) and entry.name != JOINED and not entry.name.startswith(".") and entry.is_file())
+    return sorted(entry.name for entry in os.scandir(folder) if is_capture(entry.name) and entry.is_file())
+
+
+def is_capture(name: str) -> bool:
+    return bool(CAPTURE.fullmatch(name)) and name != JOINED and not name.startswith(".")
 
 
 def inputs(folder: Path) -> list[str]:

@@ -26,13 +26,17 @@ class Texts:
     decided_by: str
     step: int
     report: bytes
-    envelope_step: int
-    envelope: bytes
-    refutation: bytes
-    """The text of `find --refutation`, of the claim at a no and of the claim with the bound 0 at a yes."""
-    refute: bytes | None
-    """What `refute` says of it, where there is one."""
-    claim_of_0: bytes | None
+    envelope_step: int = 0
+    envelope: bytes = b""
+    refutation: bytes | None = None
+    """The text of `find --refutation`, of the claim at a no and of the claim with the bound 0 at a yes; None where
+    nothing was found."""
+    refute: bytes | None = None
+    """What `refute` says of it."""
+
+    @property
+    def is_yes(self) -> bool:
+        return self.decided_by == "check" and read_report(self.report).is_yes
 
 
 def at_bound_0(claim: dict[str, Any]) -> bytes:
@@ -48,13 +52,22 @@ def judge(part: str, claim: dict[str, Any], recording: Recording, texts: Texts) 
     envelope = read_envelope(texts.envelope)
     report = read_report(texts.report) if texts.decided_by == "check" else None
     failing = count_failing(envelope, bound_ticks(claim["bound_ns"]))
-    is_yes = report is not None and report.is_yes
-    verdict = NO if not is_yes else NEITHER if failing["empty"] else YES
+    verdict = NO if not texts.is_yes else NEITHER if failing["empty"] else YES
     return Entry(
-        part=part, verdict=verdict, claim=claim, decided_by=texts.decided_by, step=texts.step,
-        envelope_step=texts.envelope_step, pieces=len(envelope.hulls), least_ns=envelope.least_ns,
-        worst=piece_of(envelope, envelope.worst), reason=None if is_yes else reason_of(claim, report, texts), failing=failing,
-        counts=recording.counts, servers=servers_of(claim, recording, envelope), refutation=refutation_of(is_yes, texts),
+        part=part,
+        verdict=verdict,
+        claim=claim,
+        decided_by=texts.decided_by,
+        step=texts.step,
+        envelope_step=texts.envelope_step,
+        pieces=len(envelope.hulls),
+        least_ns=envelope.least_ns,
+        worst=piece_of(envelope, envelope.worst),
+        reason=None if texts.is_yes else reason_of(claim, report, texts),
+        failing=failing,
+        counts=recording.counts,
+        servers=servers_of(claim, recording, envelope),
+        refutation=refutation_of(texts),
         warnings=list(warnings(claim, recording, envelope, report)),
     )
 
@@ -114,16 +127,21 @@ def is_apart(lows: list[int], highs: list[int], hulls: list[Hull]) -> bool:
     return bool(bounded) and not any(low <= hull[1] and hull[0] <= high for low, high, hull in bounded)
 
 
-def refutation_of(is_yes: bool, texts: Texts) -> dict[str, Any]:
+def refutation_of(texts: Texts) -> dict[str, Any]:
     """Which claim was to be refuted, whether anything was found, and what `refute` says of it."""
-    found: dict[str, Any] = {"of": "bound 0" if is_yes else "claim", "found": texts.refute is not None}
-    if texts.refute is not None:
+    found: dict[str, Any] = {"of": "bound 0" if texts.is_yes else "claim", "found": texts.refutation is not None}
+    if texts.refutation is not None:
         said = json.loads(texts.refutation)
-        found |= {"stands": texts.refute == b"refuted yes\n", "error": said["error"], "false": said["false"], "reading": said["reading"]}
+        found["stands"] = texts.refute == b"refuted yes\n"
+        found |= {name: said[name] for name in ("error", "false", "reading")}
     return found
 
 
-def warnings(claim: dict[str, Any], recording: Recording, envelope: Envelope, report: Report | None) -> Iterator[dict[str, Any]]:
+Warning = dict[str, Any]
+
+
+def warnings(
+        claim: dict[str, Any], recording: Recording, envelope: Envelope, report: Report | None) -> Iterator[Warning]:
     """What stands beside a verdict, whatever it is."""
     if (k := envelope.first("empty")) is not None:
         yield {"kind": "empty", "count": envelope.hulls.count("empty"), **piece_of(envelope, k)}
@@ -146,7 +164,7 @@ def warnings(claim: dict[str, Any], recording: Recording, envelope: Envelope, re
         yield {"kind": "reference", "reference": report.reference}
 
 
-def far_pieces(recording: Recording, envelope: Envelope, span: int) -> Iterator[dict[str, Any]]:
+def far_pieces(recording: Recording, envelope: Envelope, span: int) -> Iterator[Warning]:
     limit, far, worst = span * SECOND // FAR, 0, (-1, 0)
     if not recording.times:
         return

@@ -8,12 +8,12 @@ from dataclasses import dataclass
 from pathlib import Path
 
 from .article import article
-from .entry import NEITHER, NO, REFUSED, YES, Record
+from .entry import MANGLED, NEITHER, NO, REFUSED, YES, Record
 from .folder import write_beside
 from .program import now
 from .style import PAGE
-from .table import MANGLED, Row, as_csv, as_json, not_audited, records_of, row_of, rows_of
-from .text import count, html, minus
+from .table import Row, as_csv, as_json, not_audited, records_of, row_of, rows_of
+from .text import count, html, minus, with_code
 from .units import ns_ms, ns_up_ms
 
 SYMBOLS = {YES: "\u2713", NO: "\u2717", NEITHER: "?", REFUSED: "!"}
@@ -67,7 +67,8 @@ def sections_of(folder: str, record: Record, first: int) -> list[Section]:
     found = []
     for number, entry in enumerate(record.entries, first):
         name = f"a{number}"
-        found.append(Section(name, row_of(folder, entry), article(name, Path(folder), record, entry, badge(entry.verdict))))
+        said = article(name, Path(folder), record, entry, badge(entry.verdict))
+        found.append(Section(name, row_of(folder, entry), said))
     return found
 
 
@@ -99,9 +100,11 @@ def page(records: list[tuple[str, Record]], title: str) -> str:
 
 def made_by(records: list[tuple[str, Record]]) -> str:
     """Which programs made the audits."""
-    programs = {str(record.program.get("sha256")): record.program.get("version") for _, record in records if record.program}
+    made = [record.program for _, record in records if record.program]
+    programs = {str(program.get("sha256")): program.get("version") for program in made}
     which = "; ".join(f"{version or 'ntpaudit'}, SHA-256 {sum_[:16]}\u2026" for sum_, version in programs.items())
-    return f"{count(len(records), 'folder')}, put together at {now()}. Audited by {which or 'nothing yet'}. All times are UTC."
+    folders = count(len(records), "folder")
+    return f"{folders}, put together at {now()}. Audited by {which or 'nothing yet'}. All times are UTC."
 
 
 def badge(verdict: str) -> str:
@@ -121,7 +124,7 @@ COLUMNS = {"Machine": "machine", "Day": "", "Verdict": "", "Claimed": "number", 
 
 
 def table(rows: list[Row], names: list[str]) -> str:
-    """Machines and days, and below each line why it isn't a plain yes. A column that is empty throughout is left out."""
+    """Machines and days, and below each line why it isn't a plain yes. A column that would be empty is left out."""
     cells = [dict(zip(COLUMNS, cells_of(row, name))) for row, name in zip(rows, names)]
     shown = [column for column in COLUMNS if any(line[column] for line in cells)]
     head = "".join(f"<th{of_column(column)}>{column}</th>" for column in shown)
@@ -147,10 +150,11 @@ def cells_of(row: Row, name: str) -> list[str]:
     least = "none" if row.least_bound_ns is None else f"{ns_up_ms(row.least_bound_ns)} ms"
     servers = f"{row.servers} in {count(row.groups, 'group')}" if row.groups != row.servers else f"{row.servers}"
     worst = f"<span>{row.worst_begin[:10]}</span> <span>{row.worst_begin[11:19]}</span>"
-    return [*cells, f"{ns_ms(row.bound_ns)} ms", least, worst, f"{row.samples:,}", servers, f"{row.false_max or 'none'} wrong"]
+    wrong = f"{row.false_max or 'none'} wrong"
+    return [*cells, f"{ns_ms(row.bound_ns)} ms", least, worst, f"{row.samples:,}", servers, wrong]
 
 
 def why_of(row: Row) -> list[str]:
     """Why it isn't a yes, what to do, and the warnings."""
-    said = minus(html(f"{row.reason} {row.to_do}".strip()))
-    return ([said] if said else []) + [f"<b>Warning:</b> {html(words)}" for words in row.warnings]
+    said = [minus(html(row.reason)), minus(with_code(row.to_do))]
+    return ([" ".join(said)] if any(said) else []) + [f"<b>Warning:</b> {html(words)}" for words in row.warnings]

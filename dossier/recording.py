@@ -1,4 +1,4 @@
-"""What a capture holds besides the answers: when it was recorded, where its times fall back, and when samples were taken.
+"""What a capture holds besides the answers: when it was recorded, where its times fall back, when samples were taken.
 
 All of it is read off `list` and `samples`, in one pass over each.
 """

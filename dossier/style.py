@@ -1,10 +1,13 @@
-"""The look of pages and pictures: light, dark and printed, in colours that the colour-blind and a printer without colour
-tell apart, since forms differ too (dashes, symbols, borders)."""
+"""The look of pages and pictures: light, dark and printed. The colours are those that the colour-blind tell apart, and
+forms differ too (dashes, symbols, borders), for a printer without colour."""
 
-LIGHT = """--paper:#fff;--ink:#1b1b1b;--soft:#5c5c5c;--rule:#d5d5d5;--panel:#f5f5f3;--hull:#ffe9a0;--hulledge:#a88400;--bound:#1b1b1b;
+LIGHT = """--paper:#fff;--ink:#1b1b1b;--soft:#5c5c5c;--rule:#d5d5d5;--panel:#f5f5f3;
+--hull:#ffe9a0;--hulledge:#a88400;--bound:#1b1b1b;
 --bad:#b3261e;--good:#0b5e4a;--c0:#0072b2;--c1:#009e73;--c2:#c77f00;--c3:#d55e00;--c4:#b0498a;--c5:#3f9bd1;--c6:#666"""
-DARK = """--paper:#16181a;--ink:#ececec;--soft:#a9a9a9;--rule:#3d4043;--panel:#202326;--hull:#594d12;--hulledge:#d9b93a;--bound:#ececec;
---bad:#ff8a80;--good:#5fd3b3;--c0:#5ab4f0;--c1:#3fd0a4;--c2:#f0b03c;--c3:#ff8c4a;--c4:#e796c4;--c5:#9bd7ff;--c6:#b5b5b5"""
+DARK = """--paper:#16181a;--ink:#ececec;--soft:#a9a9a9;--rule:#3d4043;--panel:#202326;
+--hull:#594d12;--hulledge:#d9b93a;--bound:#ececec;
+--bad:#ff8a80;--good:#5fd3b3;
+--c0:#5ab4f0;--c1:#3fd0a4;--c2:#f0b03c;--c3:#ff8c4a;--c4:#e796c4;--c5:#9bd7ff;--c6:#b5b5b5"""
 
 PICTURE = f""":root{{{LIGHT}}}
 @media(prefers-color-scheme:dark){{:root{{{DARK}}}}}
@@ -34,7 +37,8 @@ svg .claimed{{fill:var(--ink)}}
 """What pictures need, in a page and alone."""
 
 PAGE = PICTURE + """*{box-sizing:border-box}
-body{margin:0 auto;max-width:1100px;padding:24px 20px 60px;background:var(--paper);color:var(--ink);font:16px/1.5 system-ui,sans-serif}
+body{margin:0 auto;max-width:1100px;padding:24px 20px 60px}
+body{background:var(--paper);color:var(--ink);font:16px/1.5 system-ui,sans-serif}
 h1{font-size:28px;margin:0 0 4px}
 h2{font-size:22px;margin:0 0 8px;overflow-wrap:anywhere}
 h3{font-size:16px;margin:26px 0 6px}
@@ -44,7 +48,8 @@ a{color:inherit}
 .lead{font-size:18px;max-width:46em}
 article{border-top:3px solid var(--ink);margin-top:44px;padding-top:16px}
 table{border-collapse:collapse;width:100%;font-size:14px;line-height:1.4}
-th,td{text-align:left;vertical-align:top;padding:6px 10px 6px 0;border-bottom:1px solid var(--rule);overflow-wrap:anywhere}
+th,td{text-align:left;vertical-align:top;padding:6px 10px 6px 0;border-bottom:1px solid var(--rule)}
+th,td{overflow-wrap:anywhere}
 th{font-weight:600;color:var(--soft)}
 .number{text-align:right;padding-right:16px;white-space:nowrap;font-variant-numeric:tabular-nums}
 .narrow{width:1%;white-space:nowrap}
@@ -71,7 +76,8 @@ figcaption{font-size:14px;color:var(--soft);margin-bottom:4px}
 .legend svg,td svg{vertical-align:-2px}
 td>span{white-space:nowrap}
 .sums td{font-family:ui-monospace,monospace;font-size:12px}
-pre{background:var(--panel);padding:10px 14px;overflow-x:auto;font-size:13px;white-space:pre-wrap;overflow-wrap:anywhere}
+code{font:13px ui-monospace,monospace}
+pre{background:var(--panel);padding:10px 14px;font-size:13px;white-space:pre-wrap;overflow-wrap:anywhere}
 .sign{min-width:11em}
 @media(max-width:700px){
 body{padding:16px 14px 40px}

@@ -8,14 +8,11 @@ from dataclasses import asdict, dataclass, field
 from pathlib import Path
 
 from .alerts import warning_words
-from .entry import REFUSED, Entry, Record, read_record
+from .entry import MANGLED, REFUSED, Entry, Record, read_record
 from .judgement import groups_of
 from .text import plain
 from .units import civil
 from .words import reason, to_do
-
-MANGLED = (KeyError, TypeError, ValueError, AttributeError, IndexError, StopIteration, OverflowError)
-"""What an audit.json brings about that no audit wrote."""
 
 NOT_AUDITED = {"line": "ntpaudit-dossier: not audited", "status": 4}
 
@@ -51,8 +48,9 @@ def records_of(folders: list[str]) -> list[tuple[str, Record]]:
 
 
 def row_of(folder: str, entry: Entry) -> Row:
-    row = Row(plain(folder), "" if entry.part == "." else entry.part, verdict=entry.verdict, reason=plain(reason(entry)),
-              to_do=to_do(entry), warnings=[warning_words(warning) for warning in entry.warnings])
+    row = Row(plain(folder), "" if entry.part == "." else entry.part, verdict=entry.verdict)
+    row.reason, row.to_do = plain(reason(entry)), to_do(entry)
+    row.warnings = [warning_words(warning) for warning in entry.warnings]
     if entry.claim:
         claim, worst = entry.claim, entry.worst
         row.client, row.begin, row.end, row.bound_ns = claim["client"], claim["from"], claim["to"], claim["bound_ns"]

@@ -1,12 +1,13 @@
 """Names and texts of strangers, made fit to be shown: nothing in them is interpreted, by a page or by a terminal."""
 from __future__ import annotations
 
+import re
 from html import escape
 
 
 def plain(words: str) -> str:
-    """The text with whatever isn't printable spelled out, as in `a\\x0ab`: line feeds, escape codes, marks that turn the
-    direction of writing, and bytes that are no UTF-8."""
+    """The text with whatever isn't printable spelled out, as in `a\\x0ab`: line feeds, escape codes, marks that turn
+    the direction of writing, and bytes that are no UTF-8."""
     return "".join(c if c.isprintable() else spelled(c) for c in words)
 
 
@@ -20,6 +21,20 @@ def spelled(c: str) -> str:
 def html(words: object) -> str:
     """The text for a page, inside an element or a quoted attribute."""
     return escape(plain(str(words)), quote=True)
+
+
+def with_code(words: str) -> str:
+    """The text for a page, with what stands between backticks as code."""
+    return re.sub(r"`([^`]*)`", r"<code>\1</code>", html(words))
+
+
+def reference(digits: str) -> str:
+    """A reference identifier as the program prints it, and in letters where it has any: `47505300, GPS`."""
+    try:
+        letters = bytes.fromhex(digits).rstrip(b"\0").decode("ascii")
+    except ValueError:
+        return plain(digits)
+    return f"{digits}, {letters}" if letters.isalnum() else digits
 
 
 def minus(words: str) -> str:

@@ -2,14 +2,17 @@
 from __future__ import annotations
 
 import json
+from dataclasses import replace
 from pathlib import Path
+from typing import Any
 
 from . import folder as files
-from .audit import CLAIM, parts_of
-from .entry import REFUSED, Entry, Record, differing, read_record
+from .audit import parts_of
+from .entry import MANGLED, REFUSED, Entry, Record, differing, read_record
 from .judgement import Texts, at_bound_0, judge
 from .program import Fault, Operand, Program, sum_of_file
 from .recording import Recording, read_recording
+from .settling import CERTIFICATE, CLAIM, CLAIM_OF_0, REFUTATION
 from .text import plain
 
 DIFFERS = 1
@@ -25,6 +28,8 @@ def verify_all(folders: list[str], program: Program) -> int:
             status = DIFFERS if findings else 0
         except Fault as fault:
             findings, notes, status = [fault.line], [], fault.status
+        except MANGLED:
+            findings, notes, status = ["audit.json isn't one that an audit wrote"], [], DIFFERS
         for finding in findings or ["verified"]:
             print(f"{plain(folder)}: {plain(finding)}")
         for note in notes:
@@ -48,11 +53,12 @@ def verify(folder: Path, program: Program) -> tuple[list[str], list[str]]:
     if record.program["sha256"] != program.sha256:
         notes.append("by another build of the program than the audit's")
     recording = read_recording(program, str(folder), CLAIM, Operand(record.capture))
-    claims = {part.name: part for part in parts_of(json.loads((folder / files.CLAIM).read_bytes()), record.options["days"])}
+    claim = json.loads((folder / files.CLAIM).read_bytes())
+    claims = {part.name: part.claim for part in parts_of(claim, record.options["days"])}
     if list(claims) != [entry.part for entry in record.entries]:
         return ["audit.json: other days than those of the claim's span"], notes
     for entry in record.entries:
-        findings += verify_entry(folder, entry, claims[entry.part].claim, record, recording, program)
+        findings += Again(folder, entry, record.capture, program).findings(claims[entry.part], recording)
     return findings, notes
 
 
@@ -62,7 +68,9 @@ def changed(folder: Path, record: Record) -> list[str]:
     for name, wanted in {**record.inputs, **record.outputs}.items():
         try:
             if sum_of_file(folder / name) != wanted:
-                found.append(f"{name} isn't the file that was audited" if name in record.inputs else f"{name} was changed since the audit")
+                is_input = name in record.inputs
+                what = "isn't the file that was audited" if is_input else "was changed since the audit"
+                found.append(f"{name} {what}")
         except OSError as error:
             found.append(f"{name} can't be read ({error.strerror})")
     try:
@@ -72,34 +80,46 @@ def changed(folder: Path, record: Record) -> list[str]:
     return found
 
 
-def verify_entry(folder: Path, entry: Entry, claim: dict, record: Record, recording: Recording, program: Program) -> list[str]:
-    """Makes the calls of an audit again, with the certificate and the refutation that it left."""
-    place = folder / entry.part
-    capture = Operand(record.capture if entry.part == "." else f"../{record.capture}")
-    found = []
+class Again:
+    """An audit whose calls are made again, with the certificate and the refutation that it left."""
 
-    def again(name: str, *words: str | Operand) -> bytes:
-        text = program.run(list(words), str(place)).text
-        kept = (place / name).read_bytes()
+    def __init__(self, folder: Path, entry: Entry, capture: str, program: Program):
+        self.place, self.entry, self.program = folder / entry.part, entry, program
+        self.capture = Operand(capture if entry.part == "." else f"../{capture}")
+        self.found: list[str] = []
+
+    def call(self, name: str, *words: str | Operand) -> bytes:
+        """A call, whose answer is held to the file that is kept of it."""
+        text, kept = self.program.run(list(words), str(self.place)).text, (self.place / name).read_bytes()
         if text != kept:
-            found.append(f"{entry.part}/{name}: {first_difference(kept, text)}".removeprefix("./"))
+            self.found.append(f"{self.entry.part}/{name}: {first_difference(kept, text)}".removeprefix("./"))
         return text
-    if entry.decided_by == "check":
-        report = again(files.REPORT, "check", CLAIM, capture, Operand(files.CERTIFICATE))
-    else:
-        report = again(files.REPORT, "find", CLAIM, capture, "--step", str(entry.step))
-    envelope = again(files.ENVELOPE, "envelope", CLAIM, capture, "--servers", "--step", str(entry.envelope_step))
-    of_0 = at_bound_0(claim) if entry.refutation["of"] == "bound 0" else None
-    if of_0 is not None and (place / files.CLAIM_OF_0).read_bytes() != of_0:
-        found.append(f"{files.CLAIM_OF_0} isn't the claim with the bound 0")
-    refutation, refute = b"nothing refutation\n", None
-    if entry.refutation["found"]:
-        refutation = (place / files.REFUTATION).read_bytes()
-        refute = program.run(["refute", Operand(files.CLAIM_OF_0) if of_0 else CLAIM, capture, Operand(files.REFUTATION)], str(place)).text
-    texts = Texts(entry.decided_by, entry.step, report, entry.envelope_step, envelope, refutation, refute, of_0)
-    for name in [] if found else differing(entry, judge(entry.part, claim, recording, texts)):
-        found.append(f"audit.json says another {name} than the answers" + ("" if entry.part == "." else f" of {entry.part}"))
-    return found
+
+    def texts(self) -> Texts:
+        entry = self.entry
+        if entry.decided_by == "check":
+            report = self.call(files.REPORT, "check", CLAIM, self.capture, CERTIFICATE)
+        else:
+            report = self.call(files.REPORT, "find", CLAIM, self.capture, "--step", str(entry.step))
+        step = str(entry.envelope_step)
+        envelope = self.call(files.ENVELOPE, "envelope", CLAIM, self.capture, "--servers", "--step", step)
+        texts = Texts(entry.decided_by, entry.step, report, entry.envelope_step, envelope)
+        if not entry.refutation["found"]:
+            return texts
+        claim = CLAIM_OF_0 if texts.is_yes else CLAIM
+        refute = self.program.run(["refute", claim, self.capture, REFUTATION], str(self.place)).text
+        return replace(texts, refutation=(self.place / files.REFUTATION).read_bytes(), refute=refute)
+
+    def findings(self, claim: dict[str, Any], recording: Recording) -> list[str]:
+        """What differs: an answer from its file, or audit.json from what the answers come to."""
+        texts = self.texts()
+        if texts.is_yes and (self.place / files.CLAIM_OF_0).read_bytes() != at_bound_0(claim):
+            self.found.append(f"{files.CLAIM_OF_0} isn't the claim with the bound 0")
+        if not self.found:
+            of = "" if self.entry.part == "." else f" of {self.entry.part}"
+            names = differing(self.entry, judge(self.entry.part, claim, recording, texts))
+            self.found += [f"audit.json says another {name} than the answers{of}" for name in names]
+        return self.found
 
 
 def first_difference(kept: bytes, seen: bytes) -> str:

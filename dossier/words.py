@@ -1,7 +1,7 @@
 """What an audit comes to, in sentences: for a manager, for an auditor, and for whoever has to do something about it.
 
-No sentence says more than the program did. A yes is: in every course of events that fits the capture the error is within
-the bound. A no is: this isn't shown.
+No sentence says more than the program did. A yes is: in every course of events that fits the capture the error is
+within the bound. A no is: this isn't shown.
 """
 from __future__ import annotations
 
@@ -92,7 +92,8 @@ def reason(entry: Entry) -> str:
         return f"{entry.fault['line']}. {remedy(entry.fault['line'])[0]}"
     if entry.verdict == NEITHER:
         empty = entry.failing["empty"]
-        return (f"A certificate carries the bound, but {count(empty, 'piece')} of the envelope {is_or_are(empty)} empty: "
+        pieces = f"{count(empty, 'piece')} of the envelope {is_or_are(empty)} empty"
+        return (f"A certificate carries the bound, but {pieces}: "
                 "something that the claim grants isn't so.")
     found = entry.reason
     if "hull" not in found:
@@ -121,12 +122,13 @@ def to_do(entry: Entry) -> str:
         return ("Name more servers, put fewer of them together, or grant fewer wrong ones. "
                 "The counts tell what became of their replies.")
     if why in ("empty", "contradiction"):
-        return ("See in the picture which server stands apart: grant that it was wrong (false_max), and name more servers. "
-                "Or the claim grants too little (reading_ns, drift_ppb), or the clock was stepped.")
+        return ("See in the picture which server stands apart: grant that it was wrong (false_max), and name more. Or "
+                " the claim grants too little (reading_ns, drift_ppb), or the clock was stepped.")
     least = f"A bound of {ns_up_ms(entry.least_ns)} ms is carried. " if entry.least_ns is not None else ""
     if why == "off":
         return f"{least}See in the picture how it went; claim a wider bound, or another span."
-    return f"{least}For a tighter one ask nearer servers, more of them, or more often; or grant less drift, if that is true."
+    return (f"{least}For a tighter one ask nearer servers, more of them, or more often; "
+            "or grant less drift, if that is true.")
 
 
 def is_or_are(number: int) -> str:
@@ -136,7 +138,7 @@ def is_or_are(number: int) -> str:
 def fit(entry: Entry) -> str:
     """What the refutation says beside the verdict."""
     found = entry.refutation
-    if not found:
+    if not found or entry.verdict == NEITHER:
         return ""
     is_witness = found["of"] == "bound 0"
     if found.get("stands"):

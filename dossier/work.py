@@ -1,7 +1,7 @@
 """Audits side by side: workers, each a process of its own that takes one folder after another, and a progress bar.
 
-A worker reads the path of a folder from its standard input and answers with a line; it ends where its input does. So none
-outlives a call that was killed.
+A worker reads the path of a folder from its standard input and answers with a line; it ends where its input does. So
+none outlives a call that was killed.
 """
 from __future__ import annotations
 
@@ -52,7 +52,10 @@ def audit_all(folders: list[str], options: Options, program: Program, jobs: int)
     """Audits all folders and prints a line for each audit, in the order of the folders. The status is the worst."""
     signal.signal(signal.SIGTERM, stop)
     shown, worst, tally = Progress(len(folders)), 0, {}
-    results = one_by_one(folders, options, program) if min(jobs, len(folders)) < 2 else side_by_side(folders, options, program, jobs, shown)
+    if min(jobs, len(folders)) < 2:
+        results = one_by_one(folders, options, program)
+    else:
+        results = side_by_side(folders, options, program, jobs, shown)
     try:
         for done in results:
             worst = max(worst, done.status)

@@ -1,0 +1,128 @@
+"""How one claim is settled: the program's calls, in order, and the files that they leave."""
+from __future__ import annotations
+
+from dataclasses import dataclass, replace
+from pathlib import Path
+from typing import Any
+
+from . import folder as files
+from .answers import read_nothing
+from .entry import Entry
+from .folder import compact, write_beside
+from .judgement import Texts, at_bound_0, judge
+from .program import Fault, Operand, Program, Ran, sum_of
+from .recording import Recording
+from .units import seconds_of
+
+STEPS = [64, 16, 4, 1]
+"""Seconds of a certificate's pieces that are tried, the coarsest first. Each divides those before it."""
+
+MANY_PIECES = 10_000
+"""The envelope is cut finer than the certificate as long as it has no more pieces than this."""
+
+TOO_MANY_PIECES = "ntpaudit: pieces over 100000"
+
+CLAIM = Operand(files.CLAIM)
+CERTIFICATE = Operand(files.CERTIFICATE)
+REFUTATION = Operand(files.REFUTATION)
+CLAIM_OF_0 = Operand(files.CLAIM_OF_0)
+
+
+@dataclass(frozen=True)
+class Part:
+    """A claim to be settled, and the folder in which its files are: `.`, or one of a day."""
+
+    name: str
+    claim: dict[str, Any]
+
+    def within(self, name: str) -> str:
+        """A file of this part, seen from the folder of the record."""
+        return name if self.name == "." else f"{self.name}/{name}"
+
+    def capture(self, name: str) -> Operand:
+        """The capture, seen from this part's folder."""
+        return Operand(name if self.name == "." else f"../{name}")
+
+
+class Settling:
+    """A claim that is being settled: what was called, and what was left."""
+
+    def __init__(self, folder: Path, part: Part, capture: str, program: Program):
+        self.part, self.program = part, program
+        self.place = folder / part.name
+        self.capture = part.capture(capture)
+        self.left: dict[str, str] = {}
+
+    def settle(self, recording: Recording, step: int | None) -> Entry:
+        """Makes all calls and leaves all files, with pieces of this length or of the one that is found."""
+        try:
+            if self.part.name != ".":
+                self.place.mkdir(exist_ok=True)
+                self.leave(files.CLAIM, compact(self.part.claim))
+        except OSError as error:
+            raise Fault(f"ntpaudit-dossier: the folder can't be written ({error.strerror})", files.DEVICE) from None
+        texts = self.seek(self.measure(self.decide(step), step))
+        entry = judge(self.part.name, self.part.claim, recording, texts)
+        entry.outputs = self.left
+        return entry
+
+    def call(self, *words: str | Operand) -> Ran:
+        return self.program.run(list(words), str(self.place))
+
+    def leave(self, name: str, data: bytes) -> None:
+        write_beside(self.place / name, data)
+        self.left[self.part.within(name)] = sum_of(data)
+
+    def decide(self, step: int | None) -> Texts:
+        """The certificate and what `check` says of it; or what `find` says where it finds nothing."""
+        step, found = self.find([step] if step else STEPS)
+        decided_by, report = "find", found.text
+        if found.status == 0:
+            self.leave(files.CERTIFICATE, found.text)
+            decided_by, report = "check", self.call("check", CLAIM, self.capture, CERTIFICATE).text
+        self.leave(files.REPORT, report)
+        return Texts(decided_by, step, report)
+
+    def find(self, steps: list[int]) -> tuple[int, Ran]:
+        """The certificate with the first step that carries the claim, or what `find` says with the last that it takes.
+        A piece that is unbounded or empty stays so however fine it is cut."""
+        last = None
+        for step in steps:
+            try:
+                ran = self.call("find", CLAIM, self.capture, "--step", str(step))
+            except Fault as fault:
+                if last and fault.line == TOO_MANY_PIECES:
+                    break
+                raise
+            last = step, ran
+            if ran.status == 0 or isinstance(read_nothing(ran.text).hull, str):
+                break
+        return last
+
+    def measure(self, texts: Texts, step: int | None) -> Texts:
+        """The envelope, in pieces of the step that was asked for or of a finer one than the certificate's."""
+        step = step or envelope_step_of(self.part.claim, texts.step)
+        text = self.call("envelope", CLAIM, self.capture, "--servers", "--step", str(step)).text
+        self.leave(files.ENVELOPE, text)
+        return replace(texts, envelope_step=step, envelope=text)
+
+    def seek(self, texts: Texts) -> Texts:
+        """Looks for a refutation: at a no of the claim, and at a yes of the same claim with the bound 0, which shows
+        that a course of events fits the capture at all."""
+        claim = CLAIM
+        if texts.is_yes:
+            claim = CLAIM_OF_0
+            self.leave(files.CLAIM_OF_0, at_bound_0(self.part.claim))
+        found = self.call("find", claim, self.capture, "--refutation")
+        if found.status:
+            return texts
+        self.leave(files.REFUTATION, found.text)
+        refute = self.call("refute", claim, self.capture, REFUTATION).text
+        return replace(texts, refutation=found.text, refute=refute)
+
+
+def envelope_step_of(claim: dict[str, Any], step: int) -> int:
+    """The finest step that divides the certificate's and gives no more than so many pieces; else the certificate's."""
+    span = seconds_of(claim["to"]) - seconds_of(claim["from"])
+    finer = (fine for fine in reversed(STEPS) if fine <= step and step % fine == 0)
+    return next((fine for fine in finer if span <= fine * MANY_PIECES), step)
