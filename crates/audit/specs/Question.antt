@@ -7,9 +7,11 @@ use Rattle.certificate.specs.Certificate.{CertificateData, data_of as certificat
 use Rattle.checker.specs.Traceability.{IsTraceable}
 use Rattle.report.specs.CertificateInput.{certificate_read, max_certificate}
 use Rattle.report.specs.Reports.{Report}
+use Rattle.report.specs.declared.fault.Input.TheVariants as inputs
 use Rattle.report.specs.declared.fault.Outcome.{Outcome}
 use Rattle.report.specs.declared.fault.Outcome.TheVariants.{Yes, No}
 use Rattle.report.specs.declared.fault.RunFault.{RunFault}
+use Rattle.report.specs.declared.fault.RunFault.TheVariants.{Certificate, Refutation, TooBig, Device, Memory}
 use Rattle.audit.specs.At.{at_report}
 use Rattle.audit.specs.Check.{HasVerdictNo, IsNotTraced, IsTraced, check_report}
 use Rattle.audit.specs.Evidence.{EvidenceData, samples_in}
@@ -80,6 +82,17 @@ IsTaskOf _ _ = ⊥
 abbrev pub most_second : QuestionData → ℕ
 most_second check = max_certificate + 1
 most_second _ = 0
+
+-- the faults of reading it
+abbrev pub IsOfSecond : RunFault → Type 0
+IsOfSecond (Certificate fault) = Unit {0}
+IsOfSecond (Refutation fault) = Unit {0}
+IsOfSecond (TooBig inputs.Certificate) = Unit {0}
+IsOfSecond (TooBig inputs.Refutation) = Unit {0}
+IsOfSecond (Device inputs.Certificate) = Unit {0}
+IsOfSecond (Device inputs.Refutation) = Unit {0}
+IsOfSecond Memory = Unit {0}
+IsOfSecond _ = ⊥
 
 -- a question that has no second input
 abbrev pub AsksNoSecond : QuestionData → Type 0

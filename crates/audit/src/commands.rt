@@ -32,15 +32,8 @@ pub fn run_samples<C: Feed, F: Feed, S: Sink>(
 {
     let hasher = BuildHasherDefault::<FoldHasher>::new();
     let mut none = ReadFeed::new(io::empty());
-    run(
-        alloc,
-        Question::Samples,
-        claim,
-        &mut none,
-        capture,
-        out,
-        hasher,
-    )
+    let question = Question::Samples;
+    run(alloc, question, claim, &mut none, capture, out, hasher)
 }
 
 /// Shows what each server says of the clock of the claim's client at one moment, by its best
@@ -62,15 +55,8 @@ pub fn run_at<C: Feed, F: Feed, S: Sink>(
 {
     let hasher = BuildHasherDefault::<FoldHasher>::new();
     let mut none = ReadFeed::new(io::empty());
-    run(
-        alloc,
-        Question::At(second),
-        claim,
-        &mut none,
-        capture,
-        out,
-        hasher,
-    )
+    let question = Question::At(second);
+    run(alloc, question, claim, &mut none, capture, out, hasher)
 }
 
 /// Settles whether a certificate shows that the clock of the claim's client stayed within the
@@ -96,15 +82,8 @@ pub fn run_check<C: Feed, F: Feed, T: Feed, S: Sink>(
         IsNotTraced (C.state claim.old) (T.state certificate.old) (F.state capture) }
 {
     let hasher = BuildHasherDefault::<FoldHasher>::new();
-    run(
-        alloc,
-        Question::Check,
-        claim,
-        certificate,
-        capture,
-        out,
-        hasher,
-    )
+    let question = Question::Check;
+    run(alloc, question, claim, certificate, capture, out, hasher)
 }
 
 /// Looks for a certificate of the claim in pieces of `step_s` seconds, from 1 to 86,400: the answer

@@ -8,12 +8,11 @@ ghost use Rattle.std.specs.Prelude.{◌≡◌, IfOk, IfErr, IfSome};
 ghost use Rattle.byte_stream.specs.Fault.{CountsFault};
 ghost use Rattle.byte_stream.specs.Intake.{TakesAtMost};
 ghost use Rattle.byte_stream.specs.State.{IsReadable};
-ghost use Rattle.report.specs.CertificateInput.{IsOfCertificate};
 ghost use Rattle.report.specs.Publication.{IsMadeFor};
 ghost use Rattle.report.specs.Reading.{Reads};
 ghost use Rattle.report.specs.Reports.{is_device, is_second};
 ghost use Rattle.audit.specs.Evidence.{IsLawfulEvidence, evidence_data};
-ghost use Rattle.audit.specs.Question.{AsksNoSecond, IsTaskOf, most_second, task_read};
+ghost use Rattle.audit.specs.Question.{AsksNoSecond, IsOfSecond, IsTaskOf, most_second, task_read};
 ghost use Rattle.audit.specs.Question.{IsLawfulTask, ShowsOf, data_of, report_on, task_data};
 ghost use Rattle.audit.specs.Report.{IsOfMaking};
 
@@ -72,7 +71,7 @@ pub(crate) fn read_task<T: Feed>(
         (λ expected. Reads task_data expected result) }
     ensures kind { IfOk result (λ task. IsTaskOf (data_of question) (task_data task)) }
     ensures lawful { IfOk result IsLawfulTask }
-    ensures fault { IfErr result IsOfCertificate }
+    ensures fault { IfErr result IsOfSecond }
     ensures counts_fault { CountsFault (is_device is_second result)
         (T.state second.old).faults (T.state second.new).faults }
     ensures at_most { TakesAtMost (most_second (data_of question))
