@@ -3,3 +3,5 @@ pub mod Groupings
 pub mod Groups
 pub mod Lawful
 pub mod Times
+pub mod Made
+pub mod Worked

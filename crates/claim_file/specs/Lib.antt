@@ -5,3 +5,4 @@ pub mod Fields
 pub mod Group
 pub mod Reading
 pub mod Time
+pub mod Worked

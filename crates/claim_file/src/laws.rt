@@ -1,13 +1,15 @@
 //! What holds of the definitions that the contracts cite. A law is a function that does nothing:
 //! its contract is the law, for every text and every number.
 
-ghost use Rattle.std.specs.Prelude.{◌≡◌, ℕ, ◌<◌, ◌==◌, ◌↔◌, List, [], length, All};
+ghost use Rattle.std.specs.Prelude.{◌≡◌, ℕ, pos, ◌<◌, ◌==◌, ◌↔◌, List, [], length, All};
 ghost use Rattle.std.specs.Prelude.{true, IsTrue, codes, Ok, Some, slice_index};
 ghost use Rattle.std.specs.List.{concat, list_any, slice_index_or};
 ghost use Rattle.std.specs.Net.Grammar.{IsDotted};
 ghost use Rattle.claim_file.specs.declared.time.Moment.{Moment};
 ghost use Rattle.claim_file.specs.Address.{address_of};
 ghost use Rattle.claim_file.specs.Claim.{ClaimData, IsLawful, IsWithoutGap, group_count};
+ghost use Rattle.era_unfold.specs.Nanoseconds.{ticks_down, ticks_up};
+ghost use Rattle.claim_file.specs.Worked.{worked_text, worked_claim};
 ghost use Rattle.claim_file.specs.Group.{groups_of, times_listed};
 ghost use Rattle.claim_file.specs.Reading.{claim_of};
 ghost use Rattle.claim_file.specs.Time.{IsTime, exists, spelling, time_of};
@@ -19,6 +21,20 @@ pub fn claims_are_lawful()
         IsLawful claim }
     ensures numbered { (bytes : List ℕ) (claim : ClaimData) → claim_of bytes ≡ Ok claim →
         IsWithoutGap claim.groups }
+{}
+
+/// Of a claim that was read, the bound in ticks is its nanoseconds rounded down, and the allowance
+/// its nanoseconds rounded up.
+pub fn nanoseconds_become_ticks()
+    ensures bound { (bytes : List ℕ) (claim : ClaimData) → claim_of bytes ≡ Ok claim →
+        claim.bound ≡ pos (ticks_down claim.bound_ns) }
+    ensures reading { (bytes : List ℕ) (claim : ClaimData) → claim_of bytes ≡ Ok claim →
+        claim.reading ≡ pos (ticks_up claim.reading_ns) }
+{}
+
+/// The worked claim is what its text says.
+pub fn worked_claim_is_read()
+    ensures { claim_of worked_text ≡ Ok worked_claim }
 {}
 
 /// A text says a time exactly where it is the text that writes a moment which exists.
