@@ -10,17 +10,17 @@ from .text import reference as letters
 from .units import shown_time, span_of_seconds
 from .words import between, is_or_are
 
-Warning = dict[str, Any]
+Alert = dict[str, Any]
 ON_DRIFT = "There it rests on the drift that the claim grants, and on nothing recorded."
 
 
-def empty(found: Warning) -> str:
+def empty(found: Alert) -> str:
     pieces = f"{count(found['count'], 'piece')} of the envelope {is_or_are(found['count'])} empty"
     return (f"{pieces}, the first {between(found)}: no course of events has a reading of the clock there, "
             "so an assumption of the claim fails in this capture.")
 
 
-def outside(found: Warning) -> str:
+def outside(found: Alert) -> str:
     parts = []
     if found["before"]:
         parts.append(f"begins {span_of_seconds(found['before'] / SECOND)} before the first NTP packet")
@@ -29,46 +29,46 @@ def outside(found: Warning) -> str:
     return f"The span leaves the recording: it {' and '.join(parts)}. {ON_DRIFT}"
 
 
-def no_drift(_: Warning) -> str:
+def no_drift(_: Alert) -> str:
     return ("The claim grants no drift at all (drift_ppb is 0). "
             "No oscillator is so good, and no NTP client corrects a clock without it.")
 
 
-def falls(found: Warning) -> str:
+def falls(found: Alert) -> str:
     before, after = (shown_time(found[name] // SECOND) for name in ("before", "after"))
     by = span_of_seconds((found["before"] - found["after"]) / SECOND)
     return (f"The times of the records fall back ({count(found['count'], 'time')}; first at record {found['record']}, "
             f"from {before} to {after}, by {by}). If the clock was stepped, the claim can't be made of this span.")
 
 
-def far(found: Warning) -> str:
+def far(found: Alert) -> str:
     by = span_of_seconds(found["distance"] / SECOND)
     pieces = f"{count(found['count'], 'piece')} {is_or_are(found['count'])}"
     return (f"{pieces} farther from every sample than a tenth of the span; "
             f"the farthest, {between(found)}, by {by}. {ON_DRIFT}")
 
 
-def leap(found: Warning) -> str:
+def leap(found: Alert) -> str:
     return (f"{count(found['count'], 'sample announces', 'samples announce')} a leap second. "
             "A span with a leap second in it can't be claimed.")
 
 
-def sources(found: Warning) -> str:
+def sources(found: Alert) -> str:
     return (f"Only {count(found['count'], 'server has', 'servers have')} a sample. "
             "With fewer than four, one that is wrong can't be told by the others.")
 
 
-def reference(found: Warning) -> str:
+def reference(found: Alert) -> str:
     return (f"All exchanges name one reference ({letters(str(found['reference']))}): "
             "these servers may be wrong together, and belong into one group.")
 
 
-WORDS: dict[str, Callable[[Warning], str]] = {
+WORDS: dict[str, Callable[[Alert], str]] = {
     "empty": empty, "outside": outside, "no-drift": no_drift, "falls": falls, "far": far, "leap": leap,
     "sources": sources, "reference": reference,
 }
 
 
-def warning_words(found: Warning) -> str:
+def warning_words(found: Alert) -> str:
     """The sentence of a warning."""
     return WORDS[found["kind"]](found)

@@ -60,7 +60,7 @@ class Entry:
 
 @dataclass
 class Record:
-    """What audit.json says of a folder."""
+    """What audit.json says about a folder."""
 
     program: dict[str, str]
     options: dict[str, Any]

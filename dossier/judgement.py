@@ -32,7 +32,7 @@ class Texts:
     """The text of `find --refutation`, of the claim at a no and of the claim with the bound 0 at a yes; None where
     nothing was found."""
     refute: bytes | None = None
-    """What `refute` says of it."""
+    """What `refute` says about it."""
 
     @property
     def is_yes(self) -> bool:
@@ -128,7 +128,7 @@ def is_apart(lows: list[int], highs: list[int], hulls: list[Hull]) -> bool:
 
 
 def refutation_of(texts: Texts) -> dict[str, Any]:
-    """Which claim was to be refuted, whether anything was found, and what `refute` says of it."""
+    """Which claim was to be refuted, whether anything was found, and what `refute` says about it."""
     found: dict[str, Any] = {"of": "bound 0" if texts.is_yes else "claim", "found": texts.refutation is not None}
     if texts.refutation is not None:
         said = json.loads(texts.refutation)
@@ -137,11 +137,11 @@ def refutation_of(texts: Texts) -> dict[str, Any]:
     return found
 
 
-Warning = dict[str, Any]
+Alert = dict[str, Any]
 
 
 def warnings(
-        claim: dict[str, Any], recording: Recording, envelope: Envelope, report: Report | None) -> Iterator[Warning]:
+        claim: dict[str, Any], recording: Recording, envelope: Envelope, report: Report | None) -> Iterator[Alert]:
     """What stands beside a verdict, whatever it is."""
     if (k := envelope.first("empty")) is not None:
         yield {"kind": "empty", "count": envelope.hulls.count("empty"), **piece_of(envelope, k)}
@@ -164,7 +164,7 @@ def warnings(
         yield {"kind": "reference", "reference": report.reference}
 
 
-def far_pieces(recording: Recording, envelope: Envelope, span: int) -> Iterator[Warning]:
+def far_pieces(recording: Recording, envelope: Envelope, span: int) -> Iterator[Alert]:
     limit, far, worst = span * SECOND // FAR, 0, (-1, 0)
     if not recording.times:
         return

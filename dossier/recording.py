@@ -9,7 +9,7 @@ from array import array
 from bisect import bisect_left
 from collections import Counter
 from dataclasses import dataclass, field
-from itertools import islice, repeat, takewhile
+from itertools import repeat, takewhile
 from operator import itemgetter, lt, ne
 
 from .answers import read_counts
@@ -101,7 +101,8 @@ class Times:
         found.last = max(nanoseconds(high), nanoseconds(high) if found.last is None else found.last)
         if self.request in packets:
             found.first_request = nanoseconds(packets[self.request])
-        there = list(takewhile(packets.__contains__, islice(self.replies, self.taken, None)))
+        next_ones = self.replies[self.taken : self.taken + len(packets)]
+        there = list(takewhile(packets.__contains__, next_ones))
         found.times.extend(map(nanoseconds, map(packets.__getitem__, there)))
         self.taken += len(there)
 

@@ -74,7 +74,7 @@ class Settling:
         self.left[self.part.within(name)] = sum_of(data)
 
     def decide(self, step: int | None) -> Texts:
-        """The certificate and what `check` says of it; or what `find` says where it finds nothing."""
+        """The certificate and what `check` says about it; or what `find` says where it finds nothing."""
         step, found = self.find([step] if step else STEPS)
         decided_by, report = "find", found.text
         if found.status == 0:

@@ -24,6 +24,8 @@ from .words import line_of
 
 SCRIPT = Path(__file__).resolve().parent.parent / "ntpaudit-dossier"
 WIDTH = 30
+MOMENT = 0.5
+"""Seconds after which a bar is drawn again, and answers are looked for again."""
 
 
 @dataclass(frozen=True)
@@ -51,24 +53,22 @@ def audit_one(folder: str, options: Options, program: Program) -> Done:
 def audit_all(folders: list[str], options: Options, program: Program, jobs: int) -> int:
     """Audits all folders and prints a line for each audit, in the order of the folders. The status is the worst."""
     signal.signal(signal.SIGTERM, stop)
-    shown, worst, tally = Progress(len(folders)), 0, {}
+    shown, worst = Progress(len(folders)), 0
     if min(jobs, len(folders)) < 2:
-        results = one_by_one(folders, options, program)
+        results = one_by_one(folders, options, program, shown)
     else:
         results = side_by_side(folders, options, program, jobs, shown)
     try:
         for done in results:
             worst = max(worst, done.status)
-            for verdict in done.verdicts:
-                tally[verdict] = tally.get(verdict, 0) + 1
             shown.clear()
             print("\n".join(done.lines), flush=True)
-            shown.step(tally)
+            shown.show()
     finally:
         results.close()
         shown.clear()
     if len(folders) > 1:
-        print(", ".join(f"{tally[verdict]} {verdict}" for verdict in (YES, NO, NEITHER, REFUSED) if verdict in tally))
+        print(shown.summed(", "))
     return worst
 
 
@@ -76,9 +76,11 @@ def stop(number: int, _: object) -> None:
     raise Stopped(number)
 
 
-def one_by_one(folders: list[str], options: Options, program: Program) -> Iterator[Done]:
+def one_by_one(folders: list[str], options: Options, program: Program, shown: Progress) -> Iterator[Done]:
     for folder in folders:
-        yield audit_one(folder, options, program)
+        done = audit_one(folder, options, program)
+        shown.add(done)
+        yield done
 
 
 def side_by_side(folders: list[str], options: Options, program: Program, jobs: int, shown: Progress) -> Iterator[Done]:
@@ -88,6 +90,9 @@ def side_by_side(folders: list[str], options: Options, program: Program, jobs: i
         threading.Thread(target=team.feed, args=(team.start(),), daemon=True).start()
     try:
         for answer in team.answers:
+            while answer.empty():
+                shown.show()
+                team.wait()
             yield answer.get()
     finally:
         team.end()
@@ -101,6 +106,7 @@ class Team:
         self.given = json.dumps([asdict(options), asdict(program)])
         self.todo, self.answers = SimpleQueue(), [SimpleQueue() for _ in folders]
         self.workers: list[subprocess.Popen] = []
+        self.came = threading.Event()
         for number in range(len(folders)):
             self.todo.put(number)
 
@@ -125,8 +131,14 @@ class Team:
                     return
                 line = "ntpaudit-dossier: the worker of this folder was ended"
                 done, worker = Done(3, [REFUSED], [line_of(self.folders[number], None, line)]), self.start()
-            self.shown.finished += 1
+            self.shown.add(done)
             self.answers[number].put(done)
+            self.came.set()
+
+    def wait(self) -> None:
+        """Waits until some answer has come, or for a moment."""
+        self.came.wait(MOMENT)
+        self.came.clear()
 
     def end(self) -> None:
         self.is_over = True
@@ -155,15 +167,25 @@ class Progress:
 
     def __init__(self, total: int):
         self.total, self.finished, self.begun = total, 0, time.monotonic()
+        self.tally = dict.fromkeys((YES, NO, NEITHER, REFUSED), 0)
+        self.lock = threading.Lock()
         self.is_shown = sys.stderr.isatty() and total > 1
 
-    def step(self, tally: dict[str, int]) -> None:
+    def add(self, done: Done) -> None:
+        with self.lock:
+            self.finished += 1
+            for verdict in done.verdicts:
+                self.tally[verdict] += 1
+
+    def summed(self, between: str) -> str:
+        return between.join(f"{number} {verdict}" for verdict, number in self.tally.items() if number)
+
+    def show(self) -> None:
         if self.is_shown:
-            part = self.finished / self.total if self.finished else 0
+            part = self.finished / self.total
             bar = "#" * int(WIDTH * part)
-            left = (time.monotonic() - self.begun) * (1 - part) / part if part else 0
-            words = " ".join(f"{number} {verdict}" for verdict, number in tally.items())
-            sys.stderr.write(f"\r[{bar:{WIDTH}}] {self.finished}/{self.total} {words}, {left:.0f} s left\x1b[K")
+            left = f", {(time.monotonic() - self.begun) * (1 - part) / part:.0f} s left" if part else ""
+            sys.stderr.write(f"\r[{bar:{WIDTH}}] {self.finished}/{self.total} {self.summed(' ')}{left}\x1b[K")
             sys.stderr.flush()
 
     def clear(self) -> None:
