@@ -78,11 +78,11 @@ count_weaker p q (suc n) implies =
     let last = one_no_more p q n (implies n (omega arith)) in
     rw (count_more p n, count_more q n) (omega arith)
 
-both_true : (a b : Bool) → (a && b) ≡ true → (a ≡ true) × (b ≡ true)
+pub both_true : (a b : Bool) → (a && b) ≡ true → (a ≡ true) × (b ≡ true)
 both_true true b e = (refl, e)
 both_true false b e = absurd cc
 
-both_to : (a b : Bool) → a ≡ true → b ≡ true → (a && b) ≡ true
+pub both_to : (a b : Bool) → a ≡ true → b ≡ true → (a && b) ≡ true
 both_to true b e f = f
 both_to false b e f = absurd cc
 

@@ -1,5 +1,5 @@
 -- The servers that a refutation has to name.
-use Rattle.std.proofs.Common.{◌≡◌, ◌≢◌, ℕ, zero, suc, ◌<◌, ◌≤◌, ℤ, pos, ◌+ℤ◌, ◌-ℤ◌, ◌≤ℤ◌, ◌<ℤ◌, int_le, nat_le, unsigned_abs, Bool, true, false, true≢false, cond, not, ◌&&◌, List, [], ◌∷◌, ◌++◌, length, get_or, refl, sym, ap, ◌∙◌, arith}
+use Rattle.std.proofs.Common.{◌≡◌, ◌≢◌, ℕ, zero, suc, ◌<◌, ◌≤◌, ℤ, pos, ◌<ℤ◌, unsigned_abs, Bool, true, false, true≢false, cond, not, ◌&&◌, List, [], ◌∷◌, ◌++◌, length, get_or, refl, sym, ap, ◌∙◌, arith}
 use Rattle.std.specs.Prelude.{◌==◌, filter, All, AllPairs}
 use Rattle.std.specs.List.{Any}
 use Rattle.std.proofs.lemmas.List.Folds.{Any-from_list_any, list_any-from_Any}
@@ -15,14 +15,15 @@ use Rattle.certificate.specs.Refutation.{RefutationData}
 use Rattle.claim_file.specs.Claim.{ClaimData, IsLawful}
 use Rattle.pairing.specs.Exchange.{IsLawful as IsLawfulExchange}
 use Rattle.pairing.specs.declared.exchange.Exchange.{Exchange}
-use Rattle.sample_interval.specs.Window.{request_start, reply_end}
 use Rattle.checker.specs.Groups.{numbers_below, false_group_count}
 use Rattle.checker.specs.Refutation.{Admits, IsRefuted, is_liar}
 use Rattle.checker.specs.RefutationTest.{admits}
 use Rattle.finder.specs.Room.{refuses}
 use Rattle.finder.specs.Sought.{is_possible, refutation_at}
-use Rattle.finder.proofs.GroupLemmas.{found_below, no_more_groups}
+use Rattle.finder.proofs.GroupLemmas.{both_to, both_true, found_below, no_more_groups}
 use Rattle.finder.proofs.ListLemmas.{by_test}
+use Rattle.finder.proofs.NearestLemmas.{at_most_from, at_most_to}
+use Rattle.finder.proofs.RoomLemmas.{admits_from, admits_to}
 
 -- ---- the numbers that pass a test
 
@@ -81,64 +82,6 @@ module _ (p : ℕ → Bool) where
       found_below (λ k. k == server) n server below (grind (arith, nat_tests)) in
       named n server ∙ rw (e, here) refl
 
--- ---- an exchange leaves room, or doesn't
-
-both_true : (a b : Bool) → (a && b) ≡ true → (a ≡ true) × (b ≡ true)
-both_true true b e = (refl, e)
-both_true false b e = absurd cc
-
-both_to : (a b : Bool) → a ≡ true → b ≡ true → (a && b) ≡ true
-both_to true b e f = f
-both_to false b e f = absurd cc
-
-le_from : (a b : ℤ) → int_le a b ≡ true → a ≤ℤ b
-le_from a b e = grind (arith, ints)
-
-le_to : (a b : ℤ) → a ≤ℤ b → int_le a b ≡ true
-le_to a b h = grind (arith, ints)
-
-module _ (allowance error : ℤ) (x : Exchange) where
-  abbrev w : ℤ
-  w = request_start x allowance
-
-  abbrev z : ℤ
-  z = reply_end x allowance
-
-  pub admits_from : admits allowance error x ≡ true → Admits allowance error x
-  admits_from e =
-      let a1 = int_le (w -ℤ error) (x.t2 +ℤ x.distance) in
-      let a2 = int_le (w -ℤ error) (x.t3 +ℤ x.distance) in
-      let a3 = int_le (w -ℤ error) (z -ℤ error) in
-      let b1 = int_le (x.t2 -ℤ x.distance) (x.t3 +ℤ x.distance) in
-      let b2 = int_le (x.t2 -ℤ x.distance) (z -ℤ error) in
-      let b3 = int_le (x.t3 -ℤ x.distance) (z -ℤ error) in
-      let parts = both_true ((a1 && a2) && a3) ((b1 && b2) && b3) e in
-      let c = both_true (a1 && a2) a3 parts.0 in
-      let d = both_true a1 a2 c.0 in
-      let s = both_true (b1 && b2) b3 parts.1 in
-      let t = both_true b1 b2 s.0 in
-      let before = le_from (w -ℤ error) (z -ℤ error) c.1 in
-      record {
-        leaves_before_receipt = le_from (w -ℤ error) (x.t2 +ℤ x.distance) d.0;
-        leaves_before_answer = le_from (w -ℤ error) (x.t3 +ℤ x.distance) d.1;
-        leaves_before_arrival = omega (arith, ints);
-        receives_before_answer = le_from (x.t2 -ℤ x.distance) (x.t3 +ℤ x.distance) t.0;
-        receives_before_arrival = le_from (x.t2 -ℤ x.distance) (z -ℤ error) t.1;
-        answers_before_arrival = le_from (x.t3 -ℤ x.distance) (z -ℤ error) s.1;
-      }
-
-  pub admits_to : Admits allowance error x → admits allowance error x ≡ true
-  admits_to is =
-      let before = is.leaves_before_arrival in
-      rw (
-        le_to (w -ℤ error) (x.t2 +ℤ x.distance) is.leaves_before_receipt,
-        le_to (w -ℤ error) (x.t3 +ℤ x.distance) is.leaves_before_answer,
-        le_to (w -ℤ error) (z -ℤ error) (omega (arith, ints)),
-        le_to (x.t2 -ℤ x.distance) (x.t3 +ℤ x.distance) is.receives_before_answer,
-        le_to (x.t2 -ℤ x.distance) (z -ℤ error) is.receives_before_arrival,
-        le_to (x.t3 -ℤ x.distance) (z -ℤ error) is.answers_before_arrival,
-      ) refl
-
 -- ---- a server refuses an error by one of its exchanges
 
 module _ (allowance error : ℤ) where
@@ -158,12 +101,6 @@ module _ (allowance error : ℤ) where
   refused_by_one xs server e = Any-from_list_any (λ x. (x.server == server) && not (admits allowance error x)) xs e
 
 -- ---- a refutation by just the servers that refuse its error
-
-at_most_from : (a b : ℕ) → nat_le a b ≡ true → a ≤ b
-at_most_from a b e = grind (arith, nat_tests)
-
-at_most_to : (a b : ℕ) → a ≤ b → nat_le a b ≡ true
-at_most_to a b h = grind (arith, nat_tests)
 
 module _ (claim : ClaimData) (lawful : IsLawful claim) (xs : List Exchange)
     (each : All (IsLawfulExchange (length claim.servers)) xs) where

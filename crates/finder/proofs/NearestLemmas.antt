@@ -10,10 +10,10 @@ use Rattle.finder.specs.Sought.{IsFirstBeyond}
 use Rattle.finder.proofs.GroupLemmas.{no_more_groups}
 use Rattle.finder.proofs.ListLemmas.{by_test}
 
-at_most_from : (a b : ℕ) → nat_le a b ≡ true → a ≤ b
+pub at_most_from : (a b : ℕ) → nat_le a b ≡ true → a ≤ b
 at_most_from a b e = grind (arith, nat_tests)
 
-at_most_to : (a b : ℕ) → a ≤ b → nat_le a b ≡ true
+pub at_most_to : (a b : ℕ) → a ≤ b → nat_le a b ≡ true
 at_most_to a b h = grind (arith, nat_tests)
 
 pub int_cases : (a b : ℤ) → (a <ℤ b) ⊎ (b ≤ℤ a)

@@ -9,14 +9,12 @@ use Rattle.pairing.specs.declared.exchange.Exchange.{Exchange}
 use Rattle.pairing.specs.Exchange.{IsInRange}
 use Rattle.sample_interval.specs.Exchange.{IsOfSomeClaim}
 use Rattle.sample_interval.specs.Window.{request_start, reply_end}
+use Rattle.checker.specs.Refutation.{Admits}
 use Rattle.checker.specs.RefutationTest.{admits}
 use Rattle.finder.specs.Room.{IsNear}
+use Rattle.finder.proofs.GroupLemmas.{both_true}
 use Rattle.finder.proofs.Kept.{kept}
 use Rattle.finder.proofs.ListLemmas.{by_test}
-
-both_true : (a b : Bool) → (a && b) ≡ true → (a ≡ true) × (b ≡ true)
-both_true true b e = (refl, e)
-both_true false b e = absurd cc
 
 neither : (a b : Bool) → a ≡ false → b ≡ false → (a || b) ≡ false
 neither true b e f = absurd cc
@@ -85,27 +83,8 @@ module _ (allowance error : ℤ) (x : Exchange) where
   abbrev pub room : Interval
   room = record { lo = w -ℤ (int_min x.t2 x.t3 +ℤ x.distance); hi = z -ℤ (int_max x.t2 x.t3 -ℤ x.distance) }
 
-  admits_all : w ≤ℤ z → (x.t2 -ℤ x.distance) ≤ℤ (x.t3 +ℤ x.distance) → room.lo ≤ℤ error → error ≤ℤ room.hi
-      → admits allowance error x ≡ true
-  admits_all forward answers from to =
-      rw (
-        le_to (w -ℤ error) (x.t2 +ℤ x.distance) (omega (arith, ints, clamps)),
-        le_to (w -ℤ error) (x.t3 +ℤ x.distance) (omega (arith, ints, clamps)),
-        le_to (w -ℤ error) (z -ℤ error) (omega (arith, ints)),
-        le_to (x.t2 -ℤ x.distance) (x.t3 +ℤ x.distance) answers,
-        le_to (x.t2 -ℤ x.distance) (z -ℤ error) (omega (arith, ints, clamps)),
-        le_to (x.t3 -ℤ x.distance) (z -ℤ error) (omega (arith, ints, clamps)),
-      ) refl
-
-  -- what is tested
-  record Tested : Type 0 where
-    pub forward : w ≤ℤ z
-    pub answers : (x.t2 -ℤ x.distance) ≤ℤ (x.t3 +ℤ x.distance)
-    pub from : room.lo ≤ℤ error
-    pub to : error ≤ℤ room.hi
-
-  tested : admits allowance error x ≡ true → Tested
-  tested e =
+  pub admits_from : admits allowance error x ≡ true → Admits allowance error x
+  admits_from e =
       let a1 = int_le (w -ℤ error) (x.t2 +ℤ x.distance) in
       let a2 = int_le (w -ℤ error) (x.t3 +ℤ x.distance) in
       let a3 = int_le (w -ℤ error) (z -ℤ error) in
@@ -117,33 +96,65 @@ module _ (allowance error : ℤ) (x : Exchange) where
       let d = both_true a1 a2 c.0 in
       let s = both_true (b1 && b2) b3 parts.1 in
       let t = both_true b1 b2 s.0 in
-      let c1 = le_from (w -ℤ error) (x.t2 +ℤ x.distance) d.0 in
-      let c2 = le_from (w -ℤ error) (x.t3 +ℤ x.distance) d.1 in
-      let c3 = le_from (w -ℤ error) (z -ℤ error) c.1 in
-      let s1 = le_from (x.t2 -ℤ x.distance) (x.t3 +ℤ x.distance) t.0 in
-      let s2 = le_from (x.t2 -ℤ x.distance) (z -ℤ error) t.1 in
-      let s3 = le_from (x.t3 -ℤ x.distance) (z -ℤ error) s.1 in
+      let before = le_from (w -ℤ error) (z -ℤ error) c.1 in
       record {
-        forward = omega (arith, ints);
-        answers = s1;
-        from = omega (arith, ints, clamps);
-        to = omega (arith, ints, clamps);
+        leaves_before_receipt = le_from (w -ℤ error) (x.t2 +ℤ x.distance) d.0;
+        leaves_before_answer = le_from (w -ℤ error) (x.t3 +ℤ x.distance) d.1;
+        leaves_before_arrival = omega (arith, ints);
+        receives_before_answer = le_from (x.t2 -ℤ x.distance) (x.t3 +ℤ x.distance) t.0;
+        receives_before_arrival = le_from (x.t2 -ℤ x.distance) (z -ℤ error) t.1;
+        answers_before_arrival = le_from (x.t3 -ℤ x.distance) (z -ℤ error) s.1;
       }
+
+  pub admits_to : Admits allowance error x → admits allowance error x ≡ true
+  admits_to is =
+      let before = is.leaves_before_arrival in
+      rw (
+        le_to (w -ℤ error) (x.t2 +ℤ x.distance) is.leaves_before_receipt,
+        le_to (w -ℤ error) (x.t3 +ℤ x.distance) is.leaves_before_answer,
+        le_to (w -ℤ error) (z -ℤ error) (omega (arith, ints)),
+        le_to (x.t2 -ℤ x.distance) (x.t3 +ℤ x.distance) is.receives_before_answer,
+        le_to (x.t2 -ℤ x.distance) (z -ℤ error) is.receives_before_arrival,
+        le_to (x.t3 -ℤ x.distance) (z -ℤ error) is.answers_before_arrival,
+      ) refl
+
+  admits_all : w ≤ℤ z → (x.t2 -ℤ x.distance) ≤ℤ (x.t3 +ℤ x.distance) → room.lo ≤ℤ error → error ≤ℤ room.hi
+      → admits allowance error x ≡ true
+  admits_all forward answers from to = admits_to (record {
+    leaves_before_receipt = omega (arith, ints, clamps);
+    leaves_before_answer = omega (arith, ints, clamps);
+    leaves_before_arrival = forward;
+    receives_before_answer = answers;
+    receives_before_arrival = omega (arith, ints, clamps);
+    answers_before_arrival = omega (arith, ints, clamps);
+  })
+
+  low_inside : Admits allowance error x → room.lo ≤ℤ error
+  low_inside is =
+      let receipt = is.leaves_before_receipt in
+      let answer = is.leaves_before_answer in
+      omega (arith, ints, clamps)
+
+  high_inside : Admits allowance error x → error ≤ℤ room.hi
+  high_inside is =
+      let receipt = is.receives_before_arrival in
+      let answer = is.answers_before_arrival in
+      omega (arith, ints, clamps)
 
   pub room_is : int_lt z w ≡ false → int_lt (x.t3 +ℤ x.distance) (x.t2 -ℤ x.distance) ≡ false
       → leaves_out room error ≡ not (admits allowance error x)
   room_is forward answers = by_test (admits allowance error x)
       (λ yes'.
-      let is = tested yes' in
-      rw yes' (is_inside room.lo room.hi error is.from is.to))
+      let is = admits_from yes' in
+      rw yes' (is_inside room.lo room.hi error (low_inside is) (high_inside is)))
       (λ no'. rw no' (by_test (leaves_out room error) (λ out. out) (λ inside.
       let ends = not_left_out room.lo room.hi error inside in
       let all = admits_all (grind (arith, ints)) (grind (arith, ints)) ends.0 ends.1 in
       absurd (let is : true ≡ false = sym all ∙ no' in cc))))
 
-  not_admitted : ¬ Tested → admits allowance error x ≡ false
+  not_admitted : ¬ (Admits allowance error x) → admits allowance error x ≡ false
   not_admitted none = by_test (admits allowance error x)
-      (λ yes'. absurd (none (tested yes')))
+      (λ yes'. absurd (none (admits_from yes')))
       (λ no'. no')
 
   far : (lo hi : ℤ) → lo ≡ pos (2 ^ 80) → IsNear error → leaves_out (record { lo = lo; hi = hi }) error ≡ true
@@ -154,12 +165,12 @@ module _ (allowance error : ℤ) (x : Exchange) where
   pub no_room_backward : int_lt z w ≡ true → IsNear error → (hi : ℤ)
       → leaves_out (record { lo = pos (2 ^ 80); hi = hi }) error ≡ not (admits allowance error x)
   no_room_backward backward near hi =
-      rw (not_admitted (λ is. let forward = is.forward in grind (arith, ints))) (far _ hi refl near)
+      rw (not_admitted (λ is. let forward = is.leaves_before_arrival in grind (arith, ints))) (far _ hi refl near)
 
   pub no_room_early : int_lt (x.t3 +ℤ x.distance) (x.t2 -ℤ x.distance) ≡ true → IsNear error → (hi : ℤ)
       → leaves_out (record { lo = pos (2 ^ 80); hi = hi }) error ≡ not (admits allowance error x)
   no_room_early early near hi =
-      rw (not_admitted (λ is. let answers = is.answers in grind (arith, ints))) (far _ hi refl near)
+      rw (not_admitted (λ is. let answers = is.receives_before_answer in grind (arith, ints))) (far _ hi refl near)
 
 -- ---- what the code computes of it
 

@@ -10,7 +10,8 @@ pub returns-then-is_refused : goal.returns-then-is_refused
 returns-then-is_refused c =
     let refused = rw (to_z-of_z w128 c.args.error c.ranges.error) at c.is_refused.ensures in
     sym (found_below
-    (λ server. (slice_index c.args.groups.now server == c.args.group) && refused_by c.args.rooms.now c.args.error server)
+    (λ server. (slice_index c.args.groups.now server == c.args.group)
+    && refused_by c.args.rooms.now c.args.error server)
     (length c.args.groups.now) c.loop-server.server c.loop-server-test.true
     (both_pass _ c.args.group _ (sym c.from.ensures ∙ c.if-from-group.true)
     (sym refused ∙ c.if-is_refused.true)))

@@ -58,7 +58,8 @@ loop-server-preserved c =
           let above = rw (bound, error) at w.if-claim-error.true in
           let before = rw error at w.if-error-first.true in
           let passes = rw error at (sym w.is_possible-then-error-first.ensures ∙ w.if-is_possible-2.true) in
-          rw (w.first-is, error) (taken rooms claim few _ server _ c.loop-server.invariant (room_at rooms server).lo refl
+          rw (w.first-is, error)
+          (taken rooms claim few _ server _ c.loop-server.invariant (room_at rooms server).lo refl
           (grind (arith, ints)) (grind (arith, ints)) passes)
       | else-claim-error w ↦
           rw w.first-is (passed rooms claim few _ server _ c.loop-server.invariant
