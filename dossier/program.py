@@ -110,7 +110,8 @@ def fault_of(status: int, error: bytes) -> Fault:
 
 def find_program() -> Program:
     """The program under which all is done: the file that the environment's NTPAUDIT names (from the repository's root);
-    or the one that the launcher keeps, which it has made sure of just now; or `ntpaudit` on the PATH."""
+    or the one that the launcher keeps, which it has made sure of just now; or, where this is installed, the one that was
+    installed beside it; or `ntpaudit` on the PATH."""
     path = os.environ.get("NTPAUDIT")
     if path:
         path = str((ROOT / path).resolve())
@@ -118,9 +119,11 @@ def find_program() -> Program:
         built = subprocess.run([ROOT / "ntpaudit", "--version"], stdin=subprocess.DEVNULL, stdout=subprocess.DEVNULL)
         if built.returncode:
             raise Fault("ntpaudit: the program is not built", 70)
-        path = str(ROOT / "out" / "ntpaudit")
+        kept = ROOT / "out" / "ntpaudit"
+        path = str(kept if kept.exists() else ROOT / "dist" / "ntpaudit")
     else:
-        path = shutil.which("ntpaudit")
+        beside = ROOT.parent.parent / "bin" / "ntpaudit"
+        path = str(beside) if beside.exists() else shutil.which("ntpaudit")
     if not path or not os.access(path, os.X_OK):
         raise Fault("ntpaudit: the program is not there", 70)
     said_version = subprocess.run([path, "--version"], stdin=subprocess.DEVNULL, capture_output=True)

@@ -23,7 +23,8 @@ def program():
     if ran.returncode:
         print(f"FAILED: ./ntpaudit --version ends with status {ran.returncode}\n0 passed, 1 failed")
         sys.exit(1)
-    return str(ROOT / "out" / "ntpaudit")
+    kept = ROOT / "out" / "ntpaudit"
+    return str(kept if kept.exists() else ROOT / "dist" / "ntpaudit")
 
 
 def check(name, **pairs):
