@@ -66,7 +66,8 @@ same_parts a a' u u' e e' p q r = ap (λ b. made b u e) p ∙ ap (λ o. made a' 
 abbrev piece_names : List (List ℕ)
 piece_names = codes "entries" ∷ codes "upto" ∷ []
 
-module _ (number : ℕ) (value : Data) (found : Members) (parts : PieceParts) (known : parts ≡ parts_of number found) where
+module _ (number : ℕ) (value : Data) (found : Members) (parts : PieceParts)
+    (known : parts ≡ parts_of number found) where
   pub parts_entries : (read : Option (Result (List (ℕ × ℕ)) CertificateFault)) →
       option_map (entries_in number) (as_array value) ≡ read →
       made parts.is_known parts.upto read ≡ parts_of number (put (codes "entries") value found)
@@ -76,7 +77,8 @@ module _ (number : ℕ) (value : Data) (found : Members) (parts : PieceParts) (k
       (ap (option_and_then unsigned_of)
       (get_member-put_other (codes "upto") (codes "entries") value found (λ same. absurd (cc)))
       ∙ sym (ap (λ p. p.upto) known))
-      (ap (λ o. option_map (entries_in number) (option_and_then as_array o)) (get_member-put (codes "entries") value found)
+      (ap (λ o. option_map (entries_in number) (option_and_then as_array o))
+      (get_member-put (codes "entries") value found)
       ∙ is))
 
   pub parts_upto : (read : Option ℕ) → unsigned_of value ≡ read →

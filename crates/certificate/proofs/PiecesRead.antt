@@ -21,7 +21,8 @@ abbrev and_more : Pieces → Pieces → Pieces
 and_more found more = after found λ pieces. after more λ others. Ok (pieces ++ others)
 
 -- what is said, where so many pieces were read and these are left
-abbrev pub pieces_after : ℕ → Result (List PieceData) CertificateFault → Items → Result (List PieceData) CertificateFault
+abbrev pub pieces_after : ℕ → Result (List PieceData) CertificateFault → Items →
+    Result (List PieceData) CertificateFault
 pieces_after count found items =
     asked TooManyPieces (nat_le (count + items_len items) max_pieces) (and_more found (pieces_from count items))
 

@@ -43,7 +43,8 @@ servers_of-values : (servers : List ℕ) → All (λ s. s < 2 ^ 8) servers →
     servers_of (items_of (map number_value servers)) ≡ Some servers
 servers_of-values [] small = refl
 servers_of-values (s ∷ ss) small =
-    rw (server_of-value s (small 0 s (omega arith)), servers_of-values ss (λ k d less. small (suc k) d (omega arith))) refl
+    let rest = servers_of-values ss (λ k d less. small (suc k) d (omega arith)) in
+    rw (server_of-value s (small 0 s (omega arith)), rest) refl
 
 -- an error of 64 bits is read as it stands
 error_of-value : (error : ℤ) → error <ℤ pos (2 ^ 63) → as_i64 (of_integer error) ≡ Some error
@@ -123,7 +124,8 @@ unfolding serde_json_on_literals
 outlined_refutation refutation held =
     let error = outlined_error refutation.error held.least held.greatest in
     let liars = outlined_array (items_of (map number_value refutation.liars))
-    (outlined_items number_value refutation.liars (λ k d less. outlined_number _ (omega (arith, held.named k d less)))) in
+    (outlined_items number_value refutation.liars
+    (λ k d less. outlined_number _ (omega (arith, held.named k d less)))) in
     let reading = outlined_number refutation.reading held.reading in
     record {
       reads = rw (error.reads, liars.reads, reading.reads);
@@ -136,7 +138,8 @@ outlined_refutation refutation held =
 text-value : (refutation : RefutationData) → compact_text (refutation_value refutation) ≡ refutation_text refutation
 unfolding serde_json_on_literals
 text-value refutation =
-    rw (error_text-value refutation.error, items_text-map number_value decimal (λ n. refl) refutation.liars) (simp append_assoc)
+    rw (error_text-value refutation.error, items_text-map number_value decimal (λ n. refl) refutation.liars)
+    (simp append_assoc)
 
 read-refutation_text : (refutation : RefutationData) → IsHeldRefutation refutation →
     read (refutation_text refutation) ≡ Some (refutation_value refutation)
@@ -160,24 +163,26 @@ refutation_of-text refutation held =
 
 -- ---- how long the text is
 
+server-short : (server : ℕ) → server < 2 ^ 8 → length (decimal server) ≤ 3
+server-short server small = length-decimal-le 3 server (omega arith) (omega arith) (omega arith)
+
 joined-short : (servers : List ℕ) → All (λ s. s < 2 ^ 8) servers →
     length (join_with_byte comma (map decimal servers)) ≤ 4 * length servers
 joined-short [] small = omega arith
 joined-short (s ∷ []) small =
-    let here : length (decimal s) ≤ 3 =
-    length-decimal-le 3 s (omega arith) (omega (arith, small 0 s (omega arith))) (omega (arith, small 0 s (omega arith))) in
+    let here = server-short s (small 0 s (omega arith)) in
     omega arith
 joined-short (s ∷ t ∷ ss) small =
-    let here : length (decimal s) ≤ 3 =
-    length-decimal-le 3 s (omega arith) (omega (arith, small 0 s (omega arith))) (omega (arith, small 0 s (omega arith))) in
+    let here = server-short s (small 0 s (omega arith)) in
     let rest = joined-short (t ∷ ss) (λ k d less. small (suc k) d (omega arith)) in
     simp length-append (omega (arith, here, rest))
 
 pub refutation_text-short : (refutation : RefutationData) → IsHeldRefutation refutation →
     length (refutation_text refutation) ≤ 65536
 refutation_text-short refutation held =
-    let error : length (signed_decimal refutation.error) ≤ 21 = length_signed_le 20 refutation.error
-    (omega (arith, mag-small refutation.error held.least held.greatest)) (mag-small refutation.error held.least held.greatest) in
+    let size = mag-small refutation.error held.least held.greatest in
+    let error : length (signed_decimal refutation.error) ≤ 21 =
+    length_signed_le 20 refutation.error (omega (arith, size)) size in
     let liars = joined-short refutation.liars held.named in
     let reading : length (decimal refutation.reading) ≤ 20 = length-decimal-le 20 refutation.reading (omega arith)
     (omega (arith, held.reading)) held.reading in

@@ -63,4 +63,5 @@ same_certificate ms true (Some items) =
 pub certificate_of_parts-members : (members : Members) →
     certificate_of_parts (top_parts_of members) ≡ certificate_from (object members)
 certificate_of_parts-members members =
-    same_certificate members (has_only top_names members) (option_and_then as_array (get_member (codes "pieces") members))
+    same_certificate members (has_only top_names members)
+    (option_and_then as_array (get_member (codes "pieces") members))

@@ -1,5 +1,5 @@
--- The text that writes a refutation: compact, with the names in the order of their bytes and numbers
--- in decimal.
+-- The text that writes a refutation: compact, with the names in the order of their bytes and
+-- numbers in decimal.
 use Rattle.std.specs.Prelude.{ℕ, List, ◌++◌, map, codes, decimal}
 use Rattle.std.specs.Fmt.{signed_decimal}
 use Rattle.std.specs.List.{join_with_byte}

@@ -198,7 +198,8 @@ module _ (depth : ℕ) (ts : List Token) where
 -- ---- one thing after another
 
 -- a value takes a token
-pub value-shorter : (depth : ℕ) (ts r : List Token) (v : Data) → next_value depth ts ≡ Some (v, r) → length r < length ts
+pub value-shorter : (depth : ℕ) (ts r : List Token) (v : Data) → next_value depth ts ≡ Some (v, r) →
+    length r < length ts
 unfolding next_value
 value-shorter depth ts r v is =
     let read = converted_some of_json (value depth ts) v r is in
@@ -216,7 +217,8 @@ without_item j is (Some p) = rw is
 
 with_member : (k : List ℕ) (j : json.Json) (d : Data) (old : Members) → of_json j ≡ Some d →
     (o : Option (json.Members × List Token)) →
-    converted (λ ms. of_members ms old) (parse_map (json.member k j) o) ≡ converted (λ ms. of_members ms (put k d old)) o
+    converted (λ ms. of_members ms old) (parse_map (json.member k j) o)
+    ≡ converted (λ ms. of_members ms (put k d old)) o
 with_member k j d old is None = refl
 with_member k j d old is (Some p) = rw is
 

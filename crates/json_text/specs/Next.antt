@@ -52,6 +52,7 @@ Opens (Unsigned n) depth old new = next_value depth old ≡ Some (number (unsign
 Opens Array depth old new =
     (0 < depth) × (next_value depth old ≡ parse_map array (next_items (depth - 1) new))
 Opens Object depth old new =
-    (0 < depth) × (next_value depth old ≡ parse_map object (next_members (depth - 1) no_members new))
+    (0 < depth)
+    × (next_value depth old ≡ parse_map object (next_members (depth - 1) no_members new))
 Opens Other depth old new =
     (value : Data) × IsOther value × (next_value depth old ≡ Some (value, new))

@@ -1,4 +1,8 @@
 //! A JSON text read token by token, without a tree of values.
+//!
+//! The `depth` of each function is how deep arrays and objects may still nest. Invalid says that no
+//! value of JSON comes next: the grammar is broken, no float holds a number, or something nests too
+//! deep. After it nothing is known of what the reader gives.
 
 ghost use Rattle.std.specs.Prelude.{◌≡◌, ◌-◌, ◌<◌, length, MatchResult, OnOk, Some, None};
 ghost use Rattle.std.specs.Bool.{MatchBool};
@@ -23,10 +27,8 @@ pub(crate) enum Opening {
     Other,
 }
 
-/// How the next value begins. Arrays and objects may nest so deep.
-///
-/// Invalid exactly where no value begins, or a number that no float holds. What is after the
-/// beginning of an array or an object is not looked at.
+/// How the next value begins. Invalid exactly where none does: what is after the beginning of an
+/// array or an object is not looked at.
 fn open_value(reader: &mut Reader<'_>, depth: usize) -> Result<Opening, Invalid>
     ensures opened { MatchResult result (λ opening. Opens opening depth reader.old reader.new)
         (λ _. next_value depth reader.old ≡ None) }
@@ -59,7 +61,7 @@ fn open_value(reader: &mut Reader<'_>, depth: usize) -> Result<Opening, Invalid>
 }
 
 /// The next value, where it is an integer from 0 to 2^64 - 1, written without sign, fraction or
-/// exponent; Some other value gives None. Invalid exactly where there is no value.
+/// exponent, and None where it is another. Invalid exactly where there is no value.
 pub fn next_unsigned(reader: &mut Reader<'_>, depth: usize) -> Result<Option<u64>, Invalid>
     ensures { Reads result (λ n. n) (parse_map unsigned_of (next_value depth reader.old))
         reader.new }
@@ -79,7 +81,7 @@ pub fn next_unsigned(reader: &mut Reader<'_>, depth: usize) -> Result<Option<u64
 }
 
 /// Whether the next value is an array. Its elements come next then, and else the value is passed.
-/// Invalid exactly where there is no value, or one that nests too deep.
+/// Invalid exactly where neither an array begins nor another value comes whole.
 pub fn open_array(reader: &mut Reader<'_>, depth: usize) -> Result<bool, Invalid>
     ensures { MatchResult result (λ opened. MatchBool opened
         ((0 < depth) × (next_value depth reader.old
@@ -99,7 +101,7 @@ pub fn open_array(reader: &mut Reader<'_>, depth: usize) -> Result<bool, Invalid
 }
 
 /// Whether the next value is an object. Its members come next then, and else the value is passed.
-/// Invalid exactly where there is no value, or one that nests too deep.
+/// Invalid exactly where neither an object begins nor another value comes whole.
 pub fn open_object(reader: &mut Reader<'_>, depth: usize) -> Result<bool, Invalid>
     ensures { MatchResult result (λ opened. MatchBool opened
         ((0 < depth) × (next_value depth reader.old

@@ -78,7 +78,8 @@ entries-preserved c =
       read = l.invariant.read
           ∙ one_more_there c.args.number l.count found c.args.depth l.reader going.0 entry r
           (rw (← going.1) c.in_ok-entry.ensures)
-          ∙ ap (λ f. parse_map (entries_after c.args.number (l.count + 1) f) (next_items c.args.depth r)) (sym (added c));
+          ∙ ap (λ f. parse_map (entries_after c.args.number (l.count + 1) f) (next_items c.args.depth r))
+          (sym (added c));
       held = counted c;
       few = omega (arith, l.invariant.few);
     }

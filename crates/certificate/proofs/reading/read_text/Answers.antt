@@ -40,7 +40,8 @@ returns-in_err-read c =
           let nothing = whole_refused text
           (ap (next_value max_depth) (sym c.in_ok-reader.ensures.ok)
           ∙ mapped_none certificate_from (next_value max_depth c.in_ok-reader.reader) none.1) in
-          let is : given Json (read text) certificate_from ≡ Err Json = ap (λ o. given Json o certificate_from) nothing in
+          let is : given Json (read text) certificate_from ≡ Err Json =
+          ap (λ o. given Json o certificate_from) nothing in
           grind (arith, none.0, is)
     ]
 

@@ -9,7 +9,8 @@ use Rattle.json_text.proofs.next.open_value.Goals as goal
 pub returns-in_err-token-clause-opened : goal.returns-in_err-token-clause-opened
 returns-in_err-token-clause-opened c =
     let empty : c.args.reader.now ≡ [] = grind arith in
-    let none : next_value c.args.depth c.args.reader.now ≡ None = ap (next_value c.args.depth) empty ∙ next_none c.args.depth in
+    let none : next_value c.args.depth c.args.reader.now ≡ None =
+    ap (next_value c.args.depth) empty ∙ next_none c.args.depth in
     grind (arith, none)
 
 pub returns-then-depth-eq0-clause-opened : goal.returns-then-depth-eq0-clause-opened

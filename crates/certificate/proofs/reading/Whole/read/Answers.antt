@@ -26,5 +26,6 @@ returns-in_ok-pass_value-in_default c =
     c.in_ok-pass_value-in_default.ensures.passed in (
       next.0,
       next.1,
-      λ found known. whole_other next.0 found (whole_data c.args.self.now) known c.args.name.now c.in_default.not-pieces,
+      λ found known. whole_other next.0 found (whole_data c.args.self.now) known c.args.name.now
+          c.in_default.not-pieces,
     )
