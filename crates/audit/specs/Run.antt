@@ -1,12 +1,13 @@
 -- What a run needs and what it promises.
-use Rattle.std.specs.Prelude.{ℕ, ◌≤◌, Result}
-use Rattle.byte_stream.specs.State.{IsReadable, IsWritable, SinkState}
+use Rattle.std.specs.Prelude.{◌≡◌, ℕ, ◌≤◌, Result, Ok}
+use Rattle.byte_stream.specs.State.{FeedState, IsReadable, IsWritable, SinkState}
+use Rattle.report.specs.ExitStatus.{status_of}
 use Rattle.report.specs.declared.fault.Outcome.{Outcome}
 use Rattle.report.specs.declared.fault.RunFault.{RunFault}
 use Rattle.report.specs.Run.{RunState}
 use Rattle.report.specs.Runs.{Runs}
 use Rattle.report.specs.Telling.{Answers}
-use Rattle.audit.specs.Question.{QuestionData, most_second}
+use Rattle.audit.specs.Question.{QuestionData, Shows, most_second}
 use Rattle.audit.specs.Report.{run_report}
 
 -- A run may begin: each input may be pulled from, and its sink may be written to.
@@ -30,11 +31,18 @@ abbrev pub RunsAlone : {F : Type 0} → QuestionData → RunState → RunState �
 RunsAlone question before after capture capture' answer =
     RunsFor {T = Unit {0}} question before after (tt {0}) (tt {0}) capture capture' answer
 
--- What a caller of a whole command sees that asks a question: the same, told by a line and a status.
+-- What a caller of a whole command sees: the same report, and its answer, told by a line and a
+-- status.
 abbrev pub AnswersFor :
     QuestionData → RunState → RunState → SinkState → SinkState → ℕ → Type 0
 AnswersFor question before after err err' status =
     Answers (run_report question before) before after err err' status
+
+-- what the exit status of a run shows, by the outcome that it tells
+abbrev pub ShowsAt : ℕ → QuestionData → FeedState → FeedState → FeedState → Type 0
+ShowsAt status question claim second capture =
+    (outcome : Outcome) → status ≡ status_of (Ok outcome)
+    → Shows question claim second capture outcome
 
 -- a length that pieces may have, in seconds
 pub record IsStep (seconds : ℕ) : Type 0 where

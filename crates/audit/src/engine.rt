@@ -12,18 +12,16 @@ ghost use Rattle.byte_stream.specs.State.{IsReadable, IsWritable};
 ghost use Rattle.pcap_reader.specs.Limit.{most_taken};
 ghost use Rattle.claim_file.specs.Claim.{ClaimData, IsLawful, data_of as claim_data};
 ghost use Rattle.report.specs.ClaimInput.{IsOfClaim};
-ghost use Rattle.report.specs.ExitStatus.{status_of};
 ghost use Rattle.report.specs.Publication.{IsMadeFor, IsUnwritten};
 ghost use Rattle.report.specs.Reading.{Reads};
 ghost use Rattle.report.specs.Reports.{is_claim, is_second, is_capture, is_device};
 ghost use Rattle.report.specs.Run.{run_state};
 ghost use Rattle.report.specs.Runs.{HasLawfulHeader, IsBeforeCapture, IsBeforeSecond};
-ghost use Rattle.report.specs.declared.fault.Outcome.{Outcome as TheOutcome};
 ghost use Rattle.report.specs.declared.fault.RunFault.{RunFault as TheFault};
 ghost use Rattle.audit.specs.Check.{IsTraced};
 ghost use Rattle.audit.specs.Question.{AsksNoSecond, Shows, data_of, most_second};
 ghost use Rattle.audit.specs.Report.{ShowsAfter, after_claim};
-ghost use Rattle.audit.specs.Run.{AnswersFor, MayRun, RunsFor};
+ghost use Rattle.audit.specs.Run.{AnswersFor, MayRun, RunsFor, ShowsAt};
 
 use crate::capture_input::read_capture_from;
 use crate::evidence::Evidence;
@@ -135,36 +133,34 @@ pub fn run<C: Feed, T: Feed, F: Feed, S: Sink, H: BuildHasher + Drop>(
     (capture, answer)
 }
 
-/// Answers a question as `run` does, with the text on `outputs.out`, and tells a fault on
-/// `outputs.err`. Beside the capture's feed stands the exit status.
+/// Answers a question as `run` does, with the text on `to.out`, and tells a fault on `to.err`.
+/// Beside the capture's feed stands the exit status.
+///
+/// Status 0 of a check is the theorem: in every course of events that fits the exchanges of the
+/// capture the clock's error is within the bound over the claimed span.
 pub fn answer<C: Feed, T: Feed, F: Feed, S: Sink, E: Sink, H: BuildHasher + Drop>(
     alloc: Global,
     question: Question,
     claim: &mut C,
     second: &mut T,
     capture: F,
-    outputs: &mut Outputs<S, E>,
+    to: &mut Outputs<S, E>,
     hasher: H,
 ) -> (F, u8)
-    requires run { MayRun (run_state (C.state claim.old) (T.state second.old)
-        (F.state capture) (S.state outputs.old.out)) }
-    requires err { IsWritable (E.state outputs.old.err) }
+    requires run { MayRun
+        (run_state (C.state claim.old) (T.state second.old) (F.state capture) (S.state to.old.out)) }
+    requires err { IsWritable (E.state to.old.err) }
     ensures answers { AnswersFor (data_of question)
-        (run_state (C.state claim.old) (T.state second.old)
-        (F.state capture) (S.state outputs.old.out))
-        (run_state (C.state claim.new) (T.state second.new)
-        (F.state result.0) (S.state outputs.new.out))
-        (E.state outputs.old.err) (E.state outputs.new.err) result.1 }
-
-    // At status 0 of a check the error is within the bound in every course of events that fits.
+        (run_state (C.state claim.old) (T.state second.old) (F.state capture) (S.state to.old.out))
+        (run_state (C.state claim.new) (T.state second.new) (F.state result.0) (S.state to.new.out))
+        (E.state to.old.err) (E.state to.new.err) result.1 }
     ensures traceable { question ≡ Question.Check → result.1 ≡ 0 →
         IsTraced (C.state claim.old) (F.state capture) }
-    ensures shows { (outcome : TheOutcome) → result.1 ≡ status_of (Ok outcome) →
-        Shows (data_of question)
-        (C.state claim.old) (T.state second.old) (F.state capture) outcome }
+    ensures shows { ShowsAt result.1 (data_of question)
+        (C.state claim.old) (T.state second.old) (F.state capture) }
 {
     let claim = read_claim_from(alloc, claim);
     let (capture, made) = make_report(alloc, question, claim, second, capture, hasher);
-    let answer = publish(&mut outputs.out, &made);
-    (capture, tell(&answer, &mut outputs.err))
+    let answer = publish(&mut to.out, &made);
+    (capture, tell(&answer, &mut to.err))
 }

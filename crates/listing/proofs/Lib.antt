@@ -1,4 +1,4 @@
-pub mod Answer
+pub mod Endings
 pub mod Devices
 pub mod ProgressLemmas
 pub mod TwentyFields

@@ -3,15 +3,17 @@
 //!
 //! `run_list` lists what a feed gives, `list_from` what is to come of any source of records. Both
 //! promise what every engine does, `Reports` of the crate `report`, for the text that
-//! `specs/Listing` says.
+//! `specs/Listing` says. `answer_list` is the whole command, up to its exit status.
 #![tactic(auto)]
 
+mod command;
 pub mod laws;
 mod list;
 mod packet_line;
 mod record;
 mod run;
 
+pub use command::answer_list;
 pub use list::list_from;
 pub use packet_line::write_packet_line;
 pub use run::run_list;

@@ -1,6 +1,10 @@
-//! The commands with their operands and options, and what help says of them.
+//! The commands: their operands and options, what help says of them, and what their words call for.
 
-use clap::{Arg, Command};
+use crate::invocation::{Invocation, Paths, SecondPath};
+use audit::{Question, Step};
+use claim_file::read_time;
+use clap::{Arg, ArgMatches, Command};
+use report::Input;
 use std::alloc::{AllocError, Global};
 
 const PROGRAM_HELP: &str = "\
@@ -135,4 +139,82 @@ pub(crate) fn program<'a>(alloc: Global) -> Result<Command<'a>, AllocError> {
         .subcommand(at_command(alloc)?)?
         .subcommand(check_command(alloc)?)?
         .subcommand(find_command(alloc)?)
+}
+
+/// The text of an operand, empty where it was left out.
+fn operand(alloc: Global, matches: &ArgMatches, name: &str) -> Result<String, AllocError> {
+    String::from_str(alloc, matches.get_str(name).unwrap_or(""))
+}
+
+/// What `list` calls for.
+fn list(alloc: Global, matches: &ArgMatches) -> Result<Invocation, AllocError> {
+    match matches.get_str("CAPTURE") {
+        Some(path) => Ok(Invocation::List(Some(String::from_str(alloc, path)?))),
+        None => Ok(Invocation::List(None)),
+    }
+}
+
+/// A question on the claim and the capture that are named.
+fn ask(alloc: Global, matches: &ArgMatches, question: Question) -> Result<Invocation, AllocError> {
+    let claim = operand(alloc, matches, "CLAIM")?;
+    let capture = operand(alloc, matches, "CAPTURE")?;
+    let paths = Paths {
+        claim,
+        second: None,
+        capture,
+    };
+    Ok(Invocation::Ask(question, paths))
+}
+
+/// What `at` calls for: its TIME is read before anything else is done.
+fn at(alloc: Global, matches: &ArgMatches) -> Result<Invocation, AllocError> {
+    match read_time(matches.get_str("TIME").unwrap_or("")) {
+        Some(second) => ask(alloc, matches, Question::At(second)),
+        None => Ok(Invocation::RefuseTime),
+    }
+}
+
+/// A question on a second input beside the claim and the capture: the operand of this name.
+fn ask_with(
+    alloc: Global,
+    matches: &ArgMatches,
+    question: Question,
+    input: Input,
+    name: &str,
+) -> Result<Invocation, AllocError> {
+    let claim = operand(alloc, matches, "CLAIM")?;
+    let path = operand(alloc, matches, name)?;
+    let capture = operand(alloc, matches, "CAPTURE")?;
+    let paths = Paths {
+        claim,
+        second: Some(SecondPath { input, path }),
+        capture,
+    };
+    Ok(Invocation::Ask(question, paths))
+}
+
+/// What `check` calls for.
+fn check(alloc: Global, matches: &ArgMatches) -> Result<Invocation, AllocError> {
+    let question = Question::Check;
+    ask_with(alloc, matches, question, Input::Certificate, "CERTIFICATE")
+}
+
+/// What `find` calls for.
+fn find(alloc: Global, matches: &ArgMatches) -> Result<Invocation, AllocError> {
+    match matches.get_one::<u32>("step").and_then(Step::new) {
+        Some(step) => ask(alloc, matches, Question::Find(step)),
+        None => Ok(Invocation::Refuse(String::from_str(alloc, "no step\n")?)),
+    }
+}
+
+/// What the words of the command line call for.
+pub(crate) fn invocation_of(alloc: Global, matches: &ArgMatches) -> Result<Invocation, AllocError> {
+    match matches.subcommand() {
+        Some(("list", words)) => list(alloc, words),
+        Some(("samples", words)) => ask(alloc, words, Question::Samples),
+        Some(("at", words)) => at(alloc, words),
+        Some(("check", words)) => check(alloc, words),
+        Some(("find", words)) => find(alloc, words),
+        _ => Ok(Invocation::Refuse(String::from_str(alloc, "no command\n")?)),
+    }
 }

@@ -2,69 +2,108 @@
 //!
 //! The program reads its command line, opens its files and calls the engine of its command. What an
 //! engine writes and answers is said by its contract in its own crate, and how that is told by the
-//! contracts of the crate `answer`.
+//! contracts of `audit::answer`, `listing::answer_list` and the crate report.
 #![tactic(auto)]
 
-ghost use Rattle.report.specs.Output.{IsWritable};
-ghost use Rattle.report.specs.State.{sink_state};
+ghost use Rattle.byte_stream.specs.State.{IsWritable};
 
 mod command_line;
 mod commands;
 mod files;
-mod request;
+mod invocation;
 
 use crate::command_line::read_command_line;
-use crate::files::{ask_files, check_files, list_file};
-use crate::request::Request;
-use answer::{refuse, refuse_time, show};
-pub use audit::{
-    run_at, run_at_with, run_check, run_check_with, run_find, run_find_with, run_samples,
-    run_samples_with,
-};
+use crate::files::{Inputs, open, open_inputs};
+use crate::invocation::Invocation;
+use audit::{Outputs, answer};
+pub use audit::{run_at, run_check, run_find, run_samples};
+use byte_stream::ReadFeed;
 pub use byte_stream::{Sink, SinkFault, TestSink, WriteSink};
+use listing::answer_list;
 pub use listing::run_list;
-use report::tell;
 pub use report::{Input, Outcome, RunFault, fault_line, read_input, status};
+use report::{refuse, refuse_time, show, tell};
 use std::alloc::AllocError;
 use std::hash::{BuildHasher, BuildHasherDefault, FoldHasher, RandomState};
+use std::io;
 use std::process::ExitCode;
 
-/// Runs the command of a request, and answers the exit status. What is read of a capture is hashed
-/// by `hasher`, on which no answer depends.
-fn run<K: Sink, E: Sink, H: BuildHasher + Drop>(
+/// Lists the capture of this path, or standard input. The result is the exit status.
+fn list<S: Sink, E: Sink>(
     rt: &HostRuntime,
-    request: Request,
-    out: &mut K,
-    err: &mut E,
+    path: &Option<String>,
+    outputs: &mut Outputs<S, E>,
+) -> u8
+    requires out { IsWritable (S.state outputs.old.out) }
+    requires err { IsWritable (E.state outputs.old.err) }
+{
+    let alloc = rt.alloc();
+    let out = &mut outputs.out;
+    let err = &mut outputs.err;
+    match path {
+        None => answer_list(alloc, ReadFeed::new(rt.stdin()), out, err).1,
+        Some(path) => match open(rt, path.as_str(), Input::Capture) {
+            Ok(capture) => answer_list(alloc, capture, out, err).1,
+            Err(fault) => tell(&Err(fault), err),
+        },
+    }
+}
+
+/// Does what a command line calls for: all files are opened before anything is read. The result is
+/// the exit status. What is read of a capture is hashed by `hasher`, on which no answer depends.
+fn respond<S: Sink, E: Sink, H: BuildHasher + Drop>(
+    rt: &HostRuntime,
+    invocation: Invocation,
+    outputs: &mut Outputs<S, E>,
     hasher: H,
 ) -> u8
-    requires out { IsWritable (sink_state K.contents K.is_open K.fault_count out.old) }
-    requires err { IsWritable (sink_state E.contents E.is_open E.fault_count err.old) }
+    requires out { IsWritable (S.state outputs.old.out) }
+    requires err { IsWritable (E.state outputs.old.err) }
 {
-    match request {
-        Request::List(path) => list_file(rt, &path, out, err),
-        Request::Ask(paths, question) => ask_files(rt, &paths, question, out, err, hasher),
-        Request::Check(paths) => check_files(rt, &paths, out, err, hasher),
-        Request::Show(text) => show(text, out, err),
-        Request::Refuse(text) => refuse(text, err),
-        Request::RefuseTime => refuse_time(err),
+    let alloc = rt.alloc();
+    match invocation {
+        Invocation::List(path) => list(rt, &path, outputs),
+        Invocation::Ask(question, paths) => match open_inputs(rt, &paths) {
+            Ok(Inputs {
+                mut claim,
+                second: Some(mut second),
+                capture,
+            }) => answer(
+                alloc, question, &mut claim, &mut second, capture, outputs, hasher,
+            )
+            .1,
+            Ok(Inputs {
+                mut claim,
+                second: None,
+                capture,
+            }) => {
+                let mut none = ReadFeed::new(io::empty());
+                answer(alloc, question, &mut claim, &mut none, capture, outputs, hasher).1
+            }
+            Err(fault) => tell(&Err(fault), &mut outputs.err),
+        },
+        Invocation::Show(text) => show(text, &mut outputs.out, &mut outputs.err),
+        Invocation::Refuse(text) => refuse(text, &mut outputs.err),
+        Invocation::RefuseTime => refuse_time(&mut outputs.err),
     }
 }
 
 fn main(rt: HostRuntime) -> ExitCode {
-    let mut out = WriteSink::new(rt.stdout());
-    let mut err = WriteSink::new(rt.stderr());
+    let mut outputs = Outputs {
+        out: WriteSink::new(rt.stdout()),
+        err: WriteSink::new(rt.stderr()),
+    };
     let code = match read_command_line(&rt) {
         // A random key, so that nobody can write a capture whose packets collide. Where the system
         // has no random bytes a fixed key has to do: it slows such a capture down, no more.
-        Ok(request) => match RandomState::new(&rt) {
-            Ok(hasher) => run(&rt, request, &mut out, &mut err, hasher),
+        Ok(invocation) => match RandomState::new(&rt) {
+            Ok(hasher) => respond(&rt, invocation, &mut outputs, hasher),
             Err(_) => {
                 let hasher = BuildHasherDefault::<FoldHasher>::new();
-                run(&rt, request, &mut out, &mut err, hasher)
+                respond(&rt, invocation, &mut outputs, hasher)
             }
         },
-        Err(AllocError) => tell(&Err(RunFault::Memory), &mut err),
+        Err(AllocError) => tell(&Err(RunFault::Memory), &mut outputs.err),
     };
     ExitCode::from(code)
 }

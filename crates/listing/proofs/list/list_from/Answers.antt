@@ -1,5 +1,5 @@
 use Rattle.std.proofs.Common.{◌∙◌, sym}
-use Rattle.listing.proofs.Answer.{lists_over}
+use Rattle.listing.proofs.Endings.{lists_over}
 use Rattle.listing.proofs.list.list_from.Goals as goal
 
 pub returns : goal.returns

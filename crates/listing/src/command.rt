@@ -1,0 +1,32 @@
+//! The listing as a whole command: its answer, told.
+
+ghost use Rattle.std.specs.Option.{option_map};
+ghost use Rattle.byte_stream.specs.State.{IsReadable, IsWritable};
+ghost use Rattle.report.specs.Run.{capture_state};
+ghost use Rattle.report.specs.Telling.{Answers};
+ghost use Rattle.listing.specs.Listing.{list_report};
+
+use crate::run::run_list;
+use byte_stream::{Feed, Sink};
+use report::tell;
+use std::alloc::Global;
+
+/// Lists a capture on `out` as `run_list` does, and tells a fault on `err`. Beside the feed stands
+/// the exit status.
+pub fn answer_list<F: Feed, S: Sink, E: Sink>(
+    alloc: Global,
+    capture: F,
+    out: &mut S,
+    err: &mut E,
+) -> (F, u8)
+    requires feed { IsReadable (F.state capture) }
+    requires out { IsWritable (S.state out.old) }
+    requires err { IsWritable (E.state err.old) }
+    ensures { Answers (option_map list_report (F.state capture).remaining)
+        (capture_state (F.state capture) (S.state out.old))
+        (capture_state (F.state result.0) (S.state out.new))
+        (E.state err.old) (E.state err.new) result.1 }
+{
+    let (capture, answer) = run_list(alloc, capture, out);
+    (capture, tell(&answer, err))
+}

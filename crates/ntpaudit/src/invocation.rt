@@ -1,0 +1,39 @@
+//! What the words of a command line call for.
+
+use audit::Question;
+use report::Input;
+
+/// The path of a second input.
+#[derive(Debug, Drop)]
+pub(crate) struct SecondPath {
+    /// Which input it is.
+    pub(crate) input: Input,
+    /// Where it lies.
+    pub(crate) path: String,
+}
+
+/// The paths of the files that a question is asked of.
+#[derive(Debug, Drop)]
+pub(crate) struct Paths {
+    /// The claim's.
+    pub(crate) claim: String,
+    /// That of the second input, where the question has one.
+    pub(crate) second: Option<SecondPath>,
+    /// The capture's.
+    pub(crate) capture: String,
+}
+
+/// What the words of a command line call for.
+#[derive(Drop)]
+pub(crate) enum Invocation {
+    /// List a capture: the file of this path, or standard input.
+    List(Option<String>),
+    /// Answer a question on a claim and a capture.
+    Ask(Question, Paths),
+    /// Show this text: help, or the version.
+    Show(String),
+    /// The command line is refused, for the reason in this text.
+    Refuse(String),
+    /// The command line is refused, since its TIME isn't written as a claim's times are.
+    RefuseTime,
+}
