@@ -3,6 +3,7 @@ pub mod CaptureLemmas
 pub mod MomentLemmas
 pub mod CheckLemmas
 pub mod FindLemmas
+pub mod RefuteLemmas
 pub mod RunLemmas
 pub mod ShowsLemmas
 pub mod StatusLemmas

@@ -5,6 +5,7 @@ pub mod Moment
 pub mod At
 pub mod Check
 pub mod Find
+pub mod Refute
 pub mod Question
 pub mod Report
 pub mod Run

@@ -4,7 +4,8 @@ ghost use Rattle.std.specs.Prelude.{◌≡◌, ◌≤◌, Ok};
 ghost use Rattle.report.specs.Run.{no_feed, run_state};
 ghost use Rattle.audit.specs.Check.{IsNotTraced, IsTraced};
 ghost use Rattle.audit.specs.Find.{IsAccepted, IsNotFound};
-ghost use Rattle.audit.specs.Question.{samples, at, find, check};
+ghost use Rattle.audit.specs.Question.{samples, at, find, check, refute};
+ghost use Rattle.audit.specs.Refute.{IsContested, IsUncontested};
 ghost use Rattle.audit.specs.Run.{IsStep, MayRun, RunsAlone, RunsFor};
 
 use crate::engine::run;
@@ -32,15 +33,8 @@ pub fn run_samples<C: Feed, F: Feed, S: Sink>(
 {
     let hasher = BuildHasherDefault::<FoldHasher>::new();
     let mut none = ReadFeed::new(io::empty());
-    run(
-        alloc,
-        Question::Samples,
-        claim,
-        &mut none,
-        capture,
-        out,
-        hasher,
-    )
+    let question = Question::Samples;
+    run(alloc, question, claim, &mut none, capture, out, hasher)
 }
 
 /// Shows what each server says of the clock of the claim's client at one moment, by its best
@@ -62,15 +56,8 @@ pub fn run_at<C: Feed, F: Feed, S: Sink>(
 {
     let hasher = BuildHasherDefault::<FoldHasher>::new();
     let mut none = ReadFeed::new(io::empty());
-    run(
-        alloc,
-        Question::At(second),
-        claim,
-        &mut none,
-        capture,
-        out,
-        hasher,
-    )
+    let question = Question::At(second);
+    run(alloc, question, claim, &mut none, capture, out, hasher)
 }
 
 /// Settles whether a certificate shows that the clock of the claim's client stayed within the
@@ -96,15 +83,36 @@ pub fn run_check<C: Feed, F: Feed, T: Feed, S: Sink>(
         IsNotTraced (C.state claim.old) (T.state certificate.old) (F.state capture) }
 {
     let hasher = BuildHasherDefault::<FoldHasher>::new();
-    run(
-        alloc,
-        Question::Check,
-        claim,
-        certificate,
-        capture,
-        out,
-        hasher,
-    )
+    let question = Question::Check;
+    run(alloc, question, claim, certificate, capture, out, hasher)
+}
+
+/// Settles whether a refutation stands against the claim: whether the clock of the claim's client
+/// may have been off by its error, beyond the claimed bound, at its reading, which lies in the
+/// claimed span, where just the servers that it names are false. The answer is `Yes` exactly where
+/// it stands.
+pub fn run_refute<C: Feed, F: Feed, T: Feed, S: Sink>(
+    alloc: Global,
+    claim: &mut C,
+    capture: F,
+    refutation: &mut T,
+    out: &mut S,
+) -> (F, Result<Outcome, RunFault>)
+    requires { MayRun (run_state
+        (C.state claim.old) (T.state refutation.old) (F.state capture) (S.state out.old)) }
+    ensures runs { RunsFor refute (run_state
+        (C.state claim.old) (T.state refutation.old) (F.state capture) (S.state out.old))
+        (run_state
+        (C.state claim.new) (T.state refutation.new) (F.state result.0) (S.state out.new))
+        refutation.old refutation.new capture result.0 result.1 }
+    ensures contested { result.1 ≡ Ok Outcome.Yes →
+        IsContested (C.state claim.old) (T.state refutation.old) (F.state capture) }
+    ensures uncontested { result.1 ≡ Ok Outcome.No →
+        IsUncontested (C.state claim.old) (T.state refutation.old) (F.state capture) }
+{
+    let hasher = BuildHasherDefault::<FoldHasher>::new();
+    let question = Question::Refute;
+    run(alloc, question, claim, refutation, capture, out, hasher)
 }
 
 /// Looks for a certificate of the claim in pieces of `step_s` seconds, from 1 to 86,400: the answer

@@ -17,7 +17,7 @@ mod question;
 mod sample_list;
 mod step;
 
-pub use commands::{run_at, run_check, run_find, run_samples};
+pub use commands::{run_at, run_check, run_find, run_refute, run_samples};
 pub use engine::{Outputs, answer, run};
 pub use question::Question;
 pub use step::Step;

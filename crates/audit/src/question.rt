@@ -8,29 +8,30 @@ ghost use Rattle.std.specs.Prelude.{◌≡◌, IfOk, IfErr, IfSome};
 ghost use Rattle.byte_stream.specs.Fault.{CountsFault};
 ghost use Rattle.byte_stream.specs.Intake.{TakesAtMost};
 ghost use Rattle.byte_stream.specs.State.{IsReadable};
-ghost use Rattle.report.specs.CertificateInput.{IsOfCertificate};
 ghost use Rattle.report.specs.Publication.{IsMadeFor};
 ghost use Rattle.report.specs.Reading.{Reads};
 ghost use Rattle.report.specs.Reports.{is_device, is_second};
 ghost use Rattle.audit.specs.Evidence.{IsLawfulEvidence, evidence_data};
-ghost use Rattle.audit.specs.Question.{AsksNoSecond, IsTaskOf, most_second, task_read};
+ghost use Rattle.audit.specs.Question.{AsksNoSecond, IsOfSecond, IsTaskOf, most_second, task_read};
 ghost use Rattle.audit.specs.Question.{IsLawfulTask, ShowsOf, data_of, report_on, task_data};
 ghost use Rattle.audit.specs.Report.{IsOfMaking};
 
 mod at;
 mod check;
 mod find;
+mod refute;
 mod samples;
 
 use crate::evidence::Evidence;
 use crate::question::at::make_at;
 use crate::question::check::make_check;
 use crate::question::find::make_find;
+use crate::question::refute::make_refute;
 use crate::question::samples::make_samples;
 use crate::step::Step;
 use byte_stream::Feed;
-use certificate::Certificate;
-use report::{Made, RunFault, read_certificate_from};
+use certificate::{Certificate, Refutation};
+use report::{Made, RunFault, read_certificate_from, read_refutation_from};
 use std::alloc::Global;
 
 /// What is asked of a claim and a capture.
@@ -44,6 +45,8 @@ pub enum Question {
     Find(Step),
     /// Does a certificate, the second input, show the claim?
     Check,
+    /// Does a refutation, the second input, stand against the claim?
+    Refute,
 }
 
 /// What is to be done for a question, once its second input is read.
@@ -57,6 +60,8 @@ pub(crate) enum Task {
     Find(Step),
     /// Settle the claim by a certificate.
     Check(Certificate),
+    /// Settle whether a refutation stands.
+    Refute(Refutation),
 }
 
 /// Reads the second input of a question, where it has one.
@@ -72,7 +77,7 @@ pub(crate) fn read_task<T: Feed>(
         (λ expected. Reads task_data expected result) }
     ensures kind { IfOk result (λ task. IsTaskOf (data_of question) (task_data task)) }
     ensures lawful { IfOk result IsLawfulTask }
-    ensures fault { IfErr result IsOfCertificate }
+    ensures fault { IfErr result IsOfSecond }
     ensures counts_fault { CountsFault (is_device is_second result)
         (T.state second.old).faults (T.state second.new).faults }
     ensures at_most { TakesAtMost (most_second (data_of question))
@@ -85,6 +90,10 @@ pub(crate) fn read_task<T: Feed>(
         Question::Find(step) => Ok(Task::Find(step)),
         Question::Check => match read_certificate_from(alloc, second) {
             Ok(certificate) => Ok(Task::Check(certificate)),
+            Err(fault) => Err(fault),
+        },
+        Question::Refute => match read_refutation_from(alloc, second) {
+            Ok(refutation) => Ok(Task::Refute(refutation)),
             Err(fault) => Err(fault),
         },
     }
@@ -104,5 +113,6 @@ pub(crate) fn make(alloc: Global, task: &Task, evidence: &Evidence) -> Result<Ma
         Task::At(second) => make_at(alloc, *second, evidence),
         Task::Find(step) => make_find(alloc, *step, evidence),
         Task::Check(certificate) => make_check(alloc, certificate, evidence),
+        Task::Refute(refutation) => make_refute(alloc, refutation, evidence),
     }
 }
