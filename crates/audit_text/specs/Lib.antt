@@ -7,3 +7,4 @@ pub mod Parts
 pub mod CheckReport
 pub mod Nothing
 pub mod Envelope
+pub mod Refutation

@@ -165,7 +165,8 @@ fn add_pieces(
     requires samples { All IsLawfulSample samples.now }
     requires listed { All (λ sample. sample.server < length claim.now.servers.items) samples.now }
     requires few { length pieces.now ≤ 100_000 }
-    requires pieces { All (λ piece. IsLawfulPiece (length samples.now) (piece_data piece)) pieces.now }
+    requires pieces { All (λ piece. IsLawfulPiece (length samples.now) (piece_data piece))
+        pieces.now }
     ensures { IfOk result (λ _. text.new.items ≡ text.old.items
         ++ lines_from samples.now (data_of claim.now) servers 0 (map piece_data pieces.now)) }
 {
@@ -180,9 +181,10 @@ fn add_pieces(
 }
 
 /// The text of `envelope`: a line for each piece, numbered from 0, with its begin and end in Unix
-/// seconds and its hull in ticks of 2^-32 s; before it, if `servers` is true, a line for each server
-/// that has a sample, with its address and its interval in the piece; and last the least bound in
-/// nanoseconds, and the first piece that needs it.
+/// seconds and its hull in ticks of 2^-32 s; before it, if `servers` is true, a line for each
+/// server that has a sample, with its address and its interval in the piece; and last the least
+/// bound in nanoseconds, and the first piece that needs it, or the first piece in which no bound
+/// holds.
 ///
 /// The envelope is of these samples, at most 1,000,000, and of this claim.
 #[tactic(auto, unfolding(crate::specs::Envelope::envelope_text))]

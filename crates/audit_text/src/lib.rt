@@ -1,10 +1,11 @@
 //! The texts of the commands that hold a capture against a claim.
 //!
 //! [`samples_text`] shows the samples of a capture, [`parts_text`] what each server says of the
-//! clock at one moment, [`check_text`] a verdict and what it stands on, and [`nothing_text`] a
-//! piece for which no certificate was found. Each makes a whole text, of lines that end with a line
-//! feed, or is out of memory; what the lines say was calculated before. The line of each notion
-//! stands in `specs/` under its name.
+//! clock at one moment, [`check_text`] a verdict and what it stands on, [`nothing_text`] a piece for
+//! which no certificate was found, [`envelope_text`] what is known of the error in each piece and
+//! the least bound that holds, and [`refuted_text`] whether a refutation is accepted. Each makes a
+//! whole text, of lines that end with a line feed, or is out of memory; what the lines say was
+//! calculated before. The line of each notion stands in `specs/` under its name.
 #![tactic(auto)]
 
 mod check_report;
@@ -14,6 +15,7 @@ mod hull_line;
 mod interval_line;
 mod nothing;
 mod parts;
+mod refutation;
 mod sample_line;
 mod samples;
 
@@ -21,4 +23,5 @@ pub use check_report::check_text;
 pub use envelope::envelope_text;
 pub use nothing::nothing_text;
 pub use parts::parts_text;
+pub use refutation::{no_refutation_text, refuted_text};
 pub use samples::samples_text;

@@ -11,3 +11,10 @@ pub mod RefusalLemmas
 pub mod BoundLemmas
 pub mod EnvelopeLemmas
 pub mod CarriedLemmas
+pub mod RoomLemmas
+pub mod GroupLemmas
+pub mod NearestLemmas
+pub mod RoomsLemmas
+pub mod SoughtLemmas
+pub mod LiarLemmas
+pub mod FoundRefutationLemmas

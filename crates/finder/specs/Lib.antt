@@ -4,3 +4,5 @@ pub mod Entry
 pub mod Found
 pub mod Refusal
 pub mod Envelope
+pub mod Room
+pub mod Sought

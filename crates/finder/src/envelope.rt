@@ -44,8 +44,8 @@ pub struct Envelope {
     pub least: LeastBound,
 }
 
-/// The envelope of a claim, in pieces of `step_s` seconds, from 1 to 86,400. The claim's bound plays
-/// no part in it.
+/// The envelope of a claim, in pieces of `step_s` seconds, from 1 to 86,400. The claim's bound
+/// plays no part in it.
 ///
 /// The samples are those of all exchanges, in their order, at most 1,000,000. Each piece has one
 /// entry for each server that has a sample, in the order of the servers: the samples that make its
@@ -72,7 +72,8 @@ pub fn find_envelope(
     ensures too_many { (result ≡ Err FindFault.TooManyPieces)
         ↔ (max_pieces < count_of (claim_data claim.now) step_s) }
 
-    ensures least { IfOk result (λ found. IsLeast (hull_at samples.now (claim_data claim.now) step_s)
+    ensures least { IfOk result (λ found.
+        IsLeast (hull_at samples.now (claim_data claim.now) step_s)
         (count_of (claim_data claim.now) step_s) found.least) }
     ensures lawful { IfOk result (IsLawfulEnvelope (length samples.now)) }
 {

@@ -1,10 +1,11 @@
-//! Finds certificates, and how good a bound the samples show.
+//! Finds certificates and refutations, and how good a bound the samples show.
 //!
 //! [`find`] cuts the span of a claim into pieces, takes for each server the samples that say most
 //! of each piece, and gives either a certificate, which the checker accepts, or the first piece of
 //! which these samples don't show enough. What it finds is a proposal: nothing rests on it before
-//! the checker has said yes. [`find_envelope`] takes the same pieces, and gives the hull of each and the
-//! least bound that holds over all of them. [`laws`] has what holds of the definitions.
+//! the checker has said yes. [`find_envelope`] takes the same pieces, and gives the hull of each
+//! and the least bound that holds over all of them. [`find_refutation`] gives a refutation, which
+//! the checker accepts, unless it accepts none. [`laws`] has what holds of the definitions.
 #![tactic(auto)]
 
 mod entry;
@@ -15,6 +16,8 @@ mod hull;
 pub mod laws;
 mod least;
 mod piece;
+mod room;
+mod sought;
 mod table;
 
 pub use envelope::{Envelope, PieceHull, find_envelope};
@@ -22,3 +25,4 @@ pub use fault::FindFault;
 pub use found::{Found, find};
 pub use hull::parts;
 pub use least::LeastBound;
+pub use sought::find_refutation;

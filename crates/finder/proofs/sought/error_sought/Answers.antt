@@ -1,0 +1,62 @@
+use Rattle.std.proofs.Common.{◌≡◌, ℤ, pos, neg_ℤ, sym, arith, ◌-ℤ◌}
+use Rattle.std.proofs.lemmas.Int.{ints}
+use Rattle.claim_file.specs.Claim.{data_of as claim_data}
+use Rattle.finder.specs.Sought.{greatest_error, is_possible, least_error_below}
+use Rattle.finder.proofs.Kept.{kept}
+use Rattle.finder.proofs.SoughtLemmas.{AreMirrored, found_is, none_found, none_sought, possible_is, possible_turned, sought_above, sought_below}
+use Rattle.finder.proofs.sought.error_sought.Goals as goal
+
+pub returns-in-Some-clause-exact : goal.returns-in-Some-clause-exact
+returns-in-Some-clause-exact c xs are =
+    let claim = claim_data c.args.claim.now in
+    let lawful = c.requires.claim in
+    let rooms = c.args.rooms.now in
+    let not_below = lawful.bound_not_negative in
+    let not_above = lawful.bound_in_range in
+    let above = c.in-Some.ensures.beyond in
+    let within = c.in-Some.ensures.within in
+    let error = kept c.in-Some.error (omega (arith, ints)) in
+    let is = found_is claim lawful rooms (is_possible claim xs) (possible_is claim lawful xs rooms are) greatest_error
+    (omega (arith, ints)) c.in-Some.error c.in-Some.ensures in
+    rw error (sym (sought_above claim xs c.in-Some.error is))
+
+pub returns-in-Some-nearest-clause-exact : goal.returns-in-Some-nearest-clause-exact
+returns-in-Some-nearest-clause-exact c xs are =
+    let claim = claim_data c.args.claim.now in
+    let lawful = c.requires.claim in
+    let rooms = c.args.rooms.now in
+    let not_below = lawful.bound_not_negative in
+    let not_above = lawful.bound_in_range in
+    let turned : AreMirrored rooms c.mirrored.result = record {
+      low = c.mirrored.ensures.low;
+      high = c.mirrored.ensures.high;
+    } in
+    let none = none_found claim lawful rooms (is_possible claim xs) (possible_is claim lawful xs rooms are)
+    greatest_error (omega (arith, ints)) (omega (arith, ints)) c.in_default.ensures in
+    let error = c.in-Some-nearest.error in
+    let above = c.in-Some-nearest.ensures.beyond in
+    let within = c.in-Some-nearest.ensures.within in
+    let same = kept error (omega (arith, ints)) in
+    let negative = kept (pos 0 -ℤ error) (omega (arith, ints)) in
+    let opposite : pos 0 -ℤ error ≡ neg_ℤ error = omega (arith, ints) in
+    let is = found_is claim lawful c.mirrored.result (λ (e : ℤ). is_possible claim xs (neg_ℤ e))
+    (possible_turned claim lawful xs rooms c.mirrored.result are turned) least_error_below
+    (omega (arith, ints)) error c.in-Some-nearest.ensures in
+    rw (same, negative, opposite) (sym (sought_below claim xs error none is))
+
+pub returns-in-None-clause-exact : goal.returns-in-None-clause-exact
+returns-in-None-clause-exact c xs are =
+    let claim = claim_data c.args.claim.now in
+    let lawful = c.requires.claim in
+    let rooms = c.args.rooms.now in
+    let not_above = lawful.bound_in_range in
+    let turned : AreMirrored rooms c.mirrored.result = record {
+      low = c.mirrored.ensures.low;
+      high = c.mirrored.ensures.high;
+    } in
+    let none = none_found claim lawful rooms (is_possible claim xs) (possible_is claim lawful xs rooms are)
+    greatest_error (omega (arith, ints)) (omega (arith, ints)) c.in_default.ensures in
+    let none_below = none_found claim lawful c.mirrored.result (λ (e : ℤ). is_possible claim xs (neg_ℤ e))
+    (possible_turned claim lawful xs rooms c.mirrored.result are turned) least_error_below (omega (arith, ints))
+    (omega (arith, ints)) c.in-None.ensures in
+    sym (none_sought claim xs none none_below)

@@ -1,0 +1,164 @@
+//! The errors for which exchanges leave room.
+
+ghost use Rattle.std.specs.Prelude.{◌≡◌, ◌^◌, ◌<◌, ◌≤◌, ◌≤ℤ◌, ◌+ℤ◌, ◌-ℤ◌, ℤ, ℕ, pos, neg_ℤ, ◌||◌, not, unsigned_abs, length, All};
+ghost use Rattle.claim_file.specs.Claim.{IsLawful, data_of as claim_data};
+ghost use Rattle.intersection.specs.Interval.{leaves_out};
+ghost use Rattle.pairing.specs.Exchange.{IsLawful as IsLawfulExchange};
+ghost use Rattle.sample_interval.specs.Exchange.{IsOfSomeClaim};
+ghost use Rattle.checker.specs.Groups.{false_group_count, holds_false};
+ghost use Rattle.checker.specs.RefutationTest.{admits};
+ghost use Rattle.finder.specs.Room.{AreRooms, IsNear, possible_by, refused_by, room_at};
+
+use claim_file::Claim;
+use intersection::kinds::Interval;
+use pairing::Exchange;
+
+/// More ticks than an error that leaves room for an exchange, or that a refutation can have.
+const FAR: i128 = 1 << 80;
+
+/// Every error.
+const EVERY_ERROR: Interval = Interval { lo: -FAR, hi: FAR };
+
+/// No error.
+const NO_ERROR: Interval = Interval { lo: FAR, hi: -FAR };
+
+/// The errors for which each server leaves room over all its exchanges, by the server's number.
+pub(crate) fn rooms_of(exchanges: &[Exchange], allowance: i128) -> [Interval; 32]
+    requires exchanges { All (IsLawfulExchange 32) exchanges.now }
+    requires from_zero { pos 0 ≤ℤ allowance }
+    requires at_most_a_second { allowance ≤ℤ pos (2 ^ 32) }
+    ensures rooms { AreRooms allowance exchanges.now result }
+{
+    let mut rooms = [EVERY_ERROR; 32];
+    for exchange in exchanges {
+        let server = usize::from(exchange.server);
+        rooms[server] = meet(rooms[server], room_of(exchange, allowance));
+    }
+    rooms
+}
+
+/// The errors for which an exchange leaves room.
+fn room_of(exchange: &Exchange, allowance: i128) -> Interval
+    requires exchange { IsOfSomeClaim exchange.now }
+    requires from_zero { pos 0 ≤ℤ allowance }
+    requires at_most_a_second { allowance ≤ℤ pos (2 ^ 32) }
+    ensures room { (error : ℤ) → IsNear error →
+        leaves_out result error ≡ not (admits allowance error exchange.now) }
+    ensures low { unsigned_abs result.lo ≤ 2 ^ 80 }
+    ensures high { unsigned_abs result.hi ≤ 2 ^ 80 }
+{
+    let request = difference(exchange.t1_low, allowance);
+    let reply = sum(exchange.t4_high, allowance);
+    let earliest_receipt = difference(exchange.t2, exchange.distance);
+    let latest_answer = sum(exchange.t3, exchange.distance);
+    if reply < request || latest_answer < earliest_receipt {
+        return NO_ERROR;
+    }
+    let earlier = exchange.t2.min(exchange.t3);
+    let later = exchange.t2.max(exchange.t3);
+    Interval {
+        lo: difference(request, sum(earlier, exchange.distance)),
+        hi: difference(reply, difference(later, exchange.distance)),
+    }
+}
+
+/// The sum of two numbers of ticks.
+fn sum(a: i128, b: i128) -> i128
+    requires a { unsigned_abs a ≤ 2 ^ 72 }
+    requires b { unsigned_abs b ≤ 2 ^ 72 }
+    ensures value { result ≡ a +ℤ b }
+    ensures in_range { unsigned_abs result ≤ 2 ^ 73 }
+{
+    a + b
+}
+
+/// The difference of two numbers of ticks.
+fn difference(a: i128, b: i128) -> i128
+    requires a { unsigned_abs a ≤ 2 ^ 73 }
+    requires b { unsigned_abs b ≤ 2 ^ 73 }
+    ensures value { result ≡ a -ℤ b }
+    ensures in_range { unsigned_abs result ≤ 2 ^ 74 }
+{
+    a - b
+}
+
+/// The points that two intervals share.
+fn meet(a: Interval, b: Interval) -> Interval
+    requires a_low { unsigned_abs a.lo ≤ 2 ^ 80 }
+    requires a_high { unsigned_abs a.hi ≤ 2 ^ 80 }
+    requires b_low { unsigned_abs b.lo ≤ 2 ^ 80 }
+    requires b_high { unsigned_abs b.hi ≤ 2 ^ 80 }
+    ensures leaves_out { (error : ℤ) →
+        leaves_out result error ≡ leaves_out a error || leaves_out b error }
+    ensures low { unsigned_abs result.lo ≤ 2 ^ 80 }
+    ensures high { unsigned_abs result.hi ≤ 2 ^ 80 }
+{
+    Interval {
+        lo: a.lo.max(b.lo),
+        hi: a.hi.min(b.hi),
+    }
+}
+
+/// The negatives of the errors.
+pub(crate) fn mirrored(rooms: &[Interval; 32]) -> [Interval; 32]
+    requires low { (server : ℕ) → server < 32 →
+        unsigned_abs (room_at rooms.now server).lo ≤ 2 ^ 80 }
+    requires high { (server : ℕ) → server < 32 →
+        unsigned_abs (room_at rooms.now server).hi ≤ 2 ^ 80 }
+    ensures low { (server : ℕ) → server < 32 →
+        (room_at result server).lo ≡ neg_ℤ (room_at rooms.now server).hi }
+    ensures high { (server : ℕ) → server < 32 →
+        (room_at result server).hi ≡ neg_ℤ (room_at rooms.now server).lo }
+{
+    let mut mirrored = [EVERY_ERROR; 32];
+    for server in 0..32 {
+        mirrored[server] = Interval {
+            lo: -rooms[server].hi,
+            hi: -rooms[server].lo,
+        };
+    }
+    mirrored
+}
+
+/// Whether a server leaves no room for an error.
+pub(crate) fn is_refused(rooms: &[Interval; 32], error: i128, server: usize) -> bool
+    requires { server < 32 }
+    ensures { result ≡ refused_by rooms.now error server }
+{
+    error < rooms[server].lo || rooms[server].hi < error
+}
+
+/// Whether a group holds a server that leaves no room for the error.
+fn is_group_false(rooms: &[Interval; 32], groups: &[u8], error: i128, group: usize) -> bool
+    requires { length groups.now ≤ 32 }
+    ensures { result ≡ holds_false groups.now (refused_by rooms.now error) group }
+{
+    for server in 0..groups.len() {
+        if usize::from(groups[server]) == group && is_refused(rooms, error, server) {
+            return true;
+        }
+    }
+    false
+}
+
+/// How many groups hold a server that leaves no room for the error.
+fn false_group_count(rooms: &[Interval; 32], groups: &[u8], error: i128) -> usize
+    requires { length groups.now ≤ 32 }
+    ensures { result ≡ false_group_count groups.now (refused_by rooms.now error) }
+{
+    let mut count = 0;
+    for group in 0..groups.len() {
+        if is_group_false(rooms, groups, error, group) {
+            count += 1;
+        }
+    }
+    count
+}
+
+/// Whether at most `false_max` groups hold a server that leaves no room for the error.
+pub(crate) fn is_possible(rooms: &[Interval; 32], claim: &Claim, error: i128) -> bool
+    requires { IsLawful (claim_data claim.now) }
+    ensures { result ≡ possible_by rooms.now (claim_data claim.now) error }
+{
+    false_group_count(rooms, claim.groups.as_slice(), error) <= usize::from(claim.false_max)
+}

@@ -1,0 +1,111 @@
+//! Refutations that are found.
+
+ghost use Rattle.std.specs.Prelude.{◌≡◌, ◌^◌, ◌<◌, ◌≤◌, ℤ, ℕ, pos, ◌≤ℤ◌, ◌<ℤ◌, unsigned_abs, List, length, filter, All, IsNone, IfSome, option_map};
+ghost use Rattle.pairing.specs.declared.exchange.Exchange.{Exchange};
+ghost use Rattle.certificate.specs.Refutation.{data_of as refutation_data};
+ghost use Rattle.claim_file.specs.Claim.{IsLawful, data_of as claim_data};
+ghost use Rattle.pairing.specs.Exchange.{IsLawful as IsLawfulExchange};
+ghost use Rattle.checker.specs.Groups.{numbers_below};
+ghost use Rattle.finder.specs.Room.{AreRooms, possible_by, refused_by, room_at};
+ghost use Rattle.finder.specs.Sought.{IsErrorOf64Bits, IsNearest, IsSought, NoneIsRefuted};
+ghost use Rattle.finder.specs.Sought.{sought_error, sought_of};
+
+use crate::room::{is_possible, is_refused, mirrored, rooms_of};
+use arrayvec::ArrayVec;
+use certificate::Refutation;
+use claim_file::Claim;
+use intersection::kinds::Interval;
+use pairing::Exchange;
+
+/// The greatest error of a refutation, in ticks.
+const GREATEST_ERROR: i128 = (1 << 63) - 1;
+
+/// How far below zero the least error of a refutation is, in ticks.
+const LEAST_ERROR_BELOW: i128 = 1 << 63;
+
+/// Looks for a refutation of a claim: the one with the least error above the bound, or where there
+/// is none with the greatest error below it on the other side. It names just the servers that have
+/// an exchange with no room for that error, in their order, and the first reading of the span. It
+/// takes no memory, and looks once at each exchange.
+pub fn find_refutation(exchanges: &[Exchange], claim: &Claim) -> Option<Refutation>
+    requires claim { IsLawful (claim_data claim.now) }
+    requires exchanges { All (IsLawfulExchange (length claim.now.servers.items)) exchanges.now }
+    ensures exact { option_map refutation_data result
+        ≡ sought_of (claim_data claim.now) exchanges.now }
+    ensures found { IfSome result (λ found.
+        IsSought (claim_data claim.now) exchanges.now (refutation_data found)) }
+
+    // With no other error, servers or reading is a refutation accepted.
+    ensures none { IsNone result → NoneIsRefuted (claim_data claim.now) exchanges.now }
+{
+    let rooms = rooms_of(exchanges, claim.reading);
+    let error = error_sought(&rooms, claim)?;
+    Some(Refutation {
+        error: error as i64,
+        liars: refusing(&rooms, claim.servers.len() as u8, error),
+        reading: claim.first as u64,
+    })
+}
+
+/// The error that is sought, where each server leaves room for just the errors of its interval.
+fn error_sought(rooms: &[Interval; 32], claim: &Claim) -> Option<i128>
+    requires claim { IsLawful (claim_data claim.now) }
+    requires low { (server : ℕ) → server < 32 →
+        unsigned_abs (room_at rooms.now server).lo ≤ 2 ^ 80 }
+    requires high { (server : ℕ) → server < 32 →
+        unsigned_abs (room_at rooms.now server).hi ≤ 2 ^ 80 }
+    ensures exact { (xs : List Exchange) → AreRooms claim.now.reading xs rooms.now →
+        result ≡ sought_error (claim_data claim.now) xs }
+    ensures in_range { IfSome result IsErrorOf64Bits }
+{
+    if let Some(error) = nearest(rooms, claim, GREATEST_ERROR) {
+        return Some(error);
+    }
+    match nearest(&mirrored(rooms), claim, LEAST_ERROR_BELOW) {
+        Some(error) => Some(-error),
+        None => None,
+    }
+}
+
+/// The first error above the claim's bound, of those up to a limit, that at most `false_max` groups
+/// refuse.
+///
+/// Where an error has this property, then so has the greatest low end that isn't above it, or the
+/// first error of all: no server refuses that which doesn't refuse the other. So these alone are
+/// looked at.
+fn nearest(rooms: &[Interval; 32], claim: &Claim, limit: i128) -> Option<i128>
+    requires claim { IsLawful (claim_data claim.now) }
+    requires low { (server : ℕ) → server < 32 →
+        unsigned_abs (room_at rooms.now server).lo ≤ 2 ^ 80 }
+    requires beyond { claim.now.bound <ℤ limit }
+    requires in_range { limit ≤ℤ pos (2 ^ 63) }
+    ensures { IsNearest (possible_by rooms.now (claim_data claim.now))
+        claim.now.bound limit result }
+{
+    let next = claim.bound + 1;
+    if is_possible(rooms, claim, next) {
+        return Some(next);
+    }
+    let mut first = limit + 1;
+    for server in 0..32 {
+        let error = rooms[server].lo;
+        if claim.bound < error && error < first && is_possible(rooms, claim, error) {
+            first = error;
+        }
+    }
+    if first <= limit { Some(first) } else { None }
+}
+
+/// The servers that leave no room for an error, in their order.
+fn refusing(rooms: &[Interval; 32], servers: u8, error: i128) -> ArrayVec<u8, 32>
+    requires { servers ≤ 32 }
+    ensures { result.items ≡ filter (refused_by rooms.now error) (numbers_below servers) }
+{
+    let mut refusing = ArrayVec::new();
+    for server in 0..servers {
+        if is_refused(rooms, error, usize::from(server)) {
+            refusing.push(server);
+        }
+    }
+    refusing
+}
