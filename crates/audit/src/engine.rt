@@ -152,8 +152,8 @@ pub fn answer<C: Feed, T: Feed, F: Feed, S: Sink, E: Sink, H: BuildHasher + Drop
     requires err { IsWritable (E.state to.old.err) }
     ensures answers { AnswersFor (data_of question)
         (run_state (C.state claim.old) (T.state second.old) (F.state capture) (S.state to.old.out))
-        (run_state (C.state claim.new) (T.state second.new) (F.state result.0) (S.state to.new.out))
-        (E.state to.old.err) (E.state to.new.err) result.1 }
+        (run_state (C.state claim.new) (T.state second.new) (F.state result.0)
+        (S.state to.new.out)) (E.state to.old.err) (E.state to.new.err) result.1 }
     ensures traceable { question ≡ Question.Check → result.1 ≡ 0 →
         IsTraced (C.state claim.old) (F.state capture) }
     ensures shows { ShowsAt result.1 (data_of question)

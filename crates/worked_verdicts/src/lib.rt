@@ -5,6 +5,10 @@
 #[cfg(test)]
 mod certificates;
 #[cfg(test)]
+mod claims;
+#[cfg(test)]
+mod finds;
+#[cfg(test)]
 mod hulls;
 #[cfg(test)]
 mod pieces;

@@ -1,5 +1,5 @@
 //! Intervals of pieces, best samples and ends of pieces, by hand.
-ghost use Rattle.std.specs.Prelude.{◌<◌, ◌≤◌, ◌^◌, unsigned_abs};
+ghost use Rattle.std.specs.Prelude.{◌≡◌, ◌<◌, ◌≤◌, ◌^◌, unsigned_abs};
 ghost use Rattle.sample_interval.specs.Sample.{IsLawfulSample};
 
 use intersection::kinds::Interval;
@@ -13,7 +13,8 @@ const TICKS_PER_SECOND: i128 = 4_294_967_296;
 
 // The sample of an exchange of 20 ms at the second, in microseconds.
 pub(crate) fn twenty_milliseconds() -> Sample
-    ensures { IsLawfulSample result }
+    ensures lawful { IsLawfulSample result }
+    ensures server { result.server ≡ 0 }
 {
     Sample {
         server: 0,
