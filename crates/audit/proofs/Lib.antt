@@ -4,6 +4,8 @@ pub mod MomentLemmas
 pub mod CheckLemmas
 pub mod FindLemmas
 pub mod RefuteLemmas
+pub mod EnvelopeLemmas
+pub mod SeekLemmas
 pub mod RunLemmas
 pub mod ShowsLemmas
 pub mod StatusLemmas

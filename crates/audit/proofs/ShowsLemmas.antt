@@ -17,11 +17,13 @@ use Rattle.report.specs.Reading.{Reads}
 use Rattle.report.specs.RefutationInput.{refutation_read}
 use Rattle.audit.specs.CaptureInput.{capture_read}
 use Rattle.audit.specs.Check.{IsDenied, IsTracedTo}
+use Rattle.audit.specs.Envelope.{IsEnvelopeOf}
 use Rattle.audit.specs.Evidence.{EvidenceData, GiveEvidence, OfClaimAndCapture, evidence_of}
 use Rattle.audit.specs.Find.{IsFoundOf, IsNothingOf}
-use Rattle.audit.specs.Question.{QuestionData, TaskData, samples, at, find, check, refute, check_of, refute_by, check_read, refute_read, task_read, Shows, ShowsOf}
+use Rattle.audit.specs.Question.{QuestionData, TaskData, samples, at, find, check, refute, envelope, seek, check_of, refute_by, check_read, refute_read, task_read, Shows, ShowsOf}
 use Rattle.audit.specs.Refute.{GiveRefutation, IsFallen, IsStanding}
 use Rattle.audit.specs.Report.{ShowsAfter}
+use Rattle.audit.specs.Seek.{IsSoughtInVain, IsSoughtOf}
 
 -- what is shown of the task is shown of what it is
 of_task : (e : EvidenceData) (outcome : Outcome) (task same : TaskData) → task ≡ same →
@@ -129,6 +131,13 @@ module _ (claim second capture : FeedState) (c : ClaimData) (is : Is c claim.rem
       refuted c IsStanding outcomes.Yes (λ r e shows. shows) claim.remaining second.remaining capture.remaining is after
   from_bytes refute outcomes.No after =
       refuted c IsFallen outcomes.No (λ r e shows. shows) claim.remaining second.remaining capture.remaining is after
+  from_bytes (envelope step servers) outcome after =
+      alone (IsEnvelopeOf step outcome) (envelope step servers) outcome after
+      (of_task _ outcome after.task _ after.is_task after.shows)
+  from_bytes seek outcomes.Yes after =
+      alone IsSoughtOf seek outcomes.Yes after (of_task _ outcomes.Yes after.task _ after.is_task after.shows)
+  from_bytes seek outcomes.No after =
+      alone IsSoughtInVain seek outcomes.No after (of_task _ outcomes.No after.task _ after.is_task after.shows)
 
 -- a claim that was read is what its bytes give
 known_claim : (claim : Option (List ℕ)) (c : Claim) →

@@ -1,5 +1,5 @@
 -- The report of `refute`, and what its outcome says.
-use Rattle.std.specs.Prelude.{◌≡◌, ℕ, List, codes, Bool, true, false, Option, IfSome, Ok}
+use Rattle.std.specs.Prelude.{◌≡◌, ℕ, List, Bool, true, false, Option, IfSome, Ok}
 use Rattle.byte_stream.specs.State.{FeedState}
 use Rattle.certificate.specs.Certificate.{CertificateData}
 use Rattle.certificate.specs.Refutation.{RefutationData}
@@ -10,14 +10,11 @@ use Rattle.report.specs.RefutationInput.{refutation_read}
 use Rattle.report.specs.declared.fault.Outcome.{Outcome}
 use Rattle.report.specs.declared.fault.Outcome.TheVariants.{Yes, No}
 use Rattle.report.specs.Reports.{Report, whole_text}
+use Rattle.audit_text.specs.Refutation.{refuted_text}
 use Rattle.audit.specs.Check.{verdict_on}
 use Rattle.audit.specs.Evidence.{EvidenceData, GiveEvidence, OfClaimAndCapture}
 
--- the text, and the outcome, for whether the refutation stands
-unfoldable pub refuted_text : Bool → List ℕ
-refuted_text true = codes "refuted yes\n"
-refuted_text false = codes "refuted no\n"
-
+-- the outcome for whether a refutation stands
 abbrev pub refuted_outcome : Bool → Outcome
 refuted_outcome true = Yes
 refuted_outcome false = No

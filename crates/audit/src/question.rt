@@ -18,16 +18,20 @@ ghost use Rattle.audit.specs.Report.{IsOfMaking};
 
 mod at;
 mod check;
+mod envelope;
 mod find;
 mod refute;
 mod samples;
+mod seek;
 
 use crate::evidence::Evidence;
 use crate::question::at::make_at;
 use crate::question::check::make_check;
+use crate::question::envelope::make_envelope;
 use crate::question::find::make_find;
 use crate::question::refute::make_refute;
 use crate::question::samples::make_samples;
+use crate::question::seek::make_seek;
 use crate::step::Step;
 use byte_stream::Feed;
 use certificate::{Certificate, Refutation};
@@ -47,6 +51,15 @@ pub enum Question {
     Check,
     /// Does a refutation, the second input, stand against the claim?
     Refute,
+    /// How far off may the clock have been, piece by piece?
+    Envelope {
+        /// How long the pieces are.
+        step: Step,
+        /// Whether to show what each server says of each piece.
+        servers: bool,
+    },
+    /// Is there a refutation of the claim?
+    Seek,
 }
 
 /// What is to be done for a question, once its second input is read.
@@ -62,6 +75,15 @@ pub(crate) enum Task {
     Check(Certificate),
     /// Settle whether a refutation stands.
     Refute(Refutation),
+    /// Show how far off the clock may have been in each piece.
+    Envelope {
+        /// How long the pieces are.
+        step: Step,
+        /// Whether to show what each server says of each piece.
+        servers: bool,
+    },
+    /// Look for a refutation.
+    Seek,
 }
 
 /// Reads the second input of a question, where it has one.
@@ -96,6 +118,8 @@ pub(crate) fn read_task<T: Feed>(
             Ok(refutation) => Ok(Task::Refute(refutation)),
             Err(fault) => Err(fault),
         },
+        Question::Envelope { step, servers } => Ok(Task::Envelope { step, servers }),
+        Question::Seek => Ok(Task::Seek),
     }
 }
 
@@ -114,5 +138,7 @@ pub(crate) fn make(alloc: Global, task: &Task, evidence: &Evidence) -> Result<Ma
         Task::Find(step) => make_find(alloc, *step, evidence),
         Task::Check(certificate) => make_check(alloc, certificate, evidence),
         Task::Refute(refutation) => make_refute(alloc, refutation, evidence),
+        Task::Envelope { step, servers } => make_envelope(alloc, *step, *servers, evidence),
+        Task::Seek => make_seek(alloc, evidence),
     }
 }

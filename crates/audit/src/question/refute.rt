@@ -10,20 +10,13 @@ ghost use Rattle.audit.specs.Refute.{refute_report};
 ghost use Rattle.audit.specs.Report.{IsOfMaking};
 
 use crate::evidence::Evidence;
+use audit_text::refuted_text;
 use certificate::Refutation;
 use checker::check_refutation;
 use report::{Made, Outcome, RunFault};
 use std::alloc::{AllocError, Global};
 
-/// The line that says whether a refutation stands.
-#[tactic(auto, unfolding(crate::specs::Refute::refuted_text))]
-fn refuted_text(stands: bool) -> &'static [u8]
-    ensures { result.now ≡ spec.refuted_text stands }
-{
-    if stands { b"refuted yes\n" } else { b"refuted no\n" }
-}
-
-/// The outcome that says it.
+/// The outcome for whether a refutation stands.
 fn refuted_outcome(stands: bool) -> Outcome
     ensures { result ≡ spec.refuted_outcome stands }
 {
@@ -44,7 +37,7 @@ pub(crate) fn make_refute(
         (evidence_data evidence.now) made.outcome) }
 {
     let stands = check_refutation(&evidence.collected.exchanges, &evidence.claim, refutation);
-    match refuted_text(stands).to_vec(alloc) {
+    match refuted_text(alloc, stands) {
         Ok(text) => Ok(Made {
             text,
             outcome: refuted_outcome(stands),
