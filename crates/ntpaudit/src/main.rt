@@ -64,21 +64,34 @@ fn respond<S: Sink, E: Sink, H: BuildHasher + Drop>(
     match invocation {
         Invocation::List(path) => list(rt, &path, outputs),
         Invocation::Ask(question, paths) => match open_inputs(rt, &paths) {
-            Ok(Inputs {
-                mut claim,
-                second: Some(mut second),
+            Ok(
+                Inputs {
+                    mut claim,
+                    second: Some(mut second),
+                    capture,
+                },
+            ) => answer(
+                alloc,
+                question,
+                &mut claim,
+                &mut second,
                 capture,
-            }) => answer(
-                alloc, question, &mut claim, &mut second, capture, outputs, hasher,
+                outputs,
+                hasher,
             )
             .1,
-            Ok(Inputs {
-                mut claim,
-                second: None,
-                capture,
-            }) => {
+            Ok(
+                Inputs {
+                    mut claim,
+                    second: None,
+                    capture,
+                },
+            ) => {
                 let mut none = ReadFeed::new(io::empty());
-                answer(alloc, question, &mut claim, &mut none, capture, outputs, hasher).1
+                answer(
+                    alloc, question, &mut claim, &mut none, capture, outputs, hasher,
+                )
+                .1
             }
             Err(fault) => tell(&Err(fault), &mut outputs.err),
         },

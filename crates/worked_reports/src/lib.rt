@@ -3,8 +3,16 @@
 #![tactic(auto)]
 
 #[cfg(test)]
+mod engines;
+#[cfg(test)]
+mod failures;
+#[cfg(test)]
+mod inputs;
+#[cfg(test)]
 mod listings;
 #[cfg(test)]
 mod reports;
 #[cfg(test)]
 mod streams;
+#[cfg(test)]
+mod trial;

@@ -1,11 +1,12 @@
 //! Listings: the lines of the worked capture, of each of its prefixes, and with devices that fail.
 
-ghost use Rattle.std.specs.Prelude.{◌≡◌, IfOk, true};
+ghost use Rattle.std.specs.Prelude.{◌≡◌, [], Some, IfOk, true};
 
+use crate::trial::lines_of;
 use byte_stream::{Cut, Sink, TestFeed, TestSink};
 use listing::{list_from, run_list};
 use pcap_reader::{CaptureFault, Feed, Whole};
-use report::{Input, Outcome, RunFault};
+use report::{Input, Outcome, RunFault, output_buffer};
 use std::alloc::{AllocError, Global};
 use std::process::Abort;
 use std::test::Fail;
@@ -25,28 +26,10 @@ const CUTS: [Cut; 3] = [Cut::Fixed(1), Cut::Growing, Cut::Fixed(usize::MAX)];
 
 /// A sink that takes everything.
 fn ample(alloc: Global) -> Result<TestSink, AllocError>
-    ensures is_open { IfOk result (λ sink. ⟦<TestSink as Sink>⟧.is_open sink ≡ true) }
-    ensures unfailed { IfOk result (λ sink. ⟦<TestSink as Sink>⟧.fault_count sink ≡ 0) }
+    ensures { IfOk result (λ sink. ⟦<TestSink as Sink>⟧.state sink
+        ≡ record { contents = Some []; is_open = true; faults = 0 }) }
 {
     TestSink::new(alloc, 1000, 1000, None, false)
-}
-
-/// How many of these lines the text begins with, one after another. Nothing stands after them.
-fn lines_of(rt: &impl Abort, text: &[u8], lines: &[&str]) -> usize {
-    let mut rest = text;
-    let mut count: usize = 0;
-    for line in lines {
-        match rest.strip_prefix(line.as_bytes()) {
-            Some(after) => rest = after,
-            None => break,
-        }
-        count = count.saturating_add(1);
-    }
-    assert!(rt;
-        rest.is_empty(),
-        "after line {count} of {lines:?}: {rest:?}"
-    );
-    count
 }
 
 /// The listing of a file is these lines and this answer, from a feed however it cuts the bytes and
@@ -67,7 +50,8 @@ fn lists(
     }
     if let Ok(mut source) = Whole::begin(file) {
         let mut out = ample(alloc)?;
-        assert_eq!(rt; list_from(alloc, &mut source, &mut out), wanted);
+        let mut buffer = output_buffer(alloc)?;
+        assert_eq!(rt; list_from(&mut source, &mut buffer, &mut out), wanted);
         assert_eq!(rt; lines_of(rt, out.bytes(), lines), lines.len());
     }
     Ok(())

@@ -1,0 +1,47 @@
+//! Claims and captures like the worked ones.
+
+use std::alloc::{AllocError, Global};
+use vectors::{C1, V1};
+
+/// The text of `C1` with parts of it replaced.
+pub(crate) fn claim_of(alloc: Global, edits: &[(&str, &str)]) -> Result<String, AllocError> {
+    let mut text = String::from_str(alloc, C1)?;
+    for (old, new) in edits {
+        text = text.as_str().replace(alloc, old, new)?;
+    }
+    Ok(text)
+}
+
+/// `V1` with other bytes from these places on.
+pub(crate) fn edited(edits: &[(usize, &[u8])]) -> [u8; 236] {
+    let mut file = V1;
+    for (place, bytes) in edits {
+        if let Some(part) = file.get_mut(*place..place.saturating_add(bytes.len())) {
+            part.copy_from_slice(bytes);
+        }
+    }
+    file
+}
+
+/// The first so many bytes of a file, or all where it has fewer.
+pub(crate) fn first_of(file: &[u8], length: usize) -> &[u8] {
+    file.get(..length).unwrap_or(file)
+}
+
+/// These parts of captures, one after another.
+pub(crate) fn joined(alloc: Global, parts: &[&[u8]]) -> Result<Vec<u8>, AllocError> {
+    let mut file = Vec::new(alloc);
+    for part in parts {
+        file.extend_from_slice(part)?;
+    }
+    Ok(file)
+}
+
+/// A text and then blanks, so many bytes in all.
+pub(crate) fn padded(alloc: Global, text: &str, length: usize) -> Result<Vec<u8>, AllocError> {
+    let mut bytes = text.as_bytes().to_vec(alloc)?;
+    for _ in text.len()..length {
+        bytes.push(b' ')?;
+    }
+    Ok(bytes)
+}

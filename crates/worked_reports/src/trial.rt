@@ -1,0 +1,118 @@
+//! One run of an engine, with devices that go as a test says.
+
+ghost use Rattle.byte_stream.specs.State.{IsWritable};
+
+use audit::{run_at, run_check, run_find, run_samples};
+use byte_stream::{Cut, Feed, Sink, TestFeed, TestSink};
+use listing::run_list;
+use report::{Outcome, RunFault};
+use std::alloc::Global;
+use std::process::Abort;
+
+/// A command, with what it's asked for: a moment in Unix seconds, or the length of pieces.
+#[derive(Clone, Copy, Debug)]
+pub(crate) enum Command {
+    List,
+    Samples,
+    At(u32),
+    Check,
+    Find(u32),
+}
+
+/// What the inputs of a run hold. A command reads those that it has.
+#[derive(Clone, Copy, Debug)]
+pub(crate) struct Inputs<'a> {
+    pub(crate) claim: &'a [u8],
+    pub(crate) certificate: &'a [u8],
+    pub(crate) capture: &'a [u8],
+}
+
+/// Which pull of each input fails, the first being number 1.
+#[derive(Clone, Copy, Debug)]
+pub(crate) struct Failing {
+    pub(crate) claim: Option<u64>,
+    pub(crate) certificate: Option<u64>,
+    pub(crate) capture: Option<u64>,
+}
+
+pub(crate) const NONE: Failing = Failing {
+    claim: None,
+    certificate: None,
+    capture: None,
+};
+
+/// What a run has answered, and its feeds.
+#[derive(Drop)]
+pub(crate) struct Ran<'a> {
+    pub(crate) answer: Result<Outcome, RunFault>,
+    pub(crate) claim: TestFeed<'a>,
+    pub(crate) certificate: TestFeed<'a>,
+    pub(crate) capture: TestFeed<'a>,
+}
+
+impl Ran<'_> {
+    /// How often its feeds have failed.
+    pub(crate) fn faults(&self) -> u64 {
+        let first = self
+            .claim
+            .faults()
+            .saturating_add(self.certificate.faults());
+        first.saturating_add(self.capture.faults())
+    }
+}
+
+/// Runs a command on feeds that cut and fail so.
+pub(crate) fn run<'a>(
+    alloc: Global,
+    command: Command,
+    inputs: Inputs<'a>,
+    cut: Cut,
+    failing: Failing,
+    out: &mut TestSink,
+) -> Ran<'a>
+    requires { IsWritable (⟦<TestSink as Sink>⟧.state out.old) }
+{
+    let mut claim = TestFeed::new(inputs.claim, cut, failing.claim);
+    let mut certificate = TestFeed::new(inputs.certificate, cut, failing.certificate);
+    let capture = TestFeed::new(inputs.capture, cut, failing.capture);
+    let (capture, answer) = match command {
+        Command::List => run_list(alloc, capture, out),
+        Command::Samples => run_samples(alloc, &mut claim, capture, out),
+        Command::At(second) => run_at(alloc, &mut claim, capture, second, out),
+        Command::Check => run_check(alloc, &mut claim, capture, &mut certificate, out),
+        Command::Find(step_s) => {
+            let step_s = step_s.max(1).min(86_400);
+            run_find(alloc, &mut claim, capture, step_s, out)
+        }
+    };
+    Ran {
+        answer,
+        claim,
+        certificate,
+        capture,
+    }
+}
+
+/// Nothing was taken of these bytes: the next one is their first.
+pub(crate) fn is_untouched(feed: &mut TestFeed<'_>, bytes: &[u8]) -> bool {
+    let mut first = [0; 1];
+    feed.faults() == 0 && feed.pull(&mut first) == Ok(1) && bytes.first() == Some(&first[0])
+}
+
+/// How many of these lines the text begins with, one after another. Nothing stands after them.
+pub(crate) fn lines_of(rt: &impl Abort, text: &[u8], lines: &[&str]) -> usize {
+    let mut rest = text;
+    let mut count: usize = 0;
+    for line in lines {
+        match rest.strip_prefix(line.as_bytes()) {
+            Some(after) => rest = after,
+            None => break,
+        }
+        count = count.saturating_add(1);
+    }
+    assert!(rt;
+        rest.is_empty(),
+        "after line {count} of {lines:?}: {rest:?}"
+    );
+    count
+}
