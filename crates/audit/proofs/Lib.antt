@@ -3,6 +3,9 @@ pub mod CaptureLemmas
 pub mod MomentLemmas
 pub mod CheckLemmas
 pub mod FindLemmas
+pub mod RefuteLemmas
+pub mod EnvelopeLemmas
+pub mod SeekLemmas
 pub mod RunLemmas
 pub mod ShowsLemmas
 pub mod StatusLemmas

@@ -13,14 +13,17 @@ use Rattle.report.specs.declared.fault.RunFault.TheVariants as faults
 use Rattle.report.specs.declared.publication.Made.{Made}
 use Rattle.claim_file.specs.declared.claim.Claim.{Claim}
 use Rattle.claim_file.specs.Claim.{ClaimData, data_of as claim_data}
+use Rattle.pairing.specs.Pairing.{Collection, data_of as collection_data}
 use Rattle.report.specs.ClaimInput.{claim_read, max_claim}
 use Rattle.report.specs.Publication.{IsAnswerFor, IsMadeFor, IsUnwritten, Publishes}
 use Rattle.report.specs.Reports.{Report, Reports, GetsText, is_claim, is_second, is_capture, is_device, refused}
-use Rattle.report.specs.Reading.{Reads}
+use Rattle.report.specs.Reading.{IsFromOutside, Reads}
 use Rattle.report.specs.Run.{RunState}
 use Rattle.report.specs.Runs.{Runs, HasLawfulHeader, IsBeforeCapture, IsBeforeSecond, IsUnwrittenAt}
-use Rattle.audit.specs.Question.{QuestionData}
-use Rattle.audit.specs.Report.{after_claim, report_of_bytes}
+use Rattle.audit.specs.declared.question.Task.{Task}
+use Rattle.audit.specs.CaptureInput.{IsOfCapture, capture_read}
+use Rattle.audit.specs.Question.{QuestionData, TaskData, task_data}
+use Rattle.audit.specs.Report.{after_capture, after_claim, after_second, report_of_bytes}
 
 -- ---- the fault of an answer
 
@@ -129,6 +132,35 @@ module _ {T F : Type 0} (report : Option Report) (most : ℕ) (before after : Ru
     capture_at_most = h.capture_at_most;
     memory = λ is. h.memory (was_memory made answer p.stays is);
   }
+
+-- ---- a capture that is refused
+
+made_outside : (report : Report) (fault : RunFault) → IsFromOutside fault → IsMadeFor report (Err fault)
+made_outside report faults.Memory h = tt
+made_outside report (faults.Device input) h = tt
+made_outside report fault h = absurd h
+
+not_written : (fault : RunFault) → IsOfCapture fault → IsUnwritten (Err fault)
+not_written (faults.Write sent) h = absurd h
+not_written fault h = tt
+
+module _ (claim : ClaimData) (fault : RunFault) (of : IsOfCapture fault) where
+  refused_after : (task : TaskData) (read : Result Collection RunFault) → Reads collection_data read (Err fault) →
+      IsMadeFor (after_capture task claim read) (Err fault)
+  refused_after task read (inl outside) = made_outside (after_capture task claim read) fault outside
+  refused_after task read (inr is) =
+      subst (λ (r : Result Collection RunFault). IsMadeFor (after_capture task claim r) (Err fault)) (sym is)
+      (refusal_for fault (not_written fault of))
+
+  -- its refusal is what the bytes of the inputs call for
+  pub capture_refusal : (task : Task) (second : Option (Result TaskData RunFault)) (capture : Option (List ℕ)) →
+      IfSome second (λ expected. Reads task_data expected (Ok task)) →
+      IfSome capture (λ bytes. Reads collection_data (capture_read claim bytes) (Err fault)) →
+      IfSome (after_second claim second capture) (λ report. IsMadeFor report (Err fault))
+  capture_refusal task None capture read refused = tt
+  capture_refusal task (Some (Err other)) capture read refused = absurd cc
+  capture_refusal task (Some (Ok known)) None read refused = tt
+  capture_refusal task (Some (Ok known)) (Some bytes) read refused = refused_after known (capture_read claim bytes) refused
 
 -- ---- from the claim's bytes
 

@@ -3,8 +3,10 @@ use Rattle.std.proofs.Common.{◌≡◌, ◌∙◌, ℕ, List, Option, Some, Non
 use Rattle.std.specs.Prelude.{IfSome, IfOk, IfErr}
 use Rattle.byte_stream.specs.State.{FeedState}
 use Rattle.certificate.specs.Certificate.{CertificateData}
+use Rattle.certificate.specs.Refutation.{RefutationData}
 use Rattle.claim_file.specs.declared.claim.Claim.{Claim}
 use Rattle.claim_file.specs.Claim.{ClaimData, data_of as claim_data}
+use Rattle.pairing.specs.Pairing.{Collection}
 use Rattle.report.specs.declared.fault.Outcome.{Outcome}
 use Rattle.report.specs.declared.fault.Outcome.TheVariants as outcomes
 use Rattle.report.specs.declared.fault.RunFault.{RunFault}
@@ -12,32 +14,21 @@ use Rattle.report.specs.declared.publication.Made.{Made}
 use Rattle.report.specs.ClaimInput.{claim_read}
 use Rattle.report.specs.Publication.{IsAnswerFor}
 use Rattle.report.specs.Reading.{Reads}
+use Rattle.report.specs.RefutationInput.{refutation_read}
+use Rattle.audit.specs.CaptureInput.{capture_read}
 use Rattle.audit.specs.Check.{IsDenied, IsTracedTo}
-use Rattle.audit.specs.Evidence.{EvidenceData, evidence_of}
-use Rattle.audit.specs.Find.{IsAcceptedOf, IsVain}
-use Rattle.audit.specs.Question.{QuestionData, TaskData, samples, at, find, check, show_samples, show_at, find_with, check_of, check_read, IsTaskOf, Shows, ShowsOf}
+use Rattle.audit.specs.Envelope.{IsEnvelopeOf}
+use Rattle.audit.specs.Evidence.{EvidenceData, GiveEvidence, OfClaimAndCapture, evidence_of}
+use Rattle.audit.specs.Find.{IsFoundOf, IsNothingOf}
+use Rattle.audit.specs.Question.{QuestionData, TaskData, samples, at, find, check, refute, envelope, seek, check_of, refute_by, check_read, refute_read, task_read, Shows, ShowsOf}
+use Rattle.audit.specs.Refute.{GiveRefutation, IsFallen, IsStanding}
 use Rattle.audit.specs.Report.{ShowsAfter}
+use Rattle.audit.specs.Seek.{IsSoughtInVain, IsSoughtOf}
 
--- the task of a search
-of_find : (step : ℕ) (e : EvidenceData) (outcome : Outcome) (task : TaskData) → IsTaskOf (find step) task →
-    ShowsOf task e outcome → ShowsOf (find_with step) e outcome
-of_find step e outcome show_samples is shows = absurd is
-of_find step e outcome (show_at second) is shows = absurd is
-of_find step e outcome (find_with same) is shows = subst (λ (n : ℕ). ShowsOf (find_with n) e outcome) is shows
-of_find step e outcome (check_of certificate) is shows = absurd is
-
--- the task of a check, and its certificate
-record Checked (e : EvidenceData) (task : TaskData) (outcome : Outcome) : Type 0 where
-  certificate : CertificateData
-  task_is : task ≡ check_of certificate
-  shows : ShowsOf (check_of certificate) e outcome
-
-of_check : (e : EvidenceData) (outcome : Outcome) (task : TaskData) → IsTaskOf check task →
-    ShowsOf task e outcome → Checked e task outcome
-of_check e outcome show_samples is shows = absurd is
-of_check e outcome (show_at second) is shows = absurd is
-of_check e outcome (find_with step) is shows = absurd is
-of_check e outcome (check_of c) is shows = record { certificate = c; task_is = refl; shows = shows }
+-- what is shown of the task is shown of what it is
+of_task : (e : EvidenceData) (outcome : Outcome) (task same : TaskData) → task ≡ same →
+    ShowsOf task e outcome → ShowsOf same e outcome
+of_task e outcome task same is shows = subst (λ (t : TaskData). ShowsOf t e outcome) is shows
 
 -- the certificate was read
 certificate_of : (read : Result CertificateData RunFault) (c : CertificateData) →
@@ -45,70 +36,108 @@ certificate_of : (read : Result CertificateData RunFault) (c : CertificateData) 
 certificate_of (Ok d) c is = cc
 certificate_of (Err fault) c is = cc
 
+-- the refutation was read
+refutation_of : (second : Option (List ℕ)) (task : TaskData) (r : RefutationData) → task ≡ refute_by r →
+    IfSome (task_read refute second) (λ read. read ≡ Ok task) →
+    IfSome second (λ bytes. refutation_read bytes ≡ Ok r)
+refutation_of None task r is read = tt
+refutation_of (Some bytes) task r is read = refutation_in (refutation_read bytes) (read ∙ ap Ok is) where
+  refutation_in : (result : Result RefutationData RunFault) → refute_read result ≡ Ok (refute_by r) → result ≡ Ok r
+  refutation_in (Ok other) same = cc
+  refutation_in (Err fault) same = cc
+
 module _ (c : ClaimData) where
   abbrev Is : Option (List ℕ) → Type 0
   Is claim = IfSome claim (λ bytes. claim_read bytes ≡ Ok c)
+
+  -- what is shown of the evidence that the bytes give
+  given : (P : EvidenceData → Type 0) (claim capture : Option (List ℕ)) (collection : Collection) → Is claim →
+      IfSome capture (λ bytes. capture_read c bytes ≡ Ok collection) → P (evidence_of c collection) →
+      IfSome claim (λ b. IfSome capture (GiveEvidence P b))
+  given P None capture collection is collected shows = tt
+  given P (Some b) None collection is collected shows = tt
+  given P (Some b) (Some f) collection is collected shows = record {
+    evidence = evidence_of c collection;
+    evidence_is = record { claim_is = is; collection_is = collected };
+    holds = shows;
+  }
 
   traced : (claim second capture : Option (List ℕ)) → Is claim → ShowsAfter check c second capture outcomes.Yes →
       IfSome claim (λ b. IfSome capture (IsTracedTo b))
   traced None second capture is after = tt
   traced (Some b) second None is after = tt
-  traced (Some b) second (Some f) is after =
-      let checked = of_check (evidence_of c after.collection) outcomes.Yes after.task after.is_task after.shows in
-      record {
-        claim = c;
-        collection = after.collection;
-        claim_is = is;
-        collection_is = after.collection_is;
-        within = λ course. checked.shows after.collection.exchanges course refl;
-      }
+  traced (Some b) second (Some f) is after = record {
+    claim = c;
+    collection = after.collection;
+    claim_is = is;
+    collection_is = after.collection_is;
+    within = λ course. of_task (evidence_of c after.collection) outcomes.Yes after.task _ after.is_task.1 after.shows
+        after.collection.exchanges course refl;
+  }
 
   denied : (claim second capture : Option (List ℕ)) → Is claim → ShowsAfter check c second capture outcomes.No →
       IfSome second (λ s. IfSome claim (λ b. IfSome capture (IsDenied b s)))
   denied claim None capture is after = tt
   denied None (Some s) capture is after = tt
   denied (Some b) (Some s) None is after = tt
-  denied (Some b) (Some s) (Some f) is after =
-      let checked = of_check (evidence_of c after.collection) outcomes.No after.task after.is_task after.shows in
+  denied (Some b) (Some s) (Some f) is after = record {
+    certificate = after.is_task.0;
+    evidence = evidence_of c after.collection;
+    certificate_is = certificate_of _ after.is_task.0 (after.task_is ∙ ap Ok after.is_task.1);
+    evidence_is = record { claim_is = is; collection_is = after.collection_is };
+    verdict = of_task (evidence_of c after.collection) outcomes.No after.task _ after.is_task.1 after.shows;
+  }
+
+  -- the refutation with the evidence that the bytes give
+  refuted : (P : RefutationData → EvidenceData → Type 0) (outcome : Outcome) →
+      ((r : RefutationData) (e : EvidenceData) → ShowsOf (refute_by r) e outcome → P r e) →
+      (claim second capture : Option (List ℕ)) → Is claim → ShowsAfter refute c second capture outcome →
+      IfSome claim (λ b. IfSome capture (GiveRefutation P second b))
+  refuted P outcome told None second capture is after = tt
+  refuted P outcome told (Some b) second None is after = tt
+  refuted P outcome told (Some b) second (Some f) is after =
+      let e = evidence_of c after.collection in
+      let r = after.is_task.0 in
       record {
-        certificate = checked.certificate;
-        evidence = evidence_of c after.collection;
-        certificate_is = certificate_of _ checked.certificate (after.task_is ∙ ap Ok checked.task_is);
-        evidence_is = record { claim_is = is; collection_is = after.collection_is };
-        verdict = checked.shows;
+        refutation = r;
+        refutation_is = refutation_of second after.task r after.is_task.1 after.task_is;
+        evidence = record {
+          evidence = e;
+          evidence_is = record { claim_is = is; collection_is = after.collection_is };
+          holds = told r e (of_task e outcome after.task _ after.is_task.1 after.shows);
+        };
       }
 
-  accepted : (step : ℕ) (claim second capture : Option (List ℕ)) → Is claim →
-      ShowsAfter (find step) c second capture outcomes.Yes → IfSome claim (λ b. IfSome capture (IsAcceptedOf step b))
-  accepted step None second capture is after = tt
-  accepted step (Some b) second None is after = tt
-  accepted step (Some b) second (Some f) is after = record {
-    evidence = evidence_of c after.collection;
-    evidence_is = record { claim_is = is; collection_is = after.collection_is };
-    is_found = of_find step (evidence_of c after.collection) outcomes.Yes after.task after.is_task after.shows;
-  }
-
-  vain : (step : ℕ) (claim second capture : Option (List ℕ)) → Is claim →
-      ShowsAfter (find step) c second capture outcomes.No → IfSome claim (λ b. IfSome capture (IsVain step b))
-  vain step None second capture is after = tt
-  vain step (Some b) second None is after = tt
-  vain step (Some b) second (Some f) is after = record {
-    evidence = evidence_of c after.collection;
-    evidence_is = record { claim_is = is; collection_is = after.collection_is };
-    is_nothing = of_find step (evidence_of c after.collection) outcomes.No after.task after.is_task after.shows;
-  }
-
 module _ (claim second capture : FeedState) (c : ClaimData) (is : Is c claim.remaining) where
+  -- of a question that has no second input
+  alone : (P : EvidenceData → Type 0) (question : QuestionData) (outcome : Outcome)
+      (after : ShowsAfter question c second.remaining capture.remaining outcome) →
+      P (evidence_of c after.collection) → OfClaimAndCapture claim capture (GiveEvidence P)
+  alone P question outcome after shows =
+      given c P claim.remaining capture.remaining after.collection is after.collection_is shows
+
   from_bytes : (question : QuestionData) (outcome : Outcome) →
       ShowsAfter question c second.remaining capture.remaining outcome → Shows question claim second capture outcome
   from_bytes samples outcome after = tt
   from_bytes (at moment) outcome after = tt
   from_bytes (find step) outcomes.Yes after =
-      accepted c step claim.remaining second.remaining capture.remaining is after
+      alone (IsFoundOf step) (find step) outcomes.Yes after (of_task _ outcomes.Yes after.task _ after.is_task after.shows)
   from_bytes (find step) outcomes.No after =
-      vain c step claim.remaining second.remaining capture.remaining is after
+      alone (IsNothingOf step) (find step) outcomes.No after
+      (of_task _ outcomes.No after.task _ after.is_task after.shows)
   from_bytes check outcomes.Yes after = traced c claim.remaining second.remaining capture.remaining is after
   from_bytes check outcomes.No after = denied c claim.remaining second.remaining capture.remaining is after
+  from_bytes refute outcomes.Yes after =
+      refuted c IsStanding outcomes.Yes (λ r e shows. shows) claim.remaining second.remaining capture.remaining is after
+  from_bytes refute outcomes.No after =
+      refuted c IsFallen outcomes.No (λ r e shows. shows) claim.remaining second.remaining capture.remaining is after
+  from_bytes (envelope step servers) outcome after =
+      alone (IsEnvelopeOf step outcome) (envelope step servers) outcome after
+      (of_task _ outcome after.task _ after.is_task after.shows)
+  from_bytes seek outcomes.Yes after =
+      alone IsSoughtOf seek outcomes.Yes after (of_task _ outcomes.Yes after.task _ after.is_task after.shows)
+  from_bytes seek outcomes.No after =
+      alone IsSoughtInVain seek outcomes.No after (of_task _ outcomes.No after.task _ after.is_task after.shows)
 
 -- a claim that was read is what its bytes give
 known_claim : (claim : Option (List ℕ)) (c : Claim) →

@@ -20,7 +20,7 @@ use Rattle.report.specs.declared.fault.RunFault.TheVariants.{Pieces, Memory}
 use Rattle.report.specs.Reports.{Report, refused, whole_text}
 use Rattle.audit_text.specs.Nothing.{nothing_text}
 use Rattle.audit.specs.Check.{verdict_on}
-use Rattle.audit.specs.Evidence.{EvidenceData, IsEvidenceOf, OfClaimAndCapture, samples_in}
+use Rattle.audit.specs.Evidence.{EvidenceData, GiveEvidence, OfClaimAndCapture, samples_in}
 
 -- what is found, in words: the certificate's compact text and a line feed, or the number of the
 -- piece that fails and its hull
@@ -69,23 +69,11 @@ pub record IsNothingOf (step : ℕ) (e : EvidenceData) : Type 0 where
   pub none_accepted : hull ≢ Empty →
       NoneIsAcceptedOver (samples_in e) e.claim (stretch_at e.claim step piece)
 
--- The bytes of claim and capture give evidence of which a certificate is found that is accepted: a
+-- At a yes a certificate is found and accepted, where the bytes of claim and capture are known: a
 -- check of the three says yes.
-pub record IsAcceptedOf (step : ℕ) (claim capture : List ℕ) : Type 0 where
-  pub evidence : EvidenceData
-  pub evidence_is : IsEvidenceOf claim capture evidence
-  pub is_found : IsFoundOf step evidence
-
--- The bytes of claim and capture give evidence of which nothing is found.
-pub record IsVain (step : ℕ) (claim capture : List ℕ) : Type 0 where
-  pub evidence : EvidenceData
-  pub evidence_is : IsEvidenceOf claim capture evidence
-  pub is_nothing : IsNothingOf step evidence
-
--- At a yes a certificate is found and accepted, where the bytes of claim and capture are known.
 abbrev pub IsAccepted : ℕ → FeedState → FeedState → Type 0
-IsAccepted step claim capture = OfClaimAndCapture claim capture (IsAcceptedOf step)
+IsAccepted step claim capture = OfClaimAndCapture claim capture (GiveEvidence (IsFoundOf step))
 
 -- At a no nothing is found, where these bytes are known.
 abbrev pub IsNotFound : ℕ → FeedState → FeedState → Type 0
-IsNotFound step claim capture = OfClaimAndCapture claim capture (IsVain step)
+IsNotFound step claim capture = OfClaimAndCapture claim capture (GiveEvidence (IsNothingOf step))

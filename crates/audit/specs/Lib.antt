@@ -5,6 +5,9 @@ pub mod Moment
 pub mod At
 pub mod Check
 pub mod Find
+pub mod Envelope
+pub mod Refute
+pub mod Seek
 pub mod Question
 pub mod Report
 pub mod Run

@@ -1,11 +1,13 @@
 -- Every question: what its second input adds to it, the report that is made, and what the outcome
 -- shows.
-use Rattle.std.specs.Prelude.{◌≡◌, ◌+◌, ◌≤◌, ℕ, List, Option, Some, Result, Ok, Err, vec_len}
+use Rattle.std.specs.Prelude.{◌≡◌, ◌+◌, ◌≤◌, ℕ, List, Bool, Option, Some, Result, Ok, Err, vec_len}
 use Rattle.std.specs.Option.{option_map}
 use Rattle.byte_stream.specs.State.{FeedState}
 use Rattle.certificate.specs.Certificate.{CertificateData, data_of as certificate_data, max_pieces}
+use Rattle.certificate.specs.Refutation.{RefutationData, data_of as refutation_data}
 use Rattle.checker.specs.Traceability.{IsTraceable}
 use Rattle.report.specs.CertificateInput.{certificate_read, max_certificate}
+use Rattle.report.specs.RefutationInput.{max_refutation, refutation_read}
 use Rattle.report.specs.Reports.{Report}
 use Rattle.report.specs.declared.fault.Input.TheVariants as inputs
 use Rattle.report.specs.declared.fault.Outcome.{Outcome}
@@ -14,20 +16,27 @@ use Rattle.report.specs.declared.fault.RunFault.{RunFault}
 use Rattle.report.specs.declared.fault.RunFault.TheVariants.{Certificate, Refutation, TooBig, Device, Memory}
 use Rattle.audit.specs.At.{at_report}
 use Rattle.audit.specs.Check.{HasVerdictNo, IsNotTraced, IsTraced, check_report}
+use Rattle.audit.specs.Envelope.{IsEnveloped, IsEnvelopeOf, envelope_report}
 use Rattle.audit.specs.Evidence.{EvidenceData, samples_in}
 use Rattle.audit.specs.Find.{IsAccepted, IsFoundOf, IsNotFound, IsNothingOf, find_report}
+use Rattle.audit.specs.Refute.{IsContested, IsFallen, IsStanding, IsUncontested, refute_report}
 use Rattle.audit.specs.Samples.{samples_report}
+use Rattle.audit.specs.Seek.{IsIrrefutable, IsRefutable, IsSoughtInVain, IsSoughtOf, seek_report}
 use Rattle.audit.specs.declared.question.Question.{Question}
 use Rattle.audit.specs.declared.question.Question.TheVariants as questions
 use Rattle.audit.specs.declared.question.Task.{Task}
 use Rattle.audit.specs.declared.question.Task.TheVariants as tasks
 
--- a question, as numbers: a moment in Unix seconds, the length of a piece in seconds
+-- a question, as numbers: a moment in Unix seconds, the length of a piece in seconds; and whether
+-- it is shown what each server says
 pub data QuestionData : Type 0 where
   samples : QuestionData
   at : ℕ → QuestionData
   find : ℕ → QuestionData
   check : QuestionData
+  refute : QuestionData
+  envelope : ℕ → Bool → QuestionData
+  seek : QuestionData
 
 -- a question with what its second input says
 pub data TaskData : Type 0 where
@@ -35,6 +44,9 @@ pub data TaskData : Type 0 where
   show_at : ℕ → TaskData
   find_with : ℕ → TaskData
   check_of : CertificateData → TaskData
+  refute_by : RefutationData → TaskData
+  show_envelope : ℕ → Bool → TaskData
+  seek_refutation : TaskData
 
 -- ---- what values of the program say
 
@@ -43,12 +55,18 @@ data_of questions.Samples = samples
 data_of (questions.At second) = at second
 data_of (questions.Find step) = find step.seconds
 data_of questions.Check = check
+data_of questions.Refute = refute
+data_of (questions.Envelope step servers) = envelope step.seconds servers
+data_of questions.Seek = seek
 
 abbrev pub task_data : Task → TaskData
 task_data tasks.Samples = show_samples
 task_data (tasks.At second) = show_at second
 task_data (tasks.Find step) = find_with step.seconds
 task_data (tasks.Check certificate) = check_of (certificate_data certificate)
+task_data (tasks.Refute refutation) = refute_by (refutation_data refutation)
+task_data (tasks.Envelope step servers) = show_envelope step.seconds servers
+task_data tasks.Seek = seek_refutation
 
 -- its certificate keeps its limits
 abbrev pub IsLawfulTask : Task → Type 0
@@ -62,6 +80,11 @@ abbrev pub check_read : Result CertificateData RunFault → Result TaskData RunF
 check_read (Ok certificate) = Ok (check_of certificate)
 check_read (Err fault) = Err fault
 
+-- the refutation that is to be judged
+abbrev pub refute_read : Result RefutationData RunFault → Result TaskData RunFault
+refute_read (Ok refutation) = Ok (refute_by refutation)
+refute_read (Err fault) = Err fault
+
 -- what a question becomes by the bytes of its second input, as far as they are known: without such
 -- an input it becomes itself
 abbrev pub task_read : QuestionData → Option (List ℕ) → Option (Result TaskData RunFault)
@@ -69,18 +92,24 @@ task_read samples second = Some (Ok show_samples)
 task_read (at moment) second = Some (Ok (show_at moment))
 task_read (find step) second = Some (Ok (find_with step))
 task_read check second = option_map (λ bytes. check_read (certificate_read bytes)) second
+task_read refute second = option_map (λ bytes. refute_read (refutation_read bytes)) second
+task_read (envelope step servers) second = Some (Ok (show_envelope step servers))
+task_read seek second = Some (Ok seek_refutation)
 
 -- this is what a question became
 abbrev pub IsTaskOf : QuestionData → TaskData → Type 0
-IsTaskOf samples show_samples = Unit {0}
-IsTaskOf (at moment) (show_at same) = same ≡ moment
-IsTaskOf (find step) (find_with same) = same ≡ step
-IsTaskOf check (check_of certificate) = Unit {0}
-IsTaskOf _ _ = ⊥
+IsTaskOf samples task = task ≡ show_samples
+IsTaskOf (at moment) task = task ≡ show_at moment
+IsTaskOf (find step) task = task ≡ find_with step
+IsTaskOf check task = (certificate : CertificateData) × (task ≡ check_of certificate)
+IsTaskOf refute task = (refutation : RefutationData) × (task ≡ refute_by refutation)
+IsTaskOf (envelope step servers) task = task ≡ show_envelope step servers
+IsTaskOf seek task = task ≡ seek_refutation
 
 -- how many bytes are taken of the second input at most
 abbrev pub most_second : QuestionData → ℕ
 most_second check = max_certificate + 1
+most_second refute = max_refutation + 1
 most_second _ = 0
 
 -- the faults of reading it
@@ -97,6 +126,7 @@ IsOfSecond _ = ⊥
 -- a question that has no second input
 abbrev pub AsksNoSecond : QuestionData → Type 0
 AsksNoSecond check = ⊥
+AsksNoSecond refute = ⊥
 AsksNoSecond _ = Unit {0}
 
 -- ---- the report, and what its outcome shows
@@ -107,6 +137,9 @@ report_on show_samples e = samples_report e
 report_on (show_at second) e = at_report second e
 report_on (find_with step) e = find_report step e
 report_on (check_of certificate) e = check_report certificate e
+report_on (refute_by refutation) e = refute_report refutation e
+report_on (show_envelope step servers) e = envelope_report step servers e
+report_on seek_refutation e = seek_report e
 
 -- what its outcome shows of them
 abbrev pub ShowsOf : TaskData → EvidenceData → Outcome → Type 0
@@ -114,6 +147,11 @@ ShowsOf (find_with step) e Yes = IsFoundOf step e
 ShowsOf (find_with step) e No = IsNothingOf step e
 ShowsOf (check_of certificate) e Yes = IsTraceable e.claim (samples_in e)
 ShowsOf (check_of certificate) e No = HasVerdictNo certificate e
+ShowsOf (refute_by refutation) e Yes = IsStanding refutation e
+ShowsOf (refute_by refutation) e No = IsFallen refutation e
+ShowsOf (show_envelope step servers) e outcome = IsEnvelopeOf step outcome e
+ShowsOf seek_refutation e Yes = IsSoughtOf e
+ShowsOf seek_refutation e No = IsSoughtInVain e
 ShowsOf _ e outcome = Unit {0}
 
 -- what the outcome of a run shows whose claim, second input and capture begin so
@@ -122,4 +160,10 @@ Shows (find step) claim second capture Yes = IsAccepted step claim capture
 Shows (find step) claim second capture No = IsNotFound step claim capture
 Shows check claim second capture Yes = IsTraced claim capture
 Shows check claim second capture No = IsNotTraced claim second capture
+Shows refute claim second capture Yes = IsContested claim second capture
+Shows refute claim second capture No = IsUncontested claim second capture
+Shows (envelope step servers) claim second capture outcome =
+    IsEnveloped step outcome claim capture
+Shows seek claim second capture Yes = IsRefutable claim capture
+Shows seek claim second capture No = IsIrrefutable claim capture
 Shows _ claim second capture outcome = Unit {0}

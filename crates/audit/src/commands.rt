@@ -1,11 +1,14 @@
 //! The engine of each command: one question, asked with std's hasher of a fixed key.
 
-ghost use Rattle.std.specs.Prelude.{◌≡◌, ◌≤◌, Ok};
+ghost use Rattle.std.specs.Prelude.{◌≡◌, ◌≤◌, Ok, IfOk};
 ghost use Rattle.report.specs.Run.{no_feed, run_state};
 ghost use Rattle.audit.specs.Check.{IsNotTraced, IsTraced};
+ghost use Rattle.audit.specs.Envelope.{IsEnveloped};
 ghost use Rattle.audit.specs.Find.{IsAccepted, IsNotFound};
-ghost use Rattle.audit.specs.Question.{samples, at, find, check};
+ghost use Rattle.audit.specs.Question.{samples, at, find, check, refute, envelope, seek};
+ghost use Rattle.audit.specs.Refute.{IsContested, IsUncontested};
 ghost use Rattle.audit.specs.Run.{IsStep, MayRun, RunsAlone, RunsFor};
+ghost use Rattle.audit.specs.Seek.{IsIrrefutable, IsRefutable};
 
 use crate::engine::run;
 use crate::question::Question;
@@ -86,6 +89,34 @@ pub fn run_check<C: Feed, F: Feed, T: Feed, S: Sink>(
     run(alloc, question, claim, certificate, capture, out, hasher)
 }
 
+/// Settles whether a refutation stands against the claim: whether the clock of the claim's client
+/// may have been off by its error, beyond the claimed bound, at its reading, which lies in the
+/// claimed span, where just the servers that it names are false. The answer is `Yes` exactly where
+/// it stands.
+pub fn run_refute<C: Feed, F: Feed, T: Feed, S: Sink>(
+    alloc: Global,
+    claim: &mut C,
+    capture: F,
+    refutation: &mut T,
+    out: &mut S,
+) -> (F, Result<Outcome, RunFault>)
+    requires { MayRun (run_state
+        (C.state claim.old) (T.state refutation.old) (F.state capture) (S.state out.old)) }
+    ensures runs { RunsFor refute (run_state
+        (C.state claim.old) (T.state refutation.old) (F.state capture) (S.state out.old))
+        (run_state
+        (C.state claim.new) (T.state refutation.new) (F.state result.0) (S.state out.new))
+        refutation.old refutation.new capture result.0 result.1 }
+    ensures contested { result.1 ≡ Ok Outcome.Yes →
+        IsContested (C.state claim.old) (T.state refutation.old) (F.state capture) }
+    ensures uncontested { result.1 ≡ Ok Outcome.No →
+        IsUncontested (C.state claim.old) (T.state refutation.old) (F.state capture) }
+{
+    let hasher = BuildHasherDefault::<FoldHasher>::new();
+    let question = Question::Refute;
+    run(alloc, question, claim, refutation, capture, out, hasher)
+}
+
 /// Looks for a certificate of the claim in pieces of `step_s` seconds, from 1 to 86,400: the answer
 /// is `Yes` with the certificate, which `check` accepts, or `No` with the first piece for which the
 /// samples don't show that the error is within the bound, and the hull there.
@@ -113,5 +144,59 @@ pub fn run_find<C: Feed, F: Feed, S: Sink>(
     let hasher = BuildHasherDefault::<FoldHasher>::new();
     let mut none = ReadFeed::new(io::empty());
     let question = Question::Find(Step { seconds: step_s });
+    run(alloc, question, claim, &mut none, capture, out, hasher)
+}
+
+/// Looks for a refutation of the claim: the answer is `Yes` with the refutation, which stands, or
+/// `No` if none does, by any servers and with any error of 64 bits.
+pub fn run_seek<C: Feed, F: Feed, S: Sink>(
+    alloc: Global,
+    claim: &mut C,
+    capture: F,
+    out: &mut S,
+) -> (F, Result<Outcome, RunFault>)
+    requires { MayRun (run_state (C.state claim.old) no_feed (F.state capture) (S.state out.old)) }
+    ensures runs { RunsAlone seek
+        (run_state (C.state claim.old) no_feed (F.state capture) (S.state out.old))
+        (run_state (C.state claim.new) no_feed (F.state result.0) (S.state out.new))
+        capture result.0 result.1 }
+    ensures stands { result.1 ≡ Ok Outcome.Yes →
+        IsRefutable (C.state claim.old) (F.state capture) }
+    ensures none { result.1 ≡ Ok Outcome.No →
+        IsIrrefutable (C.state claim.old) (F.state capture) }
+{
+    let hasher = BuildHasherDefault::<FoldHasher>::new();
+    let mut none = ReadFeed::new(io::empty());
+    let question = Question::Seek;
+    run(alloc, question, claim, &mut none, capture, out, hasher)
+}
+
+/// Shows how far off the clock of the claim's client may have been in each piece of `step_s`
+/// seconds, from 1 to 86,400, and the least bound in nanoseconds that holds over the span; with
+/// `servers` also what each server says of each piece. The answer is `Yes` if there is such a bound.
+///
+/// `Pieces` comes where the span has over 100,000 pieces of that length, after every other refusal.
+pub fn run_envelope<C: Feed, F: Feed, S: Sink>(
+    alloc: Global,
+    claim: &mut C,
+    capture: F,
+    step_s: u32,
+    servers: bool,
+    out: &mut S,
+) -> (F, Result<Outcome, RunFault>)
+    requires run { MayRun
+        (run_state (C.state claim.old) no_feed (F.state capture) (S.state out.old)) }
+    requires step { IsStep step_s }
+    ensures runs { RunsAlone (envelope step_s servers)
+        (run_state (C.state claim.old) no_feed (F.state capture) (S.state out.old))
+        (run_state (C.state claim.new) no_feed (F.state result.0) (S.state out.new))
+        capture result.0 result.1 }
+    ensures holds { IfOk result.1 (λ outcome.
+        IsEnveloped step_s outcome (C.state claim.old) (F.state capture)) }
+{
+    let hasher = BuildHasherDefault::<FoldHasher>::new();
+    let mut none = ReadFeed::new(io::empty());
+    let step = Step { seconds: step_s };
+    let question = Question::Envelope { step, servers };
     run(alloc, question, claim, &mut none, capture, out, hasher)
 }

@@ -18,18 +18,24 @@ ghost use Rattle.audit.specs.Report.{IsOfMaking};
 
 mod at;
 mod check;
+mod envelope;
 mod find;
+mod refute;
 mod samples;
+mod seek;
 
 use crate::evidence::Evidence;
 use crate::question::at::make_at;
 use crate::question::check::make_check;
+use crate::question::envelope::make_envelope;
 use crate::question::find::make_find;
+use crate::question::refute::make_refute;
 use crate::question::samples::make_samples;
+use crate::question::seek::make_seek;
 use crate::step::Step;
 use byte_stream::Feed;
-use certificate::Certificate;
-use report::{Made, RunFault, read_certificate_from};
+use certificate::{Certificate, Refutation};
+use report::{Made, RunFault, read_certificate_from, read_refutation_from};
 use std::alloc::Global;
 
 /// What is asked of a claim and a capture.
@@ -43,6 +49,17 @@ pub enum Question {
     Find(Step),
     /// Does a certificate, the second input, show the claim?
     Check,
+    /// Does a refutation, the second input, stand against the claim?
+    Refute,
+    /// How far off may the clock have been, piece by piece?
+    Envelope {
+        /// How long the pieces are.
+        step: Step,
+        /// Whether to show what each server says of each piece.
+        servers: bool,
+    },
+    /// Is there a refutation of the claim?
+    Seek,
 }
 
 /// What is to be done for a question, once its second input is read.
@@ -56,6 +73,17 @@ pub(crate) enum Task {
     Find(Step),
     /// Settle the claim by a certificate.
     Check(Certificate),
+    /// Settle whether a refutation stands.
+    Refute(Refutation),
+    /// Show how far off the clock may have been in each piece.
+    Envelope {
+        /// How long the pieces are.
+        step: Step,
+        /// Whether to show what each server says of each piece.
+        servers: bool,
+    },
+    /// Look for a refutation.
+    Seek,
 }
 
 /// Reads the second input of a question, where it has one.
@@ -86,6 +114,12 @@ pub(crate) fn read_task<T: Feed>(
             Ok(certificate) => Ok(Task::Check(certificate)),
             Err(fault) => Err(fault),
         },
+        Question::Refute => match read_refutation_from(alloc, second) {
+            Ok(refutation) => Ok(Task::Refute(refutation)),
+            Err(fault) => Err(fault),
+        },
+        Question::Envelope { step, servers } => Ok(Task::Envelope { step, servers }),
+        Question::Seek => Ok(Task::Seek),
     }
 }
 
@@ -103,5 +137,8 @@ pub(crate) fn make(alloc: Global, task: &Task, evidence: &Evidence) -> Result<Ma
         Task::At(second) => make_at(alloc, *second, evidence),
         Task::Find(step) => make_find(alloc, *step, evidence),
         Task::Check(certificate) => make_check(alloc, certificate, evidence),
+        Task::Refute(refutation) => make_refute(alloc, refutation, evidence),
+        Task::Envelope { step, servers } => make_envelope(alloc, *step, *servers, evidence),
+        Task::Seek => make_seek(alloc, evidence),
     }
 }

@@ -21,7 +21,7 @@ use report::{Made, Outcome, RunFault};
 use std::alloc::{AllocError, Global};
 
 /// What a run answers where no certificate could be looked for.
-fn run_fault_of(fault: FindFault) -> RunFault
+pub(crate) fn run_fault_of(fault: FindFault) -> RunFault
     ensures { result ≡ find_run_fault_of fault }
 {
     match fault {

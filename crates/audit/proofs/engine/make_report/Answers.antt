@@ -1,6 +1,12 @@
-use Rattle.std.proofs.Common.{inr}
-use Rattle.claim_file.specs.Claim.{data_of as claim_data}
+use Rattle.std.proofs.Common.{◌≡◌, inr, Result, Ok, Err, sym, subst}
+use Rattle.std.specs.Prelude.{IfSome}
+use Rattle.claim_file.specs.Claim.{ClaimData, data_of as claim_data}
+use Rattle.report.specs.declared.fault.RunFault.{RunFault}
+use Rattle.report.specs.Publication.{IsMadeFor}
+use Rattle.audit.specs.Question.{data_of, task_read}
+use Rattle.audit.specs.Report.{after_claim}
 use Rattle.audit.proofs.CaptureLemmas.{header_was_read}
+use Rattle.audit.proofs.RunLemmas.{capture_refusal}
 use Rattle.audit.proofs.engine.make_report.Goals as goal
 
 -- memory that is refused after the capture was read
@@ -8,3 +14,17 @@ pub returns-in-Ok-collected-clause-memory : goal.returns-in-Ok-collected-clause-
 returns-in-Ok-collected-clause-memory g c = λ is.
     inr (header_was_read (claim_data c.in-Ok.claim) _ c.in-Ok-collected.collected
     (rw c.in-Ok-collected.is at c.read_capture_from-capture.ensures.known))
+
+-- the capture is refused
+pub returns-in-Err-collected-clause-made : goal.returns-in-Err-collected-clause-made
+returns-in-Err-collected-clause-made g c = λ expected reads.
+    let claim = claim_data c.in-Ok.claim in
+    let second = task_read (data_of c.args.question) (g.T.Feed.state c.args.second.now).remaining in
+    let capture = (g.F.Feed.state c.args.capture).remaining in
+    let fault = c.in-Err-collected.fault in
+    let is : expected ≡ Ok claim = rw c.in-Ok.is at reads in
+    subst (λ (e : Result ClaimData RunFault). IfSome (after_claim (data_of c.args.question) e
+    (g.T.Feed.state c.args.second.now).remaining capture) (λ report. IsMadeFor report (Err fault))) (sym is)
+    (capture_refusal claim fault (rw c.in-Err-collected.is at c.read_capture_from-capture.ensures.fault) c.in-Ok-read_task.task
+    second capture (rw c.in-Ok-read_task.is at c.read_task.ensures.known)
+    (rw c.in-Err-collected.is at c.read_capture_from-capture.ensures.known))

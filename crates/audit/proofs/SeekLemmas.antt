@@ -1,0 +1,65 @@
+-- What the outcome of a search for a refutation shows.
+use Rattle.std.proofs.Common.{◌≡◌, ◌<◌, List, length, Option, Some, None, refl, sym, subst}
+use Rattle.std.specs.Prelude.{All, AllPairs, IfSome, IsNone, option_map}
+use Rattle.certificate.specs.Certificate.{CertificateData}
+use Rattle.certificate.specs.Refutation.{RefutationData, data_of as refutation_data}
+use Rattle.certificate.specs.declared.refutation.Refutation.{Refutation}
+use Rattle.claim_file.specs.Claim.{ClaimData, IsLawful}
+use Rattle.pairing.specs.Exchange.{IsLawful as IsLawfulExchange, SameRequest}
+use Rattle.pairing.specs.declared.exchange.Exchange.{Exchange}
+use Rattle.checker.specs.Refutation.{HasCourse, IsRefuted}
+use Rattle.checker.specs.Traceability.{samples_of}
+use Rattle.checker.specs.Verdict.{verdict_of}
+use Rattle.checker.specs.declared.verdict.Verdict.TheVariants as verdicts
+use Rattle.finder.specs.Sought.{IsSought, NoneIsRefuted}
+use Rattle.report.specs.declared.fault.Outcome.{Outcome}
+use Rattle.audit.specs.Evidence.{EvidenceData}
+use Rattle.audit.specs.Question.{ShowsOf, seek_refutation}
+use Rattle.audit.specs.Refute.{IsStanding}
+use Rattle.audit.specs.Seek.{sought_in, sought_outcome}
+
+-- the laws on what is accepted
+pub record Laws : Type 0 where
+  pub course : (claim : ClaimData) (xs : List Exchange) (refutation : RefutationData) → IsLawful claim →
+      All (IsLawfulExchange (length claim.servers)) xs → AllPairs SameRequest xs → IsRefuted claim xs refutation →
+      HasCourse claim xs refutation
+  pub never_meet : (claim : ClaimData) (xs : List Exchange) (certificate : CertificateData)
+      (refutation : RefutationData) → IsLawful claim → All (IsLawfulExchange (length claim.servers)) xs →
+      verdict_of (samples_of xs claim) claim certificate ≡ verdicts.Yes → ¬ (IsRefuted claim xs refutation)
+
+-- the limits of claim and exchanges
+pub record Limits (e : EvidenceData) : Type 0 where
+  pub lawful : IsLawful e.claim
+  pub each : All (IsLawfulExchange (length e.claim.servers)) e.collection.exchanges
+  pub agree : AllPairs SameRequest e.collection.exchanges
+
+-- what is known of a search in these exchanges
+pub record Sought (e : EvidenceData) (found : Option Refutation) : Type 0 where
+  pub exact : option_map refutation_data found ≡ sought_in e
+  pub nearest : IfSome found (λ refutation. IsSought e.claim e.collection.exchanges (refutation_data refutation))
+  pub none : IsNone found → NoneIsRefuted e.claim e.collection.exchanges
+
+module _ (laws : Laws) (e : EvidenceData) (limits : Limits e) where
+  standing : (refutation : RefutationData) → IsRefuted e.claim e.collection.exchanges refutation →
+      IsStanding refutation e
+  standing refutation accepted = record {
+    accepted = accepted;
+    course = laws.course e.claim e.collection.exchanges refutation limits.lawful limits.each limits.agree accepted;
+    no_yes = λ certificate says_yes.
+        laws.never_meet e.claim e.collection.exchanges certificate refutation limits.lawful limits.each says_yes accepted;
+  }
+
+  shown : (found : Option Refutation) → Sought e found →
+      ShowsOf seek_refutation e (sought_outcome (option_map refutation_data found))
+  shown (Some refutation) sought = record {
+    refutation = refutation_data refutation;
+    found_is = sym sought.exact;
+    nearest = sought.nearest;
+    stands = standing (refutation_data refutation) sought.nearest.accepted;
+  }
+  shown None sought = record { found_is = sym sought.exact; none_accepted = sought.none refl }
+
+  -- the outcome that is told of what was found
+  pub search_shows : (found : Option Refutation) (outcome : Outcome) →
+      outcome ≡ sought_outcome (option_map refutation_data found) → Sought e found → ShowsOf seek_refutation e outcome
+  search_shows found outcome is sought = subst (ShowsOf seek_refutation e) (sym is) (shown found sought)

@@ -1,0 +1,51 @@
+-- The report of `find --refutation`: a refutation, or that none is found; and what its outcome says.
+use Rattle.std.specs.Prelude.{◌≡◌, ℕ, List, ◌++◌, codes, Option, Some, None}
+use Rattle.byte_stream.specs.State.{FeedState}
+use Rattle.certificate.specs.Refutation.{RefutationData}
+use Rattle.certificate.specs.RefutationWriting.{refutation_text}
+use Rattle.finder.specs.Sought.{IsSought, NoneIsRefuted, sought_of}
+use Rattle.report.specs.declared.fault.Outcome.{Outcome}
+use Rattle.report.specs.declared.fault.Outcome.TheVariants.{Yes, No}
+use Rattle.report.specs.Reports.{Report, whole_text}
+use Rattle.audit_text.specs.Refutation.{no_refutation_text}
+use Rattle.audit.specs.Evidence.{EvidenceData, GiveEvidence, OfClaimAndCapture}
+use Rattle.audit.specs.Refute.{IsStanding}
+
+-- what is found, in words: the refutation's compact text and a line feed, or that there is none
+unfoldable pub sought_text : Option RefutationData → List ℕ
+sought_text (Some refutation) = refutation_text refutation ++ codes "\n"
+sought_text None = no_refutation_text
+
+-- the outcome: yes if there is a refutation
+abbrev pub sought_outcome : Option RefutationData → Outcome
+sought_outcome (Some refutation) = Yes
+sought_outcome None = No
+
+-- what is found in the exchanges of a capture
+abbrev pub sought_in : EvidenceData → Option RefutationData
+sought_in e = sought_of e.claim e.collection.exchanges
+
+-- the report of `find --refutation` on a claim and the exchanges of a capture
+abbrev pub seek_report : EvidenceData → Report
+seek_report e = whole_text (sought_text (sought_in e)) (sought_outcome (sought_in e))
+
+-- A refutation is found of this evidence, with the error nearest above the bound, or else nearest
+-- below it on the other side; and it stands.
+pub record IsSoughtOf (e : EvidenceData) : Type 0 where
+  pub refutation : RefutationData
+  pub found_is : sought_in e ≡ Some refutation
+  pub nearest : IsSought e.claim e.collection.exchanges refutation
+  pub stands : IsStanding refutation e
+
+-- None is found of it, and none is accepted.
+pub record IsSoughtInVain (e : EvidenceData) : Type 0 where
+  pub found_is : sought_in e ≡ None
+  pub none_accepted : NoneIsRefuted e.claim e.collection.exchanges
+
+-- At a yes a refutation is found, which stands, where the bytes of claim and capture are known.
+abbrev pub IsRefutable : FeedState → FeedState → Type 0
+IsRefutable claim capture = OfClaimAndCapture claim capture (GiveEvidence IsSoughtOf)
+
+-- At a no none is accepted, where these bytes are known.
+abbrev pub IsIrrefutable : FeedState → FeedState → Type 0
+IsIrrefutable claim capture = OfClaimAndCapture claim capture (GiveEvidence IsSoughtInVain)
