@@ -12,11 +12,21 @@ use Rattle.report.specs.declared.publication.Made.{Made}
 use Rattle.report.specs.ClaimInput.{claim_read}
 use Rattle.report.specs.Publication.{IsAnswerFor}
 use Rattle.report.specs.Reading.{Reads}
-use Rattle.audit.specs.Check.{IsDenied, IsTracedTo}
+use Rattle.audit.specs.At.{IsHeldOf}
+use Rattle.audit.specs.Check.{IsDenied, IsTracedByPieces, IsTracedTo}
 use Rattle.audit.specs.Evidence.{EvidenceData, evidence_of}
+use Rattle.audit.specs.Nanoseconds.{GivesNanoseconds}
 use Rattle.audit.specs.Find.{IsAcceptedOf, IsVain}
 use Rattle.audit.specs.Question.{QuestionData, TaskData, samples, at, find, check, show_samples, show_at, find_with, check_of, check_read, IsTaskOf, Shows, ShowsOf}
 use Rattle.audit.specs.Report.{ShowsAfter}
+
+-- the task of a moment
+of_at : (second : ℕ) (e : EvidenceData) (outcome : Outcome) (task : TaskData) → IsTaskOf (at second) task →
+    ShowsOf task e outcome → ShowsOf (show_at second) e outcome
+of_at second e outcome show_samples is shows = absurd is
+of_at second e outcome (show_at same) is shows = subst (λ (n : ℕ). ShowsOf (show_at n) e outcome) is shows
+of_at second e outcome (find_with step) is shows = absurd is
+of_at second e outcome (check_of certificate) is shows = absurd is
 
 -- the task of a search
 of_find : (step : ℕ) (e : EvidenceData) (outcome : Outcome) (task : TaskData) → IsTaskOf (find step) task →
@@ -49,18 +59,49 @@ module _ (c : ClaimData) where
   abbrev Is : Option (List ℕ) → Type 0
   Is claim = IfSome claim (λ bytes. claim_read bytes ≡ Ok c)
 
-  traced : (claim second capture : Option (List ℕ)) → Is claim → ShowsAfter check c second capture outcomes.Yes →
-      IfSome claim (λ b. IfSome capture (IsTracedTo b))
-  traced None second capture is after = tt
-  traced (Some b) second None is after = tt
-  traced (Some b) second (Some f) is after =
+  held : (second_at : ℕ) (claim second capture : Option (List ℕ)) (outcome : Outcome) → Is claim →
+      ShowsAfter (at second_at) c second capture outcome → IfSome claim (λ b. IfSome capture (IsHeldOf second_at b))
+  held second_at None second capture outcome is after = tt
+  held second_at (Some b) second None outcome is after = tt
+  held second_at (Some b) second (Some f) outcome is after = record {
+    evidence = evidence_of c after.collection;
+    evidence_is = record { claim_is = is; collection_is = after.collection_is };
+    held = of_at second_at (evidence_of c after.collection) outcome after.task after.is_task after.shows;
+  }
+
+  traced : (law : GivesNanoseconds) (claim second capture : Option (List ℕ)) → Is claim →
+      ShowsAfter check c second capture outcomes.Yes → IfSome claim (λ b. IfSome capture (IsTracedTo b))
+  traced law None second capture is after = tt
+  traced law (Some b) second None is after = tt
+  traced law (Some b) second (Some f) is after =
       let checked = of_check (evidence_of c after.collection) outcomes.Yes after.task after.is_task after.shows in
       record {
         claim = c;
         collection = after.collection;
         claim_is = is;
         collection_is = after.collection_is;
-        within = λ course. checked.shows after.collection.exchanges course refl;
+        within = λ course. checked.shows.whole after.collection.exchanges course refl;
+        in_nanoseconds = λ course fits observed.
+            law b c course is (checked.shows.whole after.collection.exchanges course refl fits observed);
+      }
+
+  traced_by_pieces : (law : GivesNanoseconds) (claim second capture : Option (List ℕ)) → Is claim →
+      ShowsAfter check c second capture outcomes.Yes →
+      IfSome second (λ s. IfSome claim (λ b. IfSome capture (IsTracedByPieces b s)))
+  traced_by_pieces law claim None capture is after = tt
+  traced_by_pieces law None (Some s) capture is after = tt
+  traced_by_pieces law (Some b) (Some s) None is after = tt
+  traced_by_pieces law (Some b) (Some s) (Some f) is after =
+      let checked = of_check (evidence_of c after.collection) outcomes.Yes after.task after.is_task after.shows in
+      record {
+        certificate = checked.certificate;
+        evidence = evidence_of c after.collection;
+        certificate_is = certificate_of _ checked.certificate (after.task_is ∙ ap Ok checked.task_is);
+        evidence_is = record { claim_is = is; collection_is = after.collection_is };
+        accepted = checked.shows.verdict_is;
+        within = λ k piece course stands fits observed.
+            law b c course is
+            (checked.shows.by_pieces after.collection.exchanges k piece course refl stands fits observed);
       }
 
   denied : (claim second capture : Option (List ℕ)) → Is claim → ShowsAfter check c second capture outcomes.No →
@@ -98,16 +139,20 @@ module _ (c : ClaimData) where
     is_nothing = of_find step (evidence_of c after.collection) outcomes.No after.task after.is_task after.shows;
   }
 
-module _ (claim second capture : FeedState) (c : ClaimData) (is : Is c claim.remaining) where
+module _ (law : GivesNanoseconds) (claim second capture : FeedState) (c : ClaimData) (is : Is c claim.remaining) where
   from_bytes : (question : QuestionData) (outcome : Outcome) →
       ShowsAfter question c second.remaining capture.remaining outcome → Shows question claim second capture outcome
   from_bytes samples outcome after = tt
-  from_bytes (at moment) outcome after = tt
+  from_bytes (at moment) outcome after =
+      held c moment claim.remaining second.remaining capture.remaining outcome is after
   from_bytes (find step) outcomes.Yes after =
       accepted c step claim.remaining second.remaining capture.remaining is after
   from_bytes (find step) outcomes.No after =
       vain c step claim.remaining second.remaining capture.remaining is after
-  from_bytes check outcomes.Yes after = traced c claim.remaining second.remaining capture.remaining is after
+  from_bytes check outcomes.Yes after = record {
+    whole = traced c law claim.remaining second.remaining capture.remaining is after;
+    by_pieces = traced_by_pieces c law claim.remaining second.remaining capture.remaining is after;
+  }
   from_bytes check outcomes.No after = denied c claim.remaining second.remaining capture.remaining is after
 
 -- a claim that was read is what its bytes give
@@ -116,7 +161,7 @@ known_claim : (claim : Option (List ℕ)) (c : Claim) →
 known_claim None c reads = tt
 known_claim (Some bytes) c reads = reads
 
-module _ (question : QuestionData) (claim second capture : FeedState) where
+module _ (law : GivesNanoseconds) (question : QuestionData) (claim second capture : FeedState) where
   -- what the outcome of a run shows
   pub run_shows : (read : Result Claim RunFault) (made : Result Made RunFault) (answer : Result Outcome RunFault) →
       IfSome claim.remaining (λ bytes. Reads claim_data (claim_read bytes) read) →
@@ -131,4 +176,4 @@ module _ (question : QuestionData) (claim second capture : FeedState) where
   run_shows (Err fault) (Ok m) answer reads refused after (inl same) = cc
   run_shows (Ok c) (Ok m) answer reads refused after (inl same) =
       subst (λ (a : Result Outcome RunFault). IfOk a (Shows question claim second capture)) (sym same)
-      (from_bytes claim second capture (claim_data c) (known_claim claim.remaining c reads) question m.outcome after)
+      (from_bytes law claim second capture (claim_data c) (known_claim claim.remaining c reads) question m.outcome after)

@@ -7,4 +7,5 @@ pub mod Check
 pub mod Find
 pub mod Question
 pub mod Report
+pub mod Nanoseconds
 pub mod Run

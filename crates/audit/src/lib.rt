@@ -12,6 +12,7 @@ mod capture_input;
 mod commands;
 mod engine;
 mod evidence;
+pub mod laws;
 mod moment;
 mod question;
 mod sample_list;
