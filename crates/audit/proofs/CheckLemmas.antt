@@ -3,9 +3,10 @@ use Rattle.std.proofs.Common.{◌≡◌, ℕ, refl, sym, ap, subst}
 use Rattle.std.specs.Prelude.{slice_get, IsSomeAnd}
 use Rattle.certificate.specs.Certificate.{CertificateData}
 use Rattle.checker.specs.Stretch.{stretches_of}
-use Rattle.checker.specs.Traceability.{IsContradicted, IsTraceable}
+use Rattle.checker.specs.Traceability.{IsContradicted, IsOfHull, IsRefusedByHull, IsTraceable, IsTraceableByPieces}
 use Rattle.checker.specs.declared.verdict.Verdict.{Verdict}
 use Rattle.checker.specs.declared.verdict.Verdict.TheVariants as verdicts
+use Rattle.checker.specs.declared.verdict.Why.{Why}
 use Rattle.checker.specs.declared.verdict.Why.TheVariants.{Contradiction}
 use Rattle.report.specs.declared.fault.Outcome.{Outcome}
 use Rattle.audit.specs.Check.{outcome_of, verdict_on}
@@ -16,17 +17,25 @@ use Rattle.audit.specs.Question.{ShowsOf, check_of}
 pub record Settled (certificate : CertificateData) (e : EvidenceData) (verdict : Verdict) : Type 0 where
   pub exact : verdict ≡ verdict_on certificate e
   pub yes : verdict ≡ verdicts.Yes → IsTraceable e.claim (samples_in e)
+  pub by_pieces : verdict ≡ verdicts.Yes → IsTraceableByPieces e.claim (samples_in e) certificate
   pub contradiction : (k : ℕ) → verdict ≡ verdicts.No k Contradiction →
       IsSomeAnd (slice_get (stretches_of e.claim certificate) k) (IsContradicted e.claim (samples_in e))
+  pub held : (k : ℕ) (why : Why) → verdict ≡ verdicts.No k why → IsOfHull why →
+      IsRefusedByHull e.claim (samples_in e) certificate k why
 
 module _ (certificate : CertificateData) (e : EvidenceData) where
   shown : (verdict : Verdict) → Settled certificate e verdict → ShowsOf (check_of certificate) e (outcome_of verdict)
-  shown verdicts.Yes settled = settled.yes refl
+  shown verdicts.Yes settled = record {
+    verdict_is = sym settled.exact;
+    whole = settled.yes refl;
+    by_pieces = settled.by_pieces refl;
+  }
   shown (verdicts.No piece why) settled = record {
     piece = piece;
     why = why;
     verdict_is = sym settled.exact;
     contradiction = λ is. settled.contradiction piece (ap (verdicts.No piece) is);
+    held = settled.held piece why refl;
   }
 
   -- the outcome that is told of a verdict

@@ -2,7 +2,7 @@
 use Rattle.std.proofs.Common.{◌≡◌, ℕ, List, Ok, sym, subst}
 use Rattle.std.specs.Prelude.{◌≢◌}
 use Rattle.sample_interval.specs.declared.kinds.Sample.{Sample}
-use Rattle.checker.specs.Traceability.{IsContradicted}
+use Rattle.checker.specs.Traceability.{HoldsError, IsContradicted}
 use Rattle.checker.specs.Verdict.{verdict_of}
 use Rattle.checker.specs.declared.verdict.Verdict.TheVariants as verdicts
 use Rattle.intersection.specs.declared.kinds.Hull.TheVariants.{Empty}
@@ -25,6 +25,7 @@ pub record Searched (step : ℕ) (e : EvidenceData) (samples : List Sample) (fou
       NoneIsAcceptedOver samples e.claim (stretch_at e.claim step piece))
   pub contradiction : IfNothing found (λ piece hull. hull ≡ Empty →
       IsContradicted e.claim samples (stretch_at e.claim step piece))
+  pub held : IfNothing found (λ piece hull. HoldsError e.claim samples (stretch_at e.claim step piece) hull)
 
 module _ (step : ℕ) (e : EvidenceData) where
   shown : (found : Found) → Searched step e (samples_in e) found →
@@ -40,6 +41,7 @@ module _ (step : ℕ) (e : EvidenceData) where
     found_is = searched.exact;
     empty = searched.contradiction;
     none_accepted = searched.none_accepted;
+    held = searched.held;
   }
 
   -- the outcome that is told of what was found

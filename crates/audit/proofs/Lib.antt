@@ -1,3 +1,4 @@
+pub mod NanosecondLemmas
 pub mod SampleLemmas
 pub mod CaptureLemmas
 pub mod MomentLemmas

@@ -1,7 +1,7 @@
 -- The samples of exchanges, one after another.
 use Rattle.std.proofs.Common.{◌≡◌, ◌∙◌, ◌+◌, ◌<◌, ◌++◌, ℕ, List, [], ◌∷◌, length, take, get_or, sym, subst}
 use Rattle.std.proofs.lemmas.List.{map_more}
-use Rattle.std.proofs.lemmas.List.Elements.{All-get_or, All-push}
+use Rattle.std.proofs.lemmas.List.Elements.{All-get_or, All-map, All-push}
 use Rattle.std.specs.Prelude.{All}
 use Rattle.claim_file.specs.Claim.{ClaimData}
 use Rattle.pairing.specs.declared.exchange.Exchange.{Exchange}
@@ -25,3 +25,9 @@ module _ (claim : ClaimData) (xs : List Exchange) (i : ℕ) (d : Exchange) (with
       let one = subst (λ (t : Sample). t.server < servers) (sym is) given.listed in
       subst (All (λ (t : Sample). t.server < servers)) (sym pushed)
       (All-push (λ (t : Sample). t.server < servers) old s so_far one)
+
+-- the servers of samples are listed, where those of the exchanges are
+pub listed_samples : (claim : ClaimData) (xs : List Exchange) (servers : ℕ) → All (IsLawful servers) xs →
+    All (λ sample. sample.server < servers) (samples_of xs claim)
+listed_samples claim xs servers each =
+    All-map (λ sample. sample.server < servers) (λ x. sample_of x claim.reading) xs (λ k d within. (each k d within).listed)

@@ -15,11 +15,13 @@ use Rattle.report.specs.ClaimInput.{claim_read}
 use Rattle.report.specs.Publication.{IsAnswerFor}
 use Rattle.report.specs.Reading.{Reads}
 use Rattle.report.specs.RefutationInput.{refutation_read}
+use Rattle.audit.specs.At.{IsHeldOf}
 use Rattle.audit.specs.CaptureInput.{capture_read}
-use Rattle.audit.specs.Check.{IsDenied, IsTracedTo}
+use Rattle.audit.specs.Check.{IsDenied, IsTracedByPieces, IsTracedTo}
 use Rattle.audit.specs.Envelope.{IsEnvelopeOf}
 use Rattle.audit.specs.Evidence.{EvidenceData, GiveEvidence, OfClaimAndCapture, evidence_of}
 use Rattle.audit.specs.Find.{IsFoundOf, IsNothingOf}
+use Rattle.audit.specs.Nanoseconds.{GivesNanoseconds}
 use Rattle.audit.specs.Question.{QuestionData, TaskData, samples, at, find, check, refute, envelope, seek, check_of, refute_by, check_read, refute_read, task_read, Shows, ShowsOf}
 use Rattle.audit.specs.Refute.{GiveRefutation, IsFallen, IsStanding}
 use Rattle.audit.specs.Report.{ShowsAfter}
@@ -62,18 +64,50 @@ module _ (c : ClaimData) where
     holds = shows;
   }
 
-  traced : (claim second capture : Option (List ℕ)) → Is claim → ShowsAfter check c second capture outcomes.Yes →
-      IfSome claim (λ b. IfSome capture (IsTracedTo b))
-  traced None second capture is after = tt
-  traced (Some b) second None is after = tt
-  traced (Some b) second (Some f) is after = record {
-    claim = c;
-    collection = after.collection;
-    claim_is = is;
-    collection_is = after.collection_is;
-    within = λ course. of_task (evidence_of c after.collection) outcomes.Yes after.task _ after.is_task.1 after.shows
-        after.collection.exchanges course refl;
+  held : (second_at : ℕ) (claim second capture : Option (List ℕ)) (outcome : Outcome) → Is claim →
+      ShowsAfter (at second_at) c second capture outcome → IfSome claim (λ b. IfSome capture (IsHeldOf second_at b))
+  held second_at None second capture outcome is after = tt
+  held second_at (Some b) second None outcome is after = tt
+  held second_at (Some b) second (Some f) outcome is after = record {
+    evidence = evidence_of c after.collection;
+    evidence_is = record { claim_is = is; collection_is = after.collection_is };
+    held = of_task (evidence_of c after.collection) outcome after.task _ after.is_task after.shows;
   }
+
+  traced : (law : GivesNanoseconds) (claim second capture : Option (List ℕ)) → Is claim →
+      ShowsAfter check c second capture outcomes.Yes → IfSome claim (λ b. IfSome capture (IsTracedTo b))
+  traced law None second capture is after = tt
+  traced law (Some b) second None is after = tt
+  traced law (Some b) second (Some f) is after =
+      let yes = of_task (evidence_of c after.collection) outcomes.Yes after.task _ after.is_task.1 after.shows in
+      record {
+        claim = c;
+        collection = after.collection;
+        claim_is = is;
+        collection_is = after.collection_is;
+        within = λ course. yes.whole after.collection.exchanges course refl;
+        in_nanoseconds = λ course fits observed.
+            law b c course is (yes.whole after.collection.exchanges course refl fits observed);
+      }
+
+  traced_by_pieces : (law : GivesNanoseconds) (claim second capture : Option (List ℕ)) → Is claim →
+      ShowsAfter check c second capture outcomes.Yes →
+      IfSome second (λ s. IfSome claim (λ b. IfSome capture (IsTracedByPieces b s)))
+  traced_by_pieces law claim None capture is after = tt
+  traced_by_pieces law None (Some s) capture is after = tt
+  traced_by_pieces law (Some b) (Some s) None is after = tt
+  traced_by_pieces law (Some b) (Some s) (Some f) is after =
+      let yes = of_task (evidence_of c after.collection) outcomes.Yes after.task _ after.is_task.1 after.shows in
+      record {
+        certificate = after.is_task.0;
+        evidence = evidence_of c after.collection;
+        certificate_is = certificate_of _ after.is_task.0 (after.task_is ∙ ap Ok after.is_task.1);
+        evidence_is = record { claim_is = is; collection_is = after.collection_is };
+        accepted = yes.verdict_is;
+        within = λ k piece course stands fits observed.
+            law b c course is
+            (yes.by_pieces after.collection.exchanges k piece course refl stands fits observed);
+      }
 
   denied : (claim second capture : Option (List ℕ)) → Is claim → ShowsAfter check c second capture outcomes.No →
       IfSome second (λ s. IfSome claim (λ b. IfSome capture (IsDenied b s)))
@@ -108,7 +142,7 @@ module _ (c : ClaimData) where
         };
       }
 
-module _ (claim second capture : FeedState) (c : ClaimData) (is : Is c claim.remaining) where
+module _ (law : GivesNanoseconds) (claim second capture : FeedState) (c : ClaimData) (is : Is c claim.remaining) where
   -- of a question that has no second input
   alone : (P : EvidenceData → Type 0) (question : QuestionData) (outcome : Outcome)
       (after : ShowsAfter question c second.remaining capture.remaining outcome) →
@@ -119,13 +153,17 @@ module _ (claim second capture : FeedState) (c : ClaimData) (is : Is c claim.rem
   from_bytes : (question : QuestionData) (outcome : Outcome) →
       ShowsAfter question c second.remaining capture.remaining outcome → Shows question claim second capture outcome
   from_bytes samples outcome after = tt
-  from_bytes (at moment) outcome after = tt
+  from_bytes (at moment) outcome after =
+      held c moment claim.remaining second.remaining capture.remaining outcome is after
   from_bytes (find step) outcomes.Yes after =
       alone (IsFoundOf step) (find step) outcomes.Yes after (of_task _ outcomes.Yes after.task _ after.is_task after.shows)
   from_bytes (find step) outcomes.No after =
       alone (IsNothingOf step) (find step) outcomes.No after
       (of_task _ outcomes.No after.task _ after.is_task after.shows)
-  from_bytes check outcomes.Yes after = traced c claim.remaining second.remaining capture.remaining is after
+  from_bytes check outcomes.Yes after = record {
+    whole = traced c law claim.remaining second.remaining capture.remaining is after;
+    by_pieces = traced_by_pieces c law claim.remaining second.remaining capture.remaining is after;
+  }
   from_bytes check outcomes.No after = denied c claim.remaining second.remaining capture.remaining is after
   from_bytes refute outcomes.Yes after =
       refuted c IsStanding outcomes.Yes (λ r e shows. shows) claim.remaining second.remaining capture.remaining is after
@@ -145,7 +183,7 @@ known_claim : (claim : Option (List ℕ)) (c : Claim) →
 known_claim None c reads = tt
 known_claim (Some bytes) c reads = reads
 
-module _ (question : QuestionData) (claim second capture : FeedState) where
+module _ (law : GivesNanoseconds) (question : QuestionData) (claim second capture : FeedState) where
   -- what the outcome of a run shows
   pub run_shows : (read : Result Claim RunFault) (made : Result Made RunFault) (answer : Result Outcome RunFault) →
       IfSome claim.remaining (λ bytes. Reads claim_data (claim_read bytes) read) →
@@ -160,4 +198,4 @@ module _ (question : QuestionData) (claim second capture : FeedState) where
   run_shows (Err fault) (Ok m) answer reads refused after (inl same) = cc
   run_shows (Ok c) (Ok m) answer reads refused after (inl same) =
       subst (λ (a : Result Outcome RunFault). IfOk a (Shows question claim second capture)) (sym same)
-      (from_bytes claim second capture (claim_data c) (known_claim claim.remaining c reads) question m.outcome after)
+      (from_bytes law claim second capture (claim_data c) (known_claim claim.remaining c reads) question m.outcome after)

@@ -1,13 +1,17 @@
 -- The report of `at`: what each server says of the clock's error at one moment, and the hull over
--- the groups.
+-- the groups, which holds the error.
 use Rattle.std.specs.Prelude.{ℕ, List}
+use Rattle.byte_stream.specs.State.{FeedState}
 use Rattle.claim_file.specs.Claim.{ClaimData}
 use Rattle.checker.specs.Piece.{piece_hull}
+use Rattle.checker.specs.Traceability.{HoldsError}
 use Rattle.checker.specs.declared.part.Part.{Part}
+use Rattle.checker.specs.declared.stretch.Stretch.{Stretch}
+use Rattle.intersection.specs.declared.kinds.Hull.{Hull}
 use Rattle.report.specs.declared.fault.Outcome.TheVariants.{Yes}
 use Rattle.report.specs.Reports.{Report, whole_text}
 use Rattle.audit_text.specs.Parts.{parts_text}
-use Rattle.audit.specs.Evidence.{EvidenceData, samples_in}
+use Rattle.audit.specs.Evidence.{EvidenceData, IsEvidenceOf, OfClaimAndCapture, samples_in}
 use Rattle.audit.specs.Moment.{parts_at, tick_of}
 
 -- the text for what these servers say, with the hull over the groups
@@ -21,3 +25,28 @@ at_text second e = hull_text e.claim (parts_at e.claim (samples_in e) (tick_of s
 -- the report of `at` on a claim and the exchanges of a capture
 abbrev pub at_report : ℕ → EvidenceData → Report
 at_report second e = whole_text (at_text second e) Yes
+
+-- a Unix second's first tick, as a stretch of readings
+abbrev pub stretch_at : ℕ → Stretch
+stretch_at second = record { begin = tick_of second; end = tick_of second }
+
+-- the hull that is shown
+abbrev pub hull_at : ℕ → EvidenceData → Hull
+hull_at second e =
+    piece_hull e.claim.groups e.claim.false_max (parts_at e.claim (samples_in e) (tick_of second))
+
+-- In every course of events that fits the exchanges, the error lies in that hull at every moment
+-- at which the clock reads the second's first tick. An unbounded hull says nothing, and an empty
+-- one that no course that fits has such a moment.
+abbrev pub IsHeldAt : ℕ → EvidenceData → Type 0
+IsHeldAt second e = HoldsError e.claim (samples_in e) (stretch_at second) (hull_at second e)
+
+-- The bytes of claim and capture give evidence of which that holds.
+pub record IsHeldOf (second : ℕ) (claim capture : List ℕ) : Type 0 where
+  pub evidence : EvidenceData
+  pub evidence_is : IsEvidenceOf claim capture evidence
+  pub held : IsHeldAt second evidence
+
+-- The hull holds the error, where these bytes are known.
+abbrev pub IsHeld : ℕ → FeedState → FeedState → Type 0
+IsHeld second claim capture = OfClaimAndCapture claim capture (IsHeldOf second)

@@ -1,12 +1,15 @@
 -- The report of `check`, and what its outcome says of every course of events.
-use Rattle.std.specs.Prelude.{◌≡◌, ℕ, List, length, Ok, slice_get, IfSome, IsSomeAnd}
+use Rattle.std.specs.Prelude.{◌≡◌, ℕ, List, length, Some, Ok, slice_get, IfSome, IsSomeAnd}
 use Rattle.byte_stream.specs.State.{FeedState}
-use Rattle.certificate.specs.Certificate.{CertificateData}
+use Rattle.certificate.specs.Certificate.{PieceData, CertificateData}
 use Rattle.claim_file.specs.Claim.{ClaimData}
 use Rattle.pairing.specs.Pairing.{Collection}
 use Rattle.checker.specs.Course.{Course, Fits}
-use Rattle.checker.specs.Stretch.{stretches_of}
-use Rattle.checker.specs.Traceability.{IsContradicted, IsObservedIn, IsWithin}
+use Rattle.checker.specs.PieceFit.{FitsPiece}
+use Rattle.checker.specs.Stretch.{stretch_of, stretches_of}
+use Rattle.checker.specs.Traceability.{IsContradicted, IsObservedIn, IsOfHull, IsRefusedByHull}
+use Rattle.checker.specs.Traceability.{IsTraceable, IsTraceableByPieces}
+use Rattle.checker.specs.Traceability.{IsWithin, IsWithinNanoseconds}
 use Rattle.checker.specs.Verdict.{verdict_of}
 use Rattle.checker.specs.declared.verdict.Verdict.{Verdict}
 use Rattle.checker.specs.declared.verdict.Verdict.TheVariants as verdicts
@@ -37,8 +40,16 @@ check_report certificate e =
     (check_text e.claim e.collection (length certificate.pieces) (verdict_on certificate e))
     (outcome_of (verdict_on certificate e))
 
+-- The verdict is yes. So the error is within the bound in every course of events that fits the
+-- exchanges, and piece by piece in every one that fits what the piece names of them.
+pub record HasVerdictYes (certificate : CertificateData) (e : EvidenceData) : Type 0 where
+  pub verdict_is : verdict_on certificate e ≡ verdicts.Yes
+  pub whole : IsTraceable e.claim (samples_in e)
+  pub by_pieces : IsTraceableByPieces e.claim (samples_in e) certificate
+
 -- The verdict is no, for a piece and a reason, which the report names. Where the piece contradicts
--- itself, no course of events that fits the exchanges has its reading there.
+-- itself, no course of events that fits the exchanges has its reading there. Where the reason is
+-- its hull, the error lies in that hull, in every course that fits what the piece names.
 pub record HasVerdictNo (certificate : CertificateData) (e : EvidenceData) : Type 0 where
   pub piece : ℕ
   pub why : Why
@@ -46,10 +57,11 @@ pub record HasVerdictNo (certificate : CertificateData) (e : EvidenceData) : Typ
   pub contradiction : why ≡ Contradiction →
       IsSomeAnd (slice_get (stretches_of e.claim certificate) piece)
       (IsContradicted e.claim (samples_in e))
+  pub held : IsOfHull why → IsRefusedByHull e.claim (samples_in e) certificate piece why
 
 -- In every course of events that fits the exchanges of a capture's bytes, under the claim of a
 -- claim's bytes, the error of the client's clock is within the claimed bound at every moment whose
--- reading lies in the claimed span.
+-- reading lies in the claimed span: within the bound in ticks, and so in nanoseconds.
 pub record IsTracedTo (claim_bytes capture_bytes : List ℕ) : Type 0 where
   pub claim : ClaimData
   pub collection : Collection
@@ -57,6 +69,24 @@ pub record IsTracedTo (claim_bytes capture_bytes : List ℕ) : Type 0 where
   pub collection_is : capture_read claim capture_bytes ≡ Ok collection
   pub within : (course : Course) → Fits claim collection.exchanges course
       → IsObservedIn course claim.first claim.last → IsWithin course claim.bound
+  pub in_nanoseconds : (course : Course) → Fits claim collection.exchanges course
+      → IsObservedIn course claim.first claim.last → IsWithinNanoseconds course claim.bound_ns
+
+-- The certificate of a certificate's bytes is accepted, and the same holds of each of its pieces:
+-- in every course that fits what the piece names of these exchanges, the error is within the bound
+-- at every moment whose reading lies in the piece.
+pub record IsTracedByPieces (claim_bytes certificate_bytes capture_bytes : List ℕ) : Type 0 where
+  pub certificate : CertificateData
+  pub evidence : EvidenceData
+  pub certificate_is : certificate_read certificate_bytes ≡ Ok certificate
+  pub evidence_is : IsEvidenceOf claim_bytes capture_bytes evidence
+  pub accepted : verdict_on certificate evidence ≡ verdicts.Yes
+  pub within : (k : ℕ) (piece : PieceData) (course : Course)
+      → slice_get certificate.pieces k ≡ Some piece
+      → FitsPiece evidence.claim evidence.collection.exchanges piece.entries course
+      → let stretch = stretch_of evidence.claim certificate k piece in
+      IsObservedIn course stretch.begin stretch.end
+      → IsWithinNanoseconds course evidence.claim.bound_ns
 
 -- The bytes of claim, certificate and capture give a verdict of no.
 pub record IsDenied (claim_bytes certificate_bytes capture_bytes : List ℕ) : Type 0 where
@@ -66,9 +96,12 @@ pub record IsDenied (claim_bytes certificate_bytes capture_bytes : List ℕ) : T
   pub evidence_is : IsEvidenceOf claim_bytes capture_bytes evidence
   pub verdict : HasVerdictNo certificate evidence
 
--- At a yes the clock is traced to UTC by claim and capture, where their bytes are known.
-abbrev pub IsTraced : FeedState → FeedState → Type 0
-IsTraced claim capture = OfClaimAndCapture claim capture IsTracedTo
+-- At a yes the clock is traced to UTC by claim and capture, where their bytes are known, and where
+-- those of the certificate are too, piece by piece.
+pub record IsTraced (claim second capture : FeedState) : Type 0 where
+  pub whole : OfClaimAndCapture claim capture IsTracedTo
+  pub by_pieces : IfSome second.remaining
+      (λ s. OfClaimAndCapture claim capture (λ c. IsTracedByPieces c s))
 
 -- At a no the verdict is no, where the bytes of all three are known.
 abbrev pub IsNotTraced : FeedState → FeedState → FeedState → Type 0

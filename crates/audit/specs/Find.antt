@@ -4,7 +4,7 @@ use Rattle.std.specs.Prelude.{◌≡◌, ◌≢◌, ℕ, List, ◌++◌, codes, 
 use Rattle.byte_stream.specs.State.{FeedState}
 use Rattle.certificate.specs.Certificate.{CertificateData}
 use Rattle.certificate.specs.Writing.{certificate_text}
-use Rattle.checker.specs.Traceability.{IsContradicted}
+use Rattle.checker.specs.Traceability.{HoldsError, IsContradicted}
 use Rattle.checker.specs.declared.verdict.Verdict.TheVariants as verdicts
 use Rattle.intersection.specs.declared.kinds.Hull.{Hull}
 use Rattle.intersection.specs.declared.kinds.Hull.TheVariants.{Empty}
@@ -59,7 +59,8 @@ pub record IsFoundOf (step : ℕ) (e : EvidenceData) : Type 0 where
 
 -- Nothing is found of this evidence: a piece fails, which the report names with its hull. Where the
 -- hull is empty, no course of events that fits the exchanges has its reading in that piece, and
--- else no certificate is accepted that has a piece over the whole of it.
+-- else no certificate is accepted that has a piece over the whole of it. In every course that fits,
+-- the error lies in the hull at every moment whose reading lies in the piece.
 pub record IsNothingOf (step : ℕ) (e : EvidenceData) : Type 0 where
   pub piece : ℕ
   pub hull : Hull
@@ -68,6 +69,7 @@ pub record IsNothingOf (step : ℕ) (e : EvidenceData) : Type 0 where
       IsContradicted e.claim (samples_in e) (stretch_at e.claim step piece)
   pub none_accepted : hull ≢ Empty →
       NoneIsAcceptedOver (samples_in e) e.claim (stretch_at e.claim step piece)
+  pub held : HoldsError e.claim (samples_in e) (stretch_at e.claim step piece) hull
 
 -- At a yes a certificate is found and accepted, where the bytes of claim and capture are known: a
 -- check of the three says yes.

@@ -10,4 +10,5 @@ pub mod Refute
 pub mod Seek
 pub mod Question
 pub mod Report
+pub mod Nanoseconds
 pub mod Run

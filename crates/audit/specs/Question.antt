@@ -5,7 +5,6 @@ use Rattle.std.specs.Option.{option_map}
 use Rattle.byte_stream.specs.State.{FeedState}
 use Rattle.certificate.specs.Certificate.{CertificateData, data_of as certificate_data, max_pieces}
 use Rattle.certificate.specs.Refutation.{RefutationData, data_of as refutation_data}
-use Rattle.checker.specs.Traceability.{IsTraceable}
 use Rattle.report.specs.CertificateInput.{certificate_read, max_certificate}
 use Rattle.report.specs.RefutationInput.{max_refutation, refutation_read}
 use Rattle.report.specs.Reports.{Report}
@@ -14,10 +13,10 @@ use Rattle.report.specs.declared.fault.Outcome.{Outcome}
 use Rattle.report.specs.declared.fault.Outcome.TheVariants.{Yes, No}
 use Rattle.report.specs.declared.fault.RunFault.{RunFault}
 use Rattle.report.specs.declared.fault.RunFault.TheVariants.{Certificate, Refutation, TooBig, Device, Memory}
-use Rattle.audit.specs.At.{at_report}
-use Rattle.audit.specs.Check.{HasVerdictNo, IsNotTraced, IsTraced, check_report}
+use Rattle.audit.specs.At.{IsHeld, IsHeldAt, at_report}
+use Rattle.audit.specs.Check.{HasVerdictNo, HasVerdictYes, IsNotTraced, IsTraced, check_report}
 use Rattle.audit.specs.Envelope.{IsEnveloped, IsEnvelopeOf, envelope_report}
-use Rattle.audit.specs.Evidence.{EvidenceData, samples_in}
+use Rattle.audit.specs.Evidence.{EvidenceData}
 use Rattle.audit.specs.Find.{IsAccepted, IsFoundOf, IsNotFound, IsNothingOf, find_report}
 use Rattle.audit.specs.Refute.{IsContested, IsFallen, IsStanding, IsUncontested, refute_report}
 use Rattle.audit.specs.Samples.{samples_report}
@@ -143,9 +142,10 @@ report_on seek_refutation e = seek_report e
 
 -- what its outcome shows of them
 abbrev pub ShowsOf : TaskData → EvidenceData → Outcome → Type 0
+ShowsOf (show_at second) e outcome = IsHeldAt second e
 ShowsOf (find_with step) e Yes = IsFoundOf step e
 ShowsOf (find_with step) e No = IsNothingOf step e
-ShowsOf (check_of certificate) e Yes = IsTraceable e.claim (samples_in e)
+ShowsOf (check_of certificate) e Yes = HasVerdictYes certificate e
 ShowsOf (check_of certificate) e No = HasVerdictNo certificate e
 ShowsOf (refute_by refutation) e Yes = IsStanding refutation e
 ShowsOf (refute_by refutation) e No = IsFallen refutation e
@@ -156,9 +156,10 @@ ShowsOf _ e outcome = Unit {0}
 
 -- what the outcome of a run shows whose claim, second input and capture begin so
 abbrev pub Shows : QuestionData → FeedState → FeedState → FeedState → Outcome → Type 0
+Shows (at moment) claim second capture outcome = IsHeld moment claim capture
 Shows (find step) claim second capture Yes = IsAccepted step claim capture
 Shows (find step) claim second capture No = IsNotFound step claim capture
-Shows check claim second capture Yes = IsTraced claim capture
+Shows check claim second capture Yes = IsTraced claim second capture
 Shows check claim second capture No = IsNotTraced claim second capture
 Shows refute claim second capture Yes = IsContested claim second capture
 Shows refute claim second capture No = IsUncontested claim second capture

@@ -2,6 +2,7 @@
 
 ghost use Rattle.std.specs.Prelude.{◌≡◌, ◌≤◌, Ok, IfOk};
 ghost use Rattle.report.specs.Run.{no_feed, run_state};
+ghost use Rattle.audit.specs.At.{IsHeld};
 ghost use Rattle.audit.specs.Check.{IsNotTraced, IsTraced};
 ghost use Rattle.audit.specs.Envelope.{IsEnveloped};
 ghost use Rattle.audit.specs.Find.{IsAccepted, IsNotFound};
@@ -51,10 +52,12 @@ pub fn run_at<C: Feed, F: Feed, S: Sink>(
     out: &mut S,
 ) -> (F, Result<Outcome, RunFault>)
     requires { MayRun (run_state (C.state claim.old) no_feed (F.state capture) (S.state out.old)) }
-    ensures { RunsAlone (at second)
+    ensures runs { RunsAlone (at second)
         (run_state (C.state claim.old) no_feed (F.state capture) (S.state out.old))
         (run_state (C.state claim.new) no_feed (F.state result.0) (S.state out.new))
         capture result.0 result.1 }
+    ensures held { IfOk result.1 (λ outcome.
+        IsHeld second (C.state claim.old) (F.state capture)) }
 {
     let hasher = BuildHasherDefault::<FoldHasher>::new();
     let mut none = ReadFeed::new(io::empty());
@@ -80,7 +83,7 @@ pub fn run_check<C: Feed, F: Feed, T: Feed, S: Sink>(
         (C.state claim.new) (T.state certificate.new) (F.state result.0) (S.state out.new))
         certificate.old certificate.new capture result.0 result.1 }
     ensures traceable { result.1 ≡ Ok Outcome.Yes →
-        IsTraced (C.state claim.old) (F.state capture) }
+        IsTraced (C.state claim.old) (T.state certificate.old) (F.state capture) }
     ensures contradiction { result.1 ≡ Ok Outcome.No →
         IsNotTraced (C.state claim.old) (T.state certificate.old) (F.state capture) }
 {

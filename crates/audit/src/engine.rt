@@ -25,6 +25,7 @@ ghost use Rattle.audit.specs.Run.{AnswersFor, MayRun, RunsFor, ShowsAt};
 
 use crate::capture_input::read_capture_from;
 use crate::evidence::Evidence;
+use crate::laws::bounds_of_bytes_hold_in_nanoseconds;
 use crate::question::{Question, make, read_task};
 use byte_stream::{Feed, Sink};
 use claim_file::Claim;
@@ -129,6 +130,7 @@ pub fn run<C: Feed, T: Feed, F: Feed, S: Sink, H: BuildHasher + Drop>(
 {
     let claim = read_claim_from(alloc, claim);
     let (capture, made) = make_report(alloc, question, claim, second, capture, hasher);
+    bounds_of_bytes_hold_in_nanoseconds();
     let answer = publish(out, &made);
     (capture, answer)
 }
@@ -137,7 +139,8 @@ pub fn run<C: Feed, T: Feed, F: Feed, S: Sink, H: BuildHasher + Drop>(
 /// Beside the capture's feed stands the exit status.
 ///
 /// Status 0 of a check is the theorem: in every course of events that fits the exchanges of the
-/// capture the clock's error is within the bound over the claimed span.
+/// capture the clock's error is within the bound over the claimed span. And piece by piece of the
+/// certificate, in every course that fits what the piece names of these exchanges.
 pub fn answer<C: Feed, T: Feed, F: Feed, S: Sink, E: Sink, H: BuildHasher + Drop>(
     alloc: Global,
     question: Question,
@@ -155,12 +158,13 @@ pub fn answer<C: Feed, T: Feed, F: Feed, S: Sink, E: Sink, H: BuildHasher + Drop
         (run_state (C.state claim.new) (T.state second.new) (F.state result.0)
         (S.state to.new.out)) (E.state to.old.err) (E.state to.new.err) result.1 }
     ensures traceable { question ≡ Question.Check → result.1 ≡ 0 →
-        IsTraced (C.state claim.old) (F.state capture) }
+        IsTraced (C.state claim.old) (T.state second.old) (F.state capture) }
     ensures shows { ShowsAt result.1 (data_of question)
         (C.state claim.old) (T.state second.old) (F.state capture) }
 {
     let claim = read_claim_from(alloc, claim);
     let (capture, made) = make_report(alloc, question, claim, second, capture, hasher);
+    bounds_of_bytes_hold_in_nanoseconds();
     let answer = publish(&mut to.out, &made);
     (capture, tell(&answer, &mut to.err))
 }

@@ -13,6 +13,7 @@ mod capture_input;
 mod commands;
 mod engine;
 mod evidence;
+pub mod laws;
 mod moment;
 mod question;
 mod sample_list;

@@ -5,7 +5,7 @@ ghost use Rattle.std.specs.List.{filter_map};
 ghost use Rattle.certificate.specs.Certificate.{max_pieces};
 ghost use Rattle.claim_file.specs.Claim.{IsLawful, data_of as claim_data};
 ghost use Rattle.sample_interval.specs.Sample.{IsLawfulSample};
-ghost use Rattle.checker.specs.Traceability.{IsContradicted};
+ghost use Rattle.checker.specs.Traceability.{IsContradicted, HoldsError};
 ghost use Rattle.checker.specs.Verdict.{verdict_of};
 ghost use Rattle.finder.specs.Entry.{best_entries};
 ghost use Rattle.finder.specs.Found.{data_of, found_of, found_without, first_failing};
@@ -16,7 +16,7 @@ ghost use Rattle.finder.specs.Refusal.{NoneIsAcceptedOver};
 use crate::entry::entries_at;
 use crate::fault::FindFault;
 use crate::hull::{hull_of, is_inside};
-use crate::laws::last_piece_ends_with_the_span;
+use crate::laws::{best_hulls_hold_the_error, last_piece_ends_with_the_span};
 use crate::piece::{MAX_PIECES, piece_count};
 use crate::table::tables;
 use certificate::{Certificate, Piece};
@@ -86,12 +86,19 @@ pub fn find(
     ensures contradiction { IfOk result (λ found. IfNothing found (λ piece hull.
         hull ≡ Hull.Empty → IsContradicted (claim_data claim.now) samples.now
         (stretch_at (claim_data claim.now) step_s piece))) }
+
+    // In every course that fits, the error lies in the hull at every moment whose reading lies in
+    // the piece.
+    ensures held { IfOk result (λ found. IfNothing found (λ piece hull.
+        HoldsError (claim_data claim.now) samples.now
+        (stretch_at (claim_data claim.now) step_s piece) hull)) }
 {
     last_piece_ends_with_the_span();
     piece_inside_another_is_narrower();
     parts_are_of_samples();
     narrower_parts_narrow();
     verdicts_are_traceable();
+    best_hulls_hold_the_error();
     let count = piece_count(claim.first, claim.last, step_s);
     if count > MAX_PIECES {
         return Err(FindFault::TooManyPieces);

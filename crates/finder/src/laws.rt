@@ -1,8 +1,9 @@
 //! What holds of the definitions. A law is a function that does nothing: its contract is the law,
 //! for every number.
-ghost use Rattle.std.specs.Prelude.{◌≡◌, ℕ, ◌<◌, ◌≤◌, ◌*◌, ℤ, ◌≤ℤ◌, List, [], Ok};
-ghost use Rattle.claim_file.specs.Claim.{ClaimData};
+ghost use Rattle.std.specs.Prelude.{◌≡◌, ℕ, ◌<◌, ◌≤◌, ◌*◌, ℤ, ◌≤ℤ◌, List, [], Ok, All, length};
+ghost use Rattle.claim_file.specs.Claim.{ClaimData, IsLawful};
 ghost use Rattle.sample_interval.specs.declared.kinds.Sample.{Sample};
+ghost use Rattle.checker.specs.Traceability.{HoldsError};
 ghost use Rattle.checker.specs.Verdict.{parts_after, parts_fault, hull_fault};
 ghost use Rattle.checker.specs.declared.stretch.Stretch.{Stretch};
 ghost use Rattle.finder.specs.Entry.{best_entries, best_hull, parts_named};
@@ -11,7 +12,7 @@ ghost use Rattle.finder.specs.Found.{found_of, hull_at};
 ghost use Rattle.finder.specs.Piece.{IsPieceCount, piece_count_of};
 ghost use Rattle.finder.specs.declared.least.LeastBound.{LeastBound};
 
-use checker::laws::{narrower_parts_narrow, parts_are_of_samples};
+use checker::laws::{hulls_hold_the_error, narrower_parts_narrow, parts_are_of_samples};
 use era_unfold::laws::{
     nanoseconds_lie_between_their_ticks, ratios_are_rounded_as_little_as_can_be,
 };
@@ -37,6 +38,18 @@ pub fn best_entries_are_accepted()
         parts_fault claim (parts_after samples stretch claim.drift_ppb [] entries)
         ≡ hull_fault claim.bound (best_hull samples claim stretch) }
 {}
+
+/// In every course of events that fits, the error of the client's clock lies in the hull of a
+/// piece's best entries at every moment whose reading lies in the piece, inside a bound or not.
+pub fn best_hulls_hold_the_error()
+    ensures { (claim : ClaimData) (samples : List Sample) (stretch : Stretch) → IsLawful claim →
+        All (λ sample. sample.server < length claim.servers) samples →
+        HoldsError claim samples stretch (best_hull samples claim stretch) }
+{
+    best_entries_are_accepted();
+    parts_are_of_samples();
+    hulls_hold_the_error();
+}
 
 /// The least bound of hulls is the least inside which all of them lie, with the first piece that
 /// needs it; and no other answer is.

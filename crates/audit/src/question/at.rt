@@ -6,11 +6,13 @@ ghost use Rattle.report.specs.Publication.{IsMadeFor};
 ghost use Rattle.audit.specs.At as spec;
 ghost use Rattle.audit.specs.At.{at_report};
 ghost use Rattle.audit.specs.Evidence.{IsLawfulEvidence, evidence_data};
+ghost use Rattle.audit.specs.Question.{ShowsOf, show_at};
 ghost use Rattle.audit.specs.Report.{IsOfMaking};
 
 use crate::evidence::Evidence;
 use crate::moment::{parts_at, tick_of};
 use audit_text::parts_text;
+use checker::laws::hulls_hold_the_error;
 use checker::{Part, piece_hull};
 use claim_file::Claim;
 use report::{Made, Outcome, RunFault};
@@ -43,7 +45,10 @@ pub(crate) fn make_at(alloc: Global, second: u32, evidence: &Evidence) -> Result
     requires { IsLawfulEvidence evidence.now }
     ensures made { IsMadeFor (at_report second (evidence_data evidence.now)) result }
     ensures fault { IfErr result IsOfMaking }
+    ensures shows { IfOk result (λ made. ShowsOf (show_at second)
+        (evidence_data evidence.now) made.outcome) }
 {
+    hulls_hold_the_error();
     match at_text(alloc, second, evidence) {
         Ok(text) => Ok(Made {
             text,

@@ -1,8 +1,8 @@
-use Rattle.std.proofs.Common.{◌≡◌, ◌≢◌, ◌<◌, ◌≤◌, inr, ◌∙◌, sym, ap, length, Ok}
+use Rattle.std.proofs.Common.{◌≡◌, ◌≢◌, ◌<◌, ◌≤◌, inr, ◌∙◌, sym, ap, length, Ok, subst}
 use Rattle.certificate.specs.Certificate.{max_pieces}
 use Rattle.claim_file.specs.Claim.{data_of as claim_data}
 use Rattle.intersection.specs.declared.kinds.Hull.TheVariants.{Empty}
-use Rattle.checker.specs.Traceability.{IsContradicted}
+use Rattle.checker.specs.Traceability.{IsContradicted, HoldsError}
 use Rattle.checker.specs.Verdict.{verdict_of}
 use Rattle.checker.specs.declared.verdict.Verdict.TheVariants.{Yes}
 use Rattle.finder.specs.Found.{IsFirstFailing}
@@ -87,4 +87,16 @@ returns-clause-contradiction c =
     (λ k hull. hull ≡ Empty → IsContradicted claim samples (stretch_at claim step k)) c.in_ok-found.found
     (contradicted laws samples claim step c.requires.claim c.requires.samples c.requires.listed
     c.verdicts_are_traceable.ensures.contradiction)
+    (returns-clause-failing c)
+
+pub returns-clause-held : goal.returns-clause-held
+returns-clause-held c =
+    let claim = claim_data c.args.claim.now in
+    let samples = c.args.samples.now in
+    let step = c.args.step_s in
+    if_nothing samples claim step (IsFirstFailing samples claim step)
+    (λ k hull. HoldsError claim samples (stretch_at claim step k) hull) c.in_ok-found.found
+    (λ k hull failing.
+    subst (HoldsError claim samples (stretch_at claim step k)) (sym failing.its_hull)
+    (c.best_hulls_hold_the_error.ensures claim samples (stretch_at claim step k) c.requires.claim c.requires.listed))
     (returns-clause-failing c)

@@ -11,4 +11,6 @@ returns-in-Ok-clause-shows c =
       exact = rw c.deref.ensures.value at verdict.ensures.exact;
       yes = rw c.deref.ensures.value at verdict.ensures.yes;
       contradiction = rw c.deref.ensures.value at verdict.ensures.contradiction;
+      by_pieces = rw c.deref.ensures.value at verdict.ensures.by_pieces;
+      held = rw c.deref.ensures.value at verdict.ensures.held;
     })

@@ -16,4 +16,5 @@ returns-in-Ok-found_text-clause-shows c =
       accepted = found.ensures.accepted;
       none_accepted = found.ensures.none_accepted;
       contradiction = found.ensures.contradiction;
+      held = found.ensures.held;
     })
