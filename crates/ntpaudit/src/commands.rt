@@ -3,7 +3,7 @@
 use crate::invocation::{Invocation, Paths, SecondPath};
 use audit::{Question, Step};
 use claim_file::read_time;
-use clap::{Arg, ArgMatches, Command};
+use clap::{Arg, ArgAction, ArgMatches, Command};
 use report::Input;
 use std::alloc::{AllocError, Global};
 
@@ -48,11 +48,27 @@ Guide:    docs/GUIDE.md; docs/THEOREM.md says what a yes means";
 
 const FIND_HELP: &str = "\
 Prints:   a certificate, or `nothing piece K` and the hull of the first piece that shows too little.
-          Only `check` settles the claim
-Status:   0 a certificate; 1 nothing; 2 an input is refused, or there are over 100000 pieces; 3 out
-          of memory; 4 a file or the output failed; 5 the command line is refused
+          Only `check` settles the claim. With --refutation: a refutation, or `nothing refutation`
+Status:   0 something is found; 1 nothing; 2 an input is refused, or there are over 100000 pieces;
+          3 out of memory; 4 a file or the output failed; 5 the command line is refused
 Example:  ntpaudit find claim.json recording.pcap --step 8 > certificate.json
 Guide:    docs/GUIDE.md";
+
+const REFUTE_HELP: &str = "\
+Prints:   `refuted yes` or `refuted no`
+Status:   0 yes; 1 no; 2 an input is refused; 3 out of memory; 4 a file or the output failed; 5 the
+          command line is refused
+Example:  ntpaudit refute claim.json recording.pcap refutation.json
+Guide:    docs/GUIDE.md; docs/FORMATS.md says when a refutation stands";
+
+const ENVELOPE_HELP: &str = "\
+Prints:   a line for each piece, `K FROM TO LOW HIGH`, `K FROM TO unbounded` or `K FROM TO empty`:
+          between what the clock's error was, in ticks of 2^-32 s; then `bound_ns N piece K`, the
+          least bound that holds, or `bound_ns none piece K`. The claim's bound plays no part
+Status:   0 a bound holds; 1 none; 2 an input is refused, or there are over 100000 pieces; 3 out of
+          memory; 4 a file or the output failed; 5 the command line is refused
+Example:  ntpaudit envelope claim.json recording.pcap --step 8
+Guide:    docs/GUIDE.md; docs/FORMATS.md has the fields";
 
 /// The operand CLAIM.
 fn claim_operand<'a>(alloc: Global) -> Arg<'a> {
@@ -115,22 +131,56 @@ fn check_command<'a>(alloc: Global) -> Result<Command<'a>, AllocError> {
     evidence_command(alloc, "check", about, CHECK_HELP)?.arg(certificate.required(true))
 }
 
-/// The command `find`.
-fn find_command<'a>(alloc: Global) -> Result<Command<'a>, AllocError> {
-    let step = Arg::new(alloc, "step")
+/// The command `refute`.
+fn refute_command<'a>(alloc: Global) -> Result<Command<'a>, AllocError> {
+    let refutation = Arg::new(alloc, "REFUTATION").help("The refutation, a JSON file");
+    let about = "Settle whether a refutation stands against a claim";
+    evidence_command(alloc, "refute", about, REFUTE_HELP)?.arg(refutation.required(true))
+}
+
+/// The option `--step`, with these words about it.
+fn step_option<'a>(alloc: Global, help: &'a str) -> Arg<'a> {
+    Arg::new(alloc, "step")
         .long("step")
         .value_name("N")
-        .help("How long each piece of the certificate is, in seconds, 1 to 86400")
+        .help(help)
         .value_parser(clap::value_parser!(u32).range(1..=86_400))
-        .default_value("64");
-    let about = "Find a certificate for a claim in a capture";
-    evidence_command(alloc, "find", about, FIND_HELP)?.arg(step)
+        .default_value("64")
+}
+
+/// An option without a value, with these words about it.
+fn flag<'a>(alloc: Global, name: &'a str, help: &'a str) -> Arg<'a> {
+    Arg::new(alloc, name)
+        .long(name)
+        .help(help)
+        .action(ArgAction::SetTrue)
+}
+
+/// The command `find`.
+fn find_command<'a>(alloc: Global) -> Result<Command<'a>, AllocError> {
+    let step = "How long each piece of the certificate is, in seconds, 1 to 86400; beside \
+                --refutation it plays no part";
+    let refutation = "Find a refutation of the claim in place of a certificate";
+    let about = "Find a certificate for a claim in a capture, or a refutation";
+    evidence_command(alloc, "find", about, FIND_HELP)?
+        .arg(step_option(alloc, step))?
+        .arg(flag(alloc, "refutation", refutation))
+}
+
+/// The command `envelope`.
+fn envelope_command<'a>(alloc: Global) -> Result<Command<'a>, AllocError> {
+    let step = "How long each piece is, in seconds, 1 to 86400";
+    let servers = "Print before each piece what each server says of it, `K SERVER LOW HIGH`";
+    let about = "Print how far off the clock may have been, piece by piece";
+    evidence_command(alloc, "envelope", about, ENVELOPE_HELP)?
+        .arg(step_option(alloc, step))?
+        .arg(flag(alloc, "servers", servers))
 }
 
 /// The program with its commands.
 pub(crate) fn program<'a>(alloc: Global) -> Result<Command<'a>, AllocError> {
     Command::new(alloc, "ntpaudit")
-        .version("0.1.0")
+        .version("0.2.0 (rattle-kit-13b logic dac8208d650f15bf)")
         .about("What a packet capture of NTP shows of a clock")
         .after_help(PROGRAM_HELP)
         .subcommand_required(true)
@@ -138,7 +188,9 @@ pub(crate) fn program<'a>(alloc: Global) -> Result<Command<'a>, AllocError> {
         .subcommand(samples_command(alloc)?)?
         .subcommand(at_command(alloc)?)?
         .subcommand(check_command(alloc)?)?
-        .subcommand(find_command(alloc)?)
+        .subcommand(find_command(alloc)?)?
+        .subcommand(refute_command(alloc)?)?
+        .subcommand(envelope_command(alloc)?)
 }
 
 /// The text of an operand, empty where it was left out.
@@ -199,11 +251,37 @@ fn check(alloc: Global, matches: &ArgMatches) -> Result<Invocation, AllocError> 
     ask_with(alloc, matches, question, Input::Certificate, "CERTIFICATE")
 }
 
+/// What `refute` calls for.
+fn refute(alloc: Global, matches: &ArgMatches) -> Result<Invocation, AllocError> {
+    let question = Question::Refute;
+    ask_with(alloc, matches, question, Input::Refutation, "REFUTATION")
+}
+
+/// The length of a piece that is asked for.
+fn step_of(matches: &ArgMatches) -> Option<Step> {
+    matches.get_one::<u32>("step").and_then(Step::new)
+}
+
+/// A command line without a length that a piece may have.
+fn refuse_step(alloc: Global) -> Result<Invocation, AllocError> {
+    Ok(Invocation::Refuse(String::from_str(alloc, "no step\n")?))
+}
+
 /// What `find` calls for.
 fn find(alloc: Global, matches: &ArgMatches) -> Result<Invocation, AllocError> {
-    match matches.get_one::<u32>("step").and_then(Step::new) {
+    match step_of(matches) {
+        Some(_) if matches.get_flag("refutation") => ask(alloc, matches, Question::Seek),
         Some(step) => ask(alloc, matches, Question::Find(step)),
-        None => Ok(Invocation::Refuse(String::from_str(alloc, "no step\n")?)),
+        None => refuse_step(alloc),
+    }
+}
+
+/// What `envelope` calls for.
+fn envelope(alloc: Global, matches: &ArgMatches) -> Result<Invocation, AllocError> {
+    let servers = matches.get_flag("servers");
+    match step_of(matches) {
+        Some(step) => ask(alloc, matches, Question::Envelope { step, servers }),
+        None => refuse_step(alloc),
     }
 }
 
@@ -215,6 +293,8 @@ pub(crate) fn invocation_of(alloc: Global, matches: &ArgMatches) -> Result<Invoc
         Some(("at", words)) => at(alloc, words),
         Some(("check", words)) => check(alloc, words),
         Some(("find", words)) => find(alloc, words),
+        Some(("refute", words)) => refute(alloc, words),
+        Some(("envelope", words)) => envelope(alloc, words),
         _ => Ok(Invocation::Refuse(String::from_str(alloc, "no command\n")?)),
     }
 }
