@@ -1,5 +1,5 @@
 -- What an envelope shows.
-use Rattle.std.proofs.Common.{◌≡◌, ◌∙◌, ◌+◌, ◌<◌, ◌≤◌, ℕ, List, length, Bool, true, false, Result, Ok, Err, refl, sym, ap, subst, arith}
+use Rattle.std.proofs.Common.{◌≡◌, ◌∙◌, ◌<◌, ◌≤◌, ℕ, List, length, Bool, true, false, Result, Ok, Err, refl, sym, ap, subst, arith}
 use Rattle.std.proofs.lemmas.Bool.Decides.{nat_tests}
 use Rattle.std.proofs.lemmas.List.{length-map}
 use Rattle.std.proofs.lemmas.List.Elements.{All-map}
@@ -21,7 +21,7 @@ use Rattle.finder.specs.declared.envelope.Envelope.{Envelope}
 use Rattle.finder.specs.declared.fault.FindFault.{FindFault}
 use Rattle.finder.specs.declared.fault.FindFault.TheVariants.{TooManyPieces}
 use Rattle.finder.specs.Entry.{best_entries, best_hull, parts_named}
-use Rattle.finder.specs.Envelope.{EnvelopeData, IsLeast, PieceHullData, data_of, envelope_of, envelope_to, piece_data, piece_hull_at, piece_hulls}
+use Rattle.finder.specs.Envelope.{EnvelopeData, IsLeast, PieceHullData, data_of, envelope_of, envelope_to, piece_data, piece_hull_at}
 use Rattle.finder.specs.Found.{hull_at}
 use Rattle.finder.specs.Piece.{count_of}
 use Rattle.report.specs.declared.fault.Outcome.{Outcome}

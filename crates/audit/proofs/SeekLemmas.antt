@@ -1,5 +1,5 @@
 -- What the outcome of a search for a refutation shows.
-use Rattle.std.proofs.Common.{◌≡◌, ◌<◌, List, length, Option, Some, None, refl, sym, subst}
+use Rattle.std.proofs.Common.{◌≡◌, List, length, Option, Some, None, refl, sym, subst}
 use Rattle.std.specs.Prelude.{All, AllPairs, IfSome, IsNone, option_map}
 use Rattle.certificate.specs.Certificate.{CertificateData}
 use Rattle.certificate.specs.Refutation.{RefutationData, data_of as refutation_data}
@@ -45,8 +45,8 @@ module _ (laws : Laws) (e : EvidenceData) (limits : Limits e) where
   standing refutation accepted = record {
     accepted = accepted;
     course = laws.course e.claim e.collection.exchanges refutation limits.lawful limits.each limits.agree accepted;
-    no_yes = λ certificate says_yes.
-        laws.never_meet e.claim e.collection.exchanges certificate refutation limits.lawful limits.each says_yes accepted;
+    no_yes = λ certificate told. laws.never_meet e.claim e.collection.exchanges certificate refutation
+        limits.lawful limits.each told accepted;
   }
 
   shown : (found : Option Refutation) → Sought e found →

@@ -121,7 +121,8 @@ module _ (claim second capture : FeedState) (c : ClaimData) (is : Is c claim.rem
   from_bytes samples outcome after = tt
   from_bytes (at moment) outcome after = tt
   from_bytes (find step) outcomes.Yes after =
-      alone (IsFoundOf step) (find step) outcomes.Yes after (of_task _ outcomes.Yes after.task _ after.is_task after.shows)
+      alone (IsFoundOf step) (find step) outcomes.Yes after
+      (of_task _ outcomes.Yes after.task _ after.is_task after.shows)
   from_bytes (find step) outcomes.No after =
       alone (IsNothingOf step) (find step) outcomes.No after
       (of_task _ outcomes.No after.task _ after.is_task after.shows)

@@ -1,6 +1,6 @@
--- The report of `envelope`: the hull of each piece, and the least bound that holds; and what it says
--- of every course of events.
-use Rattle.std.specs.Prelude.{◌≡◌, ℕ, List, All, Bool, Result, Ok, Err}
+-- The report of `envelope`: the hull of each piece, and the least bound that holds; and what it
+-- says of every course of events.
+use Rattle.std.specs.Prelude.{◌≡◌, ℕ, All, Bool, Result, Ok, Err}
 use Rattle.byte_stream.specs.State.{FeedState}
 use Rattle.checker.specs.Traceability.{HoldsError, IsContradicted}
 use Rattle.intersection.specs.declared.kinds.Hull.TheVariants.{Empty}
