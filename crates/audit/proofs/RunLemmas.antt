@@ -160,7 +160,8 @@ module _ (claim : ClaimData) (fault : RunFault) (of : IsOfCapture fault) where
   capture_refusal task None capture read refused = tt
   capture_refusal task (Some (Err other)) capture read refused = absurd cc
   capture_refusal task (Some (Ok known)) None read refused = tt
-  capture_refusal task (Some (Ok known)) (Some bytes) read refused = refused_after known (capture_read claim bytes) refused
+  capture_refusal task (Some (Ok known)) (Some bytes) read refused =
+      refused_after known (capture_read claim bytes) refused
 
 -- ---- from the claim's bytes
 

@@ -45,8 +45,8 @@ module _ (laws : Laws) (e : EvidenceData) (limits : Limits e) where
   standing refutation accepted = record {
     accepted = accepted;
     course = laws.course e.claim e.collection.exchanges refutation limits.lawful limits.each limits.agree accepted;
-    no_yes = λ certificate says_yes.
-        laws.never_meet e.claim e.collection.exchanges certificate refutation limits.lawful limits.each says_yes accepted;
+    no_yes = λ certificate told. laws.never_meet e.claim e.collection.exchanges certificate refutation
+        limits.lawful limits.each told accepted;
   }
 
   shown : (found : Option Refutation) → Sought e found →

@@ -156,7 +156,8 @@ module _ (law : GivesNanoseconds) (claim second capture : FeedState) (c : ClaimD
   from_bytes (at moment) outcome after =
       held c moment claim.remaining second.remaining capture.remaining outcome is after
   from_bytes (find step) outcomes.Yes after =
-      alone (IsFoundOf step) (find step) outcomes.Yes after (of_task _ outcomes.Yes after.task _ after.is_task after.shows)
+      alone (IsFoundOf step) (find step) outcomes.Yes after
+      (of_task _ outcomes.Yes after.task _ after.is_task after.shows)
   from_bytes (find step) outcomes.No after =
       alone (IsNothingOf step) (find step) outcomes.No after
       (of_task _ outcomes.No after.task _ after.is_task after.shows)

@@ -1,5 +1,5 @@
--- The report of `envelope`: the hull of each piece, and the least bound that holds; and what it says
--- of every course of events.
+-- The report of `envelope`: the hull of each piece, and the least bound that holds; and what it
+-- says of every course of events.
 use Rattle.std.specs.Prelude.{◌≡◌, ℕ, All, Bool, Result, Ok, Err}
 use Rattle.byte_stream.specs.State.{FeedState}
 use Rattle.checker.specs.Traceability.{HoldsError, IsContradicted}

@@ -1,4 +1,5 @@
--- The report of `find --refutation`: a refutation, or that none is found; and what its outcome says.
+-- The report of `find --refutation`: a refutation, or that none is found; and what its outcome
+-- says.
 use Rattle.std.specs.Prelude.{◌≡◌, ℕ, List, ◌++◌, codes, Option, Some, None}
 use Rattle.byte_stream.specs.State.{FeedState}
 use Rattle.certificate.specs.Refutation.{RefutationData}

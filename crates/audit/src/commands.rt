@@ -176,7 +176,8 @@ pub fn run_seek<C: Feed, F: Feed, S: Sink>(
 
 /// Shows how far off the clock of the claim's client may have been in each piece of `step_s`
 /// seconds, from 1 to 86,400, and the least bound in nanoseconds that holds over the span; with
-/// `servers` also what each server says of each piece. The answer is `Yes` if there is such a bound.
+/// `servers` also what each server says of each piece. The answer is `Yes` if there is such a
+/// bound.
 ///
 /// `Pieces` comes where the span has over 100,000 pieces of that length, after every other refusal.
 pub fn run_envelope<C: Feed, F: Feed, S: Sink>(

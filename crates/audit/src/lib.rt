@@ -5,8 +5,8 @@
 //! an exit status. What is asked stands in `question`, a small module for each command; how a text
 //! is shown is said by audit_text. `specs/Run` says what a run needs and promises, `specs/Report`
 //! what it writes, and `specs/Question` what an outcome means. [`run_samples`], [`run_at`],
-//! [`run_check`], [`run_find`], [`run_refute`], [`run_seek`] and [`run_envelope`] are the engines of
-//! the commands, with a hasher of a fixed key.
+//! [`run_check`], [`run_find`], [`run_refute`], [`run_seek`] and [`run_envelope`] are the engines
+//! of the commands, with a hasher of a fixed key.
 #![tactic(auto)]
 
 mod capture_input;

@@ -16,9 +16,7 @@ use crate::command_line::read_command_line;
 use crate::files::{Inputs, open, open_inputs};
 use crate::invocation::Invocation;
 use audit::{Outputs, answer};
-pub use audit::{
-    run_at, run_check, run_envelope, run_find, run_refute, run_samples, run_seek,
-};
+pub use audit::{run_at, run_check, run_envelope, run_find, run_refute, run_samples, run_seek};
 use byte_stream::ReadFeed;
 pub use byte_stream::{Sink, SinkFault, TestSink, WriteSink};
 use listing::answer_list;

@@ -25,6 +25,6 @@ returns-in-Err-collected-clause-made g c = λ expected reads.
     let is : expected ≡ Ok claim = rw c.in-Ok.is at reads in
     subst (λ (e : Result ClaimData RunFault). IfSome (after_claim (data_of c.args.question) e
     (g.T.Feed.state c.args.second.now).remaining capture) (λ report. IsMadeFor report (Err fault))) (sym is)
-    (capture_refusal claim fault (rw c.in-Err-collected.is at c.read_capture_from-capture.ensures.fault) c.in-Ok-read_task.task
-    second capture (rw c.in-Ok-read_task.is at c.read_task.ensures.known)
+    (capture_refusal claim fault (rw c.in-Err-collected.is at c.read_capture_from-capture.ensures.fault)
+    c.in-Ok-read_task.task second capture (rw c.in-Ok-read_task.is at c.read_task.ensures.known)
     (rw c.in-Err-collected.is at c.read_capture_from-capture.ensures.known))
