@@ -7,3 +7,7 @@ pub mod FindLemmas
 pub mod RunLemmas
 pub mod ShowsLemmas
 pub mod StatusLemmas
+pub mod HeldLemmas
+pub mod ExchangedLemmas
+pub mod ClaimedLemmas
+pub mod HeadlineLemmas
