@@ -22,7 +22,8 @@ returns c claim_bytes capture_bytes claim collection certificate all claim_read'
     let are = c.exchanges_are_in_the_records.ensures capture_bytes found.0 records claim all found.1
     lawful.addresses_differ in
     let listed = listed_servers claim records xs are in
-    let yes = subst (λ (ys : List Exchange). verdict_of (samples_of ys claim) claim certificate ≡ Yes) collected.2 yes' in
+    let yes = subst (λ (ys : List Exchange). verdict_of (samples_of ys claim) claim certificate ≡ Yes) collected.2
+    yes' in
     let accepted = (c.yes_is_acceptance.ensures (samples_of xs claim) claim certificate).0 yes in
     let pieces = c.verdicts_are_traceable.ensures.by_pieces claim (samples_of xs claim) certificate lawful listed yes in
     record {
@@ -34,7 +35,8 @@ returns c claim_bytes capture_bytes claim collection certificate all claim_read'
       capture_is = found.1;
       exchanges_are = are;
       within = λ n reading observed.
-          let in_span = subst (λ (end : ℤ). IsInWindow n claim.first end reading) (sym accepted.ends_with_span) observed in
+          let in_span = subst (λ (end : ℤ). IsInWindow n claim.first end reading) (sym accepted.ends_with_span)
+          observed in
           let held = c.pieces_hold_every_reading.ensures n reading claim.first certificate.pieces accepted.some_piece
           in_span in
           let piece = piece_of (λ stretch. IsInWindow n stretch.begin stretch.end reading) claim.first
