@@ -10,3 +10,7 @@ pub mod SeekLemmas
 pub mod RunLemmas
 pub mod ShowsLemmas
 pub mod StatusLemmas
+pub mod HeldLemmas
+pub mod ExchangedLemmas
+pub mod ClaimedLemmas
+pub mod HeadlineLemmas

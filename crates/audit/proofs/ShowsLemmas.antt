@@ -1,6 +1,7 @@
 -- What an outcome shows, from the bytes of the inputs.
 use Rattle.std.proofs.Common.{◌≡◌, ◌∙◌, ℕ, List, Option, Some, None, Result, Ok, Err, refl, sym, ap, subst, inl, inr}
 use Rattle.std.specs.Prelude.{IfSome, IfOk, IfErr}
+use Rattle.byte_stream.specs.Bytes.{IsBytes}
 use Rattle.byte_stream.specs.State.{FeedState}
 use Rattle.certificate.specs.Certificate.{CertificateData}
 use Rattle.certificate.specs.Refutation.{RefutationData}
@@ -21,11 +22,17 @@ use Rattle.audit.specs.Check.{IsDenied, IsTracedByPieces, IsTracedTo}
 use Rattle.audit.specs.Envelope.{IsEnvelopeOf}
 use Rattle.audit.specs.Evidence.{EvidenceData, GiveEvidence, OfClaimAndCapture, evidence_of}
 use Rattle.audit.specs.Find.{IsFoundOf, IsNothingOf}
+use Rattle.audit.specs.Headline.{IsShown, ShowsHeadline}
 use Rattle.audit.specs.Nanoseconds.{GivesNanoseconds}
 use Rattle.audit.specs.Question.{QuestionData, TaskData, samples, at, find, check, refute, envelope, seek, check_of, refute_by, check_read, refute_read, task_read, Shows, ShowsOf}
 use Rattle.audit.specs.Refute.{GiveRefutation, IsFallen, IsStanding}
 use Rattle.audit.specs.Report.{ShowsAfter}
 use Rattle.audit.specs.Seek.{IsSoughtInVain, IsSoughtOf}
+
+-- the laws on bytes that a yes needs
+pub record BytesLaws : Type 0 where
+  pub nanoseconds : GivesNanoseconds
+  pub headline : ShowsHeadline
 
 -- what is shown of the task is shown of what it is
 of_task : (e : EvidenceData) (outcome : Outcome) (task same : TaskData) → task ≡ same →
@@ -74,11 +81,11 @@ module _ (c : ClaimData) where
     held = of_task (evidence_of c after.collection) outcome after.task _ after.is_task after.shows;
   }
 
-  traced : (law : GivesNanoseconds) (claim second capture : Option (List ℕ)) → Is claim →
+  traced : (laws : BytesLaws) (claim second capture : Option (List ℕ)) → Is claim →
       ShowsAfter check c second capture outcomes.Yes → IfSome claim (λ b. IfSome capture (IsTracedTo b))
-  traced law None second capture is after = tt
-  traced law (Some b) second None is after = tt
-  traced law (Some b) second (Some f) is after =
+  traced laws None second capture is after = tt
+  traced laws (Some b) second None is after = tt
+  traced laws (Some b) second (Some f) is after =
       let yes = of_task (evidence_of c after.collection) outcomes.Yes after.task _ after.is_task.1 after.shows in
       record {
         claim = c;
@@ -87,16 +94,25 @@ module _ (c : ClaimData) where
         collection_is = after.collection_is;
         within = λ course. yes.whole after.collection.exchanges course refl;
         in_nanoseconds = λ course fits observed.
-            law b c course is (yes.whole after.collection.exchanges course refl fits observed);
+            laws.nanoseconds b c course is (yes.whole after.collection.exchanges course refl fits observed);
       }
 
-  traced_by_pieces : (law : GivesNanoseconds) (claim second capture : Option (List ℕ)) → Is claim →
+  shown_of : (laws : BytesLaws) (claim second capture : Option (List ℕ)) → Is claim →
+      ShowsAfter check c second capture outcomes.Yes →
+      IfSome claim (λ b. IfSome capture (λ f. IsBytes f → IsShown b f))
+  shown_of laws None second capture is after = tt
+  shown_of laws (Some b) second None is after = tt
+  shown_of laws (Some b) second (Some f) is after =
+      let yes = of_task (evidence_of c after.collection) outcomes.Yes after.task _ after.is_task.1 after.shows in
+      λ bytes. laws.headline b f c after.collection after.is_task.0 bytes is after.collection_is yes.verdict_is
+
+  traced_by_pieces : (laws : BytesLaws) (claim second capture : Option (List ℕ)) → Is claim →
       ShowsAfter check c second capture outcomes.Yes →
       IfSome second (λ s. IfSome claim (λ b. IfSome capture (IsTracedByPieces b s)))
-  traced_by_pieces law claim None capture is after = tt
-  traced_by_pieces law None (Some s) capture is after = tt
-  traced_by_pieces law (Some b) (Some s) None is after = tt
-  traced_by_pieces law (Some b) (Some s) (Some f) is after =
+  traced_by_pieces laws claim None capture is after = tt
+  traced_by_pieces laws None (Some s) capture is after = tt
+  traced_by_pieces laws (Some b) (Some s) None is after = tt
+  traced_by_pieces laws (Some b) (Some s) (Some f) is after =
       let yes = of_task (evidence_of c after.collection) outcomes.Yes after.task _ after.is_task.1 after.shows in
       record {
         certificate = after.is_task.0;
@@ -105,7 +121,7 @@ module _ (c : ClaimData) where
         evidence_is = record { claim_is = is; collection_is = after.collection_is };
         accepted = yes.verdict_is;
         within = λ k piece course stands fits observed.
-            law b c course is
+            laws.nanoseconds b c course is
             (yes.by_pieces after.collection.exchanges k piece course refl stands fits observed);
       }
 
@@ -142,7 +158,7 @@ module _ (c : ClaimData) where
         };
       }
 
-module _ (law : GivesNanoseconds) (claim second capture : FeedState) (c : ClaimData) (is : Is c claim.remaining) where
+module _ (laws : BytesLaws) (claim second capture : FeedState) (c : ClaimData) (is : Is c claim.remaining) where
   -- of a question that has no second input
   alone : (P : EvidenceData → Type 0) (question : QuestionData) (outcome : Outcome)
       (after : ShowsAfter question c second.remaining capture.remaining outcome) →
@@ -162,8 +178,9 @@ module _ (law : GivesNanoseconds) (claim second capture : FeedState) (c : ClaimD
       alone (IsNothingOf step) (find step) outcomes.No after
       (of_task _ outcomes.No after.task _ after.is_task after.shows)
   from_bytes check outcomes.Yes after = record {
-    whole = traced c law claim.remaining second.remaining capture.remaining is after;
-    by_pieces = traced_by_pieces c law claim.remaining second.remaining capture.remaining is after;
+    whole = traced c laws claim.remaining second.remaining capture.remaining is after;
+    shown = shown_of c laws claim.remaining second.remaining capture.remaining is after;
+    by_pieces = traced_by_pieces c laws claim.remaining second.remaining capture.remaining is after;
   }
   from_bytes check outcomes.No after = denied c claim.remaining second.remaining capture.remaining is after
   from_bytes refute outcomes.Yes after =
@@ -184,7 +201,7 @@ known_claim : (claim : Option (List ℕ)) (c : Claim) →
 known_claim None c reads = tt
 known_claim (Some bytes) c reads = reads
 
-module _ (law : GivesNanoseconds) (question : QuestionData) (claim second capture : FeedState) where
+module _ (laws : BytesLaws) (question : QuestionData) (claim second capture : FeedState) where
   -- what the outcome of a run shows
   pub run_shows : (read : Result Claim RunFault) (made : Result Made RunFault) (answer : Result Outcome RunFault) →
       IfSome claim.remaining (λ bytes. Reads claim_data (claim_read bytes) read) →
@@ -199,4 +216,4 @@ module _ (law : GivesNanoseconds) (question : QuestionData) (claim second captur
   run_shows (Err fault) (Ok m) answer reads refused after (inl same) = cc
   run_shows (Ok c) (Ok m) answer reads refused after (inl same) =
       subst (λ (a : Result Outcome RunFault). IfOk a (Shows question claim second capture)) (sym same)
-      (from_bytes law claim second capture (claim_data c) (known_claim claim.remaining c reads) question m.outcome after)
+      (from_bytes laws claim second capture (claim_data c) (known_claim claim.remaining c reads) question m.outcome after)

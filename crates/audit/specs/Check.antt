@@ -1,5 +1,6 @@
 -- The report of `check`, and what its outcome says of every course of events.
 use Rattle.std.specs.Prelude.{◌≡◌, ℕ, List, length, Some, Ok, slice_get, IfSome, IsSomeAnd}
+use Rattle.byte_stream.specs.Bytes.{IsBytes}
 use Rattle.byte_stream.specs.State.{FeedState}
 use Rattle.certificate.specs.Certificate.{PieceData, CertificateData}
 use Rattle.claim_file.specs.Claim.{ClaimData}
@@ -23,6 +24,7 @@ use Rattle.report.specs.Reports.{Report, whole_text}
 use Rattle.audit_text.specs.CheckReport.{check_text}
 use Rattle.audit.specs.CaptureInput.{capture_read}
 use Rattle.audit.specs.Evidence.{EvidenceData, IsEvidenceOf, OfClaimAndCapture, samples_in}
+use Rattle.audit.specs.Headline.{IsShown}
 
 -- the outcome of a verdict
 abbrev pub outcome_of : Verdict → Outcome
@@ -97,9 +99,11 @@ pub record IsDenied (claim_bytes certificate_bytes capture_bytes : List ℕ) : T
   pub verdict : HasVerdictNo certificate evidence
 
 -- At a yes the clock is traced to UTC by claim and capture, where their bytes are known, and where
--- those of the certificate are too, piece by piece.
+-- those of the certificate are too, piece by piece. And it is said in relations alone, of a capture
+-- that is bytes: numbers below 256.
 pub record IsTraced (claim second capture : FeedState) : Type 0 where
   pub whole : OfClaimAndCapture claim capture IsTracedTo
+  pub shown : OfClaimAndCapture claim capture (λ c f. IsBytes f → IsShown c f)
   pub by_pieces : IfSome second.remaining
       (λ s. OfClaimAndCapture claim capture (λ c. IsTracedByPieces c s))
 

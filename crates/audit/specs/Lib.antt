@@ -12,3 +12,7 @@ pub mod Question
 pub mod Report
 pub mod Nanoseconds
 pub mod Run
+pub mod Held
+pub mod Exchanged
+pub mod Claimed
+pub mod Headline

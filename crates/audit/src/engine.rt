@@ -25,7 +25,7 @@ ghost use Rattle.audit.specs.Run.{AnswersFor, MayRun, RunsFor, ShowsAt};
 
 use crate::capture_input::read_capture_from;
 use crate::evidence::Evidence;
-use crate::laws::bounds_of_bytes_hold_in_nanoseconds;
+use crate::laws::{bounds_of_bytes_hold_in_nanoseconds, yes_shows_the_headline};
 use crate::question::{Question, make, read_task};
 use byte_stream::{Feed, Sink};
 use claim_file::Claim;
@@ -131,6 +131,7 @@ pub fn run<C: Feed, T: Feed, F: Feed, S: Sink, H: BuildHasher + Drop>(
     let claim = read_claim_from(alloc, claim);
     let (capture, made) = make_report(alloc, question, claim, second, capture, hasher);
     bounds_of_bytes_hold_in_nanoseconds();
+    yes_shows_the_headline();
     let answer = publish(out, &made);
     (capture, answer)
 }
@@ -140,7 +141,8 @@ pub fn run<C: Feed, T: Feed, F: Feed, S: Sink, H: BuildHasher + Drop>(
 ///
 /// Status 0 of a check is the theorem: in every course of events that fits the exchanges of the
 /// capture the clock's error is within the bound over the claimed span. And piece by piece of the
-/// certificate, in every course that fits what the piece names of these exchanges.
+/// certificate, in every course that fits what the piece names of these exchanges. `IsShown` says
+/// it in relations alone, with no word on how the bytes are read.
 pub fn answer<C: Feed, T: Feed, F: Feed, S: Sink, E: Sink, H: BuildHasher + Drop>(
     alloc: Global,
     question: Question,
@@ -165,6 +167,7 @@ pub fn answer<C: Feed, T: Feed, F: Feed, S: Sink, E: Sink, H: BuildHasher + Drop
     let claim = read_claim_from(alloc, claim);
     let (capture, made) = make_report(alloc, question, claim, second, capture, hasher);
     bounds_of_bytes_hold_in_nanoseconds();
+    yes_shows_the_headline();
     let answer = publish(&mut to.out, &made);
     (capture, tell(&answer, &mut to.err))
 }

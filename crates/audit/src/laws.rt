@@ -1,10 +1,36 @@
-//! What holds of the definitions that the contracts cite. A law is a function that does nothing:
-//! its contract is the law, for all bytes.
+//! What holds of the definitions that the contracts cite: what is read of bytes is what they spell,
+//! and so what a yes shows of them. A law is a function that does nothing: its contract is the law,
+//! for all bytes.
 
+ghost use Rattle.std.specs.Prelude.{◌≡◌, ℕ, ◌↔◌, ◌≢◌, List, None, Some, Ok, AllPairs, slice_get};
+ghost use Rattle.byte_stream.specs.Bytes.{IsBytes};
+ghost use Rattle.claim_file.specs.Claim.{ClaimData};
+ghost use Rattle.claim_file.specs.Reading.{claim_of};
+ghost use Rattle.ntp_packet.specs.Packet.{Packet, packet_of};
+ghost use Rattle.pairing.specs.Pairing.{exchanges_of};
+ghost use Rattle.pairing.specs.Refusal.{refusal_of};
+ghost use Rattle.pairing.specs.declared.exchange.Exchange.{Exchange};
+ghost use Rattle.pcap_reader.specs.declared.format.Format.{Format};
+ghost use Rattle.pcap_reader.specs.Capture.{Record, IsCapture};
+ghost use Rattle.audit.specs.Headline.{ShowsHeadline};
+ghost use Rattle.audit.specs.Claimed.{IsClaimText};
+ghost use Rattle.audit.specs.Exchanged.{IsUsable, IsExchangeIn};
+ghost use Rattle.audit.specs.Held.{HoldsPacket};
 ghost use Rattle.audit.specs.Nanoseconds.{GivesNanoseconds};
 
-use checker::laws::bounds_hold_in_nanoseconds;
-use claim_file::laws::nanoseconds_become_ticks;
+use checker::laws::{
+    bounds_hold_in_nanoseconds, pieces_hold_every_reading, verdicts_are_traceable,
+    yes_is_acceptance,
+};
+use claim_file::laws::{
+    addresses_are_dotted, claims_are_lawful, nanoseconds_become_ticks, times_are_spelled,
+};
+use era_unfold::laws::{every_stamp_is_unfolded, ratios_are_rounded_as_little_as_can_be};
+use frame_reader::laws::given_where_held;
+use pairing::laws::{
+    exchanges_are_those_of_the_pairs, reply_is_of_one_server, request_is_to_one_server,
+};
+use pcap_reader::laws::what_is_read_is_a_capture;
 
 /// What is within the bound in ticks of a claim that was read, is within its bound in nanoseconds.
 pub fn bounds_of_bytes_hold_in_nanoseconds()
@@ -12,4 +38,59 @@ pub fn bounds_of_bytes_hold_in_nanoseconds()
 {
     nanoseconds_become_ticks();
     bounds_hold_in_nanoseconds();
+}
+
+/// A frame gives an NTP packet exactly where it holds it.
+pub fn packet_is_given_where_held()
+    ensures { (frame : List ℕ) (p : Packet) → IsBytes frame →
+        (packet_of frame ≡ Some p) ↔ HoldsPacket frame p }
+{
+    given_where_held();
+}
+
+/// A reply's own header refuses it exactly where it isn't usable.
+pub fn usable_replies_are_not_refused()
+    ensures { (header : List ℕ) → (refusal_of header ≡ None) ↔ IsUsable header }
+{}
+
+/// The exchanges that are collected of a capture are exchanges in its records.
+pub fn exchanges_are_in_the_records()
+    ensures { (bytes : List ℕ) (format : Format) (records : List Record) (claim : ClaimData) →
+        IsBytes bytes → IsCapture bytes format records →
+        AllPairs (λ a b. a ≢ b) claim.servers →
+        (k : ℕ) (x : Exchange) → slice_get (exchanges_of claim records) k ≡ Some x →
+        IsExchangeIn claim records x }
+{
+    packet_is_given_where_held();
+    usable_replies_are_not_refused();
+    request_is_to_one_server();
+    reply_is_of_one_server();
+    ratios_are_rounded_as_little_as_can_be();
+    every_stamp_is_unfolded();
+    exchanges_are_those_of_the_pairs();
+}
+
+/// What is read of a claim's bytes is what their text says.
+pub fn claims_are_what_their_text_says()
+    ensures { (text : List ℕ) (claim : ClaimData) → claim_of text ≡ Ok claim →
+        IsClaimText text claim }
+{
+    times_are_spelled();
+    addresses_are_dotted();
+    ratios_are_rounded_as_little_as_can_be();
+}
+
+/// Where the bytes of a claim and of a capture are read, and the verdict on some certificate is yes,
+/// the theorem holds of them, said in relations alone.
+pub fn yes_shows_the_headline()
+    ensures { ShowsHeadline }
+{
+    claims_are_what_their_text_says();
+    claims_are_lawful();
+    what_is_read_is_a_capture();
+    exchanges_are_in_the_records();
+    verdicts_are_traceable();
+    yes_is_acceptance();
+    pieces_hold_every_reading();
+    bounds_of_bytes_hold_in_nanoseconds();
 }

@@ -35,7 +35,10 @@ returns-clause-shows g c =
     let made = c.make_report-capture.ensures in
     shown_by_status (Shows (data_of c.args.question) _ _ _) c.publish-answer.result c.tell.result
     c.tell.ensures.status
-    (run_shows c.bounds_of_bytes_hold_in_nanoseconds.ensures (data_of c.args.question) _ _ _ c.read_claim_from-claim.result c.make_report-capture.result.1 _
+    (run_shows (record {
+      nanoseconds = c.bounds_of_bytes_hold_in_nanoseconds.ensures;
+      headline = c.yes_shows_the_headline.ensures;
+    }) (data_of c.args.question) _ _ _ c.read_claim_from-claim.result c.make_report-capture.result.1 _
     c.read_claim_from-claim.ensures.known made.read made.shows c.publish-answer.ensures.stays)
 
 pub returns-clause-traceable : goal.returns-clause-traceable

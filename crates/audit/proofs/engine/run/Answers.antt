@@ -24,5 +24,8 @@ returns-clause-runs g c =
 pub returns-clause-shows : goal.returns-clause-shows
 returns-clause-shows g c =
     let made = c.make_report-capture.ensures in
-    run_shows c.bounds_of_bytes_hold_in_nanoseconds.ensures (data_of c.args.question) _ _ _ c.read_claim_from-claim.result c.make_report-capture.result.1 _
+    run_shows (record {
+      nanoseconds = c.bounds_of_bytes_hold_in_nanoseconds.ensures;
+      headline = c.yes_shows_the_headline.ensures;
+    }) (data_of c.args.question) _ _ _ c.read_claim_from-claim.result c.make_report-capture.result.1 _
     c.read_claim_from-claim.ensures.known made.read made.shows c.publish-answer.ensures.stays

@@ -1,0 +1,227 @@
+-- What a claim that was read says of its text.
+use Rattle.std.proofs.Common.{◌≡◌, ℕ, ◌*◌, ◌<◌, Bool, true, false, ◌↔◌, List, [], ◌∷◌, length, Option, Some, None, Result, Ok, Err, refl, ap, subst, arith}
+use Rattle.std.specs.List.{AllZip}
+use Rattle.std.specs.Option.{option_and_then, option_map}
+use Rattle.std.specs.Net.Grammar.{IsDotted}
+use Rattle.era_unfold.specs.Nanoseconds.{nanoseconds_per_second, ticks_down, ticks_up}
+use Rattle.era_unfold.specs.Ratio.{IsFloor, IsCeiling, floor_of, ceiling_of}
+use Rattle.era_unfold.specs.Window.{ticks_per_second}
+use Rattle.serde_json.specs.Data.{Data}
+use Rattle.json_text.specs.Step.{given, asked, after}
+use Rattle.json_text.specs.Text.{parsed}
+use Rattle.claim_file.specs.declared.fault.ClaimFault.TheVariants.{Field}
+use Rattle.claim_file.specs.Address.{address_of, addresses_of, are_different}
+use Rattle.claim_file.specs.Claim.{ClaimData}
+use Rattle.claim_file.specs.Fields.{FieldsData, fields_of}
+use Rattle.claim_file.specs.Group.{groups_of}
+use Rattle.claim_file.specs.Reading.{NamedData, named_of, is_in_range, claim_with, within_limits, claim_from, claim_of}
+use Rattle.claim_file.specs.Time.{IsTime, time_of}
+use Rattle.audit.specs.Claimed.{IsClaimText}
+
+-- the laws of the layers below
+pub record Laws : Type 0 where
+  pub time : (text : List ℕ) (second : ℕ) → (time_of text ≡ Some second) ↔ IsTime text second
+  pub address : (text address : List ℕ) → (address_of text ≡ Some address) ↔ IsDotted text address
+  pub down : (n d : ℕ) → 0 < d → IsFloor n d (floor_of n d)
+  pub up : (n d : ℕ) → 0 < d → IsCeiling n d (ceiling_of n d)
+
+-- ---- one step of a reading
+
+given_step : {A B E : Type 0} (fault : E) (o : Option A) (rest : A → Result B E) (b : B)
+    → given fault o rest ≡ Ok b → (a : A) × (o ≡ Some a) × (rest a ≡ Ok b)
+given_step fault None rest b e = absurd cc
+given_step fault (Some a) rest b e = (a, refl, e)
+
+after_step : {A B E : Type 0} (r : Result A E) (rest : A → Result B E) (b : B) → after r rest ≡ Ok b
+    → (a : A) × (r ≡ Ok a) × (rest a ≡ Ok b)
+after_step (Err fault) rest b e = absurd cc
+after_step (Ok a) rest b e = (a, refl, e)
+
+-- ---- all steps of a reading
+
+-- the members of a claim, as far as they were found
+abbrev Found : Type 0 → Type 0
+Found M = Option M
+    × Option (List ℕ)
+    × Option (List (List ℕ))
+    × Option ℕ
+    × Option (List ℕ)
+    × Option (List ℕ)
+    × Option ℕ
+    × Option ℕ
+    × Option ℕ
+    × Option (Option (List (List ℕ)))
+
+fields_parts : {M E : Type 0} (e : ℕ → E) (found : Found M) (f : FieldsData)
+    → (given (e 0) found.0 λ members.
+    given (e 1) found.1 λ client.
+    given (e 2) found.2 λ servers.
+    given (e 3) found.3 λ false_max.
+    given (e 4) found.4 λ begin.
+    given (e 5) found.5 λ end.
+    given (e 6) found.6 λ bound_ns.
+    given (e 7) found.7 λ drift_ppb.
+    given (e 8) found.8 λ reading_ns.
+    given (e 9) found.9 λ groups.
+    Ok (record {
+      client = client;
+      servers = servers;
+      false_max = false_max;
+      begin = begin;
+      end = end;
+      bound_ns = bound_ns;
+      drift_ppb = drift_ppb;
+      reading_ns = reading_ns;
+      groups = groups;
+    })) ≡ Ok f
+    → (found.1 ≡ Some f.client)
+    × (found.2 ≡ Some f.servers)
+    × (found.3 ≡ Some f.false_max)
+    × (found.4 ≡ Some f.begin)
+    × (found.5 ≡ Some f.end)
+    × (found.6 ≡ Some f.bound_ns)
+    × (found.7 ≡ Some f.drift_ppb)
+    × (found.8 ≡ Some f.reading_ns)
+    × (found.9 ≡ Some f.groups)
+fields_parts e (None, o0, o1, o2, o3, o4, o5, o6, o7, o8) f h = absurd cc
+fields_parts e (Some m, None, o1, o2, o3, o4, o5, o6, o7, o8) f h = absurd cc
+fields_parts e (Some m, Some v0, None, o2, o3, o4, o5, o6, o7, o8) f h = absurd cc
+fields_parts e (Some m, Some v0, Some v1, None, o3, o4, o5, o6, o7, o8) f h = absurd cc
+fields_parts e (Some m, Some v0, Some v1, Some v2, None, o4, o5, o6, o7, o8) f h = absurd cc
+fields_parts e (Some m, Some v0, Some v1, Some v2, Some v3, None, o5, o6, o7, o8) f h = absurd cc
+fields_parts e (Some m, Some v0, Some v1, Some v2, Some v3, Some v4, None, o6, o7, o8) f h = absurd cc
+fields_parts e (Some m, Some v0, Some v1, Some v2, Some v3, Some v4, Some v5, None, o7, o8) f h = absurd cc
+fields_parts e (Some m, Some v0, Some v1, Some v2, Some v3, Some v4, Some v5, Some v6, None, o8) f h = absurd cc
+fields_parts e (Some m, Some v0, Some v1, Some v2, Some v3, Some v4, Some v5, Some v6, Some v7, None) f h = absurd cc
+fields_parts e (Some m, Some v0, Some v1, Some v2, Some v3, Some v4, Some v5, Some v6, Some v7, Some v8) f h =
+    let same : record {
+      client = v0;
+      servers = v1;
+      false_max = v2;
+      begin = v3;
+      end = v4;
+      bound_ns = v5;
+      drift_ppb = v6;
+      reading_ns = v7;
+      groups = v8;
+    } ≡ f = cc in (
+      ap (λ (x : FieldsData). Some x.client) same,
+      ap (λ (x : FieldsData). Some x.servers) same,
+      ap (λ (x : FieldsData). Some x.false_max) same,
+      ap (λ (x : FieldsData). Some x.begin) same,
+      ap (λ (x : FieldsData). Some x.end) same,
+      ap (λ (x : FieldsData). Some x.bound_ns) same,
+      ap (λ (x : FieldsData). Some x.drift_ppb) same,
+      ap (λ (x : FieldsData). Some x.reading_ns) same,
+      ap (λ (x : FieldsData). Some x.groups) same,
+    )
+
+named_parts : {E : Type 0} (x y z w : E) (a : Option (List ℕ)) (b : Option (List (List ℕ))) (s t : Option ℕ)
+    (n : NamedData)
+    → (given x a λ client. given y b λ servers. given z s λ first. given w t λ last.
+    Ok (record { client = client; servers = servers; first = first; last = last })) ≡ Ok n
+    → (a ≡ Some n.client) × (b ≡ Some n.servers) × (s ≡ Some n.first) × (t ≡ Some n.last)
+named_parts x y z w None b s t n h = absurd cc
+named_parts x y z w (Some a) None s t n h = absurd cc
+named_parts x y z w (Some a) (Some b) None t n h = absurd cc
+named_parts x y z w (Some a) (Some b) (Some s) None n h = absurd cc
+named_parts x y z w (Some a) (Some b) (Some s) (Some t) n h =
+    let same : record { client = a; servers = b; first = s; last = t } ≡ n = cc in (
+      ap (λ (m : NamedData). Some m.client) same,
+      ap (λ (m : NamedData). Some m.servers) same,
+      ap (λ (m : NamedData). Some m.first) same,
+      ap (λ (m : NamedData). Some m.last) same,
+    )
+
+limits_parts : {E : Type 0} (x y z : E) (a b : Bool) (o : Option (List ℕ)) (made : List ℕ → ClaimData)
+    (claim : ClaimData) → asked x a (asked y b (given z o λ groups. Ok (made groups))) ≡ Ok claim
+    → (groups : List ℕ) × (o ≡ Some groups) × (made groups ≡ claim)
+limits_parts x y z false b o made claim h = absurd cc
+limits_parts x y z true false o made claim h = absurd cc
+limits_parts x y z true true None made claim h = absurd cc
+limits_parts x y z true true (Some groups) made claim h =
+    let same : made groups ≡ claim = cc in
+    (groups, refl, same)
+
+-- ---- addresses
+
+module _ (laws : Laws) where
+  dotted_step : (text : List ℕ) (texts : List (List ℕ)) (first : Option (List ℕ)) (others : Option (List (List ℕ)))
+      (list : List (List ℕ)) → address_of text ≡ first
+      → ((rest : List (List ℕ)) → others ≡ Some rest → AllZip IsDotted texts rest)
+      → option_and_then (λ a. option_map (λ as'. a ∷ as') others) first ≡ Some list
+      → AllZip IsDotted (text ∷ texts) list
+  dotted_step text texts None others list is rest e = absurd cc
+  dotted_step text texts (Some first) None list is rest e = absurd cc
+  dotted_step text texts (Some first) (Some others) list is rest e =
+      let same : first ∷ others ≡ list = cc in
+      subst (AllZip IsDotted (text ∷ texts)) same ((laws.address text first).0 is, rest others refl)
+
+  dotted : (texts : List (List ℕ)) (list : List (List ℕ)) → addresses_of texts ≡ Some list
+      → AllZip IsDotted texts list
+  dotted [] list e = let same : [] ≡ list = cc in subst (AllZip IsDotted []) same tt
+  dotted (text ∷ texts) list e =
+      dotted_step text texts (address_of text) (addresses_of texts) list refl (λ rest is. dotted texts rest is) e
+
+  -- ---- the claim
+
+  read_from : (text : List ℕ) (value : Data) (f : FieldsData) (n : NamedData) (groups : List ℕ)
+      → parsed text ≡ Some value → fields_of value ≡ Ok f → named_of f ≡ Ok n
+      → groups_of (length n.servers) f.groups ≡ Some groups → IsClaimText text (claim_with f n groups)
+  unfolding ticks_down ticks_up
+  read_from text value f n groups json fields named grouped =
+      let parts = fields_parts Field (_, _, _, _, _, _, _, _, _, _) f fields in
+      let names = named_parts _ _ _ _ (address_of f.client) (addresses_of f.servers) (time_of f.begin) (time_of f.end) n
+      named in
+      record {
+        value = value;
+        is_json = json;
+        client_text = f.client;
+        client_stands = parts.0;
+        client = (laws.address f.client n.client).0 (names.0);
+        server_texts = f.servers;
+        servers_stand = parts.1;
+        servers = dotted f.servers n.servers (names.1);
+        false_max = parts.2;
+        first = record {
+          text = f.begin;
+          second = n.first;
+          stands = parts.3;
+          is_time = (laws.time f.begin n.first).0 (names.2);
+          in_ticks = refl;
+        };
+        last = record {
+          text = f.end;
+          second = n.last;
+          stands = parts.4;
+          is_time = (laws.time f.end n.last).0 (names.3);
+          in_ticks = refl;
+        };
+        bound_ns = parts.5;
+        bound = ticks_down f.bound_ns;
+        bound_in_ticks = refl;
+        bound_is = laws.down (f.bound_ns * ticks_per_second) nanoseconds_per_second (omega arith);
+        drift = parts.6;
+        reading_ns = parts.7;
+        reading = ticks_up f.reading_ns;
+        reading_in_ticks = refl;
+        reading_is = laws.up (f.reading_ns * ticks_per_second) nanoseconds_per_second (omega arith);
+        listed = f.groups;
+        groups_stand = parts.8;
+        groups = grouped;
+      }
+
+  limits_read : (text : List ℕ) (value : Data) (f : FieldsData) (n : NamedData) (claim : ClaimData)
+      → parsed text ≡ Some value → fields_of value ≡ Ok f → named_of f ≡ Ok n → within_limits f n ≡ Ok claim
+      → IsClaimText text claim
+  limits_read text value f n claim json fields named e =
+      let found = limits_parts _ _ _ (is_in_range f n) (are_different (n.client ∷ n.servers))
+      (groups_of (length n.servers) f.groups) (claim_with f n) claim e in
+      subst (IsClaimText text) found.2 (read_from text value f n found.0 json fields named found.1)
+
+  pub read : (text : List ℕ) (claim : ClaimData) → claim_of text ≡ Ok claim → IsClaimText text claim
+  read text claim e =
+      let json = given_step _ (parsed text) (λ value. after (fields_of value) claim_from) claim e in
+      let fields = after_step (fields_of json.0) claim_from claim json.2 in
+      let named = after_step (named_of fields.0) (within_limits fields.0) claim fields.2 in
+      limits_read text json.0 fields.0 named.0 claim json.1 fields.1 named.1 named.2

@@ -1,0 +1,356 @@
+-- The exchanges of records are exchanges in them.
+use Rattle.std.proofs.Common.{◌≡◌, ◌≢◌, ℕ, zero, suc, ◌+◌, ◌*◌, ◌<◌, ℤ, pos, int_lt, Bool, true, false, cond, ◌&&◌, ◌==◌, ◌↔◌, List, [], ◌∷◌, ◌++◌, length, get_or, Option, Some, None, refl, sym, ap, ◌∙◌, subst, arith}
+use Rattle.std.specs.Prelude.{All, AllPairs, Contains, slice_get, filter, filter_map, unwrap_or}
+use Rattle.std.specs.List.{cons_option}
+use Rattle.std.specs.Option.{option_and_then, option_map}
+use Rattle.std.proofs.lemmas.Bool.{cond-true, cond-false}
+use Rattle.std.proofs.lemmas.Bool.Decides.{nat_tests}
+use Rattle.std.proofs.lemmas.Grind.{common_steps}
+use Rattle.std.proofs.lemmas.Int.{ints}
+use Rattle.std.proofs.Math.Seq.{take-append_seam, drop-append_seam}
+use Rattle.std.proofs.lemmas.List.Elements.{All-nil, All-cons, All-filter, All-map, All-take, All-drop}
+use Rattle.std.proofs.lemmas.Option.{get_or_from_slice_get, slice_get_within, slice_get_read}
+use Rattle.byte_stream.specs.Bytes.{IsBytes}
+use Rattle.era_unfold.specs.declared.unit.Unit.{Unit as TimeUnit}
+use Rattle.era_unfold.specs.declared.unit.Unit.TheVariants.{Micro, Nano}
+use Rattle.era_unfold.specs.Ratio.{IsFloor, IsCeiling, floor_of, ceiling_of}
+use Rattle.era_unfold.specs.Stamp.{IsUnfolded, unfolded}
+use Rattle.era_unfold.specs.Window.{per_second, ticks_per_second, window_low, window_high}
+use Rattle.pcap_reader.specs.declared.format.RecordHead.{RecordHead}
+use Rattle.pcap_reader.specs.declared.format.Endian.{Endian}
+use Rattle.pcap_reader.specs.declared.format.Format.{Format}
+use Rattle.pcap_reader.specs.Capture.{Record, AreRecordsFrom, IsCapture, spelling, record_spelling}
+use Rattle.pcap_reader.specs.Field.{spelled}
+use Rattle.ntp_packet.specs.Header.{precision_of, origin_of, receive_of, transmit_of, root_distance_of}
+use Rattle.ntp_packet.specs.Packet.{Packet, packet_of}
+use Rattle.claim_file.specs.Claim.{ClaimData}
+use Rattle.pairing.specs.declared.exchange.Exchange.{Exchange}
+use Rattle.pairing.specs.Message.{Request, Reply, IsRequestTo, IsReplyOf, request_of, reply_of, requested_server, replying_server, request_in, reply_in, request_to, reply_from}
+use Rattle.pairing.specs.Pair.{IsExchangeOf}
+use Rattle.pairing.specs.Pairing.{requests_of, replies_of, requests_for, answers, exchange_of, exchanges_of, low_of, high_of, distance_of}
+use Rattle.pairing.specs.Refusal.{refusal_of}
+use Rattle.sample_interval.specs.Sample.{sample_of}
+use Rattle.sample_interval.specs.declared.kinds.Sample.{Sample}
+use Rattle.checker.specs.Traceability.{samples_of}
+use Rattle.audit.specs.Held.{HoldsPacket}
+use Rattle.audit.specs.Exchanged.{HoldsRequest, IsUsable, IsWindowOf, IsExchangeIn}
+
+-- the laws of the layers below
+pub record Laws : Type 0 where
+  pub packet : (frame : List ℕ) (p : Packet) → IsBytes frame → (packet_of frame ≡ Some p) ↔ HoldsPacket frame p
+  pub usable : (header : List ℕ) → (refusal_of header ≡ None) ↔ IsUsable header
+  pub request : (claim : ClaimData) (packet : Packet) (server : ℕ) → AllPairs (λ a b. a ≢ b) claim.servers
+      → (requested_server claim packet ≡ Some server) ↔ IsRequestTo claim server packet
+  pub reply : (claim : ClaimData) (packet : Packet) (server : ℕ) → AllPairs (λ a b. a ≢ b) claim.servers
+      → (replying_server claim packet ≡ Some server) ↔ IsReplyOf claim server packet
+  pub down : (n d : ℕ) → 0 < d → IsFloor n d (floor_of n d)
+  pub up : (n d : ℕ) → 0 < d → IsCeiling n d (ceiling_of n d)
+  pub stamp : (stamp : ℕ) (near : ℤ) → IsUnfolded stamp near (unfolded stamp near)
+
+-- ---- lists
+
+module _ {X Y : Type 0} (f : X → Option Y) where
+  -- one of these is given for y
+  abbrev GivesAt : List X → Y → Type 0
+  GivesAt xs y = (k : ℕ) × (x : X) × (slice_get xs k ≡ Some x) × (f x ≡ Some y)
+
+  step_given : (x : X) (xs : List X) (o : Option Y) (ys : List Y) → f x ≡ o → All (GivesAt xs) ys
+      → All (GivesAt (x ∷ xs)) (cons_option o ys)
+  step_given x xs None ys is rest = λ k d below.
+      let found = rest k d below in (suc found.0, found.1, found.2, found.3)
+  step_given x xs (Some y) ys is rest = All-cons (GivesAt (x ∷ xs)) y ys (0, x, refl, is)
+      (λ k d below. let found = rest k d below in (suc found.0, found.1, found.2, found.3))
+
+  pub all_given : (xs : List X) → All (GivesAt xs) (filter_map f xs)
+  all_given [] = All-nil (GivesAt [])
+  all_given (x ∷ xs) = step_given x xs (f x) (filter_map f xs) refl (all_given xs)
+
+  module _ (p : Y → Bool) where
+    step_kept : (o : Option Y) (ys : List Y) (y : Y) → (j : ℕ) × (slice_get (filter p ys) j ≡ Some y)
+        → (j : ℕ) × (slice_get (filter p (cons_option o ys)) j ≡ Some y)
+    step_kept None ys y found = found
+    step_kept (Some z) ys y found =
+        elim (p z) as (λ b. (j : ℕ) × (slice_get (cond b (z ∷ filter p ys) (filter p ys)) j ≡ Some y)) [
+          | true ↦ (suc found.0, found.1)
+          | false ↦ found
+        ]
+
+    here_kept : (o : Option Y) (ys : List Y) (y : Y) → o ≡ Some y → p y ≡ true
+        → (j : ℕ) × (slice_get (filter p (cons_option o ys)) j ≡ Some y)
+    here_kept None ys y is passes = absurd cc
+    here_kept (Some z) ys y is passes =
+        let same : z ≡ y = cc in
+        let test : p z ≡ true = ap p same ∙ passes in
+        (0, ap (λ (l : List Y). slice_get l 0) (cond-true (p z) (z ∷ filter p ys) (filter p ys) test) ∙ is)
+
+    pub kept_at : (xs : List X) (k : ℕ) (x : X) (y : Y) → slice_get xs k ≡ Some x → f x ≡ Some y → p y ≡ true
+        → (j : ℕ) × (slice_get (filter p (filter_map f xs)) j ≡ Some y)
+    kept_at [] k x y at is passes = absurd cc
+    kept_at (first ∷ xs) zero x y at is passes =
+        let same : first ≡ x = cc in
+        here_kept (f first) (filter_map f xs) y (ap f same ∙ is) passes
+    kept_at (first ∷ xs) (suc k) x y at is passes =
+        step_kept (f first) (filter_map f xs) y (kept_at xs k x y at is passes)
+
+lone_at : {Y : Type 0} (q y : Y) (j : ℕ) → slice_get (q ∷ []) j ≡ Some y → q ≡ y
+lone_at q y zero at = cc
+lone_at q y (suc j) at = absurd cc
+
+-- what holds of an element
+of_element : {Y : Type 0} (P : Y → Type 0) (ys : List Y) (y : Y) → All P ys → Contains ys y → P y
+of_element P ys y all (k, below, is) = subst P is (all k y below)
+
+-- ---- requests and replies
+
+module _ (laws : Laws) (claim : ClaimData) (apart : AllPairs (λ a b. a ≢ b) claim.servers) where
+  -- the packet of a record that gives a reply
+  pub record IsReplyAt (r : Record) (reply : Reply) : Type 0 where
+    pub packet : Packet
+    pub held : HoldsPacket r.bytes packet
+    pub answers' : IsReplyOf claim reply.server packet
+    pub is : reply ≡ reply_from r.head packet reply.server
+
+  reply_by : (r : Record) (reply : Reply) (p : Packet) → HoldsPacket r.bytes p → (o : Option ℕ)
+      → replying_server claim p ≡ o → option_map (reply_from r.head p) o ≡ Some reply → IsReplyAt r reply
+  reply_by r reply p held None at e = absurd cc
+  reply_by r reply p held (Some server) at e =
+      let same : reply_from r.head p server ≡ reply = cc in
+      subst (IsReplyAt r) same (record {
+        packet = p;
+        held = held;
+        answers' = (laws.reply claim p server apart).0 at;
+        is = refl;
+      })
+
+  reply_in' : (r : Record) (reply : Reply) → IsBytes r.bytes → (o : Option Packet) → packet_of r.bytes ≡ o
+      → option_and_then (reply_in claim r.head) o ≡ Some reply → IsReplyAt r reply
+  reply_in' r reply bytes None at e = absurd cc
+  reply_in' r reply bytes (Some p) at e =
+      reply_by r reply p ((laws.packet r.bytes p bytes).0 at) (replying_server claim p) refl e
+
+  pub reply_at : (r : Record) (reply : Reply) → IsBytes r.bytes → reply_of claim r ≡ Some reply → IsReplyAt r reply
+  unfolding reply_of
+  reply_at r reply bytes e = reply_in' r reply bytes (packet_of r.bytes) refl e
+
+  -- and of one that gives a request
+  pub record IsRequestAt (r : Record) (q : Request) : Type 0 where
+    pub packet : Packet
+    pub held : HoldsPacket r.bytes packet
+    pub asks : IsRequestTo claim q.server packet
+    pub is : q ≡ request_to r.head packet q.server
+
+  request_by : (r : Record) (q : Request) (p : Packet) → HoldsPacket r.bytes p → (o : Option ℕ)
+      → requested_server claim p ≡ o → option_map (request_to r.head p) o ≡ Some q → IsRequestAt r q
+  request_by r q p held None at e = absurd cc
+  request_by r q p held (Some server) at e =
+      let same : request_to r.head p server ≡ q = cc in
+      subst (IsRequestAt r) same (record {
+        packet = p;
+        held = held;
+        asks = (laws.request claim p server apart).0 at;
+        is = refl;
+      })
+
+  request_in' : (r : Record) (q : Request) → IsBytes r.bytes → (o : Option Packet) → packet_of r.bytes ≡ o
+      → option_and_then (request_in claim r.head) o ≡ Some q → IsRequestAt r q
+  request_in' r q bytes None at e = absurd cc
+  request_in' r q bytes (Some p) at e =
+      request_by r q p ((laws.packet r.bytes p bytes).0 at) (requested_server claim p) refl e
+
+  pub request_at : (r : Record) (q : Request) → IsBytes r.bytes → request_of claim r ≡ Some q → IsRequestAt r q
+  unfolding request_of
+  request_at r q bytes e = request_in' r q bytes (packet_of r.bytes) refl e
+
+  -- a record that holds a request gives it
+  pub gives_request : (r : Record) (server port stamp : ℕ) → IsBytes r.bytes
+      → HoldsRequest claim server port stamp r
+      → request_of claim r ≡ Some (record { server = server; port = port; stamp = stamp; head = r.head })
+  unfolding request_of
+  gives_request r server port stamp bytes holds =
+      let packet = (laws.packet r.bytes holds.packet bytes).1 holds.held in
+      let asked = (laws.request claim holds.packet server apart).1 holds.asks in
+      ap (option_and_then (request_in claim r.head)) packet
+      ∙ ap (option_map (request_to r.head holds.packet)) asked
+      ∙ ap
+      (λ (n : ℕ). Some (record { server = server; port = n; stamp = transmit_of holds.packet.header; head = r.head }))
+      holds.from_port
+      ∙ ap (λ (n : ℕ). Some (record { server = server; port = port; stamp = n; head = r.head })) holds.stamped
+
+  three_pass : (a b c d e f : ℕ) → a ≡ b → c ≡ d → e ≡ f → (a == b && (c == d && e == f)) ≡ true
+  three_pass a b c d e f x y z = grind (arith, nat_tests)
+
+-- ---- times
+
+some_units : (unit : TimeUnit) → 0 < per_second unit
+some_units Micro = omega arith
+some_units Nano = omega arith
+
+module _ (laws : Laws) where
+  window_of : (head : RecordHead) → IsWindowOf head (low_of head) (high_of head)
+  unfolding window_low window_high
+  window_of head = record {
+    low_tick = window_low head.unit head.sec head.sub;
+    high_tick = window_high head.unit head.sec head.sub;
+    low_is = refl;
+    high_is = refl;
+    floor = laws.down ((head.sec * per_second head.unit + head.sub) * ticks_per_second) (per_second head.unit)
+        (some_units head.unit);
+    ceiling = laws.up ((head.sec * per_second head.unit + head.sub + 1) * ticks_per_second) (per_second head.unit)
+        (some_units head.unit);
+  }
+
+  distance_is : (header : List ℕ) → IsUsable header → root_distance_of header ≡ Some (distance_of header)
+  unfolding root_distance_of
+  distance_is header usable =
+      let precise : int_lt (pos 16) (precision_of header) ≡ false =
+      (let h = usable.precision in grind (arith, ints)) in
+      let some = cond-false (int_lt (pos 16) (precision_of header)) None _ precise in
+      some ∙ ap Some (sym (ap (λ (o : Option ℤ). unwrap_or o (pos 0)) some))
+
+-- ---- exchanges
+
+-- the records stand at their numbers, and hold bytes
+pub record AreInPlace (records : List Record) : Type 0 where
+  pub numbered : (k : ℕ) (r : Record) → slice_get records k ≡ Some r → r.head.number ≡ k
+  pub bytes : (k : ℕ) (r : Record) → slice_get records k ≡ Some r → IsBytes r.bytes
+
+module _ (laws : Laws) (claim : ClaimData) (apart : AllPairs (λ a b. a ≢ b) claim.servers) (records : List Record)
+    (given : AreInPlace records) where
+  number_at : (k : ℕ) (r : Record) → slice_get records k ≡ Some r → slice_get records r.head.number ≡ Some r
+  number_at k r at = ap (slice_get records) (given.numbered k r at) ∙ at
+
+  exchange_in : (q : Request) (reply : Reply) → Contains (replies_of claim records) reply
+      → refusal_of reply.header ≡ None → requests_for reply (requests_of claim records) ≡ q ∷ []
+      → reply.server ≡ q.server → reply.port ≡ q.port → origin_of reply.header ≡ q.stamp
+      → IsExchangeIn claim records (exchange_of q reply)
+  unfolding requests_of replies_of
+  exchange_in q reply contained accepted only same_server same_port same_stamp =
+      let replied = of_element (GivesAt (reply_of claim) records) (replies_of claim records) reply
+      (all_given (reply_of claim) records) contained in
+      let asked = subst (λ (qs : List Request). All (GivesAt (request_of claim) records) qs) only
+      (All-filter (answers reply) (GivesAt (request_of claim) records) (requests_of claim records)
+      (all_given (request_of claim) records)) 0 q (omega arith) in
+      let r = replied.1 in
+      let s = asked.1 in
+      let at_r = reply_at laws claim apart r reply (given.bytes replied.0 r replied.2) replied.3 in
+      let at_s = request_at laws claim apart s q (given.bytes asked.0 s asked.2) asked.3 in
+      let head_r : reply.head ≡ r.head = ap (λ (x : Reply). x.head) at_r.is in
+      let head_s : q.head ≡ s.head = ap (λ (x : Request). x.head) at_s.is in
+      let header : reply.header ≡ at_r.packet.header = ap (λ (x : Reply). x.header) at_r.is in
+      let port : reply.port ≡ at_r.packet.datagram.destination_port = ap (λ (x : Reply). x.port) at_r.is in
+      let usable = (laws.usable reply.header).0 accepted in
+      record {
+        request = s;
+        reply = r;
+        packet = at_r.packet;
+        request_stands = ap (λ (h : RecordHead). slice_get records h.number) head_s ∙ number_at asked.0 s asked.2;
+        reply_stands = ap (λ (h : RecordHead). slice_get records h.number) head_r
+            ∙ number_at replied.0 r replied.2;
+        held = at_r.held;
+        answers = at_r.answers';
+        usable = subst IsUsable header usable;
+        named = record {
+          packet = at_s.packet;
+          held = at_s.held;
+          asks = subst (λ (n : ℕ). IsRequestTo claim n at_s.packet) (sym same_server) at_s.asks;
+          from_port = sym (ap (λ (x : Request). x.port) at_s.is) ∙ sym same_port ∙ port;
+          stamped = sym (ap (λ (x : Request). x.stamp) at_s.is) ∙ sym same_stamp ∙ ap origin_of header;
+        };
+        only = λ k other at holds.
+            let found : Request = record {
+              server = reply.server;
+              port = at_r.packet.datagram.destination_port;
+              stamp = origin_of at_r.packet.header;
+              head = other.head;
+            } in
+            let gives = gives_request laws claim apart other reply.server at_r.packet.datagram.destination_port
+            (origin_of at_r.packet.header) (given.bytes k other at) holds in
+            let passes = three_pass laws claim apart reply.server reply.server reply.port
+            at_r.packet.datagram.destination_port (origin_of reply.header) (origin_of at_r.packet.header) refl port
+            (ap origin_of header) in
+            let kept = kept_at (request_of claim) (answers reply) records k other found at gives passes in
+            let same = lone_at q found kept.0
+            (sym (ap (λ (qs : List Request). slice_get qs kept.0) only) ∙ kept.1) in
+            sym (ap (λ (x : Request). x.head.number) same ∙ given.numbered k other at);
+        t1 = subst (λ (h : RecordHead). IsWindowOf h (low_of q.head) (high_of q.head)) head_s
+            (window_of laws q.head);
+        t2 = subst (λ (h : List ℕ). IsUnfolded (receive_of h) (low_of q.head)
+            (unfolded (receive_of reply.header) (low_of q.head))) header
+            (laws.stamp (receive_of reply.header) (low_of q.head));
+        t3 = subst (λ (h : List ℕ). IsUnfolded (transmit_of h) (low_of q.head)
+            (unfolded (transmit_of reply.header) (low_of q.head))) header
+            (laws.stamp (transmit_of reply.header) (low_of q.head));
+        t4 = subst (λ (h : RecordHead). IsWindowOf h (low_of reply.head) (high_of reply.head)) head_r
+            (window_of laws reply.head);
+        distance = subst (λ (h : List ℕ). root_distance_of h ≡ Some (distance_of reply.header)) header
+            (distance_is laws reply.header usable);
+      }
+
+  pub all_exchanges : All (IsExchangeOf claim records) (exchanges_of claim records) → (k : ℕ) (x : Exchange)
+      → slice_get (exchanges_of claim records) k ≡ Some x → IsExchangeIn claim records x
+  all_exchanges sound k x at =
+      let of = subst (IsExchangeOf claim records) (get_or_from_slice_get (exchanges_of claim records) k x x at)
+      (sound k x (slice_get_within (exchanges_of claim records) k x at)) in
+      subst (IsExchangeIn claim records) (sym of.made)
+      (exchange_in of.request of.reply of.pair.given of.pair.accepted of.pair.only of.named.server of.named.port
+      of.named.stamp)
+
+-- ---- the records of a capture
+
+numbered_from : (unit : TimeUnit) (number place : ℕ) (records : List Record) → AreRecordsFrom unit number place records
+    → (k : ℕ) (r : Record) → slice_get records k ≡ Some r → r.head.number ≡ number + k
+numbered_from unit number place [] are k r at = absurd cc
+numbered_from unit number place (first ∷ records) are zero r at =
+    let same : first ≡ r = cc in
+    let is = subst (λ (x : Record). x.head.number ≡ number) same are.0.number_is in
+    omega (arith, is)
+numbered_from unit number place (first ∷ records) are (suc k) r at =
+    let rest = numbered_from unit (number + 1) (place + (16 + length first.bytes)) records are.1 k r at in
+    omega (arith, rest)
+
+module _ (xs ys : List ℕ) (all : IsBytes (xs ++ ys)) where
+  bytes_before : IsBytes xs
+  bytes_before = subst IsBytes (take-append_seam xs ys) (All-take (λ (b : ℕ). b < 256) (length xs) (xs ++ ys) all)
+
+  bytes_after : IsBytes ys
+  bytes_after = subst IsBytes (drop-append_seam xs ys) (All-drop (λ (b : ℕ). b < 256) (length xs) (xs ++ ys) all)
+
+record_bytes : (order : Endian) (r : Record) → IsBytes (record_spelling order r) → IsBytes r.bytes
+record_bytes order r h =
+    bytes_after
+    (spelled order 4 r.head.sec ++ spelled order 4 r.head.sub ++ spelled order 4 r.head.captured
+    ++ spelled order 4 r.head.original)
+    r.bytes h
+
+bytes_of_each : (order : Endian) (records : List Record) → IsBytes (spelling order records) → (k : ℕ) (r : Record)
+    → slice_get records k ≡ Some r → IsBytes r.bytes
+bytes_of_each order [] h k r at = absurd cc
+bytes_of_each order (first ∷ records) h zero r at =
+    let same : first ≡ r = cc in
+    subst (λ (x : Record). IsBytes x.bytes) same
+    (record_bytes order first (bytes_before (record_spelling order first) (spelling order records) h))
+bytes_of_each order (first ∷ records) h (suc k) r at =
+    bytes_of_each order records (bytes_after (record_spelling order first) (spelling order records) h) k r at
+
+pub in_place : (bytes : List ℕ) (format : Format) (records : List Record) → IsBytes bytes
+    → IsCapture bytes format records → AreInPlace records
+in_place bytes format records all capture = record {
+  numbered = λ k r at.
+      let is = numbered_from format.unit 0 24 records capture.are_records k r at in
+      omega (arith, is);
+  bytes = bytes_of_each format.order records
+      (bytes_after capture.header (spelling format.order records) (subst IsBytes capture.joined all));
+}
+
+-- ---- servers
+
+pub listed_servers : (claim : ClaimData) (records : List Record) (xs : List Exchange)
+    → ((k : ℕ) (x : Exchange) → slice_get xs k ≡ Some x → IsExchangeIn claim records x)
+    → All (λ sample. sample.server < length claim.servers) (samples_of xs claim)
+listed_servers claim records xs are =
+    All-map (λ (sample : Sample). sample.server < length claim.servers) (λ x. sample_of x claim.reading) xs
+    (λ k d below.
+    let x = get_or xs k d in
+    let is : x ≡ get_or xs k x = grind (arith, common_steps) in
+    let found = are k x (slice_get_read xs (length xs) k x refl below is) in
+    slice_get_within claim.servers x.server _ found.answers.from_server)

@@ -1,0 +1,78 @@
+-- What was read of a capture, and the pieces of a span.
+use Rattle.std.proofs.Common.{◌≡◌, ◌∙◌, ℕ, zero, suc, ℤ, pos, List, [], ◌∷◌, Bool, true, false, length, Option, Some, None, Result, Ok, Err, refl, sym, ap}
+use Rattle.std.specs.Prelude.{IsSomeAnd, slice_get, nat_lt, if◌then◌else◌}
+use Rattle.certificate.specs.Certificate.{PieceData}
+use Rattle.claim_file.specs.Claim.{ClaimData}
+use Rattle.pairing.specs.declared.fault.PairFault.{PairFault}
+use Rattle.pairing.specs.declared.fault.PairFault.TheVariants.{TooManyExchanges}
+use Rattle.pairing.specs.Answer.{answer_of, unless_broken}
+use Rattle.pairing.specs.Exchange.{most_exchanges}
+use Rattle.pairing.specs.Pairing.{Collection, collection_of, counts_of, exchanges_of}
+use Rattle.pcap_reader.specs.declared.fault.CaptureFault.{CaptureFault}
+use Rattle.pcap_reader.specs.Capture.{Record}
+use Rattle.pcap_reader.specs.Remaining.{Coming, capture_of}
+use Rattle.checker.specs.Stretch.{begin_of, stretches_from}
+use Rattle.checker.specs.declared.stretch.Stretch.{Stretch}
+use Rattle.audit.specs.CaptureInput.{capture_read, collection_or_fault, collection_read}
+
+-- ---- what was read of a capture
+
+-- the records of the whole capture, of which these are the exchanges
+abbrev pub Collected : ClaimData → List ℕ → Collection → Type 0
+Collected claim bytes collection = (records : List Record)
+    × (capture_of bytes ≡ Ok (record { records = records; fault = None }))
+    × (collection.exchanges ≡ exchanges_of claim records)
+
+of_pairs : (r : Result Collection PairFault) (c : Collection) → collection_or_fault r ≡ Ok c → r ≡ Ok c
+of_pairs (Ok d) c is = cc
+of_pairs (Err fault) c is = cc
+
+unbroken : (fault : Option CaptureFault) (r : Result Collection PairFault) (c : Collection) →
+    unless_broken fault r ≡ Ok c → (fault ≡ None) × (r ≡ Ok c)
+unbroken None r c is = (refl, is)
+unbroken (Some fault) r c is = absurd cc
+
+few : (many : Bool) (made c : Collection) → (if many then Err TooManyExchanges else Ok made) ≡ Ok c →
+    c.exchanges ≡ made.exchanges
+few true made c is = cc
+few false made c is = let same : made ≡ c = cc in sym (ap (λ (d : Collection). d.exchanges) same)
+
+module _ (claim : ClaimData) (bytes : List ℕ) (collection : Collection) where
+  few_collected : (records : List Record) → collection_of claim records ≡ Ok collection →
+      collection.exchanges ≡ exchanges_of claim records
+  unfolding collection_of
+  few_collected records is =
+      few (nat_lt most_exchanges (length (exchanges_of claim records))) (record {
+        exchanges = exchanges_of claim records;
+        counts = counts_of claim records;
+      }) collection is
+
+  of_coming : (coming : Coming) → answer_of claim coming ≡ Ok collection → capture_of bytes ≡ Ok coming →
+      Collected claim bytes collection
+  unfolding answer_of
+  of_coming coming answered is =
+      let whole = unbroken coming.fault (collection_of claim coming.records) collection answered in (
+        coming.records,
+        is ∙ ap (λ (fault : Option CaptureFault). Ok (record { records = coming.records; fault = fault })) whole.0,
+        few_collected coming.records whole.1,
+      )
+
+  of_read : (c : Result Coming CaptureFault) → collection_read claim c ≡ Ok collection → capture_of bytes ≡ c →
+      Collected claim bytes collection
+  of_read (Ok coming) read is = of_coming coming (of_pairs (answer_of claim coming) collection read) is
+  of_read (Err fault) read is = absurd cc
+
+  pub collected_of : capture_read claim bytes ≡ Ok collection → Collected claim bytes collection
+  unfolding capture_read
+  collected_of read = of_read (capture_of bytes) read refl
+
+-- ---- pieces
+
+-- a stretch of a span is a piece's
+pub piece_of : (P : Stretch → Type 0) (begin : ℤ) (pieces : List PieceData) (k : ℕ) →
+    IsSomeAnd (slice_get (stretches_from begin pieces) k) P →
+    (piece : PieceData) × (slice_get pieces k ≡ Some piece)
+    × P (record { begin = begin_of begin pieces k; end = pos piece.upto })
+piece_of P begin [] k held = absurd held
+piece_of P begin (piece ∷ pieces) zero held = (piece, refl, held)
+piece_of P begin (piece ∷ pieces) (suc k) held = piece_of P (pos piece.upto) pieces k held

@@ -1,0 +1,47 @@
+use Rattle.std.proofs.Common.{◌≡◌, List, ℤ, refl, sym, subst}
+use Rattle.sample_interval.specs.Moment.{IsInWindow}
+use Rattle.checker.specs.Traceability.{samples_of}
+use Rattle.checker.specs.Verdict.{verdict_of}
+use Rattle.checker.specs.declared.verdict.Verdict.TheVariants.{Yes}
+use Rattle.pairing.specs.declared.exchange.Exchange.{Exchange}
+use Rattle.pairing.specs.Pairing.{exchanges_of}
+use Rattle.audit.proofs.ExchangedLemmas.{listed_servers}
+use Rattle.audit.proofs.HeadlineLemmas.{collected_of, piece_of}
+use Rattle.audit.proofs.NanosecondLemmas.{claim_of_read}
+use Rattle.audit.proofs.laws.yes_shows_the_headline.Goals as goal
+
+pub returns : goal.returns
+returns c claim_bytes capture_bytes claim collection certificate all claim_read' capture_read' yes' =
+    let is_claim = claim_of_read claim_bytes claim claim_read' in
+    let collected = collected_of claim capture_bytes collection capture_read' in
+    let records = collected.0 in
+    let xs = exchanges_of claim records in
+    let text = c.claims_are_what_their_text_says.ensures claim_bytes claim is_claim in
+    let lawful = c.claims_are_lawful.ensures.lawful claim_bytes claim is_claim in
+    let found = c.what_is_read_is_a_capture.ensures capture_bytes records all collected.1 in
+    let are = c.exchanges_are_in_the_records.ensures capture_bytes found.0 records claim all found.1
+    lawful.addresses_differ in
+    let listed = listed_servers claim records xs are in
+    let yes = subst (λ (ys : List Exchange). verdict_of (samples_of ys claim) claim certificate ≡ Yes) collected.2
+    yes' in
+    let accepted = (c.yes_is_acceptance.ensures (samples_of xs claim) claim certificate).0 yes in
+    let pieces = c.verdicts_are_traceable.ensures.by_pieces claim (samples_of xs claim) certificate lawful listed yes in
+    record {
+      claim = claim;
+      format = found.0;
+      records = records;
+      exchanges = xs;
+      claim_is = text;
+      capture_is = found.1;
+      exchanges_are = are;
+      within = λ n reading observed.
+          let in_span = subst (λ (end : ℤ). IsInWindow n claim.first end reading) (sym accepted.ends_with_span)
+          observed in
+          let held = c.pieces_hold_every_reading.ensures n reading claim.first certificate.pieces accepted.some_piece
+          in_span in
+          let piece = piece_of (λ stretch. IsInWindow n stretch.begin stretch.end reading) claim.first
+          certificate.pieces held.0 held.1 in
+          (piece.0.entries, λ course same_n same_reading fits.
+          c.bounds_of_bytes_hold_in_nanoseconds.ensures claim_bytes claim course claim_read'
+          (pieces xs held.0 piece.0 course refl piece.1 fits (rw (same_n, same_reading) piece.2)));
+    }
