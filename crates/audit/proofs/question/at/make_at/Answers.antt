@@ -1,4 +1,3 @@
-use Rattle.claim_file.specs.Claim.{data_of as claim_data}
 use Rattle.audit.specs.At.{stretch_at}
 use Rattle.audit.specs.Evidence.{evidence_data, samples_in}
 use Rattle.audit.proofs.SampleLemmas.{listed_samples}
