@@ -40,8 +40,10 @@ returns c claim_bytes capture_bytes claim collection certificate all claim_read'
           let held = c.pieces_hold_every_reading.ensures n reading claim.first certificate.pieces accepted.some_piece
           in_span in
           let piece = piece_of (λ stretch. IsInWindow n stretch.begin stretch.end reading) claim.first
-          certificate.pieces held.0 held.1 in
-          (piece.0.entries, λ course same_n same_reading fits.
-          c.bounds_of_bytes_hold_in_nanoseconds.ensures claim_bytes claim course claim_read'
-          (pieces xs held.0 piece.0 course refl piece.1 fits (rw (same_n, same_reading) piece.2)));
+          certificate.pieces held.0 held.1 in (
+            piece.0.entries,
+            λ course same_n same_reading fits.
+                c.bounds_of_bytes_hold_in_nanoseconds.ensures claim_bytes claim course claim_read'
+                (pieces xs held.0 piece.0 course refl piece.1 fits (rw (same_n, same_reading) piece.2)),
+          );
     }
