@@ -147,8 +147,8 @@ pub fn answer<C: Feed, T: Feed, F: Feed, S: Sink, E: Sink, H: BuildHasher + Drop
     to: &mut Outputs<S, E>,
     hasher: H,
 ) -> (F, u8)
-    requires run { MayRun
-        (run_state (C.state claim.old) (T.state second.old) (F.state capture) (S.state to.old.out)) }
+    requires run { MayRun (run_state
+        (C.state claim.old) (T.state second.old) (F.state capture) (S.state to.old.out)) }
     requires err { IsWritable (E.state to.old.err) }
     ensures answers { AnswersFor (data_of question)
         (run_state (C.state claim.old) (T.state second.old) (F.state capture) (S.state to.old.out))

@@ -29,17 +29,13 @@ use std::io;
 use std::process::ExitCode;
 
 /// Lists the capture of this path, or standard input. The result is the exit status.
-fn list<S: Sink, E: Sink>(
-    rt: &HostRuntime,
-    path: &Option<String>,
-    outputs: &mut Outputs<S, E>,
-) -> u8
-    requires out { IsWritable (S.state outputs.old.out) }
-    requires err { IsWritable (E.state outputs.old.err) }
+fn list<S: Sink, E: Sink>(rt: &HostRuntime, path: &Option<String>, to: &mut Outputs<S, E>) -> u8
+    requires out { IsWritable (S.state to.old.out) }
+    requires err { IsWritable (E.state to.old.err) }
 {
     let alloc = rt.alloc();
-    let out = &mut outputs.out;
-    let err = &mut outputs.err;
+    let out = &mut to.out;
+    let err = &mut to.err;
     match path {
         None => answer_list(alloc, ReadFeed::new(rt.stdin()), out, err).1,
         Some(path) => match open(rt, path.as_str(), Input::Capture) {
@@ -54,50 +50,38 @@ fn list<S: Sink, E: Sink>(
 fn respond<S: Sink, E: Sink, H: BuildHasher + Drop>(
     rt: &HostRuntime,
     invocation: Invocation,
-    outputs: &mut Outputs<S, E>,
+    to: &mut Outputs<S, E>,
     hasher: H,
 ) -> u8
-    requires out { IsWritable (S.state outputs.old.out) }
-    requires err { IsWritable (E.state outputs.old.err) }
+    requires out { IsWritable (S.state to.old.out) }
+    requires err { IsWritable (E.state to.old.err) }
 {
     let alloc = rt.alloc();
     match invocation {
-        Invocation::List(path) => list(rt, &path, outputs),
-        Invocation::Ask(question, paths) => match open_inputs(rt, &paths) {
-            Ok(
-                Inputs {
-                    mut claim,
-                    second: Some(mut second),
-                    capture,
-                },
-            ) => answer(
-                alloc,
-                question,
-                &mut claim,
-                &mut second,
+        Invocation::List(path) => list(rt, &path, to),
+        Invocation::Ask(question, paths) => {
+            let Inputs {
+                mut claim,
+                second,
                 capture,
-                outputs,
-                hasher,
-            )
-            .1,
-            Ok(
-                Inputs {
-                    mut claim,
-                    second: None,
-                    capture,
-                },
-            ) => {
-                let mut none = ReadFeed::new(io::empty());
-                answer(
-                    alloc, question, &mut claim, &mut none, capture, outputs, hasher,
-                )
-                .1
+            } = match open_inputs(rt, &paths) {
+                Ok(inputs) => inputs,
+                Err(fault) => return tell(&Err(fault), &mut to.err),
+            };
+            let claim = &mut claim;
+            match second {
+                Some(mut second) => {
+                    answer(alloc, question, claim, &mut second, capture, to, hasher).1
+                }
+                None => {
+                    let mut none = ReadFeed::new(io::empty());
+                    answer(alloc, question, claim, &mut none, capture, to, hasher).1
+                }
             }
-            Err(fault) => tell(&Err(fault), &mut outputs.err),
-        },
-        Invocation::Show(text) => show(text, &mut outputs.out, &mut outputs.err),
-        Invocation::Refuse(text) => refuse(text, &mut outputs.err),
-        Invocation::RefuseTime => refuse_time(&mut outputs.err),
+        }
+        Invocation::Show(text) => show(text, &mut to.out, &mut to.err),
+        Invocation::Refuse(text) => refuse(text, &mut to.err),
+        Invocation::RefuseTime => refuse_time(&mut to.err),
     }
 }
 

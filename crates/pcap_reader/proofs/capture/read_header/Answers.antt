@@ -23,8 +23,8 @@ returns-in_err-format-clause-refusal g c =
     let i = c.hold.new.self in
     let state = g.F.Feed.state in
     let h = c.in-Ok.ensures in
-    let keeps = Keeps-first (state s.feed).remaining (state i.feed).remaining (held_bytes s) (held_bytes i) (held-none s c.requires.none_held)
-    (refilled state s i h.pulls) in
+    let keeps = Keeps-first (state s.feed).remaining (state i.feed).remaining (held_bytes s) (held_bytes i)
+    (held-none s c.requires.none_held) (refilled state s i h.pulls) in
     let end =
     λ (short : length (held_bytes i) < 24).
     let less : i.end - i.start < 24 = omega (arith, length-held i) in
@@ -58,8 +58,8 @@ returns-clause-known g c =
     let i = c.hold.new.self in
     let k = c.consume.new.self in
     let state = g.F.Feed.state in
-    let keeps = Keeps-first (state s.feed).remaining (state i.feed).remaining (held_bytes s) (held_bytes i) (held-none s c.requires.none_held)
-    (refilled state s i c.in-Ok.ensures.pulls) in
+    let keeps = Keeps-first (state s.feed).remaining (state i.feed).remaining (held_bytes s) (held_bytes i)
+    (held-none s c.requires.none_held) (refilled state s i c.in-Ok.ensures.pulls) in
     let keeps' = subst (λ f. Keeps (state s.feed).remaining (prepend_known (held_bytes i) (state f).remaining))
     (sym c.consume.ensures.feed) keeps in
     let long : 24 ≤ length (held_bytes i) = omega (arith, c.in_ok-format.ensures.long, ap length c.held.ensures.value)
