@@ -22,7 +22,10 @@ from .entry import NEITHER, NO, REFUSED, YES
 from .program import Fault, Program
 from .words import line_of
 
-SCRIPT = Path(__file__).resolve().parent.parent / "ntpaudit-dossier"
+HOME = Path(__file__).resolve().parent.parent
+SCRIPT = next(place for place in (HOME / "ntpaudit-dossier", HOME.parent.parent / "bin" / "ntpaudit-dossier")
+              if place.exists())
+"""The script that a worker runs: beside this folder, or where it was installed."""
 WIDTH = 30
 MOMENT = 0.5
 """Seconds after which a bar is drawn again, and answers are looked for again."""
@@ -106,13 +109,14 @@ class Team:
         self.given = json.dumps([asdict(options), asdict(program)])
         self.todo, self.answers = SimpleQueue(), [SimpleQueue() for _ in folders]
         self.workers: list[subprocess.Popen] = []
-        self.came = threading.Event()
+        self.came: SimpleQueue[None] = SimpleQueue()
         for number in range(len(folders)):
             self.todo.put(number)
 
     def start(self) -> subprocess.Popen:
+        """A new worker, in a session of its own: Ctrl-C is for this process alone, which then ends its workers."""
         worker = subprocess.Popen([sys.executable, str(SCRIPT), "worker", self.given], stdin=subprocess.PIPE,
-                                  stdout=subprocess.PIPE, text=True)
+                                  stdout=subprocess.PIPE, text=True, start_new_session=True)
         self.workers.append(worker)
         return worker
 
@@ -133,12 +137,14 @@ class Team:
                 done, worker = Done(3, [REFUSED], [line_of(self.folders[number], None, line)]), self.start()
             self.shown.add(done)
             self.answers[number].put(done)
-            self.came.set()
+            self.came.put(None)
 
     def wait(self) -> None:
-        """Waits until some answer has come, or for a moment."""
-        self.came.wait(MOMENT)
-        self.came.clear()
+        """Waits until some answer has come, or for a moment. (A queue may be left by a signal at any point of the wait.)"""
+        try:
+            self.came.get(timeout=MOMENT)
+        except Empty:
+            pass
 
     def end(self) -> None:
         self.is_over = True
