@@ -11,6 +11,7 @@ pub mod RunLemmas
 pub mod ShowsLemmas
 pub mod StatusLemmas
 pub mod HeldLemmas
+pub mod CapturedLemmas
 pub mod ExchangedLemmas
 pub mod ClaimedLemmas
 pub mod HeadlineLemmas
