@@ -16,7 +16,7 @@ pub mod laws;
 mod piece;
 mod steps;
 
-pub use choice::best;
+pub use choice::{Side, best};
 pub use gathering::BestSamples;
 pub use piece::piece_interval;
 pub use steps::piece_end;

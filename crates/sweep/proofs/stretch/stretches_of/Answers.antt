@@ -1,9 +1,9 @@
 use Rattle.std.proofs.Common.{arith, rules, get_or, ℤ, pos, subst, sym, FitsSigned, refl}
 use Rattle.std.proofs.lemmas.Int.{ints, to_z-of_z}
 use mir.Syntax.{w128}
-use Rattle.sweep.specs.Span.{AreSpansOf}
-use Rattle.sweep.proofs.SpanLemmas.{SpansSoFar, piece_at, piece_here, SpansSoFar-more, SpansSoFar-all}
-use Rattle.sweep.proofs.span.spans_of.Goals as goal
+use Rattle.sweep.specs.Stretch.{AreStretchesOf}
+use Rattle.sweep.proofs.StretchLemmas.{StretchesSoFar, piece_at, piece_here, StretchesSoFar-more, StretchesSoFar-all}
+use Rattle.sweep.proofs.stretch.stretches_of.Goals as goal
 
 pub from_origin-requires : goal.from_origin-requires
 from_origin-requires c =
@@ -24,8 +24,8 @@ loop-reading-preserved c =
     let fits : FitsSigned w128 (get_or c.args.ends.now c.loop-reading.reading-index (pos 0)) = search rules in
     let piece = piece_here c.args.first c.args.ends.now c.loop-reading.reading-index _ c.requires c.ranges.first fits
     c.loop-reading.invariant.begins c.loop-reading-test.true in
-    subst (SpansSoFar _ c.args.ends.now _ _) (sym c.in_ok-push.ensures.items)
-    (SpansSoFar-more _ c.args.ends.now c.loop-reading.reading-index _ c.loop-reading.spans.items
+    subst (StretchesSoFar _ c.args.ends.now _ _) (sym c.in_ok-push.ensures.items)
+    (StretchesSoFar-more _ c.args.ends.now c.loop-reading.reading-index _ c.loop-reading.stretches.items
     c.loop-reading.invariant _ _
     (piece_at _ _ c.args.ends.now c.loop-reading.reading-index _ _ refl c.loop-reading.invariant.begins
     c.loop-reading-test.true (to_z-of_z w128 _ fits))
@@ -34,7 +34,7 @@ loop-reading-preserved c =
 
 pub returns : goal.returns
 returns c =
-    let P : ℤ → Type 0 = λ first. AreSpansOf first c.args.ends.now c.loop-reading.spans.items in
+    let P : ℤ → Type 0 = λ first. AreStretchesOf first c.args.ends.now c.loop-reading.stretches.items in
     subst P (to_z-of_z w128 c.args.first c.ranges.first)
-    (SpansSoFar-all _ c.args.ends.now c.loop-reading.reading-index _ c.loop-reading.spans.items
+    (StretchesSoFar-all _ c.args.ends.now c.loop-reading.reading-index _ c.loop-reading.stretches.items
     c.loop-reading.invariant (omega arith))
