@@ -1,9 +1,9 @@
 use Rattle.std.proofs.Common.{◌∙◌, sym, arith}
 use Rattle.std.proofs.lemmas.Grind.{common_steps}
-use Rattle.checker.specs.Piece.{group_interval}
-use Rattle.checker.proofs.GroupLemmas.{with_interval, without_interval}
-use Rattle.checker.proofs.group.piece_hull.Goals as goal
-use Rattle.checker.proofs.group.piece_hull.Goals.{in-Some, in_default}
+use Rattle.span_cover.specs.Group.{group_interval}
+use Rattle.span_cover.proofs.GroupLemmas.{with_interval, without_interval}
+use Rattle.span_cover.proofs.group.piece_hull.Goals as goal
+use Rattle.span_cover.proofs.group.piece_hull.Goals.{in-Some, in_default}
 
 pub loop-group-preserved : goal.loop-group-preserved
 loop-group-preserved c =

@@ -1,8 +1,8 @@
 use Rattle.std.proofs.Common.{◌≡◌, ◌≤◌, length}
 use Rattle.std.specs.Prelude.{filter_map}
-use Rattle.checker.specs.Groups.{numbers_below}
-use Rattle.checker.specs.Piece.{group_interval}
-use Rattle.checker.proofs.group.piece_hull.Given as goal
+use Rattle.span_cover.specs.Group.{numbers_below}
+use Rattle.span_cover.specs.Group.{group_interval}
+use Rattle.span_cover.proofs.group.piece_hull.Given as goal
 
 abbrev pub invariant-loop-group : goal.invariant-loop-group
 invariant-loop-group l = record {

@@ -1,8 +1,8 @@
 use Rattle.std.proofs.Common.{◌≡◌, ◌≤◌, length}
 use Rattle.std.specs.Prelude.{filter}
-use Rattle.checker.specs.Groups.{numbers_below}
+use Rattle.span_cover.specs.Group.{numbers_below}
 use Rattle.finder.specs.Room.{refused_by}
-use Rattle.finder.proofs.sought.refusing.Given as goal
+use Rattle.finder.proofs.room.refusing.Given as goal
 
 abbrev pub invariant-loop-server : goal.invariant-loop-server
 invariant-loop-server l = record {

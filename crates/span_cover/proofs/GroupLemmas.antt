@@ -5,7 +5,7 @@ use Rattle.std.specs.List.{cons_option}
 use Rattle.std.proofs.lemmas.List.Elements.{filter_map-append}
 use Rattle.std.proofs.lemmas.List.{append-nil}
 use Rattle.intersection.specs.declared.kinds.Interval.{Interval}
-use Rattle.checker.specs.Groups.{numbers_below}
+use Rattle.span_cover.specs.Group.{numbers_below}
 
 module _ (h : ℕ → Option Interval) (g : ℕ) where
   one_more : filter_map h (numbers_below (g + 1)) ≡ filter_map h (numbers_below g) ++ filter_map h (g ∷ [])

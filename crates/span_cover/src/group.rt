@@ -1,14 +1,15 @@
-//! The intervals of groups of servers.
-
-ghost use Rattle.std.specs.Prelude.{◌≡◌, ◌<◌, ◌≤◌, length, All};
-ghost use Rattle.checker.specs.Piece.{group_interval, piece_hull};
+//! The hull over groups of servers.
+ghost use Rattle.std.specs.Prelude.{◌≡◌, ◌<◌, ◌≤◌, pos, ◌≤ℤ◌, length, All};
+ghost use Rattle.span_cover.specs.Group.{group_interval, piece_hull, is_inside};
 
 use crate::part::Part;
 use arrayvec::ArrayVec;
 use intersection::kinds::{Hull, Interval};
 use intersection::{hull, meet};
 
-/// The hull over the groups that have an entry, where up to `false_max` groups may be false.
+/// The hull over the groups of servers that say something, if up to `false_max` groups may be false.
+///
+/// `groups` has the number of each server's group, from 0, for at most 32 servers.
 pub fn piece_hull(parts: &[Part], groups: &[u8], false_max: u8) -> Hull
     requires groups { length groups.now ≤ 32 }
     requires listed { All (λ part. part.server < length groups.now) parts.now }
@@ -23,7 +24,7 @@ pub fn piece_hull(parts: &[Part], groups: &[u8], false_max: u8) -> Hull
     hull(&intervals, false_max)
 }
 
-/// The interval of a group, where it has an entry.
+// The interval of a group, if one of its servers says something.
 fn group_interval(parts: &[Part], groups: &[u8], group: usize) -> Option<Interval>
     requires { All (λ part. part.server < length groups.now) parts.now }
     ensures { result ≡ group_interval groups.now parts.now group }
@@ -38,4 +39,15 @@ fn group_interval(parts: &[Part], groups: &[u8], group: usize) -> Option<Interva
         }
     }
     common
+}
+
+/// Whether a hull shows that the error is no more than the bound to either side.
+pub fn is_inside(bound: i128, hull: Hull) -> bool
+    requires { pos 0 ≤ℤ bound }
+    ensures { result ≡ is_inside bound hull }
+{
+    match hull {
+        Hull::Bounded { lo, hi } => -bound <= lo && hi <= bound,
+        Hull::Unbounded | Hull::Empty => false,
+    }
 }
