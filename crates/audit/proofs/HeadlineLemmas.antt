@@ -12,7 +12,7 @@ use Rattle.pcap_reader.specs.declared.fault.CaptureFault.{CaptureFault}
 use Rattle.pcap_reader.specs.Capture.{Record}
 use Rattle.pcap_reader.specs.Remaining.{Coming, capture_of}
 use Rattle.checker.specs.Stretch.{begin_of, stretches_from}
-use Rattle.checker.specs.declared.stretch.Stretch.{Stretch}
+use Rattle.span_cover.specs.declared.stretch.Stretch.{Stretch}
 use Rattle.audit.specs.CaptureInput.{capture_read, collection_or_fault, collection_read}
 
 -- ---- what was read of a capture

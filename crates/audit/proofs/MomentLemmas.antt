@@ -8,8 +8,8 @@ use Rattle.pairing.specs.declared.exchange.Exchange.{Exchange}
 use Rattle.sample_interval.specs.declared.kinds.Sample.{Sample}
 use Rattle.sample_interval.specs.Sample.{sample_of}
 use Rattle.span_cover.specs.Gathering.{Gathered, Gathering}
-use Rattle.checker.specs.declared.part.Part.{Part}
-use Rattle.checker.specs.Groups.{numbers_below}
+use Rattle.span_cover.specs.declared.part.Part.{Part}
+use Rattle.span_cover.specs.Group.{numbers_below}
 use Rattle.checker.specs.Traceability.{samples_of}
 use Rattle.audit.proofs.SampleLemmas.{sample_more}
 

@@ -3,10 +3,10 @@
 use Rattle.std.specs.Prelude.{ℕ, List}
 use Rattle.byte_stream.specs.State.{FeedState}
 use Rattle.claim_file.specs.Claim.{ClaimData}
-use Rattle.checker.specs.Piece.{piece_hull}
+use Rattle.span_cover.specs.Group.{piece_hull}
 use Rattle.checker.specs.Traceability.{HoldsError}
-use Rattle.checker.specs.declared.part.Part.{Part}
-use Rattle.checker.specs.declared.stretch.Stretch.{Stretch}
+use Rattle.span_cover.specs.declared.part.Part.{Part}
+use Rattle.span_cover.specs.declared.stretch.Stretch.{Stretch}
 use Rattle.intersection.specs.declared.kinds.Hull.{Hull}
 use Rattle.report.specs.declared.fault.Outcome.TheVariants.{Yes}
 use Rattle.report.specs.Reports.{Report, whole_text}

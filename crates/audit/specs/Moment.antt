@@ -9,8 +9,8 @@ use Rattle.claim_file.specs.Claim.{ClaimData}
 use Rattle.intersection.specs.declared.kinds.Interval.{Interval}
 use Rattle.sample_interval.specs.declared.kinds.Sample.{Sample}
 use Rattle.span_cover.specs.Gathering.{best_interval}
-use Rattle.checker.specs.declared.part.Part.{Part}
-use Rattle.checker.specs.Groups.{numbers_below}
+use Rattle.span_cover.specs.declared.part.Part.{Part}
+use Rattle.span_cover.specs.Group.{numbers_below}
 
 -- the tick of 2^-32 s at which a Unix second begins
 abbrev pub tick_of : ℕ → ℤ

@@ -10,11 +10,10 @@ ghost use Rattle.checker.specs.Traceability.{samples_of};
 ghost use Rattle.audit.specs.Moment as spec;
 
 use arrayvec::ArrayVec;
-use checker::Part;
 use claim_file::Claim;
 use pairing::Exchange;
 use sample_interval::sample;
-use span_cover::BestSamples;
+use span_cover::{BestSamples, Part};
 
 /// Ticks of 2^-32 s in a second.
 const TICKS_PER_SECOND: i128 = 1 << 32;

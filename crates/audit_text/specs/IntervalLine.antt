@@ -2,7 +2,7 @@
 use Rattle.std.specs.Prelude.{List, ℕ, ◌++◌, codes}
 use Rattle.line_writer.specs.Text.{address}
 use Rattle.claim_file.specs.Claim.{ClaimData}
-use Rattle.checker.specs.declared.part.Part.{Part}
+use Rattle.span_cover.specs.declared.part.Part.{Part}
 use Rattle.audit_text.specs.SampleLine.{interval_fields, server_of}
 
 -- the server's address and the interval's ends, in ticks, with a line feed

@@ -1,7 +1,7 @@
 -- The text of `at`: what each server says of the clock's error at one moment, and the hull.
 use Rattle.std.specs.Prelude.{ℕ, List, ◌++◌, flat_map}
 use Rattle.claim_file.specs.Claim.{ClaimData}
-use Rattle.checker.specs.declared.part.Part.{Part}
+use Rattle.span_cover.specs.declared.part.Part.{Part}
 use Rattle.intersection.specs.declared.kinds.Hull.{Hull}
 use Rattle.audit_text.specs.HullLine.{hull_line}
 use Rattle.audit_text.specs.IntervalLine.{interval_line}

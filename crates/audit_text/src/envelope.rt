@@ -13,12 +13,12 @@ ghost use Rattle.audit_text.specs.Envelope as spec;
 ghost use Rattle.audit_text.specs.Envelope.{hull_fields, lines_from, place_fields, server_lines};
 
 use crate::sample_line::put_interval;
-use checker::{Part, Stretch};
 use claim_file::Claim;
 use finder::{Envelope, LeastBound, PieceHull, parts};
 use intersection::kinds::Hull;
 use line_writer::Line;
 use sample_interval::kinds::Sample;
+use span_cover::{Part, Stretch};
 use std::alloc::{AllocError, Global};
 
 /// Ticks of 2^-32 s in a second.

@@ -5,9 +5,9 @@ ghost use Rattle.claim_file.specs.Claim.{data_of};
 ghost use Rattle.audit_text.specs.IntervalLine as spec;
 
 use crate::sample_line::put_interval;
-use checker::Part;
 use claim_file::Claim;
 use line_writer::Line;
+use span_cover::Part;
 
 /// Writes the line of a server's interval in place of what `line` held.
 #[tactic(auto, unfolding(crate::specs::IntervalLine::interval_line))]

@@ -6,10 +6,10 @@ ghost use Rattle.audit_text.specs.Parts as spec;
 
 use crate::hull_line::write_hull_line;
 use crate::interval_line::write_interval_line;
-use checker::Part;
 use claim_file::Claim;
 use intersection::kinds::Hull;
 use line_writer::Line;
+use span_cover::Part;
 use std::alloc::{AllocError, Global};
 
 /// The text of `at`: a line for what each of these servers says of the clock's error at a moment,

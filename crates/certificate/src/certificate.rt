@@ -3,7 +3,7 @@
 use arrayvec::ArrayVec;
 
 /// How many pieces a certificate that is read may have.
-pub(crate) const MAX_PIECES: usize = 100_000;
+pub const MAX_PIECES: usize = 100_000;
 
 /// How many entries a piece may have.
 pub(crate) const MAX_ENTRIES: usize = 32;

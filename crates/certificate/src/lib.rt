@@ -18,7 +18,7 @@ mod refutation_writing;
 mod scanner;
 mod writing;
 
-pub use certificate::{Certificate, Piece};
+pub use certificate::{Certificate, MAX_PIECES, Piece};
 pub use fault::CertificateFault;
 pub use reading::read_certificate;
 pub use refutation::Refutation;

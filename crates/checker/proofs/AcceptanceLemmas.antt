@@ -11,10 +11,10 @@ use Rattle.intersection.specs.declared.kinds.Hull.{Hull}
 use Rattle.intersection.specs.declared.kinds.Hull.TheVariants.{Unbounded, Empty, Bounded}
 use Rattle.sample_interval.specs.declared.kinds.Sample.{Sample}
 use Rattle.checker.specs.Acceptance.{ShowBound, IsAccepted}
-use Rattle.checker.specs.Piece.{group_intervals, piece_hull}
+use Rattle.span_cover.specs.Group.{group_intervals, piece_hull}
 use Rattle.checker.specs.Stretch.{begin_of, last_end}
 use Rattle.checker.specs.Verdict.{parts_after, hull_fault, parts_fault, piece_fault, verdict_of, PassBelow}
-use Rattle.checker.specs.declared.stretch.Stretch.{Stretch}
+use Rattle.span_cover.specs.declared.stretch.Stretch.{Stretch}
 use Rattle.checker.specs.declared.verdict.Verdict.TheVariants.{Yes}
 use Rattle.checker.specs.declared.verdict.Why.TheVariants.{Cut}
 use Rattle.checker.proofs.SaidLemmas.{said_from, taken_from}

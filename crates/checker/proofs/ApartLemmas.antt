@@ -19,11 +19,11 @@ use Rattle.intersection.specs.Interval.{leaves_out}
 use Rattle.intersection.specs.declared.kinds.Interval.{Interval}
 use Rattle.sample_interval.specs.declared.kinds.Sample.{Sample}
 use Rattle.checker.specs.Comparison.{IsYesOr, IsContradiction, IsTakenApart}
-use Rattle.checker.specs.Groups.{numbers_below}
-use Rattle.checker.specs.Piece.{meet_of, narrowed, group_interval}
+use Rattle.span_cover.specs.Group.{numbers_below}
+use Rattle.span_cover.specs.Group.{meet_of, narrowed, group_interval}
 use Rattle.checker.specs.Verdict.{parts_after, parts_fault, verdict_of}
-use Rattle.checker.specs.declared.part.Part.{Part}
-use Rattle.checker.specs.declared.stretch.Stretch.{Stretch}
+use Rattle.span_cover.specs.declared.part.Part.{Part}
+use Rattle.span_cover.specs.declared.stretch.Stretch.{Stretch}
 use Rattle.checker.specs.declared.verdict.Verdict.TheVariants.{Yes}
 use Rattle.checker.specs.declared.verdict.Why.{Why}
 use Rattle.checker.proofs.PartLemmas.{by_test, listed_parts}

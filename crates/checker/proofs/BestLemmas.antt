@@ -13,9 +13,9 @@ use Rattle.span_cover.specs.Gathering.{best_interval, interval_between}
 use Rattle.span_cover.specs.Piece.{moved_low, moved_high, piece_interval_of}
 use Rattle.checker.specs.BestParts.{said_by, best_part, best_parts}
 use Rattle.checker.specs.Comparison.{IsOfSamples}
-use Rattle.checker.specs.Groups.{numbers_below}
-use Rattle.checker.specs.declared.part.Part.{Part}
-use Rattle.checker.specs.declared.stretch.Stretch.{Stretch}
+use Rattle.span_cover.specs.Group.{numbers_below}
+use Rattle.span_cover.specs.declared.part.Part.{Part}
+use Rattle.span_cover.specs.declared.stretch.Stretch.{Stretch}
 
 same_number : (a b : ℕ) → nat_eq a b ≡ true → a ≡ b
 same_number a b h = grind (arith, nat_tests)

@@ -9,9 +9,10 @@ use Rattle.std.proofs.lemmas.List.Sums.{sum_by-cons}
 use Rattle.std.proofs.lemmas.List.Elements.{recursion_from_All}
 use Rattle.intersection.specs.Fraction.{HoldsFraction, leaves_fraction_out, IsAdmissibleFraction}
 use Rattle.intersection.specs.declared.kinds.Interval.{Interval}
-use Rattle.checker.specs.Groups.{numbers_below, holds_false, false_group_count}
-use Rattle.checker.specs.Piece.{meet_of, narrowed, group_interval, group_intervals}
-use Rattle.checker.specs.declared.part.Part.{Part}
+use Rattle.checker.specs.Groups.{holds_false, false_group_count}
+use Rattle.span_cover.specs.Group.{numbers_below}
+use Rattle.span_cover.specs.Group.{meet_of, narrowed, group_interval, group_intervals}
+use Rattle.span_cover.specs.declared.part.Part.{Part}
 use Rattle.checker.proofs.PartLemmas.{by_test}
 
 -- ---- tests that fail

@@ -8,7 +8,8 @@ use Rattle.claim_file.specs.Claim.{ClaimData, IsLawful}
 use Rattle.pairing.specs.declared.exchange.Exchange.{Exchange}
 use Rattle.sample_interval.specs.Moment.{Moment, error_of, error_change, DriftsWithin, IsInWindow, IsWithinDistance}
 use Rattle.checker.specs.Course.{Fits, IsClientMoment, ReadsInWindows, KeepsRootDistance}
-use Rattle.checker.specs.Groups.{numbers_below, holds_false, false_group_count}
+use Rattle.checker.specs.Groups.{holds_false, false_group_count}
+use Rattle.span_cover.specs.Group.{numbers_below}
 use Rattle.checker.specs.PieceFit.{OfEachEntry, FitsPiece}
 use Rattle.checker.specs.Traceability.{IsTraceable}
 use Rattle.checker.proofs.PieceFitLemmas.{few_from_count}

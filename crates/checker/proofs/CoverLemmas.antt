@@ -5,7 +5,7 @@ use Rattle.std.proofs.lemmas.Int.{ints, by_lt_z}
 use Rattle.certificate.specs.Certificate.{PieceData}
 use Rattle.sample_interval.specs.Moment.{IsInWindow}
 use Rattle.checker.specs.Stretch.{stretches_from, begin_of, last_end, SomeHoldsReading}
-use Rattle.checker.specs.declared.stretch.Stretch.{Stretch}
+use Rattle.span_cover.specs.declared.stretch.Stretch.{Stretch}
 
 later : (n : ℕ) (reading : ℤ) (first : Stretch) (stretches : List Stretch) → SomeHoldsReading stretches n reading
     → SomeHoldsReading (first ∷ stretches) n reading

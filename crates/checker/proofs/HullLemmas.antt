@@ -19,11 +19,11 @@ use Rattle.checker.specs.Acceptance.{IsSaidBy, AreSaidBy}
 use Rattle.checker.specs.Comparison.{IsOfSamples}
 use Rattle.checker.specs.Course.{Course, Fits}
 use Rattle.checker.specs.Groups.{false_group_count}
-use Rattle.checker.specs.Piece.{group_intervals, piece_hull}
+use Rattle.span_cover.specs.Group.{group_intervals, piece_hull}
 use Rattle.checker.specs.PieceFit.{FitsPiece}
 use Rattle.checker.specs.Traceability.{samples_of, IsObservedIn, IsInHull, HoldsError, HoldsErrorOfPiece}
-use Rattle.checker.specs.declared.part.Part.{Part}
-use Rattle.checker.specs.declared.stretch.Stretch.{Stretch}
+use Rattle.span_cover.specs.declared.part.Part.{Part}
+use Rattle.span_cover.specs.declared.stretch.Stretch.{Stretch}
 use Rattle.checker.proofs.PartLemmas.{All-slice_get}
 use Rattle.checker.proofs.CountingLemmas.{few_leave_it_out}
 use Rattle.checker.proofs.PieceFitLemmas.{counts_as_false, count_from_few, true_if_uncounted, fits_piece}

@@ -14,11 +14,11 @@ use Rattle.intersection.specs.declared.kinds.Interval.{Interval}
 use Rattle.intersection.specs.declared.kinds.Hull.TheVariants.{Empty}
 use Rattle.sample_interval.specs.declared.kinds.Sample.{Sample}
 use Rattle.checker.specs.Comparison.{IsContradiction, IsNarrower, AreNarrower, IsOfSamples}
-use Rattle.checker.specs.Groups.{numbers_below}
-use Rattle.checker.specs.Piece.{group_interval, group_intervals, piece_hull}
+use Rattle.span_cover.specs.Group.{numbers_below}
+use Rattle.span_cover.specs.Group.{group_interval, group_intervals, piece_hull}
 use Rattle.checker.specs.Verdict.{parts_after, hull_fault}
-use Rattle.checker.specs.declared.part.Part.{Part}
-use Rattle.checker.specs.declared.stretch.Stretch.{Stretch}
+use Rattle.span_cover.specs.declared.part.Part.{Part}
+use Rattle.span_cover.specs.declared.stretch.Stretch.{Stretch}
 use Rattle.checker.proofs.PartLemmas.{by_test, all_parts}
 use Rattle.checker.proofs.ComparisonLemmas.{FaultIs, EveryHull, hull_follows}
 use Rattle.checker.proofs.VerdictLemmas.{empty_hull}

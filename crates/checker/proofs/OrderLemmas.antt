@@ -15,11 +15,12 @@ use Rattle.intersection.specs.Hull.{hull_of}
 use Rattle.intersection.specs.declared.kinds.Interval.{Interval}
 use Rattle.sample_interval.specs.declared.kinds.Sample.{Sample}
 use Rattle.checker.specs.Comparison.{HasEntriesSwapped}
-use Rattle.checker.specs.Groups.{numbers_below}
-use Rattle.checker.specs.Piece.{meet_of, narrowed, group_interval}
-use Rattle.checker.specs.Verdict.{part_of, part_from, parts_after, unless_refused, hull_fault, parts_fault, verdict_from, verdict_of}
-use Rattle.checker.specs.declared.part.Part.{Part}
-use Rattle.checker.specs.declared.stretch.Stretch.{Stretch}
+use Rattle.span_cover.specs.Group.{numbers_below}
+use Rattle.span_cover.specs.Group.{meet_of, narrowed, group_interval}
+use Rattle.span_cover.specs.Part.{part_of}
+use Rattle.checker.specs.Verdict.{part_from, parts_after, unless_refused, hull_fault, parts_fault, verdict_from, verdict_of}
+use Rattle.span_cover.specs.declared.part.Part.{Part}
+use Rattle.span_cover.specs.declared.stretch.Stretch.{Stretch}
 use Rattle.checker.specs.declared.verdict.Verdict.TheVariants.{Yes}
 use Rattle.checker.specs.declared.verdict.Why.{Why}
 use Rattle.checker.specs.declared.verdict.Why.TheVariants.{MixedServers, RepeatedServer}

@@ -11,7 +11,8 @@ use Rattle.claim_file.specs.Claim.{ClaimData}
 use Rattle.pairing.specs.declared.exchange.Exchange.{Exchange}
 use Rattle.sample_interval.specs.Moment.{DriftsWithin}
 use Rattle.checker.specs.Course.{Course, Fits}
-use Rattle.checker.specs.Groups.{numbers_below, holds_false, false_group_count}
+use Rattle.checker.specs.Groups.{holds_false, false_group_count}
+use Rattle.span_cover.specs.Group.{numbers_below}
 use Rattle.checker.specs.PieceFit.{HasFewFalse, OfEachEntry, FitsPiece}
 use Rattle.checker.proofs.CountingLemmas.{fails_below}
 use Rattle.checker.proofs.PartLemmas.{by_test}

@@ -10,7 +10,7 @@ use Rattle.certificate.specs.Refutation.{RefutationData}
 use Rattle.claim_file.specs.Claim.{ClaimData}
 use Rattle.pairing.specs.declared.exchange.Exchange.{Exchange}
 use Rattle.sample_interval.specs.Window.{request_start, reply_end}
-use Rattle.checker.specs.Groups.{numbers_below}
+use Rattle.span_cover.specs.Group.{numbers_below}
 use Rattle.checker.specs.Refutation.{is_liar, Admits, IsAgainst, IsRefuted}
 use Rattle.checker.specs.RefutationTest.{admits, allows, are_different, is_against, is_refuted}
 use Rattle.checker.proofs.CountingLemmas.{fails_below}
@@ -76,7 +76,7 @@ shifted a b e h = omega (arith, ints)
 shifted_back : (a b e : ℤ) → a ≤ℤ b → (a -ℤ e) ≤ℤ (b -ℤ e)
 shifted_back a b e h = omega (arith, ints)
 
-admits_from : (allowance error : ℤ) (x : Exchange) → admits allowance error x ≡ true → Admits allowance error x
+pub admits_from : (allowance error : ℤ) (x : Exchange) → admits allowance error x ≡ true → Admits allowance error x
 admits_from allowance error x e =
     let (client, server) = both_true _ _ e in
     let (c2, c3) = both_true _ _ client in
@@ -94,7 +94,7 @@ admits_from allowance error x e =
       answers_before_arrival = le_from _ _ s3;
     }
 
-admits_to : (allowance error : ℤ) (x : Exchange) → Admits allowance error x → admits allowance error x ≡ true
+pub admits_to : (allowance error : ℤ) (x : Exchange) → Admits allowance error x → admits allowance error x ≡ true
 admits_to allowance error x h =
     let w = request_start x allowance in
     let z = reply_end x allowance in

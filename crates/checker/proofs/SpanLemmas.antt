@@ -16,9 +16,10 @@ use Rattle.sample_interval.specs.declared.kinds.Sample.{Sample}
 use Rattle.span_cover.specs.Piece.{moved_low, moved_high}
 use Rattle.checker.specs.Comparison.{IsYesOr, IsContradiction, IsNarrower, AreNarrower}
 use Rattle.checker.specs.Span.{IsSpanWithin, claim_within, pieces_within, certificate_within}
-use Rattle.checker.specs.Verdict.{part_of, part_from, parts_after, parts_fault, piece_fault, verdict_from, verdict_of}
-use Rattle.checker.specs.declared.part.Part.{Part}
-use Rattle.checker.specs.declared.stretch.Stretch.{Stretch}
+use Rattle.span_cover.specs.Part.{part_of}
+use Rattle.checker.specs.Verdict.{part_from, parts_after, parts_fault, piece_fault, verdict_from, verdict_of}
+use Rattle.span_cover.specs.declared.part.Part.{Part}
+use Rattle.span_cover.specs.declared.stretch.Stretch.{Stretch}
 use Rattle.checker.specs.declared.verdict.Verdict.TheVariants.{Yes, No}
 use Rattle.checker.specs.declared.verdict.Why.{Why}
 use Rattle.checker.specs.declared.verdict.Why.TheVariants.{Cut, MixedServers, RepeatedServer, Uncovered}

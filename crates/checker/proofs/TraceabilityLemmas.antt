@@ -15,13 +15,13 @@ use Rattle.sample_interval.specs.Moment.{error_of}
 use Rattle.sample_interval.specs.declared.kinds.Sample.{Sample}
 use Rattle.checker.specs.Acceptance.{AreSaidBy}
 use Rattle.checker.specs.Course.{Course, Fits}
-use Rattle.checker.specs.Piece.{piece_hull}
+use Rattle.span_cover.specs.Group.{piece_hull}
 use Rattle.checker.specs.PieceFit.{FitsPiece}
 use Rattle.checker.specs.Stretch.{begin_of, last_end, stretch_of, stretches_of}
 use Rattle.checker.specs.Traceability.{IsObservedIn, IsWithin, IsWithinNanoseconds, IsInHull, IsTraceable, IsTraceableByPieces, IsContradicted, HoldsErrorOfPiece, HasHull, IsOfHull, IsRefusedByHull}
 use Rattle.checker.specs.Verdict.{hull_fault, verdict_of}
-use Rattle.checker.specs.declared.part.Part.{Part}
-use Rattle.checker.specs.declared.stretch.Stretch.{Stretch}
+use Rattle.span_cover.specs.declared.part.Part.{Part}
+use Rattle.span_cover.specs.declared.stretch.Stretch.{Stretch}
 use Rattle.checker.specs.declared.verdict.Verdict.TheVariants.{Yes, No}
 use Rattle.checker.specs.declared.verdict.Why.{Why}
 use Rattle.checker.specs.declared.verdict.Why.TheVariants.{Contradiction}

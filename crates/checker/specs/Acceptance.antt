@@ -10,11 +10,11 @@ use Rattle.claim_file.specs.Claim.{ClaimData}
 use Rattle.intersection.specs.Hull.{IsHull}
 use Rattle.intersection.specs.declared.kinds.Hull.TheVariants.{Bounded}
 use Rattle.sample_interval.specs.declared.kinds.Sample.{Sample}
-use Rattle.checker.specs.Piece.{group_intervals}
+use Rattle.span_cover.specs.Group.{group_intervals}
 use Rattle.checker.specs.Stretch.{stretch_of, last_end}
-use Rattle.checker.specs.Verdict.{part_of}
-use Rattle.checker.specs.declared.part.Part.{Part}
-use Rattle.checker.specs.declared.stretch.Stretch.{Stretch}
+use Rattle.span_cover.specs.Part.{part_of}
+use Rattle.span_cover.specs.declared.part.Part.{Part}
+use Rattle.span_cover.specs.declared.stretch.Stretch.{Stretch}
 
 -- a part is what an entry says, by two samples of one server
 pub record IsSaidBy (samples : List Sample) (stretch : Stretch) (ppb : ℕ) (entry : ℕ × ℕ)

@@ -6,9 +6,9 @@ use Rattle.claim_file.specs.Claim.{ClaimData}
 use Rattle.intersection.specs.declared.kinds.Interval.{Interval}
 use Rattle.sample_interval.specs.declared.kinds.Sample.{Sample}
 use Rattle.span_cover.specs.Gathering.{best_interval}
-use Rattle.checker.specs.Groups.{numbers_below}
-use Rattle.checker.specs.declared.part.Part.{Part}
-use Rattle.checker.specs.declared.stretch.Stretch.{Stretch}
+use Rattle.span_cover.specs.Group.{numbers_below}
+use Rattle.span_cover.specs.declared.part.Part.{Part}
+use Rattle.span_cover.specs.declared.stretch.Stretch.{Stretch}
 
 -- an interval, as what a server says
 abbrev pub said_by : ℕ → Interval → Part

@@ -2,13 +2,9 @@
 --
 -- Servers that hang on one reference are one group: where one is false, all may be. A claim gives
 -- each server the number of its group. Without groups each server is a group of its own.
-use Rattle.std.specs.Prelude.{ℕ, zero, suc, ◌==◌, Bool, ◌&&◌, List, [], ◌∷◌, ◌++◌, length, slice_index, count_by}
+use Rattle.std.specs.Prelude.{ℕ, ◌==◌, Bool, ◌&&◌, List, length, slice_index, count_by}
 use Rattle.std.specs.List.{list_any}
-
--- the numbers from 0 on, so many of them
-abbrev pub numbers_below : ℕ → List ℕ
-numbers_below zero = []
-numbers_below (suc n) = numbers_below n ++ n ∷ []
+use Rattle.span_cover.specs.Group.{numbers_below}
 
 -- one of the servers of this group is false
 abbrev pub holds_false : List ℕ → (ℕ → Bool) → ℕ → Bool

@@ -1,7 +1,6 @@
 pub mod Groups
 pub mod Course
 pub mod PieceFit
-pub mod Piece
 pub mod Verdict
 pub mod Acceptance
 pub mod Stretch

@@ -5,7 +5,7 @@ use Rattle.std.specs.Prelude.{ℕ, zero, suc, ℤ, pos, List, [], ◌∷◌, sli
 use Rattle.certificate.specs.Certificate.{PieceData, CertificateData}
 use Rattle.claim_file.specs.Claim.{ClaimData}
 use Rattle.sample_interval.specs.Moment.{IsInWindow}
-use Rattle.checker.specs.declared.stretch.Stretch.{Stretch}
+use Rattle.span_cover.specs.declared.stretch.Stretch.{Stretch}
 
 -- the stretches of pieces of which the first begins here
 abbrev pub stretches_from : ℤ → List PieceData → List Stretch

@@ -11,12 +11,12 @@ use Rattle.sample_interval.specs.Moment.{error_of, IsInWindow}
 use Rattle.sample_interval.specs.Sample.{sample_of}
 use Rattle.sample_interval.specs.declared.kinds.Sample.{Sample}
 use Rattle.checker.specs.Course.{Course, Fits}
-use Rattle.checker.specs.Piece.{piece_hull}
+use Rattle.span_cover.specs.Group.{piece_hull}
 use Rattle.checker.specs.PieceFit.{FitsPiece}
 use Rattle.checker.specs.Stretch.{stretch_of}
 use Rattle.checker.specs.Verdict.{parts_after, hull_fault}
-use Rattle.checker.specs.declared.part.Part.{Part}
-use Rattle.checker.specs.declared.stretch.Stretch.{Stretch}
+use Rattle.span_cover.specs.declared.part.Part.{Part}
+use Rattle.span_cover.specs.declared.stretch.Stretch.{Stretch}
 use Rattle.checker.specs.declared.verdict.Why.{Why}
 use Rattle.checker.specs.declared.verdict.Why.TheVariants.{Contradiction, Exceeds}
 

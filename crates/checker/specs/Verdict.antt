@@ -4,41 +4,34 @@
 -- other one where the piece before it ends. In a piece each entry names the sample for the low end
 -- and the one for the high end of one server's interval. The hull over the groups of servers has to
 -- lie inside the bound, and the last piece has to end where the span does.
-use Rattle.std.specs.Prelude.{◌≡◌, ℕ, ◌+◌, ◌<◌, ◌==◌, ℤ, pos, neg_ℤ, int_lt, int_le, not, ◌||◌, ◌&&◌, nat_lt, if◌then◌else◌}
+use Rattle.std.specs.Prelude.{◌≡◌, ℕ, ◌+◌, ◌<◌, ◌==◌, ℤ, pos, int_lt, not, ◌||◌, ◌&&◌, nat_lt, if◌then◌else◌}
 use Rattle.std.specs.Prelude.{List, [], ◌∷◌, ◌++◌, slice_get, Option, Some, None, Result, Ok, Err}
 use Rattle.std.specs.List.{list_any}
 use Rattle.std.specs.Ordering.{int_eq}
 use Rattle.certificate.specs.Certificate.{PieceData, CertificateData}
 use Rattle.claim_file.specs.Claim.{ClaimData}
 use Rattle.intersection.specs.declared.kinds.Hull.{Hull}
-use Rattle.intersection.specs.declared.kinds.Hull.TheVariants.{Unbounded, Empty, Bounded}
+use Rattle.intersection.specs.declared.kinds.Hull.TheVariants as hull
 use Rattle.sample_interval.specs.declared.kinds.Sample.{Sample}
-use Rattle.span_cover.specs.Piece.{piece_interval_of}
-use Rattle.checker.specs.Piece.{piece_hull}
+use Rattle.span_cover.specs.Group.{is_inside, piece_hull}
+use Rattle.span_cover.specs.Part.{part_of}
 use Rattle.checker.specs.Stretch.{begin_of}
-use Rattle.checker.specs.declared.part.Part.{Part}
-use Rattle.checker.specs.declared.stretch.Stretch.{Stretch}
+use Rattle.span_cover.specs.declared.part.Part.{Part}
+use Rattle.span_cover.specs.declared.stretch.Stretch.{Stretch}
 use Rattle.checker.specs.declared.verdict.Verdict.{Verdict}
 use Rattle.checker.specs.declared.verdict.Verdict.TheVariants.{Yes, No}
 use Rattle.checker.specs.declared.verdict.Why.{Why}
-use Rattle.checker.specs.declared.verdict.Why.TheVariants.{Cut, BadSample, MixedServers, RepeatedServer, Unbounded as MayAllBeFalse, Contradiction, Exceeds, Uncovered}
+use Rattle.checker.specs.declared.verdict.Why.TheVariants.{Cut, BadSample, MixedServers, RepeatedServer, Unbounded, Contradiction, Exceeds, Uncovered}
 
 abbrev pub why_number : Why → ℕ
 why_number Cut = 1
 why_number BadSample = 2
 why_number MixedServers = 3
 why_number RepeatedServer = 4
-why_number MayAllBeFalse = 5
+why_number Unbounded = 5
 why_number Contradiction = 6
 why_number Exceeds = 7
 why_number Uncovered = 8
-
--- one server's interval in a piece, by a sample for each end
-abbrev pub part_of : Sample → Sample → Stretch → ℕ → Part
-part_of low high stretch ppb = record {
-  server = low.server;
-  interval = piece_interval_of low high stretch.begin stretch.end ppb;
-}
 
 -- what an entry says that names these two samples, after others of its piece
 abbrev pub part_from : Stretch → ℕ → List Part → Option Sample → Option Sample → Result Part Why
@@ -67,10 +60,10 @@ parts_after samples stretch ppb earlier (entry ∷ entries) =
 
 -- why a hull doesn't show that the error is within a bound
 abbrev pub hull_fault : ℤ → Hull → Option Why
-hull_fault bound Unbounded = Some MayAllBeFalse
-hull_fault bound Empty = Some Contradiction
-hull_fault bound (Bounded lo hi) =
-    if int_le (neg_ℤ bound) lo && int_le hi bound then None else Some Exceeds
+hull_fault bound hull.Unbounded = Some Unbounded
+hull_fault bound hull.Empty = Some Contradiction
+hull_fault bound (hull.Bounded lo hi) =
+    if is_inside bound (hull.Bounded lo hi) then None else Some Exceeds
 
 -- why what the entries of a piece say doesn't show it
 abbrev pub parts_fault : ClaimData → Result (List Part) Why → Option Why

@@ -6,12 +6,10 @@ ghost use Rattle.span_cover.specs.Piece.{IsPiece};
 ghost use Rattle.checker.specs.Source.{samples_in, IsLawfulSource};
 ghost use Rattle.checker.specs.Verdict.{part_from, parts_after};
 
-use crate::part::Part;
 use crate::source::{SampleSource, sample_at};
-use crate::stretch::Stretch;
 use crate::verdict::Why;
 use arrayvec::ArrayVec;
-use span_cover::piece_interval;
+use span_cover::{Part, Stretch, part_of};
 
 /// Puts what the entries of a piece say into `parts`, in their order, or answers the first reason
 /// to refuse one. (As a value it would be copied for each piece.)
@@ -68,10 +66,7 @@ fn part(
     if names_server(earlier, server) {
         return Err(Why::RepeatedServer);
     }
-    Ok(Part {
-        server,
-        interval: piece_interval(&low, &high, stretch.begin, stretch.end, drift_ppb),
-    })
+    Ok(part_of(&low, &high, stretch, drift_ppb))
 }
 
 /// Whether one of the parts is of this server.

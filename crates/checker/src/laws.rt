@@ -26,7 +26,7 @@ ghost use Rattle.checker.specs.Comparison.{HasEntriesSwapped, IsTakenApart};
 ghost use Rattle.checker.specs.Comparison.{AreNarrower, IsOfSamples};
 ghost use Rattle.checker.specs.Course.{Course, Fits};
 ghost use Rattle.checker.specs.Groups.{false_group_count};
-ghost use Rattle.checker.specs.Piece.{group_intervals, piece_hull};
+ghost use Rattle.span_cover.specs.Group.{group_intervals, piece_hull};
 ghost use Rattle.checker.specs.PieceFit.{FitsPiece, HasFewFalse, OfEachEntry};
 ghost use Rattle.checker.specs.Span.{IsSpanWithin, claim_within, certificate_within};
 ghost use Rattle.checker.specs.Stretch.{begin_of, stretches_from, stretches_of, last_end};
@@ -42,8 +42,8 @@ ghost use Rattle.checker.specs.WorkedCourse.{worked_second, worked_claim, worked
 ghost use Rattle.checker.specs.WorkedCourse.{worked_course, served_course, lone_course};
 ghost use Rattle.checker.specs.WorkedCourse.{slow_claim, slow_course};
 ghost use Rattle.checker.specs.WorkedCourse.{earlier_exchange, stepped_course};
-ghost use Rattle.checker.specs.declared.part.Part.{Part};
-ghost use Rattle.checker.specs.declared.stretch.Stretch.{Stretch};
+ghost use Rattle.span_cover.specs.declared.part.Part.{Part};
+ghost use Rattle.span_cover.specs.declared.stretch.Stretch.{Stretch};
 ghost use Rattle.checker.specs.declared.verdict.Verdict.TheVariants.{Yes, No};
 ghost use Rattle.checker.specs.declared.verdict.Why.{Why};
 ghost use Rattle.checker.specs.declared.verdict.Why.TheVariants.{Contradiction};
@@ -52,7 +52,8 @@ pub use crate::refutation_laws::{
     accepted_refutations_have_a_course, bound_plays_no_part_in_fitting,
     courses_of_refutations_break_the_claim, narrower_bounds_are_refuted_too,
     other_worked_refutations_fall, refutations_with_a_course_are_accepted,
-    test_is_passed_where_refuted, worked_refutations_stand, yes_and_refutation_never_meet,
+    test_is_passed_where_refuted, test_is_passed_where_room_is_left, worked_refutations_stand,
+    yes_and_refutation_never_meet,
 };
 use era_unfold::laws::nanoseconds_lie_between_their_ticks;
 use intersection::laws::{every_list_has_a_hull, hull_is_one_answer, whole_points_are_fine_enough};

@@ -7,14 +7,13 @@ ghost use Rattle.checker.specs.Source.{samples_in, IsLawfulSource};
 ghost use Rattle.checker.specs.Verdict.{hull_fault, piece_fault};
 
 use crate::entry::add_parts;
-use crate::group::piece_hull;
 use crate::source::SampleSource;
-use crate::stretch::Stretch;
 use crate::verdict::Why;
 use arrayvec::ArrayVec;
 use certificate::Piece;
 use claim_file::Claim;
 use intersection::kinds::Hull;
+use span_cover::{Stretch, is_inside, piece_hull};
 
 /// The first test that fails in a piece that begins at `begin`.
 pub fn piece_fault(source: &SampleSource, claim: &Claim, begin: i128, piece: &Piece) -> Option<Why>
@@ -52,7 +51,7 @@ fn hull_fault(hull: Hull, bound: i128) -> Option<Why>
     match hull {
         Hull::Unbounded => Some(Why::Unbounded),
         Hull::Empty => Some(Why::Contradiction),
-        Hull::Bounded { lo, hi } if -bound <= lo && hi <= bound => None,
+        Hull::Bounded { .. } if is_inside(bound, hull) => None,
         Hull::Bounded { .. } => Some(Why::Exceeds),
     }
 }

@@ -106,7 +106,9 @@ fn are_different(liars: &[u8]) -> bool
 }
 
 /// How many groups hold one of these servers.
-fn false_group_count(groups: &[u8], liars: &[u8]) -> usize
+///
+/// `groups` has the number of each server's group, from 0, for at most 32 servers.
+pub fn false_group_count(groups: &[u8], liars: &[u8]) -> usize
     requires { length groups.now ≤ 32 }
     ensures exact { result ≡ false_group_count groups.now (is_liar liars.now) }
 {

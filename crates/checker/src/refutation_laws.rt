@@ -8,8 +8,8 @@ ghost use Rattle.pairing.specs.Exchange.{IsLawful as IsLawfulExchange, SameReque
 ghost use Rattle.pairing.specs.declared.exchange.Exchange.{Exchange};
 ghost use Rattle.checker.specs.Course.{Course, Fits};
 ghost use Rattle.checker.specs.Refutation.{IsAgainst, IsRefuted, IsOffThroughout, IsCourseOf};
-ghost use Rattle.checker.specs.Refutation.{HasCourse, SomeCourseFits};
-ghost use Rattle.checker.specs.RefutationTest.{is_refuted};
+ghost use Rattle.checker.specs.Refutation.{Admits, HasCourse, SomeCourseFits};
+ghost use Rattle.checker.specs.RefutationTest.{admits, is_refuted};
 ghost use Rattle.checker.specs.Traceability.{samples_of, IsObservedIn, IsWithin};
 ghost use Rattle.checker.specs.Verdict.{verdict_of};
 ghost use Rattle.checker.specs.WorkedCourse.{worked_second, worked_exchange};
@@ -22,6 +22,12 @@ use crate::laws::verdicts_are_traceable;
 pub fn test_is_passed_where_refuted()
     ensures { (claim : ClaimData) (xs : List Exchange) (refutation : RefutationData) →
         (is_refuted claim xs refutation ≡ true) ↔ IsRefuted claim xs refutation }
+{}
+
+/// The test on one exchange is passed exactly if it leaves room for the error.
+pub fn test_is_passed_where_room_is_left()
+    ensures { (allowance error : ℤ) (x : Exchange) →
+        (admits allowance error x ≡ true) ↔ Admits allowance error x }
 {}
 
 /// An accepted refutation has a course that fits the exchanges and the claim: just the servers that

@@ -8,6 +8,15 @@ ghost use Rattle.era_unfold.specs.Window.{per_second, ticks_per_second, window_l
 ghost use Rattle.era_unfold.specs.Nanoseconds.{ticks_down, ticks_up, nanoseconds_per_second};
 ghost use Rattle.era_unfold.specs.Stamp.{StandsFor, IsUnfolded, unfolded};
 
+use crate::nanoseconds::TICKS_PER_SECOND;
+use crate::unit::NANOSECONDS_PER_SECOND;
+
+/// The program's ticks and nanoseconds to the second are those of the definitions.
+pub fn constants_are_those_of_the_definitions()
+    ensures ticks { TICKS_PER_SECOND ≡ ticks_per_second }
+    ensures nanoseconds { NANOSECONDS_PER_SECOND ≡ nanoseconds_per_second }
+{}
+
 /// `floor_of` gives the greatest whole number that is not above a ratio, and `ceiling_of` the least
 /// that is not below, also among numbers below zero.
 pub fn ratios_are_rounded_as_little_as_can_be()

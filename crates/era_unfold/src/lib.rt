@@ -16,7 +16,7 @@ mod stamp;
 mod unit;
 mod window;
 
-pub use nanoseconds::{ns_down, ns_up};
+pub use nanoseconds::{TICKS_PER_SECOND, ns_down, ns_up};
 pub use stamp::unfold;
-pub use unit::Unit;
+pub use unit::{NANOSECONDS_PER_SECOND, Unit};
 pub use window::{high, low};

@@ -1,4 +1,4 @@
-// The moment that an NTP timestamp stands for.
+//! The moment that an NTP timestamp stands for.
 
 ghost use Rattle.std.specs.Prelude.{◌≡◌, ◌%◌, pos, ◌+ℤ◌, ◌≤ℤ◌, unsigned_abs};
 ghost use Rattle.era_unfold.specs.Stamp.{StandsFor, IsUnfolded, unfolded, era};
@@ -7,7 +7,7 @@ const ERA: i128 = 1 << 64;
 
 const HALF_ERA: u64 = 1 << 63;
 
-// 1970-01-01T00:00:00Z as a timestamp of era 0.
+/// 1970-01-01T00:00:00Z as a timestamp of era 0.
 const UNIX_EPOCH: u64 = 2_208_988_800 << 32;
 
 /// The Unix tick that a 64-bit NTP timestamp stands for (RFC 5905, section 6), of all eras the one
@@ -28,7 +28,7 @@ pub fn unfold(stamp: u64, near: i128) -> i128
     }
 }
 
-// How far the timestamp's next tick is ahead of `near`.
+/// How far the timestamp's next tick is ahead of `near`.
 fn ticks_ahead(stamp: u64, near: i128) -> u64
     requires from_1970 { pos 0 ≤ℤ near }
     requires one_era { near ≤ℤ pos era }
@@ -39,7 +39,7 @@ fn ticks_ahead(stamp: u64, near: i128) -> u64
         .wrapping_sub(place_in_era(near))
 }
 
-// The low 64 bits of a tick.
+/// The low 64 bits of a tick.
 fn place_in_era(tick: i128) -> u64
     requires { pos 0 ≤ℤ tick }
     ensures { result ≡ unsigned_abs tick % era }

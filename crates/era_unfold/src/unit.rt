@@ -1,11 +1,11 @@
-// The unit of a capture's sub-second field.
+//! The unit of a capture's sub-second field.
 
 ghost use Rattle.std.specs.Prelude.{◌≡◌};
 
 /// How many microseconds one second has.
 pub const MICROSECONDS_PER_SECOND: u32 = 1_000_000;
 
-/// How many nanoseconds one second has.
+/// How many nanoseconds one second has: 10^9.
 pub const NANOSECONDS_PER_SECOND: u32 = 1_000_000_000;
 
 /// The unit that the sub-second field of a capture's records counts.

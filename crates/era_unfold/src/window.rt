@@ -1,4 +1,4 @@
-// The window of a capture's record, in ticks.
+//! The window of a capture's record, in ticks.
 
 ghost use Rattle.std.specs.Prelude.{◌≡◌, ◌+◌, ◌-◌, ◌*◌, ◌/◌, ◌^◌, ◌<◌, ◌≤◌, pos, ◌≤ℤ◌, ◌<ℤ◌};
 ghost use Rattle.era_unfold.specs.Window.{per_second, window_low, window_high, ticks_per_second};
@@ -32,15 +32,15 @@ pub fn high(sec: u32, sub: u32, unit: Unit) -> i128
     whole_seconds(sec) as i128 + ticks_up(sub + 1, unit) as i128
 }
 
-// The ticks of whole seconds.
+/// The ticks of whole seconds.
 fn whole_seconds(sec: u32) -> u64
     ensures { result ≡ sec * ticks_per_second }
 {
     (sec as u64) << 32
 }
 
-// The ticks of a part of a second, rounded down. Each unit has its own division, so that the
-// divisor is a constant.
+/// The ticks of a part of a second, rounded down. Each unit has its own division, so that the
+/// divisor is a constant.
 fn ticks_down(sub: u32, unit: Unit) -> u64
     requires { sub < per_second unit }
     ensures value { result ≡ sub * ticks_per_second / per_second unit }
@@ -53,7 +53,7 @@ fn ticks_down(sub: u32, unit: Unit) -> u64
     }
 }
 
-// The ticks of at most one second, rounded up.
+/// The ticks of at most one second, rounded up.
 fn ticks_up(sub: u32, unit: Unit) -> u64
     requires { sub ≤ per_second unit }
     ensures value { result ≡ (sub * ticks_per_second + (per_second unit - 1)) / per_second unit }

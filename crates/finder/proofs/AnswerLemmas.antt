@@ -10,12 +10,13 @@ use Rattle.intersection.specs.declared.kinds.Hull.{Hull}
 use Rattle.sample_interval.specs.declared.kinds.Sample.{Sample}
 use Rattle.checker.specs.Verdict.{verdict_of}
 use Rattle.checker.specs.declared.verdict.Verdict.TheVariants.{Yes}
-use Rattle.finder.specs.Entry.{is_inside}
+use Rattle.span_cover.specs.Group.{is_inside}
 use Rattle.finder.specs.Found.{data_of, IfCertificate, IfNothing, IsFirstFailing, pieces_from, piece_at, hull_at, passes, first_failing, found_without, found_of}
 use Rattle.finder.specs.Piece.{IsPieceCount, count_of}
 use Rattle.finder.specs.declared.fault.FindFault.TheVariants.{TooManyPieces}
 use Rattle.finder.specs.declared.found.Found.{Found}
 use Rattle.finder.specs.declared.found.Found.TheVariants.{Certificate, Nothing}
+use Rattle.finder.proofs.BestLemmas.{BestLaw}
 use Rattle.finder.proofs.ListLemmas.{find_is_first, find_is_none}
 use Rattle.finder.proofs.VerdictLemmas.{all_accepted}
 
@@ -79,11 +80,11 @@ module _ (samples : List Sample) (claim : ClaimData) (step : ℕ) where
       let count = length-map-range_with_len (piece_at samples claim step) 0 (count_of claim step) in
       rw is.pieces (omega (arith, count))
 
-  pub whole_accepted : IsLawful claim → IsPieceCount claim.first claim.last step (count_of claim step)
+  pub whole_accepted : BestLaw → IsLawful claim → IsPieceCount claim.first claim.last step (count_of claim step)
       → (c : CertificateData) → IsWhole c → verdict_of samples claim c ≡ Yes
-  whole_accepted lawful count c is =
+  whole_accepted law lawful count c is =
       ap (verdict_of samples claim) is.pieces
-      ∙ all_accepted samples claim lawful step (count_of claim step) count is.pass
+      ∙ all_accepted law samples claim lawful step (count_of claim step) count is.pass
 
   -- ---- none
 

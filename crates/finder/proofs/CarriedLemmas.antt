@@ -5,7 +5,8 @@ use Rattle.era_unfold.specs.Nanoseconds.{ticks_down}
 use Rattle.certificate.specs.Certificate.{max_pieces}
 use Rattle.claim_file.specs.Claim.{ClaimData}
 use Rattle.sample_interval.specs.declared.kinds.Sample.{Sample}
-use Rattle.finder.specs.Entry.{best_hull, is_inside}
+use Rattle.span_cover.specs.Group.{is_inside}
+use Rattle.finder.specs.Entry.{best_hull}
 use Rattle.finder.specs.Envelope.{EnvelopeData, IsInside, IsLeast, IsCertified, IsNotCertified, envelope_of, envelope_to, least_of, with_bound}
 use Rattle.finder.specs.Found.{hull_at, passes, first_failing, found_without, found_of}
 use Rattle.finder.specs.Piece.{count_of, piece_count_of}

@@ -9,11 +9,11 @@ use Rattle.claim_file.specs.Group.{servers_of}
 use Rattle.intersection.specs.declared.kinds.Interval.{Interval}
 use Rattle.sample_interval.specs.declared.kinds.Sample.{Sample}
 use Rattle.span_cover.specs.Piece.{piece_interval_of}
-use Rattle.checker.specs.Verdict.{part_of}
-use Rattle.checker.specs.declared.part.Part.{Part}
-use Rattle.checker.specs.declared.stretch.Stretch.{Stretch}
+use Rattle.span_cover.specs.Part.{part_of}
+use Rattle.span_cover.specs.declared.part.Part.{Part}
+use Rattle.span_cover.specs.declared.stretch.Stretch.{Stretch}
 use Rattle.finder.specs.Entry.{best_over, best_entries, part_between, part_named, parts_named}
-use Rattle.finder.proofs.BestLemmas.{best_of_is}
+use Rattle.finder.proofs.BestLemmas.{BestLaw, best_of_is}
 use Rattle.finder.proofs.ListLemmas.{All-slice_get, All-filter_map}
 
 -- what an entry says that names samples that there are
@@ -65,14 +65,14 @@ listed_parts samples claim stretch entries n listed =
 -- ---- the entries of a piece
 
 -- each names two samples that there are
-pub entries_there : (samples : List Sample) (claim : ClaimData) (stretch : Stretch)
+pub entries_there : (law : BestLaw) (samples : List Sample) (claim : ClaimData) (stretch : Stretch)
     → All (λ entry. (entry.0 < length samples) × (entry.1 < length samples)) (best_entries samples claim stretch)
-entries_there samples claim stretch =
+entries_there law samples claim stretch =
     All-filter_map (best_over samples claim stretch)
     (λ entry. (entry.0 < length samples) × (entry.1 < length samples))
     (λ server entry is.
-    let best = best_of_is samples server stretch.begin stretch.end claim.drift_ppb entry is in (
-      slice_get_within samples entry.0 best.low.sample best.low.stands,
-      slice_get_within samples entry.1 best.high.sample best.high.stands,
+    let best = best_of_is law samples server stretch.begin stretch.end claim.drift_ppb entry is in (
+      slice_get_within samples entry.0 best.0.sample best.0.stands,
+      slice_get_within samples entry.1 best.1.sample best.1.stands,
     ))
     (servers_of (length claim.servers))

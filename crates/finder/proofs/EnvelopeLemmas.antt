@@ -11,13 +11,14 @@ use Rattle.certificate.specs.Certificate.{max_pieces}
 use Rattle.claim_file.specs.Claim.{ClaimData, IsLawful}
 use Rattle.intersection.specs.declared.kinds.Hull.{Hull}
 use Rattle.sample_interval.specs.declared.kinds.Sample.{Sample}
-use Rattle.checker.specs.declared.stretch.Stretch.{Stretch}
+use Rattle.span_cover.specs.declared.stretch.Stretch.{Stretch}
 use Rattle.finder.specs.Entry.{best_entries}
 use Rattle.finder.specs.Envelope.{EnvelopeData, PieceHullData, IsLawfulPiece, piece_hull_at, piece_hulls, least_of, with_piece, envelope_of, envelope_to}
 use Rattle.finder.specs.Found.{hull_at}
 use Rattle.finder.specs.Piece.{count_of, stretch_at}
 use Rattle.finder.specs.declared.fault.FindFault.TheVariants.{TooManyPieces}
 use Rattle.finder.specs.declared.least.LeastBound.{LeastBound}
+use Rattle.finder.proofs.BestLemmas.{BestLaw}
 use Rattle.finder.proofs.EntryLemmas.{entries_there}
 use Rattle.finder.proofs.PieceLemmas.{piece_of_claim}
 
@@ -76,11 +77,11 @@ module _ (samples : List Sample) (claim : ClaimData) (step : ℕ) where
 
   -- ---- each piece is lawful
 
-  module _ (lawful : IsLawful claim) where
+  module _ (law : BestLaw) (lawful : IsLawful claim) where
     lawful_piece : (k : ℕ) → IsLawfulPiece (length samples) (piece_hull_at samples claim step k)
     lawful_piece k = record {
       stretch = piece_of_claim claim lawful step k;
-      named = entries_there samples claim (stretch_at claim step k);
+      named = entries_there law samples claim (stretch_at claim step k);
     }
 
     lawful_from : (k n : ℕ)

@@ -11,7 +11,7 @@ use Rattle.intersection.specs.declared.kinds.Hull.TheVariants.{Unbounded, Empty}
 use Rattle.sample_interval.specs.declared.kinds.Sample.{Sample}
 use Rattle.span_cover.specs.Piece.{IsPiece}
 use Rattle.span_cover.specs.Step.{piece_end_of}
-use Rattle.checker.specs.declared.stretch.Stretch.{Stretch}
+use Rattle.span_cover.specs.declared.stretch.Stretch.{Stretch}
 use Rattle.finder.specs.Entry.{best_entries, best_hull, parts_named}
 use Rattle.finder.specs.Envelope.{AreInside, EnvelopeData, IsGivenOf, IsInside, envelope_of, with_bound}
 use Rattle.finder.specs.Found.{hull_at}
@@ -37,7 +37,7 @@ module _ (laws : Laws) (samples : List Sample) (claim : ClaimData) (given : IsGi
   shown inside = record {
     entries = best_entries samples (with_bound claim n) outer;
     parts = parts_named samples (with_bound claim n) outer (best_entries samples (with_bound claim n) outer);
-    said = entries_accepted samples (with_bound claim n) outer;
+    said = entries_accepted laws.best samples (with_bound claim n) outer;
     passes = inside_passes (with_bound claim n).bound _ inside;
   }
 

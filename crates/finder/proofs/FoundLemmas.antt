@@ -7,9 +7,10 @@ use Rattle.claim_file.specs.Claim.{ClaimData}
 use Rattle.intersection.specs.declared.kinds.Hull.{Hull}
 use Rattle.sample_interval.specs.declared.kinds.Sample.{Sample}
 use Rattle.span_cover.specs.Step.{piece_end_of}
-use Rattle.checker.specs.Piece.{piece_hull}
-use Rattle.checker.specs.declared.stretch.Stretch.{Stretch}
-use Rattle.finder.specs.Entry.{best_entries, best_hull, parts_named, is_inside}
+use Rattle.span_cover.specs.Group.{piece_hull}
+use Rattle.span_cover.specs.declared.stretch.Stretch.{Stretch}
+use Rattle.span_cover.specs.Group.{is_inside}
+use Rattle.finder.specs.Entry.{best_entries, best_hull, parts_named}
 use Rattle.finder.specs.Found.{certificate, nothing, piece_at, pieces_from, hull_at, passes, first_failing, found_without}
 use Rattle.finder.specs.Piece.{count_of, piece_begin_of, stretch_at}
 use Rattle.finder.proofs.ListLemmas.{find_none, find_first}

@@ -9,12 +9,13 @@ use Rattle.claim_file.specs.Claim.{ClaimData, IsLawful}
 use Rattle.pairing.specs.Exchange.{IsLawful as IsLawfulExchange}
 use Rattle.pairing.specs.declared.exchange.Exchange.{Exchange}
 use Rattle.intersection.specs.declared.kinds.Interval.{Interval}
-use Rattle.checker.specs.Groups.{numbers_below}
+use Rattle.span_cover.specs.Group.{numbers_below}
 use Rattle.finder.specs.Room.{AreRooms, refused_by, refuses}
 use Rattle.finder.specs.Sought.{IsErrorOf64Bits, IsFirstBeyond, IsNearest, IsSought, NoneIsRefuted, after, greatest_error, is_possible, least_error_below, nearest, refutation_at, sought_error}
 use Rattle.finder.proofs.LiarLemmas.{possible_of, refuted_at, same_passing_test}
 use Rattle.finder.proofs.ListLemmas.{find_is_first, find_is_none}
 use Rattle.finder.proofs.NearestLemmas.{int_cases}
+use Rattle.finder.proofs.RoomLemmas.{RoomLaw}
 
 -- ---- what the nearest number is
 
@@ -49,7 +50,7 @@ module _ (test : ℤ → Bool) (bound limit : ℤ) where
 
 -- ---- what is found
 
-module _ (claim : ClaimData) (lawful : IsLawful claim) (xs : List Exchange)
+module _ (law : RoomLaw) (claim : ClaimData) (lawful : IsLawful claim) (xs : List Exchange)
     (each : All (IsLawfulExchange (length claim.servers)) xs) where
   abbrev above : ℤ → Bool
   above error = is_possible claim xs error
@@ -92,9 +93,9 @@ module _ (claim : ClaimData) (lawful : IsLawful claim) (xs : List Exchange)
       let from = lawful.bound_not_negative in
       let beyond = is.beyond in
       record {
-        accepted = refuted_at claim lawful xs each error (beyond_above error beyond) is.passes;
+        accepted = refuted_at law claim lawful xs each error (beyond_above error beyond) is.passes;
         least_above = λ over other refuted other_over. ⊎_elim
-            (λ less. absurd (true≢false (sym (possible_of claim lawful xs each other refuted)
+            (λ less. absurd (true≢false (sym (possible_of law claim lawful xs each other refuted)
             ∙ is.others_fail other.error other_over less)))
             (λ le. le)
             (int_cases other.error error);
@@ -107,10 +108,10 @@ module _ (claim : ClaimData) (lawful : IsLawful claim) (xs : List Exchange)
       let from = lawful.bound_not_negative in
       let beyond = is.beyond in
       record {
-        accepted = refuted_at claim lawful xs each (neg_ℤ number) (beyond_below number beyond) is.passes;
+        accepted = refuted_at law claim lawful xs each (neg_ℤ number) (beyond_below number beyond) is.passes;
         least_above = λ over. absurd (omega (arith, ints));
         greatest_below = λ under other of_64_bits refuted.
-            let possible = possible_of claim lawful xs each other refuted in
+            let possible = possible_of law claim lawful xs each other refuted in
             let outside = refuted.against.beyond_bound in
             let top = of_64_bits.not_above in
             ⊎_elim
@@ -126,7 +127,7 @@ module _ (claim : ClaimData) (lawful : IsLawful claim) (xs : List Exchange)
 
   none_found : NoneAbove → NoneBelow → NoneIsRefuted claim xs
   none_found no_more no_less other of_64_bits refuted =
-      let possible = possible_of claim lawful xs each other refuted in
+      let possible = possible_of law claim lawful xs each other refuted in
       let outside = refuted.against.beyond_bound in
       let top = of_64_bits.not_above in
       let bottom = of_64_bits.not_below in

@@ -6,7 +6,8 @@ use Rattle.std.proofs.lemmas.Bool.{cases_lt}
 use Rattle.std.proofs.lemmas.Bool.Decides.{nat_tests}
 use Rattle.std.proofs.lemmas.List.Folds.{list_any-append}
 use Rattle.std.proofs.lemmas.List.Sums.{sum_by-append}
-use Rattle.checker.specs.Groups.{numbers_below, holds_false, false_group_count}
+use Rattle.checker.specs.Groups.{holds_false, false_group_count}
+use Rattle.span_cover.specs.Group.{numbers_below}
 use Rattle.finder.proofs.ListLemmas.{by_test}
 
 either_right : (a b : Bool) → b ≡ true → (a || b) ≡ true

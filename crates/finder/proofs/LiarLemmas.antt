@@ -15,15 +15,16 @@ use Rattle.certificate.specs.Refutation.{RefutationData}
 use Rattle.claim_file.specs.Claim.{ClaimData, IsLawful}
 use Rattle.pairing.specs.Exchange.{IsLawful as IsLawfulExchange}
 use Rattle.pairing.specs.declared.exchange.Exchange.{Exchange}
-use Rattle.checker.specs.Groups.{numbers_below, false_group_count}
+use Rattle.checker.specs.Groups.{false_group_count}
+use Rattle.span_cover.specs.Group.{numbers_below}
 use Rattle.checker.specs.Refutation.{Admits, IsRefuted, is_liar}
 use Rattle.checker.specs.RefutationTest.{admits}
 use Rattle.finder.specs.Room.{refuses}
 use Rattle.finder.specs.Sought.{is_possible, refutation_at}
-use Rattle.finder.proofs.GroupLemmas.{both_to, both_true, found_below, no_more_groups}
+use Rattle.finder.proofs.GroupLemmas.{as_many_groups, both_to, both_true, found_below, no_more_groups}
 use Rattle.finder.proofs.ListLemmas.{by_test}
 use Rattle.finder.proofs.NearestLemmas.{at_most_from, at_most_to}
-use Rattle.finder.proofs.RoomLemmas.{admits_from, admits_to}
+use Rattle.finder.proofs.RoomLemmas.{RoomLaw}
 
 -- ---- the numbers that pass a test
 
@@ -82,6 +83,19 @@ module _ (p : ℕ → Bool) where
       found_below (λ k. k == server) n server below (grind (arith, nat_tests)) in
       named n server ∙ rw (e, here) refl
 
+  -- below a number, just those that pass are named
+  named_below : (n server : ℕ) → server < n → is_liar (filter p (numbers_below n)) server ≡ p server
+  named_below n server below = by_test (p server)
+      (λ e. pass_named n server below e ∙ sym e)
+      (λ e. named n server ∙ rw e refl)
+
+  -- so as many groups hold a server that is named as one that passes
+  pub as_many_named : (groups : List ℕ)
+      → false_group_count groups (is_liar (filter p (numbers_below (length groups)))) ≡ false_group_count groups p
+  as_many_named groups =
+      as_many_groups groups (is_liar (filter p (numbers_below (length groups)))) p
+      (λ server below. named_below (length groups) server below)
+
 -- ---- a server refuses an error by one of its exchanges
 
 module _ (allowance error : ℤ) where
@@ -102,7 +116,7 @@ module _ (allowance error : ℤ) where
 
 -- ---- a refutation by just the servers that refuse its error
 
-module _ (claim : ClaimData) (lawful : IsLawful claim) (xs : List Exchange)
+module _ (law : RoomLaw) (claim : ClaimData) (lawful : IsLawful claim) (xs : List Exchange)
     (each : All (IsLawfulExchange (length claim.servers)) xs) where
   abbrev refusing : ℤ → List ℕ
   refusing error = filter (refuses claim.reading xs error) (numbers_below (length claim.servers))
@@ -118,7 +132,7 @@ module _ (claim : ClaimData) (lawful : IsLawful claim) (xs : List Exchange)
   others_admit : (error : ℤ) → All
       (λ x. is_liar (refusing error) x.server ≡ false → Admits claim.reading error x) xs
   others_admit error k d within not_named = by_test (admits claim.reading error (get_or xs k d))
-      (λ e. admits_from claim.reading error (get_or xs k d) e)
+      (λ e. (law claim.reading error (get_or xs k d)).0 e)
       (λ e.
       let refused = refused_at claim.reading error xs k d within e in
       let named = pass_named (refuses claim.reading xs error) (length claim.servers) (get_or xs k d).server
@@ -156,7 +170,7 @@ module _ (claim : ClaimData) (lawful : IsLawful claim) (xs : List Exchange)
       let free : is_liar other.liars (get_or xs one.0 x).server ≡ false = rw at there in
       let room : Admits claim.reading other.error x = rw at at (refuted.admits one.0 x one.2 free) in
       absurd (not_both (admits claim.reading other.error x)
-      (admits_to claim.reading other.error x room) parts.1))
+      ((law claim.reading other.error x).1 room) parts.1))
     where
       not_both : (b : Bool) → b ≡ true → not b ≡ true → ⊥
       not_both true e f = absurd cc

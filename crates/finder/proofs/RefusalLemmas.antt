@@ -4,6 +4,7 @@ use Rattle.std.specs.Prelude.{All, Any, slice_get, IsSomeAnd, filter_map}
 use Rattle.std.specs.List.{cons_option, range_with_len}
 use Rattle.std.proofs.lemmas.Bool.{cases_lt}
 use Rattle.std.proofs.lemmas.Int.{ints}
+use Rattle.std.proofs.lemmas.Option.{slice_get_within}
 use Rattle.certificate.specs.Certificate.{PieceData, CertificateData}
 use Rattle.claim_file.specs.Claim.{ClaimData, IsLawful, max_drift_ppb}
 use Rattle.intersection.specs.declared.kinds.Hull.{Hull}
@@ -13,21 +14,22 @@ use Rattle.sample_interval.specs.Widening.{billion}
 use Rattle.sample_interval.specs.declared.kinds.Sample.{Sample}
 use Rattle.span_cover.specs.Piece.{IsPiece, moved_low, moved_high}
 use Rattle.checker.specs.Comparison.{IsNarrower, AreNarrower, IsOfSamples}
-use Rattle.checker.specs.Piece.{piece_hull}
-use Rattle.checker.specs.Stretch.{stretches_from, stretches_of}
+use Rattle.span_cover.specs.Group.{piece_hull}
+use Rattle.checker.specs.Stretch.{begin_of, stretches_from, stretches_of}
 use Rattle.checker.specs.Traceability.{IsContradicted}
-use Rattle.checker.specs.Verdict.{part_of, parts_after, hull_fault, parts_fault, piece_fault, verdict_after, verdict_from, verdict_of}
-use Rattle.checker.specs.declared.part.Part.{Part}
-use Rattle.checker.specs.declared.stretch.Stretch.{Stretch}
-use Rattle.checker.specs.declared.verdict.Verdict.{Verdict}
+use Rattle.span_cover.specs.Part.{part_of}
+use Rattle.checker.specs.Verdict.{parts_after, hull_fault, parts_fault, piece_fault, verdict_of, PassBelow}
+use Rattle.span_cover.specs.declared.part.Part.{Part}
+use Rattle.span_cover.specs.declared.stretch.Stretch.{Stretch}
 use Rattle.checker.specs.declared.verdict.Verdict.TheVariants.{Yes, No}
 use Rattle.checker.specs.declared.verdict.Why.{Why}
 use Rattle.checker.specs.declared.verdict.Why.TheVariants.{Cut, Contradiction}
-use Rattle.finder.specs.Entry.{best_over, best_entries, best_hull, part_named, parts_named, is_inside}
+use Rattle.span_cover.specs.Group.{is_inside}
+use Rattle.finder.specs.Entry.{best_over, best_entries, best_hull, part_named, parts_named}
 use Rattle.finder.specs.Found.{piece_at, pieces_from, IsFirstFailing}
 use Rattle.finder.specs.Piece.{stretch_at}
 use Rattle.finder.specs.Refusal.{HoldsWhole, NoneIsAcceptedOver}
-use Rattle.finder.proofs.BestLemmas.{best_of_is, best_of_none}
+use Rattle.finder.proofs.BestLemmas.{BestLaw, best_of_is, best_of_none}
 use Rattle.finder.proofs.ListLemmas.{All-slice_get}
 use Rattle.finder.proofs.PieceLemmas.{piece_of_claim}
 use Rattle.finder.proofs.VerdictLemmas.{passes_inside, contradicts_at, stretch_is_at}
@@ -57,22 +59,20 @@ module _ (samples : List Sample) (claim : ClaimData) where
       → Shows (record { begin = begin; end = pos piece.upto })
   shows begin piece e = shows_cut (record { begin = begin; end = pos piece.upto }) piece.entries _ e
 
-  yes_step : (k : ℕ) (fault : Option Why) (rest : Verdict) → verdict_after fault k rest ≡ Yes
-      → (fault ≡ None) × (rest ≡ Yes)
-  yes_step k None rest e = (refl, e)
-  yes_step k (Some why) rest e = absurd cc
+  -- the pieces pass their tests, each where the one before it ends
+  abbrev Pass : ℤ → List PieceData → Type 0
+  Pass begin pieces = (k : ℕ) (piece : PieceData) → slice_get pieces k ≡ Some piece
+      → piece_fault samples claim (begin_of begin pieces k) piece ≡ None
 
-  -- where the verdict is yes, each piece shows it
-  pub yes_each : (k : ℕ) (begin : ℤ) (pieces : List PieceData) → verdict_from samples claim k begin pieces ≡ Yes
-      → (j : ℕ) (stretch : Stretch) → slice_get (stretches_from begin pieces) j ≡ Some stretch → Shows stretch
-  yes_each k begin [] e j stretch at = absurd cc
-  yes_each k begin (piece ∷ pieces) e zero stretch at =
-      let step = yes_step k (piece_fault samples claim begin piece) _ e in
+  -- so each piece shows it
+  pub pass_each : (begin : ℤ) (pieces : List PieceData) → Pass begin pieces → (j : ℕ) (stretch : Stretch)
+      → slice_get (stretches_from begin pieces) j ≡ Some stretch → Shows stretch
+  pass_each begin [] pass j stretch at = absurd cc
+  pass_each begin (piece ∷ pieces) pass zero stretch at =
       let here : record { begin = begin; end = pos piece.upto } ≡ stretch = cc in
-      subst Shows here (shows begin piece step.0)
-  yes_each k begin (piece ∷ pieces) e (suc j) stretch at =
-      let step = yes_step k (piece_fault samples claim begin piece) _ e in
-      yes_each (k + 1) (pos piece.upto) pieces step.1 j stretch at
+      subst Shows here (shows begin piece (pass 0 piece refl))
+  pass_each begin (piece ∷ pieces) pass (suc j) stretch at =
+      pass_each (pos piece.upto) pieces (λ k other is. pass (suc k) other is) j stretch at
 
 -- ---- a narrower part for each
 
@@ -86,6 +86,7 @@ any_later P (Some first) parts any = let within = any.2 in (suc any.0, any.1, om
 
 -- laws of the crates below
 pub record Laws : Type 0 where
+  pub best : BestLaw
   pub low : (ppb : ℕ) (sample : Sample) (p q inner outer : ℤ) → ppb < billion → sample.low_from ≤ℤ sample.low_to
       → p ≤ℤ inner → inner ≤ℤ outer → outer ≤ℤ q → moved_low sample p q ppb ≤ℤ moved_low sample inner outer ppb
   pub high : (ppb : ℕ) (sample : Sample) (p q inner outer : ℤ) → ppb < billion → sample.high_from ≤ℤ sample.high_to
@@ -95,6 +96,9 @@ pub record Laws : Type 0 where
   pub narrow : (groups : List ℕ) (false_max : ℕ) (bound : ℤ) (parts next : List Part) → AreNarrower parts next
       → hull_fault bound (piece_hull groups false_max parts) ≡ None
       → (hull_fault bound (piece_hull groups false_max next) ≡ None) ⊎ (piece_hull groups false_max next ≡ Empty)
+  pub each : (samples : List Sample) (claim : ClaimData) (certificate : CertificateData)
+      → verdict_of samples claim certificate ≡ Yes
+      → PassBelow samples claim certificate (length certificate.pieces)
 
 -- what is given of a claim, its samples and a stretch inside another
 pub record IsGiven (samples : List Sample) (claim : ClaimData) (outer inner : Stretch) : Type 0 where
@@ -150,7 +154,7 @@ module _ (laws : Laws) (samples : List Sample) (claim : ClaimData) (outer inner 
       let rate = given.rate in
       let low = said.low in
       let high = said.high in
-      let best = best_of_is samples low.server inner.begin inner.end ppb entry is in
+      let best = best_of_is laws.best samples low.server inner.begin inner.end ppb entry is in
       let low_sample = All-slice_get IsLawfulSample samples said.low_number low given.samples_lawful said.low_is in
       let high_sample = All-slice_get IsLawfulSample samples said.high_number high given.samples_lawful said.high_is in
       let within = All-slice_get (λ sample. sample.server < length claim.servers) samples said.low_number low
@@ -160,24 +164,24 @@ module _ (laws : Laws) (samples : List Sample) (claim : ClaimData) (outer inner 
       low_sample.low_place_in_order given.whole.0 forward given.whole.1 in
       let high_in = laws.high ppb high outer.begin outer.end inner.begin inner.end (omega arith)
       high_sample.high_place_in_order given.whole.0 forward given.whole.1 in
-      let most = best.low.greatest said.low_number low said.low_is refl in
-      let least = best.high.greatest said.high_number high said.high_is (sym said.one_server) in
-      let other = part_of best.low.sample best.high.sample inner ppb in
+      let most = best.0.greatest said.low_number low said.low_is refl in
+      let least = best.1.greatest said.high_number high said.high_is (sym said.one_server) in
+      let other = part_of best.0.sample best.1.sample inner ppb in
       let this = part_of low high outer ppb in
       let narrower : IsNarrower this other = record {
-        server = sym best.low.of_server;
+        server = sym best.0.of_server;
         low = omega (arith, ints, low_in, most);
         high = omega (arith, ints, high_in, least);
       } in
       in_best (IsNarrower part) low.server entry other
       (subst (λ (p : Part). IsNarrower p other) (sym said.is) narrower) is
-      (names_both entry best.low.sample best.high.sample best.low.stands best.high.stands)
+      (names_both entry best.0.sample best.1.sample best.0.stands best.1.stands)
       0 (length claim.servers) (omega arith) (omega (arith, within))
 
   better_at : (part : Part) (said : IsOfSamples samples outer claim.drift_ppb part) (o : Option (ℕ × ℕ))
       → best_over samples claim inner said.low.server ≡ o → Any (IsNarrower part) best_parts
   better_at part said None is =
-      let none = best_of_none samples said.low.server inner.begin inner.end claim.drift_ppb is in
+      let none = best_of_none laws.best samples said.low.server inner.begin inner.end claim.drift_ppb is in
       absurd (none said.low_number said.low said.low_is refl)
   better_at part said (Some entry) is = better_of part said entry is
 
@@ -208,7 +212,9 @@ module _ (laws : Laws) (samples : List Sample) (claim : ClaimData) (step : ℕ) 
     none_accepted k hull failing some certificate has accepted =
         let inner = stretch_at claim step k in
         let found = some_and (λ outer. HoldsWhole outer inner) _ has.1 in
-        let shown = yes_each samples claim 0 claim.first certificate.pieces accepted has.0 found.0 found.1 in
+        let shown = pass_each samples claim claim.first certificate.pieces
+        (λ k piece is. laws.each samples claim certificate accepted k piece (slice_get_within certificate.pieces k piece is) is)
+        has.0 found.0 found.1 in
         let given : IsGiven samples claim found.0 inner = record {
           rate = lawful.drift_in_range;
           samples_lawful = samples_lawful;
@@ -234,11 +240,11 @@ module _ (laws : Laws) (samples : List Sample) (claim : ClaimData) (step : ℕ) 
     contradicted contradictions k hull failing empty =
         let certificate : CertificateData =
         record { pieces = pieces_from samples claim step 0 k ++ piece_at samples claim step k ∷ [] } in
-        let verdict = contradicts_at samples claim lawful step k failing.others_pass (sym failing.its_hull ∙ empty) in
+        let verdict = contradicts_at laws.best samples claim lawful step k failing.others_pass (sym failing.its_hull ∙ empty) in
         let same : 0 + k ≡ k = omega arith in
         let at : slice_get (stretches_of claim certificate) k ≡ Some (stretch_at claim step k) =
         subst (λ (m : ℕ). slice_get (stretches_from claim.first
         (pieces_from samples claim step 0 k ++ piece_at samples claim step m ∷ [])) k ≡ Some (stretch_at claim step m))
-        same (stretch_is_at samples claim lawful step k 0 claim.first refl) in
+        same (stretch_is_at laws.best samples claim lawful step k 0 claim.first refl) in
         subst (λ (o : Option Stretch). IsSomeAnd o (IsContradicted claim samples)) at
         (contradictions claim samples certificate lawful listed k verdict)

@@ -72,7 +72,11 @@ left_out_of_either al ah bl bh e =
 
 -- ---- one exchange
 
-module _ (allowance error : ℤ) (x : Exchange) where
+-- the test on an exchange is passed exactly if it leaves room for the error: a law of the checker
+abbrev pub RoomLaw : Type 0
+RoomLaw = (allowance error : ℤ) (x : Exchange) → (admits allowance error x ≡ true) ↔ Admits allowance error x
+
+module _ (law : RoomLaw) (allowance error : ℤ) (x : Exchange) where
   abbrev w : ℤ
   w = request_start x allowance
 
@@ -83,44 +87,9 @@ module _ (allowance error : ℤ) (x : Exchange) where
   abbrev pub room : Interval
   room = record { lo = w -ℤ (int_min x.t2 x.t3 +ℤ x.distance); hi = z -ℤ (int_max x.t2 x.t3 -ℤ x.distance) }
 
-  pub admits_from : admits allowance error x ≡ true → Admits allowance error x
-  admits_from e =
-      let a1 = int_le (w -ℤ error) (x.t2 +ℤ x.distance) in
-      let a2 = int_le (w -ℤ error) (x.t3 +ℤ x.distance) in
-      let a3 = int_le (w -ℤ error) (z -ℤ error) in
-      let b1 = int_le (x.t2 -ℤ x.distance) (x.t3 +ℤ x.distance) in
-      let b2 = int_le (x.t2 -ℤ x.distance) (z -ℤ error) in
-      let b3 = int_le (x.t3 -ℤ x.distance) (z -ℤ error) in
-      let parts = both_true ((a1 && a2) && a3) ((b1 && b2) && b3) e in
-      let c = both_true (a1 && a2) a3 parts.0 in
-      let d = both_true a1 a2 c.0 in
-      let s = both_true (b1 && b2) b3 parts.1 in
-      let t = both_true b1 b2 s.0 in
-      let before = le_from (w -ℤ error) (z -ℤ error) c.1 in
-      record {
-        leaves_before_receipt = le_from (w -ℤ error) (x.t2 +ℤ x.distance) d.0;
-        leaves_before_answer = le_from (w -ℤ error) (x.t3 +ℤ x.distance) d.1;
-        leaves_before_arrival = omega (arith, ints);
-        receives_before_answer = le_from (x.t2 -ℤ x.distance) (x.t3 +ℤ x.distance) t.0;
-        receives_before_arrival = le_from (x.t2 -ℤ x.distance) (z -ℤ error) t.1;
-        answers_before_arrival = le_from (x.t3 -ℤ x.distance) (z -ℤ error) s.1;
-      }
-
-  pub admits_to : Admits allowance error x → admits allowance error x ≡ true
-  admits_to is =
-      let before = is.leaves_before_arrival in
-      rw (
-        le_to (w -ℤ error) (x.t2 +ℤ x.distance) is.leaves_before_receipt,
-        le_to (w -ℤ error) (x.t3 +ℤ x.distance) is.leaves_before_answer,
-        le_to (w -ℤ error) (z -ℤ error) (omega (arith, ints)),
-        le_to (x.t2 -ℤ x.distance) (x.t3 +ℤ x.distance) is.receives_before_answer,
-        le_to (x.t2 -ℤ x.distance) (z -ℤ error) is.receives_before_arrival,
-        le_to (x.t3 -ℤ x.distance) (z -ℤ error) is.answers_before_arrival,
-      ) refl
-
   admits_all : w ≤ℤ z → (x.t2 -ℤ x.distance) ≤ℤ (x.t3 +ℤ x.distance) → room.lo ≤ℤ error → error ≤ℤ room.hi
       → admits allowance error x ≡ true
-  admits_all forward answers from to = admits_to (record {
+  admits_all forward answers from to = (law allowance error x).1 (record {
     leaves_before_receipt = omega (arith, ints, clamps);
     leaves_before_answer = omega (arith, ints, clamps);
     leaves_before_arrival = forward;
@@ -145,7 +114,7 @@ module _ (allowance error : ℤ) (x : Exchange) where
       → leaves_out room error ≡ not (admits allowance error x)
   room_is forward answers = by_test (admits allowance error x)
       (λ yes'.
-      let is = admits_from yes' in
+      let is = (law allowance error x).0 yes' in
       rw yes' (is_inside room.lo room.hi error (low_inside is) (high_inside is)))
       (λ no'. rw no' (by_test (leaves_out room error) (λ out. out) (λ inside.
       let ends = not_left_out room.lo room.hi error inside in
@@ -154,7 +123,7 @@ module _ (allowance error : ℤ) (x : Exchange) where
 
   not_admitted : ¬ (Admits allowance error x) → admits allowance error x ≡ false
   not_admitted none = by_test (admits allowance error x)
-      (λ yes'. absurd (none (admits_from yes')))
+      (λ yes'. absurd (none ((law allowance error x).0 yes')))
       (λ no'. no')
 
   far : (lo hi : ℤ) → lo ≡ pos (2 ^ 80) → IsNear error → leaves_out (record { lo = lo; hi = hi }) error ≡ true

@@ -15,17 +15,19 @@ use Rattle.intersection.specs.declared.kinds.Hull.TheVariants.{Unbounded, Empty,
 use Rattle.sample_interval.specs.declared.kinds.Sample.{Sample}
 use Rattle.span_cover.specs.Step.{piece_end_of}
 use Rattle.checker.specs.Stretch.{stretches_from}
-use Rattle.checker.specs.Verdict.{part_of, part_from, parts_after, unless_refused, hull_fault, parts_fault, piece_fault, verdict_after, verdict_from}
-use Rattle.checker.specs.declared.part.Part.{Part}
-use Rattle.checker.specs.declared.stretch.Stretch.{Stretch}
+use Rattle.span_cover.specs.Part.{part_of}
+use Rattle.checker.specs.Verdict.{part_from, parts_after, unless_refused, hull_fault, parts_fault, piece_fault, verdict_after, verdict_from}
+use Rattle.span_cover.specs.declared.part.Part.{Part}
+use Rattle.span_cover.specs.declared.stretch.Stretch.{Stretch}
 use Rattle.checker.specs.declared.verdict.Verdict.{Verdict}
 use Rattle.checker.specs.declared.verdict.Verdict.TheVariants.{Yes, No}
 use Rattle.checker.specs.declared.verdict.Why.{Why}
 use Rattle.checker.specs.declared.verdict.Why.TheVariants.{Cut, Contradiction, Exceeds, Uncovered}
-use Rattle.finder.specs.Entry.{best_over, best_entries, best_hull, part_between, parts_named, is_inside}
+use Rattle.span_cover.specs.Group.{is_inside}
+use Rattle.finder.specs.Entry.{best_over, best_entries, best_hull, part_between, parts_named}
 use Rattle.finder.specs.Found.{piece_at, pieces_from, hull_at, passes}
 use Rattle.finder.specs.Piece.{IsPieceCount, piece_begin_of, stretch_at}
-use Rattle.finder.proofs.BestLemmas.{best_of_is}
+use Rattle.finder.proofs.BestLemmas.{BestLaw, best_of_is}
 use Rattle.finder.proofs.FoundLemmas.{stretch_is}
 use Rattle.finder.proofs.PieceLemmas.{begin_before_end, end_to_last, piece_of_claim}
 
@@ -41,7 +43,7 @@ same_test a b s e f = grind (arith, nat_tests)
 other_test : (a s server : ℕ) → a ≡ s → s + 1 ≤ server → (a == server) ≡ false
 other_test a s server e later = grind (arith, nat_tests)
 
-module _ (samples : List Sample) (claim : ClaimData) (stretch : Stretch) where
+module _ (law : BestLaw) (samples : List Sample) (claim : ClaimData) (stretch : Stretch) where
   abbrev after : List Part → List (ℕ × ℕ) → Result (List Part) Why
   after earlier entries = parts_after samples stretch claim.drift_ppb earlier entries
 
@@ -85,16 +87,16 @@ module _ (samples : List Sample) (claim : ClaimData) (stretch : Stretch) where
   unfolding Accepted
   one_accepted s n None is rest earlier new = rest earlier (λ server later. new server (omega arith))
   one_accepted s n (Some entry) is rest earlier new =
-      let best = best_of_is samples s stretch.begin stretch.end claim.drift_ppb entry is in
-      let low = best.low.sample in
-      let high = best.high.sample in
+      let best = best_of_is law samples s stretch.begin stretch.end claim.drift_ppb entry is in
+      let low = best.0.sample in
+      let high = best.1.sample in
       let part = part_of low high stretch claim.drift_ppb in
       let said = part_accepted s earlier (slice_get samples entry.0) (slice_get samples entry.1) low high
-      (best.low.stands, best.high.stands) (best.low.of_server, best.high.of_server) (new s (omega arith)) in
-      let says = part_says (slice_get samples entry.0) (slice_get samples entry.1) low high best.low.stands
-      best.high.stands in
+      (best.0.stands, best.1.stands) (best.0.of_server, best.1.of_server) (new s (omega arith)) in
+      let says = part_says (slice_get samples entry.0) (slice_get samples entry.1) low high best.0.stands
+      best.1.stands in
       ap (λ (r : Result Part Why). unless_refused r (λ p. after (earlier ++ p ∷ []) (over (s + 1) n))) said
-      ∙ rest (earlier ++ part ∷ []) (names_more earlier part s best.low.of_server new)
+      ∙ rest (earlier ++ part ∷ []) (names_more earlier part s best.0.of_server new)
       ∙ ap Ok (append_assoc earlier (part ∷ []) (parts (over (s + 1) n)))
       ∙ ap (λ (o : Option Part). Ok (earlier ++ cons_option o (parts (over (s + 1) n)))) (sym says)
 
@@ -121,13 +123,13 @@ module _ (samples : List Sample) (claim : ClaimData) (stretch : Stretch) where
 pub inside_passes : (bound : ℤ) (hull : Hull) → is_inside bound hull ≡ true → hull_fault bound hull ≡ None
 inside_passes bound Unbounded e = absurd cc
 inside_passes bound Empty e = absurd cc
-inside_passes bound (Bounded lo hi) e = cond-true (int_le (neg_ℤ bound) lo && int_le hi bound) None (Some Exceeds) e
+inside_passes bound (Bounded lo hi) e = cond-true (is_inside bound (Bounded lo hi)) None (Some Exceeds) e
 
 pub passes_inside : (bound : ℤ) (hull : Hull) → hull_fault bound hull ≡ None → is_inside bound hull ≡ true
 passes_inside bound Unbounded e = absurd cc
 passes_inside bound Empty e = absurd cc
 passes_inside bound (Bounded lo hi) e =
-    elim (int_le (neg_ℤ bound) lo && int_le hi bound) as (λ t. cond t None (Some Exceeds) ≡ None → t ≡ true) [
+    elim (is_inside bound (Bounded lo hi)) as (λ t. cond t None (Some Exceeds) ≡ None → t ≡ true) [
       | true ↦ λ e. refl
       | false ↦ λ e. absurd cc
     ] e
@@ -140,7 +142,7 @@ not_less a b le = grind (arith, ints)
 from_zero_kept : (z : ℤ) → pos 0 ≤ℤ z → pos (unsigned_abs z) ≡ z
 from_zero_kept z le = omega (arith, ints)
 
-module _ (samples : List Sample) (claim : ClaimData) (lawful : IsLawful claim) (step : ℕ) where
+module _ (law : BestLaw) (samples : List Sample) (claim : ClaimData) (lawful : IsLawful claim) (step : ℕ) where
   end_number : (k : ℕ) → pos (unsigned_abs (piece_end_of claim.first claim.last step k))
       ≡ piece_end_of claim.first claim.last step k
   end_number k =
@@ -160,7 +162,7 @@ module _ (samples : List Sample) (claim : ClaimData) (lawful : IsLawful claim) (
       let forward = begin_before_end claim.first claim.last lawful.span_forward step k in
       let within = end_to_last claim.first claim.last lawful.span_forward step k in
       rw (is, not_less _ begin forward, not_less claim.last _ within)
-      (entries_fault samples claim (stretch_at claim step k))
+      (entries_fault law samples claim (stretch_at claim step k))
 
   -- the checker tests the hull of the piece
   pub fault_is : (k : ℕ) → piece_fault samples claim (piece_begin_of claim.first claim.last step k)

@@ -3,18 +3,17 @@
 -- Each server that has a sample has one entry, in the order of the servers: the samples that make
 -- its interval over the piece narrowest. The hull is taken over the groups of servers, as in a
 -- verdict.
-use Rattle.std.specs.Prelude.{ℕ, ℤ, neg_ℤ, int_le, ◌&&◌, Bool, false, List, length, slice_get, Option, Some, None}
+use Rattle.std.specs.Prelude.{ℕ, List, length, slice_get, Option, Some, None}
 use Rattle.std.specs.List.{filter_map}
 use Rattle.claim_file.specs.Claim.{ClaimData}
 use Rattle.claim_file.specs.Group.{servers_of}
 use Rattle.intersection.specs.declared.kinds.Hull.{Hull}
-use Rattle.intersection.specs.declared.kinds.Hull.TheVariants.{Unbounded, Empty, Bounded}
 use Rattle.sample_interval.specs.declared.kinds.Sample.{Sample}
 use Rattle.span_cover.specs.Best.{best_of}
-use Rattle.checker.specs.Piece.{piece_hull}
-use Rattle.checker.specs.Verdict.{part_of}
-use Rattle.checker.specs.declared.part.Part.{Part}
-use Rattle.checker.specs.declared.stretch.Stretch.{Stretch}
+use Rattle.span_cover.specs.Group.{piece_hull}
+use Rattle.span_cover.specs.Part.{part_of}
+use Rattle.span_cover.specs.declared.part.Part.{Part}
+use Rattle.span_cover.specs.declared.stretch.Stretch.{Stretch}
 
 -- the best samples of a server over a stretch, where it has a sample
 abbrev pub best_over : List Sample → ClaimData → Stretch → ℕ → Option (ℕ × ℕ)
@@ -45,9 +44,3 @@ unfoldable pub best_hull : List Sample → ClaimData → Stretch → Hull
 best_hull samples claim stretch =
     piece_hull claim.groups claim.false_max
     (parts_named samples claim stretch (best_entries samples claim stretch))
-
--- a hull lies inside a bound to either side
-abbrev pub is_inside : ℤ → Hull → Bool
-is_inside bound Unbounded = false
-is_inside bound Empty = false
-is_inside bound (Bounded lo hi) = int_le (neg_ℤ bound) lo && int_le hi bound

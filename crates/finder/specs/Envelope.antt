@@ -19,8 +19,9 @@ use Rattle.intersection.specs.declared.kinds.Hull.TheVariants.{Unbounded, Empty,
 use Rattle.sample_interval.specs.Sample.{IsLawfulSample}
 use Rattle.sample_interval.specs.declared.kinds.Sample.{Sample}
 use Rattle.span_cover.specs.Piece.{IsPiece}
-use Rattle.checker.specs.declared.stretch.Stretch.{Stretch}
-use Rattle.finder.specs.Entry.{best_entries, is_inside}
+use Rattle.span_cover.specs.declared.stretch.Stretch.{Stretch}
+use Rattle.span_cover.specs.Group.{is_inside}
+use Rattle.finder.specs.Entry.{best_entries}
 use Rattle.finder.specs.Found.{FoundData, certificate, nothing, hull_at}
 use Rattle.finder.specs.Piece.{count_of, stretch_at}
 use Rattle.finder.specs.declared.envelope.Envelope.{Envelope}

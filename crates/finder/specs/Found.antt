@@ -6,7 +6,8 @@ use Rattle.claim_file.specs.Claim.{ClaimData}
 use Rattle.intersection.specs.declared.kinds.Hull.{Hull}
 use Rattle.sample_interval.specs.declared.kinds.Sample.{Sample}
 use Rattle.span_cover.specs.Step.{piece_end_of}
-use Rattle.finder.specs.Entry.{best_entries, best_hull, is_inside}
+use Rattle.span_cover.specs.Group.{is_inside}
+use Rattle.finder.specs.Entry.{best_entries, best_hull}
 use Rattle.finder.specs.Piece.{count_of, stretch_at}
 use Rattle.finder.specs.declared.fault.FindFault.{FindFault}
 use Rattle.finder.specs.declared.fault.FindFault.TheVariants.{TooManyPieces}

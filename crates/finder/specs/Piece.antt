@@ -9,7 +9,7 @@ use Rattle.era_unfold.specs.Ratio.{ceiling_of}
 use Rattle.era_unfold.specs.Window.{ticks_per_second}
 use Rattle.claim_file.specs.Claim.{ClaimData}
 use Rattle.span_cover.specs.Step.{piece_end_of}
-use Rattle.checker.specs.declared.stretch.Stretch.{Stretch}
+use Rattle.span_cover.specs.declared.stretch.Stretch.{Stretch}
 
 -- so many pieces are the span: the last of them ends with it, and each before that one earlier
 pub record IsPieceCount (first last : ℤ) (step n : ℕ) : Type 0 where

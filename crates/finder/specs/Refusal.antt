@@ -5,7 +5,7 @@ use Rattle.claim_file.specs.Claim.{ClaimData}
 use Rattle.sample_interval.specs.declared.kinds.Sample.{Sample}
 use Rattle.checker.specs.Stretch.{stretches_of}
 use Rattle.checker.specs.Verdict.{verdict_of}
-use Rattle.checker.specs.declared.stretch.Stretch.{Stretch}
+use Rattle.span_cover.specs.declared.stretch.Stretch.{Stretch}
 use Rattle.checker.specs.declared.verdict.Verdict.TheVariants.{Yes}
 
 -- one stretch holds the whole of another

@@ -12,7 +12,8 @@ use Rattle.std.specs.Option.{option_or}
 use Rattle.certificate.specs.Refutation.{RefutationData}
 use Rattle.claim_file.specs.Claim.{ClaimData}
 use Rattle.pairing.specs.declared.exchange.Exchange.{Exchange}
-use Rattle.checker.specs.Groups.{numbers_below, false_group_count}
+use Rattle.checker.specs.Groups.{false_group_count}
+use Rattle.span_cover.specs.Group.{numbers_below}
 use Rattle.checker.specs.Refutation.{IsRefuted}
 use Rattle.finder.specs.Room.{refuses}
 

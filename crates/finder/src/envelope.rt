@@ -16,11 +16,11 @@ use crate::least::LeastBound;
 use crate::piece::{MAX_PIECES, piece_count};
 use crate::table::tables;
 use arrayvec::ArrayVec;
-use checker::Stretch;
 use claim_file::Claim;
 use intersection::kinds::Hull;
 use sample_interval::kinds::Sample;
-use span_cover::piece_end;
+use span_cover::laws::best_samples_are_the_first_best;
+use span_cover::{Stretch, piece_end};
 use std::alloc::{AllocError, Global};
 
 /// A piece of a span, and what the samples say of the clock's error there.
@@ -103,6 +103,7 @@ fn envelope_to(
         data_of found ≡ envelope_to samples.now (claim_data claim.now) step_s count) }
     ensures lawful { IfOk result (IsLawfulEnvelope (length samples.now)) }
 {
+    best_samples_are_the_first_best();
     let tables = tables(alloc, samples, claim, step_s, count)?;
     let mut pieces = Vec::with_capacity(alloc, count as usize)?;
     let mut least = LeastBound::of_none();

@@ -15,18 +15,20 @@ ghost use Rattle.finder.specs.Refusal.{NoneIsAcceptedOver};
 
 use crate::entry::entries_at;
 use crate::fault::FindFault;
-use crate::hull::{hull_of, is_inside};
+use crate::hull::hull_of;
 use crate::laws::{best_hulls_hold_the_error, last_piece_ends_with_the_span};
 use crate::piece::{MAX_PIECES, piece_count};
 use crate::table::tables;
 use certificate::{Certificate, Piece};
-use checker::laws::{narrower_parts_narrow, parts_are_of_samples, verdicts_are_traceable};
-use checker::{Stretch, Verdict};
+use checker::laws::{
+    narrower_parts_narrow, parts_are_of_samples, pieces_give_the_verdict, verdicts_are_traceable,
+};
+use checker::Verdict;
 use claim_file::Claim;
 use intersection::kinds::Hull;
 use sample_interval::kinds::Sample;
-use span_cover::laws::piece_inside_another_is_narrower;
-use span_cover::piece_end;
+use span_cover::laws::{best_samples_are_the_first_best, piece_inside_another_is_narrower};
+use span_cover::{Stretch, is_inside, piece_end};
 use std::alloc::{AllocError, Global};
 
 /// A certificate, or why there is none.
@@ -94,9 +96,11 @@ pub fn find(
         (stretch_at (claim_data claim.now) step_s piece) hull)) }
 {
     last_piece_ends_with_the_span();
+    best_samples_are_the_first_best();
     piece_inside_another_is_narrower();
     parts_are_of_samples();
     narrower_parts_narrow();
+    pieces_give_the_verdict();
     verdicts_are_traceable();
     best_hulls_hold_the_error();
     let count = piece_count(claim.first, claim.last, step_s);
@@ -124,6 +128,7 @@ fn find_pieces(
         ≡ found_without samples.now (claim_data claim.now) step_s
         (first_failing samples.now (claim_data claim.now) step_s)) }
 {
+    best_samples_are_the_first_best();
     let tables = tables(alloc, samples, claim, step_s, count)?;
     let mut pieces = Vec::with_capacity(alloc, count as usize)?;
     let mut begin = claim.first;

@@ -1,18 +1,17 @@
 //! The hull of a piece.
 
-ghost use Rattle.std.specs.Prelude.{◌≡◌, ◌≤◌, ◌<◌, pos, ◌≤ℤ◌, length, All};
+ghost use Rattle.std.specs.Prelude.{◌≡◌, ◌<◌, length, All};
 ghost use Rattle.claim_file.specs.Claim.{IsLawful, data_of};
 ghost use Rattle.sample_interval.specs.Sample.{IsLawfulSample};
 ghost use Rattle.span_cover.specs.Piece.{IsPiece};
-ghost use Rattle.checker.specs.Piece.{piece_hull};
-ghost use Rattle.finder.specs.Entry.{parts_named, is_inside};
+ghost use Rattle.span_cover.specs.Group.{piece_hull};
+ghost use Rattle.finder.specs.Entry.{parts_named};
 
 use arrayvec::ArrayVec;
-use checker::{Part, Stretch, piece_hull};
 use claim_file::Claim;
 use intersection::kinds::Hull;
 use sample_interval::kinds::Sample;
-use span_cover::piece_interval;
+use span_cover::{Part, Stretch, part_of, piece_hull};
 
 /// What the entries of a piece say, in their order: the interval of each server that has one.
 ///
@@ -37,10 +36,7 @@ pub fn parts(
     for entry in entries.as_slice() {
         let low = &samples[entry.0 as usize];
         let high = &samples[entry.1 as usize];
-        parts.push(Part {
-            server: low.server,
-            interval: piece_interval(low, high, stretch.begin, stretch.end, claim.drift_ppb),
-        });
+        parts.push(part_of(low, high, stretch, claim.drift_ppb));
     }
     parts
 }
@@ -63,15 +59,4 @@ pub(crate) fn hull_of(
 {
     let parts = parts(samples, claim, stretch, entries);
     piece_hull(parts.as_slice(), claim.groups.as_slice(), claim.false_max)
-}
-
-/// Whether the hull shows that the error is no more than the bound to either side.
-pub(crate) fn is_inside(bound: i128, hull: Hull) -> bool
-    requires { pos 0 ≤ℤ bound }
-    ensures { result ≡ is_inside bound hull }
-{
-    match hull {
-        Hull::Bounded { lo, hi } => -bound <= lo && hi <= bound,
-        Hull::Unbounded | Hull::Empty => false,
-    }
 }

@@ -5,19 +5,21 @@ ghost use Rattle.claim_file.specs.Claim.{ClaimData, IsLawful};
 ghost use Rattle.sample_interval.specs.declared.kinds.Sample.{Sample};
 ghost use Rattle.checker.specs.Traceability.{HoldsError};
 ghost use Rattle.checker.specs.Verdict.{parts_after, parts_fault, hull_fault};
-ghost use Rattle.checker.specs.declared.stretch.Stretch.{Stretch};
+ghost use Rattle.span_cover.specs.declared.stretch.Stretch.{Stretch};
 ghost use Rattle.finder.specs.Entry.{best_entries, best_hull, parts_named};
 ghost use Rattle.finder.specs.Envelope.{EnvelopeData, IsCertified, IsGivenOf, IsLeast, IsNotCertified, envelope_of, least_of, with_bound};
 ghost use Rattle.finder.specs.Found.{found_of, hull_at};
 ghost use Rattle.finder.specs.Piece.{IsPieceCount, piece_count_of};
 ghost use Rattle.finder.specs.declared.least.LeastBound.{LeastBound};
 
-use checker::laws::{hulls_hold_the_error, narrower_parts_narrow, parts_are_of_samples};
+use checker::laws::{
+    hulls_hold_the_error, narrower_parts_narrow, parts_are_of_samples, pieces_give_the_verdict,
+};
 use era_unfold::laws::{
     nanoseconds_lie_between_their_ticks, ratios_are_rounded_as_little_as_can_be,
 };
 use intersection::kinds::Hull;
-use span_cover::laws::piece_inside_another_is_narrower;
+use span_cover::laws::{best_samples_are_the_first_best, piece_inside_another_is_narrower};
 
 /// The last of the pieces is the first that ends with the span.
 pub fn last_piece_ends_with_the_span()
@@ -37,7 +39,9 @@ pub fn best_entries_are_accepted()
         let entries = best_entries samples claim stretch in
         parts_fault claim (parts_after samples stretch claim.drift_ppb [] entries)
         ≡ hull_fault claim.bound (best_hull samples claim stretch) }
-{}
+{
+    best_samples_are_the_first_best();
+}
 
 /// In every course of events that fits, the error of the client's clock lies in the hull of a
 /// piece's best entries at every moment whose reading lies in the piece, inside a bound or not.
@@ -99,9 +103,11 @@ pub fn finer_pieces_need_no_wider_bound()
         fine.least ≡ LeastBound.NoneHolds k → hull_at samples claim step k ≡ Hull.Empty }
 {
     last_piece_ends_with_the_span();
+    best_samples_are_the_first_best();
     piece_inside_another_is_narrower();
     parts_are_of_samples();
     narrower_parts_narrow();
+    pieces_give_the_verdict();
     ratios_are_rounded_as_little_as_can_be();
     nanoseconds_lie_between_their_ticks();
 }

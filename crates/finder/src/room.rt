@@ -1,16 +1,20 @@
 //! The errors for which exchanges leave room.
 
-ghost use Rattle.std.specs.Prelude.{◌≡◌, ◌^◌, ◌<◌, ◌≤◌, ◌≤ℤ◌, ◌+ℤ◌, ◌-ℤ◌, ℤ, ℕ, pos, neg_ℤ, ◌||◌, not, unsigned_abs, length, All};
+ghost use Rattle.std.specs.Prelude.{◌≡◌, ◌^◌, ◌<◌, ◌≤◌, ◌≤ℤ◌, ◌+ℤ◌, ◌-ℤ◌, ℤ, ℕ, pos, neg_ℤ, not, unsigned_abs, filter, All};
 ghost use Rattle.claim_file.specs.Claim.{IsLawful, data_of as claim_data};
 ghost use Rattle.intersection.specs.Interval.{leaves_out};
 ghost use Rattle.pairing.specs.Exchange.{IsLawful as IsLawfulExchange};
 ghost use Rattle.sample_interval.specs.Exchange.{IsOfSomeClaim};
-ghost use Rattle.checker.specs.Groups.{false_group_count, holds_false};
+ghost use Rattle.span_cover.specs.Group.{numbers_below};
 ghost use Rattle.checker.specs.RefutationTest.{admits};
 ghost use Rattle.finder.specs.Room.{AreRooms, IsNear, possible_by, refused_by, room_at};
 
+use arrayvec::ArrayVec;
+use checker::false_group_count;
+use checker::laws::test_is_passed_where_room_is_left;
 use claim_file::Claim;
 use intersection::kinds::Interval;
+use intersection::meet;
 use pairing::Exchange;
 
 /// More ticks than an error that leaves room for an exchange, or that a refutation can have.
@@ -47,6 +51,7 @@ fn room_of(exchange: &Exchange, allowance: i128) -> Interval
     ensures low { unsigned_abs result.lo ≤ 2 ^ 80 }
     ensures high { unsigned_abs result.hi ≤ 2 ^ 80 }
 {
+    test_is_passed_where_room_is_left();
     let request = difference(exchange.t1_low, allowance);
     let reply = sum(exchange.t4_high, allowance);
     let earliest_receipt = difference(exchange.t2, exchange.distance);
@@ -82,23 +87,6 @@ fn difference(a: i128, b: i128) -> i128
     a - b
 }
 
-/// The points that two intervals share.
-fn meet(a: Interval, b: Interval) -> Interval
-    requires a_low { unsigned_abs a.lo ≤ 2 ^ 80 }
-    requires a_high { unsigned_abs a.hi ≤ 2 ^ 80 }
-    requires b_low { unsigned_abs b.lo ≤ 2 ^ 80 }
-    requires b_high { unsigned_abs b.hi ≤ 2 ^ 80 }
-    ensures leaves_out { (error : ℤ) →
-        leaves_out result error ≡ leaves_out a error || leaves_out b error }
-    ensures low { unsigned_abs result.lo ≤ 2 ^ 80 }
-    ensures high { unsigned_abs result.hi ≤ 2 ^ 80 }
-{
-    Interval {
-        lo: a.lo.max(b.lo),
-        hi: a.hi.min(b.hi),
-    }
-}
-
 /// The negatives of the errors.
 pub(crate) fn mirrored(rooms: &[Interval; 32]) -> [Interval; 32]
     requires low { (server : ℕ) → server < 32 →
@@ -128,31 +116,18 @@ pub(crate) fn is_refused(rooms: &[Interval; 32], error: i128, server: usize) -> 
     error < rooms[server].lo || rooms[server].hi < error
 }
 
-/// Whether a group holds a server that leaves no room for the error.
-fn is_group_false(rooms: &[Interval; 32], groups: &[u8], error: i128, group: usize) -> bool
-    requires { length groups.now ≤ 32 }
-    ensures { result ≡ holds_false groups.now (refused_by rooms.now error) group }
+/// The servers that leave no room for an error, in their order.
+pub(crate) fn refusing(rooms: &[Interval; 32], servers: u8, error: i128) -> ArrayVec<u8, 32>
+    requires { servers ≤ 32 }
+    ensures { result.items ≡ filter (refused_by rooms.now error) (numbers_below servers) }
 {
-    for server in 0..groups.len() {
-        if usize::from(groups[server]) == group && is_refused(rooms, error, server) {
-            return true;
+    let mut refusing = ArrayVec::new();
+    for server in 0..servers {
+        if is_refused(rooms, error, usize::from(server)) {
+            refusing.push(server);
         }
     }
-    false
-}
-
-/// How many groups hold a server that leaves no room for the error.
-fn false_group_count(rooms: &[Interval; 32], groups: &[u8], error: i128) -> usize
-    requires { length groups.now ≤ 32 }
-    ensures { result ≡ false_group_count groups.now (refused_by rooms.now error) }
-{
-    let mut count = 0;
-    for group in 0..groups.len() {
-        if is_group_false(rooms, groups, error, group) {
-            count += 1;
-        }
-    }
-    count
+    refusing
 }
 
 /// Whether at most `false_max` groups hold a server that leaves no room for the error.
@@ -160,5 +135,6 @@ pub(crate) fn is_possible(rooms: &[Interval; 32], claim: &Claim, error: i128) ->
     requires { IsLawful (claim_data claim.now) }
     ensures { result ≡ possible_by rooms.now (claim_data claim.now) error }
 {
-    false_group_count(rooms, claim.groups.as_slice(), error) <= usize::from(claim.false_max)
+    let liars = refusing(rooms, claim.servers.len() as u8, error);
+    false_group_count(claim.groups.as_slice(), liars.as_slice()) <= usize::from(claim.false_max)
 }

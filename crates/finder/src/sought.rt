@@ -1,18 +1,17 @@
 //! Refutations that are found.
 
-ghost use Rattle.std.specs.Prelude.{◌≡◌, ◌^◌, ◌<◌, ◌≤◌, ℤ, ℕ, pos, ◌≤ℤ◌, ◌<ℤ◌, unsigned_abs, List, length, filter, All, IsNone, IfSome, option_map};
+ghost use Rattle.std.specs.Prelude.{◌≡◌, ◌^◌, ◌<◌, ◌≤◌, ℤ, ℕ, pos, ◌≤ℤ◌, ◌<ℤ◌, unsigned_abs, List, length, All, IsNone, IfSome, option_map};
 ghost use Rattle.pairing.specs.declared.exchange.Exchange.{Exchange};
 ghost use Rattle.certificate.specs.Refutation.{data_of as refutation_data};
 ghost use Rattle.claim_file.specs.Claim.{IsLawful, data_of as claim_data};
 ghost use Rattle.pairing.specs.Exchange.{IsLawful as IsLawfulExchange};
-ghost use Rattle.checker.specs.Groups.{numbers_below};
-ghost use Rattle.finder.specs.Room.{AreRooms, possible_by, refused_by, room_at};
+ghost use Rattle.finder.specs.Room.{AreRooms, possible_by, room_at};
 ghost use Rattle.finder.specs.Sought.{IsErrorOf64Bits, IsNearest, IsSought, NoneIsRefuted};
 ghost use Rattle.finder.specs.Sought.{sought_error, sought_of};
 
-use crate::room::{is_possible, is_refused, mirrored, rooms_of};
-use arrayvec::ArrayVec;
+use crate::room::{is_possible, mirrored, refusing, rooms_of};
 use certificate::Refutation;
+use checker::laws::test_is_passed_where_room_is_left;
 use claim_file::Claim;
 use intersection::kinds::Interval;
 use pairing::Exchange;
@@ -38,6 +37,7 @@ pub fn find_refutation(exchanges: &[Exchange], claim: &Claim) -> Option<Refutati
     // With no other error, servers or reading is a refutation accepted.
     ensures none { IsNone result → NoneIsRefuted (claim_data claim.now) exchanges.now }
 {
+    test_is_passed_where_room_is_left();
     let rooms = rooms_of(exchanges, claim.reading);
     let error = error_sought(&rooms, claim)?;
     Some(Refutation {
@@ -94,18 +94,4 @@ fn nearest(rooms: &[Interval; 32], claim: &Claim, limit: i128) -> Option<i128>
         }
     }
     if first <= limit { Some(first) } else { None }
-}
-
-/// The servers that leave no room for an error, in their order.
-fn refusing(rooms: &[Interval; 32], servers: u8, error: i128) -> ArrayVec<u8, 32>
-    requires { servers ≤ 32 }
-    ensures { result.items ≡ filter (refused_by rooms.now error) (numbers_below servers) }
-{
-    let mut refusing = ArrayVec::new();
-    for server in 0..servers {
-        if is_refused(rooms, error, usize::from(server)) {
-            refusing.push(server);
-        }
-    }
-    refusing
 }

@@ -10,6 +10,7 @@ ghost use Rattle.finder.specs.Piece.{stretch_at};
 use crate::piece::piece_ends;
 use claim_file::Claim;
 use sample_interval::kinds::Sample;
+use span_cover::laws::first_best_of_both_ends_are_the_best;
 use std::alloc::{AllocError, Global};
 use sweep::{best_of_pieces, servers_of};
 
@@ -32,6 +33,7 @@ pub(crate) fn tables(
         filter_map (λ table. slice_get table.items k) tables.items
         ≡ best_entries samples.now (data_of claim.now) (stretch_at (data_of claim.now) step_s k)) }
 {
+    first_best_of_both_ends_are_the_best();
     let ends = piece_ends(alloc, claim.first, claim.last, step_s, count)?;
     let servers = servers_of(alloc, samples)?;
     let mut tables = Vec::new(alloc);

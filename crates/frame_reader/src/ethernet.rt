@@ -6,10 +6,10 @@ ghost use Rattle.frame_reader.specs.Frame.{link_skip, packet_of};
 use crate::bytes::word_at;
 use crate::skip::Skip;
 
-// The type of a tag (IEEE 802.1Q).
+/// The type of a tag (IEEE 802.1Q).
 const TAG: u16 = 0x8100;
 
-// The type of IPv4 (RFC 894).
+/// The type of IPv4 (RFC 894).
 const IPV4: u16 = 0x0800;
 
 /// What stands after the type, where that is IPv4.

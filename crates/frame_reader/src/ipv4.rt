@@ -6,9 +6,9 @@ ghost use Rattle.frame_reader.specs.Frame.{packet_skip, segment_of};
 use crate::bytes::word_at;
 use crate::skip::Skip;
 
-// The more-fragments flag and the fragment offset, in the word that also has the two other flags.
+/// The more-fragments flag and the fragment offset, in the word that also has the two other flags.
 const FRAGMENT: u16 = 0x3fff;
-// The protocol number of UDP.
+/// The protocol number of UDP.
 const UDP: u8 = 17;
 
 /// What stands after the header up to the total length, where that is an unfragmented UDP datagram.

@@ -1,3 +1,5 @@
+//! The root distance that a sender announces.
+
 ghost use Rattle.std.specs.Prelude.{◌≡◌, ◌^◌, ◌↔◌, ◌<ℤ◌, ◌≤ℤ◌, pos, IsNone, IfSome};
 ghost use Rattle.ntp_packet.specs.Header.{precision_of, precision_ticks_of, root_distance_of};
 

@@ -7,8 +7,8 @@ use crate::header::view;
 use crate::kinds::Packet;
 use frame_reader::datagram;
 
-/// The port of NTP, at the server's end.
-const NTP_PORT: u16 = 123;
+/// The port of NTP, at the server's end (RFC 5905, section 7.2).
+pub const NTP_PORT: u16 = 123;
 
 /// The NTP packet that a frame holds: a datagram from or to port 123 with a payload of at least 48
 /// bytes (RFC 5905, section 7.2). `None` comes for any other frame. It takes no memory.

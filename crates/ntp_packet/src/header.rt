@@ -1,3 +1,5 @@
+//! The header of an NTP packet.
+
 ghost use Rattle.std.specs.Prelude.{◌≡◌, ◌<◌, ◌↔◌, length, IsNone, IfSome};
 ghost use Rattle.ntp_packet.specs.Header.{header_of, leap_of, version_of, mode_of, stratum_of, poll_of, precision_of, root_delay_of, root_dispersion_of, reference_id_of, reference_of, origin_of, receive_of, transmit_of};
 

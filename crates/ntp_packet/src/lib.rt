@@ -12,5 +12,5 @@ mod header;
 pub mod kinds;
 pub mod laws;
 
-pub use frame::packet;
+pub use frame::{NTP_PORT, packet};
 pub use header::{NtpView, view};

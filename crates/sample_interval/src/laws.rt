@@ -16,7 +16,13 @@ ghost use Rattle.sample_interval.specs.Sample.{least_error, greatest_error, samp
 ghost use Rattle.sample_interval.specs.Widening.{IsWidening, widening, billion};
 ghost use Rattle.sample_interval.specs.Window.{request_start, request_end, reply_start, reply_end};
 
+use crate::widening::PARTS;
 use era_unfold::laws::ratios_are_rounded_as_little_as_can_be;
+
+/// The parts that the program counts a rate in are those of the definitions.
+pub fn parts_are_those_of_the_definitions()
+    ensures { PARTS ≡ billion }
+{}
 
 /// A drift that is bounded by true time is bounded by the clock's own readings too: from parts in
 /// 10^9 of true time to parts in 10^9 less the rate of what the clock shows.

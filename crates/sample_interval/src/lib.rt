@@ -20,4 +20,4 @@ mod window;
 
 pub use bounds::sample;
 pub use on_wire::{delay, offset};
-pub use widening::widen;
+pub use widening::{PARTS, widen};

@@ -44,7 +44,7 @@ pub fn delay(x: &Exchange, reading: i128) -> (i128, i128)
     )
 }
 
-// Twice the offset of four times.
+/// Twice the offset of four times.
 fn doubled_offset(t1: i128, t2: i128, t3: i128, t4: i128) -> i128
     requires t1 { unsigned_abs t1 ≤ 2 ^ 71 }
     requires t2 { unsigned_abs t2 ≤ 2 ^ 71 }
@@ -56,7 +56,7 @@ fn doubled_offset(t1: i128, t2: i128, t3: i128, t4: i128) -> i128
     elapsed(t1, t2) + elapsed(t4, t3)
 }
 
-// The delay of four times.
+/// The delay of four times.
 fn round_trip(t1: i128, t2: i128, t3: i128, t4: i128) -> i128
     requires t1 { unsigned_abs t1 ≤ 2 ^ 71 }
     requires t2 { unsigned_abs t2 ≤ 2 ^ 71 }
@@ -67,7 +67,7 @@ fn round_trip(t1: i128, t2: i128, t3: i128, t4: i128) -> i128
     elapsed(t1, t4) - elapsed(t2, t3)
 }
 
-// Half of a number, rounded down.
+/// Half of a number, rounded down.
 fn halved_down(twice: i128) -> i128
     requires { unsigned_abs twice ≤ 2 ^ 73 }
     ensures value { result ≡ half_down twice }
@@ -76,7 +76,7 @@ fn halved_down(twice: i128) -> i128
     twice.div_euclid(2)
 }
 
-// Half of a number, rounded up.
+/// Half of a number, rounded up.
 fn halved_up(twice: i128) -> i128
     requires { unsigned_abs twice ≤ 2 ^ 73 }
     ensures { result ≡ half_up twice }
@@ -84,7 +84,7 @@ fn halved_up(twice: i128) -> i128
     -halved_down(-twice)
 }
 
-// From one moment to another.
+/// From one moment to another.
 fn elapsed(from: i128, to: i128) -> i128
     requires from { unsigned_abs from ≤ 2 ^ 71 }
     requires to { unsigned_abs to ≤ 2 ^ 71 }

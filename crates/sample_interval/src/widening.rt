@@ -4,7 +4,8 @@ ghost use Rattle.sample_interval.specs.Widening.{IsWidening, widening};
 
 use crate::laws::widening_is_one_number;
 
-const PARTS: u128 = 1_000_000_000;
+/// A rate counts parts of so many: 10^9. It has the width in which ticks are multiplied.
+pub const PARTS: u128 = 1_000_000_000;
 
 /// The most that the error changes, in ticks and rounded up, while the clock advances by `distance`
 /// ticks: the least whole number W with `W * (10^9 - drift_ppb) >= drift_ppb * distance`.

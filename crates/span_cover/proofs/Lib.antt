@@ -1,3 +1,4 @@
 pub mod PieceLemmas
 pub mod BestLemmas
 pub mod GatheringLemmas
+pub mod GroupLemmas

@@ -1,4 +1,4 @@
--- The greatest distance between a place and a piece, and what it moves.
+-- The greatest distance between a window and a piece, and what it moves.
 use Rattle.std.proofs.Common.{◌≡◌, ℕ, ◌-◌, ◌*◌, ◌^◌, ◌<◌, ◌≤◌, ℤ, pos, ◌+ℤ◌, ◌-ℤ◌, ◌*ℤ◌, ◌≤ℤ◌, unsigned_abs}
 use Rattle.std.proofs.Common.{refl, ◌∙◌, arith, to_z, of_z, FitsSigned, negsuc}
 use mir.Syntax.{w128}
@@ -31,10 +31,10 @@ farthest-kept from to p q r a b piece fits e =
     let last = kept q (omega (arith, ints)) in
     to_z-of_z w128 r fits ∙ e ∙ rw (f, t, first, last) refl
 
--- no reading of the piece is further from the place
-pub within_farthest : (from to p q place reading : ℤ) → from ≤ℤ place → place ≤ℤ to → p ≤ℤ reading → reading ≤ℤ q →
-    pos (unsigned_abs (reading -ℤ place)) ≤ℤ farthest from to p q
-within_farthest from to p q place reading a b c d = omega (arith, ints, clamps)
+-- no reading of the piece is further from the moment
+pub within_farthest : (from to p q moment reading : ℤ) → from ≤ℤ moment → moment ≤ℤ to → p ≤ℤ reading → reading ≤ℤ q →
+    pos (unsigned_abs (reading -ℤ moment)) ≤ℤ farthest from to p q
+within_farthest from to p q moment reading a b c d = omega (arith, ints, clamps)
 
 farthest-narrower : (from to p q inner outer : ℤ) → from ≤ℤ to → p ≤ℤ inner → inner ≤ℤ outer → outer ≤ℤ q →
     unsigned_abs (farthest from to inner outer) ≤ unsigned_abs (farthest from to p q)
@@ -82,20 +82,20 @@ abs_times : (z : ℤ) (n : ℕ) → (z *ℤ pos n) ≤ℤ pos (unsigned_abs z * 
 abs_times (pos x) n = omega (arith, ints)
 abs_times (negsuc x) n = omega (arith, ints)
 
-between : (far place reading : ℤ) (most : ℕ) → far ≤ℤ pos most → (reading -ℤ place) ≤ℤ far → (place -ℤ reading) ≤ℤ far →
-    unsigned_abs (reading -ℤ place) ≤ most
-between far place reading most a b c = omega (arith, ints)
+between : (far moment reading : ℤ) (most : ℕ) → far ≤ℤ pos most → (reading -ℤ moment) ≤ℤ far → (moment -ℤ reading) ≤ℤ far →
+    unsigned_abs (reading -ℤ moment) ≤ most
+between far moment reading most a b c = omega (arith, ints)
 
--- readings in a place and in a piece are no further apart than n times the greatest distance
-apart : (n : ℕ) (from to p q place reading : ℤ) → IsInWindow n from to place → IsInWindow n p q reading →
-    unsigned_abs (reading -ℤ place) ≤ unsigned_abs (farthest from to p q) * n
-apart n from to p q place reading a b =
+-- readings in a window and in a piece are no further apart than n times the greatest distance
+apart : (n : ℕ) (from to p q moment reading : ℤ) → IsInWindow n from to moment → IsInWindow n p q reading →
+    unsigned_abs (reading -ℤ moment) ≤ unsigned_abs (farthest from to p q) * n
+apart n from to p q moment reading a b =
     let far = farthest from to p q in
     let onward = times-add q (q -ℤ from) from n (omega (arith, ints)) in
     let back = times-add to (to -ℤ p) p n (omega (arith, ints)) in
     let onward_far = times_le (q -ℤ from) far n (omega (arith, ints, clamps)) in
     let back_far = times_le (to -ℤ p) far n (omega (arith, ints, clamps)) in
-    between (far *ℤ pos n) place reading (unsigned_abs far * n) (abs_times far n)
+    between (far *ℤ pos n) moment reading (unsigned_abs far * n) (abs_times far n)
     (omega (arith, ints, a.0, b.1)) (omega (arith, ints, a.1, b.0))
 
 no_less : (moved low before after : ℤ) (wide : ℕ) → low ≡ moved +ℤ pos wide → low ≤ℤ before →
@@ -114,30 +114,30 @@ module _ (widens : HaveWidenings) (n ppb : ℕ) (p q : ℤ) (observed : Moment) 
     (inside : IsInWindow n p q observed.reading) where
   change_of_error : (from to : ℤ) (a : Moment) → IsInWindow n from to a.reading → DriftsWithinByReading ppb a observed →
       error_change a observed ≤ widening ppb (unsigned_abs (farthest from to p q)) * n
-  change_of_error from to a place drift =
+  change_of_error from to a window drift =
       let d : ℕ = unsigned_abs (farthest from to p q) in
       change_within n (billion - ppb) ppb (error_change a observed) (unsigned_abs (observed.reading -ℤ a.reading)) d
-      (widening ppb d) (omega arith) drift (apart n from to p q a.reading observed.reading place inside)
+      (widening ppb d) (omega arith) drift (apart n from to p q a.reading observed.reading window inside)
       (widens ppb d rate).not_below
 
   pub error_no_less : (sample : Sample) (request : Moment) →
       IsInWindow n sample.low_from sample.low_to request.reading → (sample.low *ℤ pos n) ≤ℤ error_of request →
       DriftsWithinByReading ppb request observed → (moved_low sample p q ppb *ℤ pos n) ≤ℤ error_of observed
   unfolding moved_low
-  error_no_less sample request place least drift =
+  error_no_less sample request window least drift =
       let w : ℕ = widening ppb (unsigned_abs (farthest sample.low_from sample.low_to p q)) in
       let parts = times-add sample.low (sample.low -ℤ pos w) (pos w) n (omega (arith, ints)) in
       no_less ((sample.low -ℤ pos w) *ℤ pos n) (sample.low *ℤ pos n) (error_of request) (error_of observed) (w * n)
       parts least
-      (change_of_error sample.low_from sample.low_to request place drift)
+      (change_of_error sample.low_from sample.low_to request window drift)
 
   pub error_no_more : (sample : Sample) (reply : Moment) →
       IsInWindow n sample.high_from sample.high_to reply.reading → error_of reply ≤ℤ (sample.high *ℤ pos n) →
       DriftsWithinByReading ppb reply observed → error_of observed ≤ℤ (moved_high sample p q ppb *ℤ pos n)
   unfolding moved_high
-  error_no_more sample reply place most drift =
+  error_no_more sample reply window most drift =
       let w : ℕ = widening ppb (unsigned_abs (farthest sample.high_from sample.high_to p q)) in
       let parts = times-add (sample.high +ℤ pos w) sample.high (pos w) n refl in
       no_more ((sample.high +ℤ pos w) *ℤ pos n) (sample.high *ℤ pos n) (error_of reply) (error_of observed) (w * n)
       parts most
-      (change_of_error sample.high_from sample.high_to reply place drift)
+      (change_of_error sample.high_from sample.high_to reply window drift)

@@ -7,8 +7,8 @@ use Rattle.std.specs.Prelude.{List, [], ◌∷◌, Option, None, Some, slice_get
 use Rattle.std.specs.Option.{option_map}
 use Rattle.sample_interval.specs.declared.kinds.Sample.{Sample}
 use Rattle.span_cover.specs.Piece.{moved_low, moved_high}
-use Rattle.span_cover.specs.declared.choice.End.{End}
-use Rattle.span_cover.specs.declared.choice.End.TheVariants.{Low, High}
+use Rattle.span_cover.specs.declared.choice.Side.{Side}
+use Rattle.span_cover.specs.declared.choice.Side.TheVariants.{Low, High}
 
 -- none of the samples is of this server
 abbrev pub HasNoSample : List Sample → ℕ → Type 0
@@ -52,7 +52,7 @@ abbrev pub first_best_of : (Sample → ℤ) → List Sample → ℕ → Option �
 first_best_of merit samples server = option_map (λ b. b.0) (best_from merit server 0 samples)
 
 -- how good a sample is for an end
-abbrev pub merit : End → Sample → ℤ → ℤ → ℕ → ℤ
+abbrev pub merit : Side → Sample → ℤ → ℤ → ℕ → ℤ
 merit Low sample p q ppb = moved_low sample p q ppb
 merit High sample p q ppb = neg_ℤ (moved_high sample p q ppb)
 

@@ -1,4 +1,6 @@
 pub mod Piece
 pub mod Best
 pub mod Step
+pub mod Part
+pub mod Group
 pub mod Gathering

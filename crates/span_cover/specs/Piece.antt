@@ -1,10 +1,10 @@
 -- What a server's samples say of the client's error throughout a piece of the span.
 --
 -- A piece runs from one reading of the clock to another, both included. A sample bounds the error
--- at a reading in its place, which is a window. At a reading of the piece the error differs from
+-- at a reading in its window. At a reading of the piece the error differs from
 -- that by the widening of the distance at most, and the distance is never more than the greatest
--- one between the place and the piece: from the place's begin to the piece's end, or from the
--- piece's begin to the place's end.
+-- one between the window and the piece: from the window's begin to the piece's end, or from the
+-- piece's begin to the window's end.
 use Rattle.std.specs.Prelude.{ℕ, ◌^◌, ℤ, pos, ◌+ℤ◌, ◌-ℤ◌, ◌≤ℤ◌, ◌<ℤ◌, unsigned_abs}
 use Rattle.std.specs.Int.{int_max}
 use Rattle.intersection.specs.declared.kinds.Interval.{Interval}
@@ -21,7 +21,7 @@ pub record IsPiece (p q : ℤ) : Type 0 where
 abbrev pub farthest : ℤ → ℤ → ℤ → ℤ → ℤ
 farthest from to p q = int_max (q -ℤ from) (to -ℤ p)
 
--- the most that the error changes between a place and a piece
+-- the most that the error changes between a window and a piece
 abbrev pub change : ℤ → ℤ → ℤ → ℤ → ℕ → ℤ
 change from to p q ppb = pos (widening ppb (unsigned_abs (farthest from to p q)))
 

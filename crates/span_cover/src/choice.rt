@@ -8,10 +8,13 @@ ghost use Rattle.span_cover.specs.Best.{IsBestLow, IsBestHigh, HasNoSample};
 use crate::piece::{lowered, raised};
 use sample_interval::kinds::Sample;
 
-/// Which end of a sample is asked for.
+/// Which side of the error is asked for: the low end of a sample bounds it from below, the high
+/// end from above.
 #[derive(Clone, Copy)]
-pub enum End {
+pub enum Side {
+    /// The low end.
     Low,
+    /// The high end.
     High,
 }
 
@@ -31,8 +34,8 @@ pub fn best(samples: &[Sample], server: u8, p: i128, q: i128, drift_ppb: u32) ->
     ensures low { IfSome result (λ chosen. IsBestLow samples.now server p q drift_ppb chosen.0) }
     ensures high { IfSome result (λ chosen. IsBestHigh samples.now server p q drift_ppb chosen.1) }
 {
-    let low = first_best(samples, server, End::Low, p, q, drift_ppb)?;
-    let high = first_best(samples, server, End::High, p, q, drift_ppb)?;
+    let low = first_best(samples, server, Side::Low, p, q, drift_ppb)?;
+    let high = first_best(samples, server, Side::High, p, q, drift_ppb)?;
     Some((low, high))
 }
 
@@ -40,7 +43,7 @@ pub fn best(samples: &[Sample], server: u8, p: i128, q: i128, drift_ppb: u32) ->
 fn first_best(
     samples: &[Sample],
     server: u8,
-    end: End,
+    side: Side,
     p: i128,
     q: i128,
     drift_ppb: u32,
@@ -49,14 +52,14 @@ fn first_best(
     requires few { length samples.now ≤ 1_000_000 }
     requires piece { IsPiece p q }
     requires rate { drift_ppb ≤ 500_000_000 }
-    ensures { result ≡ first_best_of (λ s. merit end s p q drift_ppb) samples.now server }
+    ensures { result ≡ first_best_of (λ s. merit side s p q drift_ppb) samples.now server }
 {
     let mut best: Option<(u32, i128)> = None;
     // From the last sample to the first, so that the first of those that agree is left.
     for number in (0..samples.len()).rev() {
         let sample = samples[number];
         if sample.server == server {
-            best = first_of(number as u32, &sample, end, p, q, drift_ppb, best);
+            best = first_of(number as u32, &sample, side, p, q, drift_ppb, best);
         }
     }
     best.map(|(number, _)| number)
@@ -66,7 +69,7 @@ fn first_best(
 fn first_of(
     number: u32,
     sample: &Sample,
-    end: End,
+    side: Side,
     p: i128,
     q: i128,
     drift_ppb: u32,
@@ -75,39 +78,39 @@ fn first_of(
     requires sample { IsLawfulSample sample.now }
     requires piece { IsPiece p q }
     requires rate { drift_ppb ≤ 500_000_000 }
-    ensures { result ≡ better number (merit end sample.now p q drift_ppb) later }
+    ensures { result ≡ better number (merit side sample.now p q drift_ppb) later }
 {
     // To be moved only takes merit away, so that most samples are passed over as they stand.
     if let Some((_, more)) = later {
-        if unmoved(sample, end) < more {
+        if unmoved(sample, side) < more {
             return later;
         }
     }
-    better_of(number, merit_of(sample, end, p, q, drift_ppb), later)
+    better_of(number, merit_of(sample, side, p, q, drift_ppb), later)
 }
 
 // How good the sample would be for this end if it weren't moved for the piece.
 #[tactic(auto, unfolding(crate::specs::Piece::moved_low, crate::specs::Piece::moved_high))]
-fn unmoved(sample: &Sample, end: End) -> i128
+fn unmoved(sample: &Sample, side: Side) -> i128
     requires { IsLawfulSample sample.now }
-    ensures { (p q : ℤ) (ppb : ℕ) → merit end sample.now p q ppb ≤ℤ result }
+    ensures { (p q : ℤ) (ppb : ℕ) → merit side sample.now p q ppb ≤ℤ result }
 {
-    match end {
-        End::Low => sample.low,
-        End::High => -sample.high,
+    match side {
+        Side::Low => sample.low,
+        Side::High => -sample.high,
     }
 }
 
 // How good the sample is for this end: more is narrower.
-fn merit_of(sample: &Sample, end: End, p: i128, q: i128, drift_ppb: u32) -> i128
+fn merit_of(sample: &Sample, side: Side, p: i128, q: i128, drift_ppb: u32) -> i128
     requires sample { IsLawfulSample sample.now }
     requires piece { IsPiece p q }
     requires rate { drift_ppb ≤ 500_000_000 }
-    ensures { result ≡ merit end sample.now p q drift_ppb }
+    ensures { result ≡ merit side sample.now p q drift_ppb }
 {
-    match end {
-        End::Low => lowered(sample, p, q, drift_ppb),
-        End::High => -raised(sample, p, q, drift_ppb),
+    match side {
+        Side::Low => lowered(sample, p, q, drift_ppb),
+        Side::High => -raised(sample, p, q, drift_ppb),
     }
 }
 

@@ -1,6 +1,6 @@
 //! What holds of the definitions. A law is a function that does nothing: its contract is the law,
 //! for every number.
-ghost use Rattle.std.specs.Prelude.{◌≡◌, List, Some, None, ℕ, ◌<◌, ◌≤◌, ℤ, pos, ◌-ℤ◌, ◌*ℤ◌, ◌≤ℤ◌, unsigned_abs};
+ghost use Rattle.std.specs.Prelude.{◌≡◌, List, Some, None, MatchOption, ℕ, ◌<◌, ◌≤◌, ℤ, pos, ◌-ℤ◌, ◌*ℤ◌, ◌≤ℤ◌, unsigned_abs};
 ghost use Rattle.intersection.specs.Fraction.{HoldsFraction};
 ghost use Rattle.sample_interval.specs.declared.kinds.Sample.{Sample};
 ghost use Rattle.sample_interval.specs.Moment.{Moment, error_of, DriftsWithinByReading, IsInWindow};
@@ -54,8 +54,17 @@ pub fn first_best_of_both_ends_are_the_best()
         HasNoSample samples server → best_of samples server p q ppb ≡ None }
 {}
 
-/// No reading of a piece is further from one of a place than the greatest distance.
+/// And the other way round: what the definition gives are the best samples, and it gives none only
+/// if the server has no sample.
+pub fn best_samples_are_the_first_best()
+    ensures { (samples : List Sample) (server : ℕ) (p q : ℤ) (ppb : ℕ) →
+        MatchOption (best_of samples server p q ppb) (HasNoSample samples server)
+        (λ best. IsBestLow samples server p q ppb best.0
+        × IsBestHigh samples server p q ppb best.1) }
+{}
+
+/// No reading of a piece is further from one of a window than the greatest distance.
 pub fn no_reading_is_farther()
-    ensures { (from to p q place reading : ℤ) → from ≤ℤ place → place ≤ℤ to → p ≤ℤ reading →
-        reading ≤ℤ q → pos (unsigned_abs (reading -ℤ place)) ≤ℤ farthest from to p q }
+    ensures { (from to p q moment reading : ℤ) → from ≤ℤ moment → moment ≤ℤ to → p ≤ℤ reading →
+        reading ≤ℤ q → pos (unsigned_abs (reading -ℤ moment)) ≤ℤ farthest from to p q }
 {}

@@ -1,10 +1,13 @@
-//! What samples say of the client's error over a piece of the span.
+//! What samples say about the client's error over a piece of the span.
 //!
 //! - [`piece_interval`] gives the interval in which the error lies throughout a piece, from a
 //!   sample for its low end and one for its high end.
 //! - [`best`] gives the samples of a server that make this interval narrowest.
 //! - [`BestSamples`] gives that interval of every server by one pass over samples, without a list.
 //! - [`piece_end`] gives the ends of pieces of equal length.
+//! - [`part_of`] gives the same interval as what a server says, a [`Part`], over a [`Stretch`].
+//! - [`piece_hull`] gives the hull of what several servers say, over their groups, and
+//!   [`is_inside`] whether it lies inside a bound.
 //!
 //! Each is exact by its contract, takes no memory and refuses nothing. [`laws`] has what holds of
 //! the definitions.
@@ -12,11 +15,17 @@
 
 mod choice;
 mod gathering;
+mod group;
 pub mod laws;
+mod part;
 mod piece;
 mod steps;
+mod stretch;
 
-pub use choice::best;
+pub use choice::{Side, best};
 pub use gathering::BestSamples;
+pub use group::{is_inside, piece_hull};
+pub use part::{Part, part_of};
 pub use piece::piece_interval;
 pub use steps::piece_end;
+pub use stretch::Stretch;

@@ -10,7 +10,7 @@ use sample_interval::widen;
 
 /// The interval in which the client's error lies throughout the piece of the readings `p` to `q`,
 /// where the samples' server isn't false: the low end of `low` and the high end of `high`, each
-/// moved outwards by the widening of the greatest distance between its place and the piece.
+/// moved outwards by the widening of the greatest distance between its window and the piece.
 ///
 /// `p` and `q` are Unix ticks, from 0 to below 2^64. The rate is up to 500,000,000 parts in 10^9.
 pub fn piece_interval(low: &Sample, high: &Sample, p: i128, q: i128, drift_ppb: u32) -> Interval
@@ -50,7 +50,7 @@ pub fn raised(sample: &Sample, p: i128, q: i128, drift_ppb: u32) -> i128
     sample.high + widen(drift_ppb, distance)
 }
 
-// The greatest distance between a place and a piece.
+// The greatest distance between a window and a piece.
 fn greatest_distance(from: i128, to: i128, p: i128, q: i128) -> i128
     requires from { unsigned_abs from ≤ 2 ^ 72 }
     requires to { unsigned_abs to ≤ 2 ^ 72 }

@@ -1,7 +1,7 @@
 mod ListLemmas
-mod BoundLemmas
+mod ExtremeLemmas
 mod PieceLemmas
-mod SpanLemmas
+mod StretchLemmas
 mod QueueLemmas
 mod TopLemmas
 mod RankingLemmas
@@ -9,5 +9,4 @@ mod PassageLemmas
 mod MirrorLemmas
 mod ReachLemmas
 mod ChoiceLemmas
-mod FirstBestLemmas
 mod MeritLemmas

@@ -1,52 +1,60 @@
 -- The best samples of each piece.
-use Rattle.std.proofs.Common.{◌≡◌, ℕ, ℤ, List, arith, get_or}
+use Rattle.std.proofs.Common.{◌≡◌, ℕ, ℤ, List, Some, arith, get_or}
 use Rattle.std.proofs.Common.{subst, sym, ◌∙◌}
 use Rattle.std.proofs.lemmas.Option.{slice_get-get_or, slice_get_within}
 use Rattle.sample_interval.specs.declared.kinds.Sample.{Sample}
-use Rattle.sweep.specs.Bound.{AreBoundsOf}
+use Rattle.span_cover.specs.Best.{IsBestLow, IsBestHigh, best_of}
+use Rattle.sweep.specs.Extreme.{AreExtremesOf}
 use Rattle.sweep.specs.Pieces.{AreBestOfPieces, ArePairsOf}
-use Rattle.sweep.specs.Span.{AreSpansOf, IsLawfulSpan}
+use Rattle.sweep.specs.Stretch.{AreStretchesOf, IsLawfulStretch}
 use Rattle.sweep.specs.Top.{AreTopNumbers}
-use Rattle.sweep.specs.declared.bound.Bound.{Bound}
-use Rattle.sweep.specs.declared.bound.End.TheVariants.{Low, High}
-use Rattle.sweep.specs.declared.span.Span.{Span}
-use Rattle.sweep.proofs.FirstBestLemmas.{best_of-is}
+use Rattle.sweep.specs.declared.extreme.Extreme.{Extreme}
+use Rattle.span_cover.specs.declared.choice.Side.TheVariants.{Low, High}
+use Rattle.sweep.specs.declared.stretch.Stretch.{Stretch}
 use Rattle.sweep.proofs.ListLemmas.{all_at}
 use Rattle.sweep.proofs.MeritLemmas.{IsFirstBest-top}
 
-pub AreBestOfPieces-tops : (samples : List Sample) (server : ℕ) (first : ℤ) (ends : List ℤ) (ppb : ℕ)
-    (lows highs : List Bound) (spans : List Span) (low_numbers high_numbers : List ℕ) (chosen : List (ℕ × ℕ)) →
-    AreBoundsOf Low samples server lows → AreBoundsOf High samples server highs → AreSpansOf first ends spans →
-    AreTopNumbers ppb lows spans low_numbers → AreTopNumbers ppb highs spans high_numbers →
-    ArePairsOf low_numbers high_numbers chosen → AreBestOfPieces samples server first ends ppb chosen
-AreBestOfPieces-tops samples server first ends ppb lows highs spans low_numbers high_numbers chosen are_low are_high
-    are_spans low_tops high_tops pairs = record {
-      as_many = pairs.as_many ∙ low_tops.as_many ∙ are_spans.as_many;
-      best = λ k p q at.
-          let within = slice_get_within ends k q at.ends_at in
-          let span : Span = get_or spans k (record { begin = 0; end = 0 }) in
-          let here = slice_get-get_or spans k (record { begin = 0; end = 0 }) (omega (arith, are_spans.as_many)) in
-          let is_span = are_spans.each k p q span at here in
-          let lawful = all_at IsLawfulSpan spans k span are_spans.lawful here in
-          let low : ℕ = get_or low_numbers k 0 in
-          let low_at = slice_get-get_or low_numbers k 0 (omega (arith, are_spans.as_many, low_tops.as_many)) in
-          let high : ℕ = get_or high_numbers k 0 in
-          let high_at = slice_get-get_or high_numbers k 0 (omega (arith, are_spans.as_many, high_tops.as_many)) in
-          pairs.each k low high low_at high_at
-          ∙ sym (best_of-is samples server p q ppb low high
-          (IsFirstBest-top Low samples server lows are_low p q ppb span is_span lawful low
-          (low_tops.each k span low here low_at))
-          (IsFirstBest-top High samples server highs are_high p q ppb span is_span lawful high
-          (high_tops.each k span high here high_at)));
-    }
+-- whoever has the first best for both ends has the best samples: a law of the crate below
+abbrev pub BestLaw : Type 0
+BestLaw = (samples : List Sample) (server : ℕ) (p q : ℤ) (ppb low high : ℕ) →
+    IsBestLow samples server p q ppb low → IsBestHigh samples server p q ppb high →
+    best_of samples server p q ppb ≡ Some (low, high)
+
+module _ (law : BestLaw) (samples : List Sample) (server : ℕ) (first : ℤ) (ends : List ℤ) (ppb : ℕ)
+    (lows highs : List Extreme) (are_low : AreExtremesOf Low samples server lows)
+    (are_high : AreExtremesOf High samples server highs) (stretches : List Stretch)
+    (are_stretches : AreStretchesOf first ends stretches) where
+  pub AreBestOfPieces-tops : (low_numbers high_numbers : List ℕ) (chosen : List (ℕ × ℕ)) →
+      AreTopNumbers ppb lows stretches low_numbers → AreTopNumbers ppb highs stretches high_numbers →
+      ArePairsOf low_numbers high_numbers chosen → AreBestOfPieces samples server first ends ppb chosen
+  AreBestOfPieces-tops low_numbers high_numbers chosen low_tops high_tops pairs = record {
+    as_many = pairs.as_many ∙ low_tops.as_many ∙ are_stretches.as_many;
+    best = λ k p q at.
+        let within = slice_get_within ends k q at.ends_at in
+        let default : Stretch = record { begin = 0; end = 0 } in
+        let stretch : Stretch = get_or stretches k default in
+        let here = slice_get-get_or stretches k default (omega (arith, are_stretches.as_many)) in
+        let is_stretch = are_stretches.each k p q stretch at here in
+        let lawful = all_at IsLawfulStretch stretches k stretch are_stretches.lawful here in
+        let low : ℕ = get_or low_numbers k 0 in
+        let low_at = slice_get-get_or low_numbers k 0 (omega (arith, are_stretches.as_many, low_tops.as_many)) in
+        let high : ℕ = get_or high_numbers k 0 in
+        let high_at = slice_get-get_or high_numbers k 0 (omega (arith, are_stretches.as_many, high_tops.as_many)) in
+        pairs.each k low high low_at high_at
+        ∙ sym (law samples server p q ppb low high
+        (IsFirstBest-top Low samples server lows are_low p q ppb stretch is_stretch lawful low
+        (low_tops.each k stretch low here low_at))
+        (IsFirstBest-top High samples server highs are_high p q ppb stretch is_stretch lawful high
+        (high_tops.each k stretch high here high_at)));
+  }
 
 -- the same of lists that were lent
-pub AreTopNumbers-lent : (ppb : ℕ) (lent bounds : List Bound) (lent_spans spans : List Span) (numbers : List ℕ) →
-    lent ≡ bounds → lent_spans ≡ spans → AreTopNumbers ppb lent lent_spans numbers →
-    AreTopNumbers ppb bounds spans numbers
-AreTopNumbers-lent ppb lent bounds lent_spans spans numbers a b is =
-    subst (λ (s : List Span). AreTopNumbers ppb bounds s numbers) b
-    (subst (λ (x : List Bound). AreTopNumbers ppb x lent_spans numbers) a is)
+pub AreTopNumbers-lent : (ppb : ℕ) (lent extremes : List Extreme) (lent_stretches stretches : List Stretch) (numbers : List ℕ) →
+    lent ≡ extremes → lent_stretches ≡ stretches → AreTopNumbers ppb lent lent_stretches numbers →
+    AreTopNumbers ppb extremes stretches numbers
+AreTopNumbers-lent ppb lent extremes lent_stretches stretches numbers a b is =
+    subst (λ (s : List Stretch). AreTopNumbers ppb extremes s numbers) b
+    (subst (λ (x : List Extreme). AreTopNumbers ppb x lent_stretches numbers) a is)
 
 pub ArePairsOf-lent : (lent_lows lows lent_highs highs : List ℕ) (pairs : List (ℕ × ℕ)) → lent_lows ≡ lows →
     lent_highs ≡ highs → ArePairsOf lent_lows lent_highs pairs → ArePairsOf lows highs pairs

@@ -1,4 +1,4 @@
--- The arrivals of bounds, in order.
+-- The arrivals of extremes, in order.
 use Rattle.std.proofs.Common.{◌≡◌, ℕ, zero, suc, ◌+◌, ◌-◌, ◌*◌, ◌<◌, ◌≤◌, Bool, false, nat_eq}
 use Rattle.std.proofs.Common.{List, [], ◌∷◌, ◌++◌, length, Some, refl}
 use Rattle.std.proofs.Common.{arith, subst, get_or, ⊎_elim, sym, ◌∙◌, ap}
@@ -11,16 +11,16 @@ use Rattle.std.proofs.lemmas.Map.Keys.{IsDistinct-IsPermutation, IsDistinct-head
 use Rattle.std.proofs.lemmas.Option.{slice_get-get_or, slice_get_within, same_Some, get_or_from_slice_get}
 use Rattle.std.proofs.Math.Nat.{mul-le-mul_right}
 use Rattle.sample_interval.specs.Widening.{billion}
-use Rattle.sweep.specs.Bound.{IsLawfulBound}
+use Rattle.sweep.specs.Extreme.{IsLawfulExtreme}
 use Rattle.sweep.specs.Queue.{IsArrivalOf, IsArrivalAt, AreArrivalsOf, ArriveOnce, IsQueueOf}
-use Rattle.sweep.specs.declared.bound.Bound.{Bound}
+use Rattle.sweep.specs.declared.extreme.Extreme.{Extreme}
 use Rattle.sweep.specs.declared.queue.Arrival.{Arrival}
 use Rattle.sweep.proofs.ListLemmas.{pushed_cases}
 
-abbrev same_place : Arrival → Arrival → Bool
-same_place a b = nat_eq a.place b.place
+abbrev same_index : Arrival → Arrival → Bool
+same_index a b = nat_eq a.index b.index
 
-flips : (a b : Arrival) → same_place a b ≡ same_place b a
+flips : (a b : Arrival) → same_index a b ≡ same_index b a
 flips a b = grind (arith, nat_tests)
 
 all_by_recursion : {X : Type 0} (P : X → Type 0) (xs : List X) → ((i : ℕ) (x : X) → slice_get xs i ≡ Some x → P x) →
@@ -34,33 +34,33 @@ by_recursion_at P [] all i x is = absurd cc
 by_recursion_at P (y ∷ xs) all zero x is = subst P (same_Some y x is) all.0
 by_recursion_at P (y ∷ xs) all (suc i) x is = by_recursion_at P xs all.1 i x is
 
-none_distinct : IsDistinct same_place []
+none_distinct : IsDistinct same_index []
 unfolding IsDistinct
 none_distinct = tt
 
--- arrivals whose places count up from n are distinct
+-- arrivals whose indexes count up from n are distinct
 counted_distinct : (n : ℕ) (arrivals : List Arrival) →
-    ((i : ℕ) (a : Arrival) → slice_get arrivals i ≡ Some a → a.place ≡ n + i) → IsDistinct same_place arrivals
+    ((i : ℕ) (a : Arrival) → slice_get arrivals i ≡ Some a → a.index ≡ n + i) → IsDistinct same_index arrivals
 counted_distinct n [] count = none_distinct
 counted_distinct n (x ∷ arrivals) count =
-    IsDistinct-cons same_place x arrivals
-    (all_by_recursion (λ a. same_place x a ≡ false) arrivals
-    (λ i a is. differ x.place a.place i (count zero x refl) (count (suc i) a is)))
+    IsDistinct-cons same_index x arrivals
+    (all_by_recursion (λ a. same_index x a ≡ false) arrivals
+    (λ i a is. differ x.index a.index i (count zero x refl) (count (suc i) a is)))
     (counted_distinct (n + 1) arrivals (λ i a is. let at = count (suc i) a is in omega arith))
   where
     differ : (j k i : ℕ) → j ≡ n + 0 → k ≡ n + suc i → nat_eq j k ≡ false
     differ j k i a b = grind (arith, nat_tests)
 
-distinct_differ : (queue : List Arrival) → IsDistinct same_place queue → (i j : ℕ) (a b : Arrival) → i < j →
-    slice_get queue i ≡ Some a → slice_get queue j ≡ Some b → same_place a b ≡ false
+distinct_differ : (queue : List Arrival) → IsDistinct same_index queue → (i j : ℕ) (a b : Arrival) → i < j →
+    slice_get queue i ≡ Some a → slice_get queue j ≡ Some b → same_index a b ≡ false
 distinct_differ [] distinct i j a b less at_i at_j = absurd cc
 distinct_differ (x ∷ queue) distinct zero zero a b less at_i at_j = absurd (omega arith)
 distinct_differ (x ∷ queue) distinct zero (suc j) a b less at_i at_j =
-    subst (λ (y : Arrival). same_place y b ≡ false) (same_Some x a at_i)
-    (by_recursion_at (λ y. same_place x y ≡ false) queue (IsDistinct-head same_place x queue distinct) j b at_j)
+    subst (λ (y : Arrival). same_index y b ≡ false) (same_Some x a at_i)
+    (by_recursion_at (λ y. same_index x y ≡ false) queue (IsDistinct-head same_index x queue distinct) j b at_j)
 distinct_differ (x ∷ queue) distinct (suc i) zero a b less at_i at_j = absurd (omega arith)
 distinct_differ (x ∷ queue) distinct (suc i) (suc j) a b less at_i at_j =
-    distinct_differ queue (IsDistinct-tail same_place x queue distinct) i j a b (omega arith) at_i at_j
+    distinct_differ queue (IsDistinct-tail same_index x queue distinct) i j a b (omega arith) at_i at_j
 
 not_same : (j k : ℕ) → nat_eq j k ≡ false → j ≡ k → ⊥
 not_same j k test same = grind (arith, nat_tests)
@@ -72,33 +72,33 @@ contains_at xs i x is = (i, slice_get_within xs i x is, get_or_from_slice_get xs
 at_contains : {X : Type 0} (xs : List X) (x : X) → Contains xs x → (i : ℕ) × (slice_get xs i ≡ Some x)
 at_contains xs x there = (there.0, slice_get-get_or xs there.0 x there.1 ∙ ap Some there.2)
 
-module _ (ppb : ℕ) (bounds : List Bound) (arrivals queue : List Arrival) (are : AreArrivalsOf ppb bounds arrivals)
+module _ (ppb : ℕ) (extremes : List Extreme) (arrivals queue : List Arrival) (are : AreArrivalsOf ppb extremes arrivals)
     (moved : IsPermutation arrivals queue) (sorted : IsNonDecreasingBy (λ a. a.at) queue) where
   back : (i : ℕ) (a : Arrival) → slice_get queue i ≡ Some a → (j : ℕ) × (slice_get arrivals j ≡ Some a)
   back i a is =
       at_contains arrivals a
       (Contains-permutation queue arrivals a (IsPermutation-sym arrivals queue moved) (contains_at queue i a is))
 
-  each : (i : ℕ) (a : Arrival) → slice_get queue i ≡ Some a → IsArrivalOf ppb bounds a
+  each : (i : ℕ) (a : Arrival) → slice_get queue i ≡ Some a → IsArrivalOf ppb extremes a
   each i a is = let there = back i a is in (are.each there.0 a there.1).1
 
-  all : (place : ℕ) (bound : Bound) → slice_get bounds place ≡ Some bound →
-      (i : ℕ) × (a : Arrival) × (slice_get queue i ≡ Some a) × (a.place ≡ place)
-  all place bound is =
-      let within = slice_get_within bounds place bound is in
-      let a : Arrival = get_or arrivals place (record { at = 0; height = 0; place = 0 }) in
-      let stands = slice_get-get_or arrivals place (record { at = 0; height = 0; place = 0 })
+  all : (index : ℕ) (extreme : Extreme) → slice_get extremes index ≡ Some extreme →
+      (i : ℕ) × (a : Arrival) × (slice_get queue i ≡ Some a) × (a.index ≡ index)
+  all index extreme is =
+      let within = slice_get_within extremes index extreme is in
+      let a : Arrival = get_or arrivals index (record { at = 0; height = 0; index = 0 }) in
+      let stands = slice_get-get_or arrivals index (record { at = 0; height = 0; index = 0 })
       (omega (arith, are.as_many)) in
       let there = at_contains queue a
-      (Contains-permutation arrivals queue a moved (contains_at arrivals place a stands)) in
-      (there.0, a, there.1, (are.each place a stands).0)
+      (Contains-permutation arrivals queue a moved (contains_at arrivals index a stands)) in
+      (there.0, a, there.1, (are.each index a stands).0)
 
   once : ArriveOnce queue
   once = record {
     once = λ i j a b less at_i at_j same.
-        not_same a.place b.place
+        not_same a.index b.index
         (distinct_differ queue
-        (IsDistinct-IsPermutation same_place flips arrivals queue moved
+        (IsDistinct-IsPermutation same_index flips arrivals queue moved
         (counted_distinct 0 arrivals (λ k x is. let at = (are.each k x is).0 in omega arith)))
         i j a b less at_i at_j)
         same;
@@ -113,40 +113,40 @@ module _ (ppb : ℕ) (bounds : List Bound) (arrivals queue : List Arrival) (are 
       let last : get_or queue j a ≡ b = get_or_from_slice_get queue j b a at_j in
       subst (λ (x : Arrival). a.at ≤ x.at) last (subst (λ (x : Arrival). x.at ≤ (get_or queue j a).at) first rise)
 
-  pub IsQueueOf-sorted : IsQueueOf ppb bounds queue
+  pub IsQueueOf-sorted : IsQueueOf ppb extremes queue
   IsQueueOf-sorted = record { each = each; all = all; once = once; in_order = in_order }
 
 -- ---- the arrivals one by one
-pub record ArrivalsSoFar (ppb : ℕ) (bounds : List Bound) (n : ℕ) (arrivals : List Arrival) : Type 0 where
+pub record ArrivalsSoFar (ppb : ℕ) (extremes : List Extreme) (n : ℕ) (arrivals : List Arrival) : Type 0 where
   pub as_many : length arrivals ≡ n
-  pub each : (i : ℕ) (a : Arrival) → slice_get arrivals i ≡ Some a → IsArrivalAt ppb bounds i a
+  pub each : (i : ℕ) (a : Arrival) → slice_get arrivals i ≡ Some a → IsArrivalAt ppb extremes i a
 
-pub ArrivalsSoFar-more : (ppb : ℕ) (bounds : List Bound) (n : ℕ) (arrivals : List Arrival) (a : Arrival) →
-    ArrivalsSoFar ppb bounds n arrivals → IsArrivalAt ppb bounds n a →
-    ArrivalsSoFar ppb bounds (n + 1) (arrivals ++ a ∷ [])
-ArrivalsSoFar-more ppb bounds n arrivals a so_far here = record {
+pub ArrivalsSoFar-more : (ppb : ℕ) (extremes : List Extreme) (n : ℕ) (arrivals : List Arrival) (a : Arrival) →
+    ArrivalsSoFar ppb extremes n arrivals → IsArrivalAt ppb extremes n a →
+    ArrivalsSoFar ppb extremes (n + 1) (arrivals ++ a ∷ [])
+ArrivalsSoFar-more ppb extremes n arrivals a so_far here = record {
   as_many = omega (arith, length-append arrivals (a ∷ []), so_far.as_many);
   each = λ i x is. ⊎_elim
       (λ old. so_far.each i x old)
       (λ new.
       let same : n ≡ i = sym (new.0 ∙ so_far.as_many) in
-      subst (λ (y : Arrival). IsArrivalAt ppb bounds i y) (sym new.1)
-      (subst (λ (k : ℕ). IsArrivalAt ppb bounds k a) same here))
+      subst (λ (y : Arrival). IsArrivalAt ppb extremes i y) (sym new.1)
+      (subst (λ (k : ℕ). IsArrivalAt ppb extremes k a) same here))
       (pushed_cases arrivals a x i is);
 }
 
 -- the arrival that the code makes
-pub arrival_here : (ppb rate place : ℕ) (bounds : List Bound) (bound : Bound) → ppb ≤ 500000000 → rate ≡ ppb →
-    slice_get bounds place ≡ Some bound → IsLawfulBound bound →
-    IsArrivalAt ppb bounds place (record {
-      at = bound.from + bound.to;
-      height = (billion - rate) * bound.end + rate * bound.from;
-      place = place;
+pub arrival_here : (ppb rate index : ℕ) (extremes : List Extreme) (extreme : Extreme) → ppb ≤ 500000000 → rate ≡ ppb →
+    slice_get extremes index ≡ Some extreme → IsLawfulExtreme extreme →
+    IsArrivalAt ppb extremes index (record {
+      at = extreme.from + extreme.to;
+      height = (billion - rate) * extreme.end + rate * extreme.from;
+      index = index;
     })
-arrival_here ppb rate place bounds bound slow same stands lawful = (
+arrival_here ppb rate index extremes extreme slow same stands lawful = (
   refl,
-  record { bound = bound; stands = stands; at = refl; height = rw same refl },
-  (let scaled : (billion - rate) * bound.end ≤ billion * bound.end = mul-le-mul_right bound.end (omega arith) in
-      let moved : rate * bound.from ≤ 500000000 * bound.from = mul-le-mul_right bound.from (omega arith) in
+  record { extreme = extreme; stands = stands; at = refl; height = rw same refl },
+  (let scaled : (billion - rate) * extreme.end ≤ billion * extreme.end = mul-le-mul_right extreme.end (omega arith) in
+      let moved : rate * extreme.from ≤ 500000000 * extreme.from = mul-le-mul_right extreme.from (omega arith) in
       omega (arith, lawful.greatest_end, lawful.in_order, lawful.ends)),
 )

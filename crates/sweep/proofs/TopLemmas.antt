@@ -13,23 +13,23 @@ use Rattle.ranking.specs.Ranking.{IsGreatest, AllBelow, IsLeastNumber}
 use Rattle.sweep.specs.Top.{IsTop, IsTopOf, HasHeight, height_for, is_above, higher_of}
 use Rattle.sweep.specs.declared.top.Top.{Top}
 
--- places that reach the same levels have the same top
+-- indexes that reach the same levels have the same top
 pub same_top : (first second : ℕ → ℕ → Type 0) (top : Option Top) →
-    ((place level : ℕ) → first place level → second place level) →
-    ((place level : ℕ) → second place level → first place level) → IsTopOf first top → IsTopOf second top
-same_top first second None there back none = λ place level reaches. none place level (back place level reaches)
+    ((index level : ℕ) → first index level → second index level) →
+    ((index level : ℕ) → second index level → first index level) → IsTopOf first top → IsTopOf second top
+same_top first second None there back none = λ index level reaches. none index level (back index level reaches)
 same_top first second (Some top) there back is = record {
-  reached = there top.place top.level is.reached;
-  highest = λ place level reaches. is.highest place level (back place level reaches);
-  first = λ place reaches. is.first place (back place top.level reaches);
+  reached = there top.index top.level is.reached;
+  highest = λ index level reaches. is.highest index level (back index level reaches);
+  first = λ index reaches. is.first index (back index top.level reaches);
 }
 
 -- ---- of a ranking
 module _ (held : List (Option ℤ)) (ppb end : ℕ) where
   pub top-below_zero : (greatest : ℤ) → IsGreatest held greatest → greatest <ℤ pos 0 →
       IsTopOf (HasHeight ppb held end) None
-  top-below_zero greatest is below = λ place level has.
-      let most = is.at_most place has.value has.is_held in
+  top-below_zero greatest is below = λ index level has.
+      let most = is.at_most index has.value has.is_held in
       let enough = has.at_least in
       absurd (omega (arith, ints))
 
@@ -37,8 +37,8 @@ module _ (held : List (Option ℤ)) (ppb end : ℕ) where
   pub top-no_room : (greatest : ℤ) → IsGreatest held greatest → pos 0 ≤ℤ greatest →
       (unsigned_abs greatest < ppb * end) →
       IsTopOf (HasHeight ppb held end) None
-  top-no_room greatest is from_zero short = λ place level has.
-      let most = is.at_most place has.value has.is_held in
+  top-no_room greatest is from_zero short = λ index level has.
+      let most = is.at_most index has.value has.is_held in
       let enough = has.at_least in
       absurd (omega (arith, ints))
 
@@ -51,12 +51,12 @@ module _ (held : List (Option ℤ)) (ppb end : ℕ) where
         none is.reached.0
         (record { value = greatest; is_held = is.reached.1; at_least = omega (arith, ints, fits) })
 
-    pub top-found : (place : ℕ) → IsLeastNumber held (pos (height_for ppb end (room / (billion - ppb)))) place →
-        IsTop (HasHeight ppb held end) (record { level = room / (billion - ppb); place = place })
-    top-found place least = record {
+    pub top-found : (index : ℕ) → IsLeastNumber held (pos (height_for ppb end (room / (billion - ppb)))) index →
+        IsTop (HasHeight ppb held end) (record { level = room / (billion - ppb); index = index })
+    top-found index least = record {
       reached = least.reaches;
       highest = highest;
-      first = λ other has. ⊎_elim (λ below. absurd (least.first other below has)) (λ le. le) (cases_lt other place);
+      first = λ other has. ⊎_elim (λ below. absurd (least.first other below has)) (λ le. le) (cases_lt other index);
     }
       where
         highest : (other level : ℕ) → HasHeight ppb held end other level → level ≤ room / (billion - ppb)
@@ -81,73 +81,73 @@ module _ (held : List (Option ℤ)) (ppb end : ℕ) where
           subst (λ (r : ℕ). ¬ AllBelow held (asked r)) (sym same)
           (subst (λ (z : ℤ). ¬ AllBelow held z) (sym asked-is) top-some_number)
 
-      pub top-asked : (place : ℕ) → IsLeastNumber held (asked divisor) place →
-          IsTop (HasHeight ppb held end) (record { level = room / (billion - divisor); place = place })
-      top-asked place =
-          subst (λ (r : ℕ). IsLeastNumber held (asked r) place →
-          IsTop (HasHeight ppb held end) (record { level = room / (billion - r); place = place })) (sym same)
-          (λ least. top-found place (subst (λ (z : ℤ). IsLeastNumber held z place) asked-is least))
+      pub top-asked : (index : ℕ) → IsLeastNumber held (asked divisor) index →
+          IsTop (HasHeight ppb held end) (record { level = room / (billion - divisor); index = index })
+      top-asked index =
+          subst (λ (r : ℕ). IsLeastNumber held (asked r) index →
+          IsTop (HasHeight ppb held end) (record { level = room / (billion - r); index = index })) (sym same)
+          (λ least. top-found index (subst (λ (z : ℤ). IsLeastNumber held z index) asked-is least))
 
 -- ---- of two
 above : (one other : Top) → is_above other one ≡ true →
-    (one.level < other.level) ⊎ ((one.level ≡ other.level) × (other.place < one.place))
+    (one.level < other.level) ⊎ ((one.level ≡ other.level) × (other.index < one.index))
 above one other h = grind (arith, nat_tests)
 
 not_above : (one other : Top) → is_above other one ≡ false →
-    (other.level < one.level) ⊎ ((one.level ≡ other.level) × (one.place ≤ other.place))
+    (other.level < one.level) ⊎ ((one.level ≡ other.level) × (one.index ≤ other.index))
 not_above one other h = grind (arith, nat_tests)
 
 module _ (first second : ℕ → ℕ → Type 0) where
   abbrev pub Either : ℕ → ℕ → Type 0
-  Either place level = first place level ⊎ second place level
+  Either index level = first index level ⊎ second index level
 
   one_wins : (one other : Top) → IsTop first one → IsTop second other →
-      (one.level < other.level → ⊥) → (one.level ≡ other.level → one.place ≤ other.place) → IsTop Either one
+      (one.level < other.level → ⊥) → (one.level ≡ other.level → one.index ≤ other.index) → IsTop Either one
   one_wins one other a b no_lower no_later = record {
     reached = inl a.reached;
-    highest = λ place level. ⊎_elim
-        (λ reaches. a.highest place level reaches)
-        (λ reaches. let under = b.highest place level reaches in omega arith);
-    first = λ place. ⊎_elim
-        (λ reaches. a.first place reaches)
+    highest = λ index level. ⊎_elim
+        (λ reaches. a.highest index level reaches)
+        (λ reaches. let under = b.highest index level reaches in omega arith);
+    first = λ index. ⊎_elim
+        (λ reaches. a.first index reaches)
         (λ reaches.
-        let under = b.highest place one.level reaches in
+        let under = b.highest index one.level reaches in
         let same : one.level ≡ other.level = omega arith in
-        let later = b.first place (subst (second place) same reaches) in
+        let later = b.first index (subst (second index) same reaches) in
         let before = no_later same in
         omega arith);
   }
 
   other_wins : (one other : Top) → IsTop first one → IsTop second other →
-      (other.level < one.level → ⊥) → (one.level ≡ other.level → other.place ≤ one.place) → IsTop Either other
+      (other.level < one.level → ⊥) → (one.level ≡ other.level → other.index ≤ one.index) → IsTop Either other
   other_wins one other a b no_lower no_later = record {
     reached = inr b.reached;
-    highest = λ place level. ⊎_elim
-        (λ reaches. let under = a.highest place level reaches in omega arith)
-        (λ reaches. b.highest place level reaches);
-    first = λ place. ⊎_elim
+    highest = λ index level. ⊎_elim
+        (λ reaches. let under = a.highest index level reaches in omega arith)
+        (λ reaches. b.highest index level reaches);
+    first = λ index. ⊎_elim
         (λ reaches.
-        let under = a.highest place other.level reaches in
+        let under = a.highest index other.level reaches in
         let same : one.level ≡ other.level = omega arith in
-        let later = a.first place (subst (first place) (sym same) reaches) in
+        let later = a.first index (subst (first index) (sym same) reaches) in
         let before = no_later same in
         omega arith)
-        (λ reaches. b.first place reaches);
+        (λ reaches. b.first index reaches);
   }
 
   -- the higher of two tops is the top of both
   pub top-higher_of : (one other : Option Top) → IsTopOf first one → IsTopOf second other →
       IsTopOf Either (higher_of one other)
-  top-higher_of None None a b = λ place level. ⊎_elim (a place level) (b place level)
+  top-higher_of None None a b = λ index level. ⊎_elim (a index level) (b index level)
   top-higher_of None (Some other) a b = record {
     reached = inr b.reached;
-    highest = λ place level. ⊎_elim (λ reaches. absurd (a place level reaches)) (b.highest place level);
-    first = λ place. ⊎_elim (λ reaches. absurd (a place other.level reaches)) (b.first place);
+    highest = λ index level. ⊎_elim (λ reaches. absurd (a index level reaches)) (b.highest index level);
+    first = λ index. ⊎_elim (λ reaches. absurd (a index other.level reaches)) (b.first index);
   }
   top-higher_of (Some one) None a b = record {
     reached = inl a.reached;
-    highest = λ place level. ⊎_elim (a.highest place level) (λ reaches. absurd (b place level reaches));
-    first = λ place. ⊎_elim (a.first place) (λ reaches. absurd (b place one.level reaches));
+    highest = λ index level. ⊎_elim (a.highest index level) (λ reaches. absurd (b index level reaches));
+    first = λ index. ⊎_elim (a.first index) (λ reaches. absurd (b index one.level reaches));
   }
   top-higher_of (Some one) (Some other) a b =
       elim (is_above other one) as (λ t. is_above other one ≡ t →

@@ -1,5 +1,5 @@
-pub mod Bound
+pub mod Extreme
 pub mod Pieces
-pub mod Span
+pub mod Stretch
 pub mod Top
 pub mod Queue

@@ -24,7 +24,7 @@ pub record AreBestOfPieces (samples : List Sample) (server : ℕ) (first : ℤ) 
   pub best : (k : ℕ) (p q : ℤ) → IsPieceAt first ends k p q →
       slice_get chosen k ≡ best_of samples server p q ppb
 
--- what stands at the same place of both lists
+-- what stands at the same index of both lists
 pub record ArePairsOf (lows highs : List ℕ) (pairs : List (ℕ × ℕ)) : Type 0 where
   pub as_many : length pairs ≡ length lows
   pub each : (k low high : ℕ) → slice_get lows k ≡ Some low → slice_get highs k ≡ Some high →

@@ -1,59 +1,59 @@
 //! The best samples for one end.
 ghost use Rattle.std.specs.Prelude.{◌≤◌, ◌<◌, length, All, IfOk};
-ghost use Rattle.sweep.specs.Bound.{IsLawfulBound};
-ghost use Rattle.sweep.specs.Span.{IsLawfulSpan, MiddlesRise};
+ghost use Rattle.sweep.specs.Extreme.{IsLawfulExtreme};
+ghost use Rattle.sweep.specs.Stretch.{IsLawfulStretch, MiddlesRise};
 ghost use Rattle.sweep.specs.Top.{AreLateTops, AreTopNumbers};
 
-use crate::bound::{Bound, mirrored_bounds};
+use crate::extreme::{Extreme, mirrored_extremes};
 use crate::passage::early_tops;
-use crate::span::{Span, mirrored_spans};
+use crate::stretch::{Stretch, mirrored_stretches};
 use crate::top::{Top, higher};
 use sample_interval::laws::widening_is_one_number;
 use std::alloc::{AllocError, Global};
 
-/// For each span the number of the bound that is highest over it, the first of those that agree.
+/// For each stretch the number of the extreme that is highest over it, the first of those that agree.
 pub fn top_numbers(
     alloc: Global,
-    bounds: &[Bound],
-    spans: &[Span],
+    extremes: &[Extreme],
+    stretches: &[Stretch],
     drift_ppb: u32,
 ) -> Result<Vec<u32>, AllocError>
-    requires bounds { All IsLawfulBound bounds.now }
-    requires some { 0 < length bounds.now }
-    requires few { length bounds.now ≤ 1_000_000 }
-    requires spans { All IsLawfulSpan spans.now }
-    requires in_order { MiddlesRise spans.now }
+    requires extremes { All IsLawfulExtreme extremes.now }
+    requires some { 0 < length extremes.now }
+    requires few { length extremes.now ≤ 1_000_000 }
+    requires stretches { All IsLawfulStretch stretches.now }
+    requires in_order { MiddlesRise stretches.now }
     requires rate { drift_ppb ≤ 500_000_000 }
-    ensures { IfOk result (λ numbers. AreTopNumbers drift_ppb bounds.now spans.now numbers.items) }
+    ensures { IfOk result (λ numbers. AreTopNumbers drift_ppb extremes.now stretches.now numbers.items) }
 {
     // What the proof knows of widenings.
     widening_is_one_number();
-    let early = early_tops(alloc, bounds, spans, drift_ppb)?;
-    let late = late_tops(alloc, bounds, spans, drift_ppb)?;
-    let mut numbers = Vec::with_capacity(alloc, spans.len())?;
-    for k in 0..spans.len() {
-        let top = higher(early[k], late[spans.len() - 1 - k]).unwrap();
-        numbers.push(bounds[top.place as usize].number)?;
+    let early = early_tops(alloc, extremes, stretches, drift_ppb)?;
+    let late = late_tops(alloc, extremes, stretches, drift_ppb)?;
+    let mut numbers = Vec::with_capacity(alloc, stretches.len())?;
+    for k in 0..stretches.len() {
+        let top = higher(early[k], late[stretches.len() - 1 - k]).unwrap();
+        numbers.push(extremes[top.index as usize].number)?;
     }
     Ok(numbers)
 }
 
-// The top of the bounds that are early where time runs backwards: over the last span, then over the
+// The top of the extremes that are early where time runs backwards: over the last stretch, then over the
 // one before it, and so on.
 fn late_tops(
     alloc: Global,
-    bounds: &[Bound],
-    spans: &[Span],
+    extremes: &[Extreme],
+    stretches: &[Stretch],
     drift_ppb: u32,
 ) -> Result<Vec<Option<Top>>, AllocError>
-    requires bounds { All IsLawfulBound bounds.now }
-    requires few { length bounds.now ≤ 1_000_000 }
-    requires spans { All IsLawfulSpan spans.now }
-    requires in_order { MiddlesRise spans.now }
+    requires extremes { All IsLawfulExtreme extremes.now }
+    requires few { length extremes.now ≤ 1_000_000 }
+    requires stretches { All IsLawfulStretch stretches.now }
+    requires in_order { MiddlesRise stretches.now }
     requires rate { drift_ppb ≤ 500_000_000 }
-    ensures { IfOk result (λ tops. AreLateTops drift_ppb bounds.now spans.now tops.items) }
+    ensures { IfOk result (λ tops. AreLateTops drift_ppb extremes.now stretches.now tops.items) }
 {
-    let bounds = mirrored_bounds(alloc, bounds)?;
-    let spans = mirrored_spans(alloc, spans)?;
-    early_tops(alloc, bounds.as_slice(), spans.as_slice(), drift_ppb)
+    let extremes = mirrored_extremes(alloc, extremes)?;
+    let stretches = mirrored_stretches(alloc, stretches)?;
+    early_tops(alloc, extremes.as_slice(), stretches.as_slice(), drift_ppb)
 }

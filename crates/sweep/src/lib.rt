@@ -3,23 +3,23 @@
 //! [`best_of_pieces`] gives for each of many consecutive pieces what [`span_cover::best`] gives for
 //! one, and looks at each sample a few times in all, not once for each piece.
 //!
-//! A sample's end is moved outwards by the widening of the greatest distance between its place and
-//! the piece. Where the middle of the place isn't after the middle of the piece, that distance runs
-//! from the place's begin to the piece's end, and so the moved end is decided by one number of the
+//! A sample's end is moved outwards by the widening of the greatest distance between its window and
+//! the piece. If the middle of the window isn't after the middle of the piece, that distance runs
+//! from the window's begin to the piece's end, and so the moved end is decided by one number of the
 //! sample and one of the piece. From piece to piece more samples become early in this sense, and
 //! none ceases to be. So a pass over the pieces puts each sample into a ranking when it becomes
 //! early, and asks the ranking for the best. A second pass does the same where time runs backwards,
 //! for the samples that are late. The better of the two is the best of all.
 #![tactic(auto)]
 
-mod bound;
+mod extreme;
 mod choice;
 mod passage;
 mod pieces;
 mod queue;
-mod span;
+mod stretch;
 mod tick;
 mod top;
 
-pub use bound::servers_of;
+pub use extreme::servers_of;
 pub use pieces::best_of_pieces;

@@ -1,39 +1,39 @@
-//! The bounds that are early, while the spans go by.
+//! The extremes that are early, while the stretches go by.
 ghost use Rattle.std.specs.Prelude.{◌≡◌, ℕ, ◌≤◌, ◌<◌, length, All, IfOk, Some, slice_get};
-ghost use Rattle.sweep.specs.Bound.{IsLawfulBound};
+ghost use Rattle.sweep.specs.Extreme.{IsLawfulExtreme};
 ghost use Rattle.sweep.specs.Queue.{ArriveOnce, HoldsFirst};
-ghost use Rattle.sweep.specs.Span.{IsLawfulSpan, MiddlesRise};
+ghost use Rattle.sweep.specs.Stretch.{IsLawfulStretch, MiddlesRise};
 ghost use Rattle.sweep.specs.Top.{AreEarlyTops};
 ghost use Rattle.sweep.specs.declared.queue.Arrival.{Arrival};
 
-use crate::bound::Bound;
+use crate::extreme::Extreme;
 use crate::queue::{Arrival, queue_of};
-use crate::span::Span;
+use crate::stretch::Stretch;
 use crate::top::{Top, top_of};
 use ranking::Ranking;
 use std::alloc::{AllocError, Global};
 
-/// The top of the bounds that are early, over each of the spans.
+/// The top of the extremes that are early, over each of the stretches.
 pub fn early_tops(
     alloc: Global,
-    bounds: &[Bound],
-    spans: &[Span],
+    extremes: &[Extreme],
+    stretches: &[Stretch],
     drift_ppb: u32,
 ) -> Result<Vec<Option<Top>>, AllocError>
-    requires bounds { All IsLawfulBound bounds.now }
-    requires few { length bounds.now ≤ 1_000_000 }
-    requires spans { All IsLawfulSpan spans.now }
-    requires in_order { MiddlesRise spans.now }
+    requires extremes { All IsLawfulExtreme extremes.now }
+    requires few { length extremes.now ≤ 1_000_000 }
+    requires stretches { All IsLawfulStretch stretches.now }
+    requires in_order { MiddlesRise stretches.now }
     requires rate { drift_ppb ≤ 500_000_000 }
-    ensures { IfOk result (λ tops. AreEarlyTops drift_ppb bounds.now spans.now tops.items) }
+    ensures { IfOk result (λ tops. AreEarlyTops drift_ppb extremes.now stretches.now tops.items) }
 {
-    let queue = queue_of(alloc, bounds, drift_ppb)?;
-    let mut ranking = Ranking::new(alloc, bounds.len() as u32)?;
-    let mut tops = Vec::with_capacity(alloc, spans.len())?;
+    let queue = queue_of(alloc, extremes, drift_ppb)?;
+    let mut ranking = Ranking::new(alloc, extremes.len() as u32)?;
+    let mut tops = Vec::with_capacity(alloc, stretches.len())?;
     let mut next = 0;
-    for span in spans {
-        next = admit(&mut ranking, &queue, next, span.begin + span.end);
-        tops.push(top_of(&ranking, span.end, drift_ppb))?;
+    for stretch in stretches {
+        next = admit(&mut ranking, &queue, next, stretch.begin + stretch.end);
+        tops.push(top_of(&ranking, stretch.end, drift_ppb))?;
     }
     Ok(tops)
 }
@@ -52,7 +52,7 @@ fn admit(ranking: &mut Ranking, queue: &[Arrival], next: usize, limit: u128) -> 
 {
     let mut next = next;
     while next < queue.len() && queue[next].at <= limit {
-        ranking.put(queue[next].place, queue[next].height as i128);
+        ranking.put(queue[next].index, queue[next].height as i128);
         next += 1;
     }
     next

@@ -4,10 +4,11 @@ ghost use Rattle.sample_interval.specs.Sample.{IsLawfulSample};
 ghost use Rattle.span_cover.specs.Best.{HasNoSample};
 ghost use Rattle.sweep.specs.Pieces.{ArePieces, AreBestOfPieces, ArePairsOf};
 
-use crate::bound::bounds_of;
+use crate::extreme::extremes_of;
 use crate::choice::top_numbers;
-use crate::span::spans_of;
+use crate::stretch::stretches_of;
 use sample_interval::kinds::Sample;
+use span_cover::laws::first_best_of_both_ends_are_the_best;
 use std::alloc::{AllocError, Global};
 
 /// The best samples of a server for each of the consecutive pieces that end at `ends`, the first of
@@ -36,18 +37,19 @@ pub fn best_of_pieces(
     ensures best { IfOk result (λ found. IfSome found
         (λ chosen. AreBestOfPieces samples.now server first ends.now drift_ppb chosen.items)) }
 {
-    let (lows, highs) = bounds_of(alloc, samples, servers, server)?;
+    first_best_of_both_ends_are_the_best();
+    let (lows, highs) = extremes_of(alloc, samples, servers, server)?;
     if lows.is_empty() {
         return Ok(None);
     }
-    let spans = spans_of(alloc, first, ends)?;
-    let low_numbers = top_numbers(alloc, lows.as_slice(), spans.as_slice(), drift_ppb)?;
-    let high_numbers = top_numbers(alloc, highs.as_slice(), spans.as_slice(), drift_ppb)?;
+    let stretches = stretches_of(alloc, first, ends)?;
+    let low_numbers = top_numbers(alloc, lows.as_slice(), stretches.as_slice(), drift_ppb)?;
+    let high_numbers = top_numbers(alloc, highs.as_slice(), stretches.as_slice(), drift_ppb)?;
     let chosen = pairs_of(alloc, low_numbers.as_slice(), high_numbers.as_slice())?;
     Ok(Some(chosen))
 }
 
-// What stands at the same place of both.
+// What stands at the same index of both.
 fn pairs_of(alloc: Global, lows: &[u32], highs: &[u32]) -> Result<Vec<(u32, u32)>, AllocError>
     requires { length lows.now ≡ length highs.now }
     ensures { IfOk result (λ pairs. ArePairsOf lows.now highs.now pairs.items) }

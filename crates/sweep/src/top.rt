@@ -6,14 +6,14 @@ use ranking::Ranking;
 
 const PARTS: u128 = 1_000_000_000;
 
-/// The highest level, and the first place that reaches it.
+/// The highest level, and the first index that reaches it.
 #[derive(Clone, Copy)]
 pub struct Top {
     pub level: u128,
-    pub place: u32,
+    pub index: u32,
 }
 
-/// The top of a ranking of heights, over a span that ends at `end`.
+/// The top of a ranking of heights, over a stretch that ends at `end`.
 pub fn top_of(ranking: &Ranking, end: u128, drift_ppb: u32) -> Option<Top>
     requires rate { drift_ppb ≤ 500_000_000 }
     requires end { end ≤ 2 ^ 76 }
@@ -26,8 +26,8 @@ pub fn top_of(ranking: &Ranking, end: u128, drift_ppb: u32) -> Option<Top>
     let rate = u128::from(drift_ppb);
     let room = greatest.unsigned_abs().checked_sub(rate * end)?;
     let level = room / (PARTS - rate);
-    let place = ranking.least_number((level * (PARTS - rate) + rate * end) as i128)?;
-    Some(Top { level, place })
+    let index = ranking.least_number((level * (PARTS - rate) + rate * end) as i128)?;
+    Some(Top { level, index })
 }
 
 /// The higher of two.
@@ -41,9 +41,9 @@ pub fn higher(one: Option<Top>, other: Option<Top>) -> Option<Top>
     }
 }
 
-// Whether the one is at a higher level, or at the same level and a place before the other.
+// Whether the one is at a higher level, or at the same level and an index before the other.
 fn is_above(one: Top, other: Top) -> bool
     ensures { result ≡ is_above one other }
 {
-    one.level > other.level || (one.level == other.level && one.place < other.place)
+    one.level > other.level || (one.level == other.level && one.index < other.index)
 }

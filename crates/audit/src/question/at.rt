@@ -13,9 +13,9 @@ use crate::evidence::Evidence;
 use crate::moment::{parts_at, tick_of};
 use audit_text::parts_text;
 use checker::laws::hulls_hold_the_error;
-use checker::{Part, piece_hull};
 use claim_file::Claim;
 use report::{Made, Outcome, RunFault};
+use span_cover::{Part, piece_hull};
 use std::alloc::{AllocError, Global};
 
 /// The text for what these servers say, with the hull over the groups.

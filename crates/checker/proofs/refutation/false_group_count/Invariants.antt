@@ -1,5 +1,6 @@
 use Rattle.std.proofs.Common.{◌≡◌, ◌≤◌, count_by}
-use Rattle.checker.specs.Groups.{numbers_below, holds_false}
+use Rattle.checker.specs.Groups.{holds_false}
+use Rattle.span_cover.specs.Group.{numbers_below}
 use Rattle.checker.specs.Refutation.{is_liar}
 use Rattle.checker.proofs.refutation.false_group_count.Given as goal
 

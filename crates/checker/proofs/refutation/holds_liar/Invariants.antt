@@ -1,7 +1,7 @@
 use Rattle.std.proofs.Common.{◌≡◌, ◌==◌, ◌&&◌, false}
 use Rattle.std.specs.List.{list_any}
 use Rattle.std.specs.Prelude.{slice_index}
-use Rattle.checker.specs.Groups.{numbers_below}
+use Rattle.span_cover.specs.Group.{numbers_below}
 use Rattle.checker.specs.Refutation.{is_liar}
 use Rattle.checker.proofs.refutation.holds_liar.Given as goal
 

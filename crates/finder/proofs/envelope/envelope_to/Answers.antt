@@ -23,7 +23,8 @@ hull_of-hull-requires-clause-low c k d within =
     let number = c.loop-number.number in
     let entries = rw c.as_slice.ensures.value at c.entries_at-entries.ensures
     ∙ c.in_ok-tables.ensures.best number c.loop-number-test.true in
-    let there = rw (← entries) at (entries_there c.args.samples.now claim (stretch_at claim c.args.step_s number)) in
+    let there = rw (← entries) at (entries_there c.best_samples_are_the_first_best.ensures c.args.samples.now claim
+    (stretch_at claim c.args.step_s number)) in
     (there k d within).0
 
 pub hull_of-hull-requires-clause-high : goal.hull_of-hull-requires-clause-high
@@ -32,7 +33,8 @@ hull_of-hull-requires-clause-high c k d within =
     let number = c.loop-number.number in
     let entries = rw c.as_slice.ensures.value at c.entries_at-entries.ensures
     ∙ c.in_ok-tables.ensures.best number c.loop-number-test.true in
-    let there = rw (← entries) at (entries_there c.args.samples.now claim (stretch_at claim c.args.step_s number)) in
+    let there = rw (← entries) at (entries_there c.best_samples_are_the_first_best.ensures c.args.samples.now claim
+    (stretch_at claim c.args.step_s number)) in
     (there k d within).1
 
 pub loop-number-preserved : goal.loop-number-preserved
@@ -68,7 +70,7 @@ returns-clause-lawful c =
     let claim = claim_data c.args.claim.now in
     let all : All (IsLawfulPiece (length c.args.samples.now)) (map piece_data c.loop-number.pieces.items) =
     rw c.loop-number.invariant.pieces
-    (lawful_pieces c.args.samples.now claim c.args.step_s c.requires.claim c.loop-number.number) in
+    (lawful_pieces c.args.samples.now claim c.args.step_s c.best_samples_are_the_first_best.ensures c.requires.claim c.loop-number.number) in
     record {
       pieces = All-from_map (IsLawfulPiece (length c.args.samples.now)) piece_data c.loop-number.pieces.items all;
       least = c.loop-number.invariant.below;

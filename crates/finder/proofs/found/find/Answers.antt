@@ -38,7 +38,7 @@ returns-clause-accepted c =
     let count = c.last_piece_ends_with_the_span.ensures claim.first claim.last step lawful.span_forward
     c.requires.some_step in
     if_certificate samples claim step (IsWhole samples claim step) (λ found. verdict_of samples claim found ≡ Yes)
-    c.in_ok-found.found (whole_accepted samples claim step lawful count)
+    c.in_ok-found.found (whole_accepted samples claim step c.best_samples_are_the_first_best.ensures lawful count)
     (whole samples claim step c.in_ok-found.found c.in_ok-found.ensures)
 
 pub returns-clause-few : goal.returns-clause-few
@@ -59,10 +59,12 @@ returns-clause-failing c =
 pub returns-clause-none_accepted : goal.returns-clause-none_accepted
 returns-clause-none_accepted c =
     let laws : Laws = record {
+      best = c.best_samples_are_the_first_best.ensures;
       low = c.piece_inside_another_is_narrower.ensures.low;
       high = c.piece_inside_another_is_narrower.ensures.high;
       said = c.parts_are_of_samples.ensures;
       narrow = c.narrower_parts_narrow.ensures;
+      each = c.pieces_give_the_verdict.ensures.each;
     } in
     let claim = claim_data c.args.claim.now in
     let samples = c.args.samples.now in
@@ -75,10 +77,12 @@ returns-clause-none_accepted c =
 pub returns-clause-contradiction : goal.returns-clause-contradiction
 returns-clause-contradiction c =
     let laws : Laws = record {
+      best = c.best_samples_are_the_first_best.ensures;
       low = c.piece_inside_another_is_narrower.ensures.low;
       high = c.piece_inside_another_is_narrower.ensures.high;
       said = c.parts_are_of_samples.ensures;
       narrow = c.narrower_parts_narrow.ensures;
+      each = c.pieces_give_the_verdict.ensures.each;
     } in
     let claim = claim_data c.args.claim.now in
     let samples = c.args.samples.now in

@@ -3,7 +3,7 @@ use Rattle.std.proofs.lemmas.Int.{ints}
 use Rattle.std.proofs.lemmas.List.{map-append}
 use Rattle.certificate.specs.Certificate.{piece_data}
 use Rattle.claim_file.specs.Claim.{data_of as claim_data}
-use Rattle.finder.specs.Entry.{is_inside}
+use Rattle.span_cover.specs.Group.{is_inside}
 use Rattle.finder.specs.Piece.{stretch_at, count_of}
 use Rattle.finder.proofs.EntryLemmas.{entries_there}
 use Rattle.finder.proofs.FoundLemmas.{found_all, found_failing, hull_is, passed_more, pieces_more, stretch_is}
@@ -24,7 +24,8 @@ hull_of-hull-requires-clause-low c k d within =
     let number = c.loop-number.number in
     let entries = rw c.as_slice.ensures.value at c.entries_at-entries.ensures
     ∙ c.in_ok-tables.ensures.best number c.loop-number-test.true in
-    let there = rw (← entries) at (entries_there c.args.samples.now claim (stretch_at claim c.args.step_s number)) in
+    let there = rw (← entries) at (entries_there c.best_samples_are_the_first_best.ensures c.args.samples.now claim
+    (stretch_at claim c.args.step_s number)) in
     (there k d within).0
 
 pub hull_of-hull-requires-clause-high : goal.hull_of-hull-requires-clause-high
@@ -33,7 +34,8 @@ hull_of-hull-requires-clause-high c k d within =
     let number = c.loop-number.number in
     let entries = rw c.as_slice.ensures.value at c.entries_at-entries.ensures
     ∙ c.in_ok-tables.ensures.best number c.loop-number-test.true in
-    let there = rw (← entries) at (entries_there c.args.samples.now claim (stretch_at claim c.args.step_s number)) in
+    let there = rw (← entries) at (entries_there c.best_samples_are_the_first_best.ensures c.args.samples.now claim
+    (stretch_at claim c.args.step_s number)) in
     (there k d within).1
 
 pub returns-then-not-is_inside : goal.returns-then-not-is_inside

@@ -7,10 +7,12 @@ use Rattle.finder.proofs.laws.finer_pieces_need_no_wider_bound.Goals as goal
 pub returns-clause-holds : goal.returns-clause-holds
 returns-clause-holds c samples claim step times n j m k coarse fine given some more wide_is holds narrow_is is =
     let laws : Laws = record {
+      best = c.best_samples_are_the_first_best.ensures;
       low = c.piece_inside_another_is_narrower.ensures.low;
       high = c.piece_inside_another_is_narrower.ensures.high;
       said = c.parts_are_of_samples.ensures;
       narrow = c.narrower_parts_narrow.ensures;
+      each = c.pieces_give_the_verdict.ensures.each;
     } in
     let ticks = c.nanoseconds_lie_between_their_ticks.ensures in
     let roundings : Roundings = record {
@@ -27,10 +29,12 @@ returns-clause-holds c samples claim step times n j m k coarse fine given some m
 pub returns-clause-contradiction : goal.returns-clause-contradiction
 returns-clause-contradiction c samples claim step times n j k coarse fine given some more wide_is holds narrow_is is =
     let laws : Laws = record {
+      best = c.best_samples_are_the_first_best.ensures;
       low = c.piece_inside_another_is_narrower.ensures.low;
       high = c.piece_inside_another_is_narrower.ensures.high;
       said = c.parts_are_of_samples.ensures;
       narrow = c.narrower_parts_narrow.ensures;
+      each = c.pieces_give_the_verdict.ensures.each;
     } in
     let ticks = c.nanoseconds_lie_between_their_ticks.ensures in
     let roundings : Roundings = record {

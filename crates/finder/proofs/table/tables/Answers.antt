@@ -7,7 +7,6 @@ use Rattle.std.proofs.lemmas.List.Elements.{All-push}
 use Rattle.claim_file.specs.Claim.{data_of}
 use Rattle.finder.specs.Entry.{best_over}
 use Rattle.finder.specs.Piece.{stretch_at}
-use Rattle.finder.proofs.BestLemmas.{best_of-none}
 use Rattle.finder.proofs.Kept.{kept}
 use Rattle.finder.proofs.ListLemmas.{without}
 use Rattle.finder.proofs.TableLemmas.{are_pieces_of, best_are, as_many, table_more}
@@ -63,7 +62,7 @@ loop-server-preserved c =
             few = grind (arith, common_steps);
             long = rw w.tables-is c.loop-server.invariant.long;
             best = λ k below. rw w.tables-is (without (over k) server _ (c.loop-server.invariant.best k below)
-                (best_of-none c.args.samples.now server _ _ claim.drift_ppb none));
+                (c.first_best_of_both_ends_are_the_best.ensures.none c.args.samples.now server _ _ claim.drift_ppb none));
           }
     ]
 

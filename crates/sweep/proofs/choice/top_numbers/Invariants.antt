@@ -2,4 +2,4 @@ use Rattle.sweep.proofs.ChoiceLemmas.{NumbersSoFar}
 use Rattle.sweep.proofs.choice.top_numbers.Given as goal
 
 abbrev pub invariant-loop-k : goal.invariant-loop-k
-invariant-loop-k l = NumbersSoFar l.fn.drift_ppb l.fn.bounds l.fn.spans l.k l.numbers.items
+invariant-loop-k l = NumbersSoFar l.fn.drift_ppb l.fn.extremes l.fn.stretches l.k l.numbers.items

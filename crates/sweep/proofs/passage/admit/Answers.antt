@@ -11,7 +11,7 @@ use Rattle.sweep.proofs.passage.admit.Goals as goal
 
 pub loop-next-preserved : goal.loop-next-preserved
 loop-next-preserved c =
-    let none : Arrival = record { at = 0; height = 0; place = 0 } in
+    let none : Arrival = record { at = 0; height = 0; index = 0 } in
     let a : Arrival = get_or c.args.queue.now c.loop-next.next none in
     let here : slice_get c.args.queue.now c.loop-next.next ≡ Some a =
     slice_get-get_or c.args.queue.now c.loop-next.next none c.loop-next-test.true in
@@ -20,7 +20,7 @@ loop-next-preserved c =
       from = let from = c.loop-next.invariant.from in omega arith;
       within = omega arith;
       holds = subst (HoldsFirst c.args.queue.now _)
-          (sym (c.put.ensures ∙ ap (λ (z : ℤ). set c.loop-next.ranking a.place (Some z))
+          (sym (c.put.ensures ∙ ap (λ (z : ℤ). set c.loop-next.ranking a.index (Some z))
           (to_z_pos w128 a.height (omega arith))))
           (HoldsFirst-more c.args.queue.now c.loop-next.next c.loop-next.ranking c.loop-next.invariant.holds
           c.requires.once a here);

@@ -2,49 +2,49 @@ use Rattle.std.proofs.Common.{rules, ℤ, List, length, ◌<◌, subst, sym}
 use Rattle.std.specs.List.{All}
 use Rattle.std.proofs.lemmas.Int.{to_z-of_z}
 use mir.Syntax.{w128}
-use Rattle.sweep.specs.Bound.{IsLawfulBound}
+use Rattle.sweep.specs.Extreme.{IsLawfulExtreme}
 use Rattle.sweep.specs.Pieces.{ArePieces}
-use Rattle.sweep.specs.Span.{AreSpansOf, MiddlesRise}
-use Rattle.sweep.specs.declared.bound.Bound.{Bound}
-use Rattle.sweep.specs.declared.bound.End.TheVariants.{Low, High}
-use Rattle.sweep.proofs.BoundLemmas.{lawful_bounds, some_sample, some_bound}
+use Rattle.sweep.specs.Stretch.{AreStretchesOf, MiddlesRise}
+use Rattle.sweep.specs.declared.extreme.Extreme.{Extreme}
+use Rattle.span_cover.specs.declared.choice.Side.TheVariants.{Low, High}
+use Rattle.sweep.proofs.ExtremeLemmas.{lawful_extremes, some_sample, some_extreme}
 use Rattle.sweep.proofs.PieceLemmas.{AreBestOfPieces-tops, AreTopNumbers-lent, ArePairsOf-lent}
-use Rattle.sweep.proofs.SpanLemmas.{MiddlesRise-adjoin}
+use Rattle.sweep.proofs.StretchLemmas.{MiddlesRise-adjoin}
 use Rattle.sweep.proofs.pieces.best_of_pieces.Goals as goal
 
-pub spans_of-requires : goal.spans_of-requires
-spans_of-requires c =
+pub stretches_of-requires : goal.stretches_of-requires
+stretches_of-requires c =
     subst (λ (first : ℤ). ArePieces first c.args.ends.now) (sym (to_z-of_z w128 c.args.first c.ranges.first))
     c.requires.pieces
 
-pub top_numbers-requires-clause-bounds : goal.top_numbers-requires-clause-bounds
-top_numbers-requires-clause-bounds c =
-    let P : List Bound → Type 0 = All IsLawfulBound in
+pub top_numbers-requires-clause-extremes : goal.top_numbers-requires-clause-extremes
+top_numbers-requires-clause-extremes c =
+    let P : List Extreme → Type 0 = All IsLawfulExtreme in
     subst P (sym c.as_slice.ensures.value)
-    (lawful_bounds Low c.args.samples.now c.args.server c.in_ok-lows.lows.items c.in_ok-lows.ensures.lows)
+    (lawful_extremes Low c.args.samples.now c.args.server c.in_ok-lows.lows.items c.in_ok-lows.ensures.lows)
 
 pub top_numbers-requires-clause-in_order : goal.top_numbers-requires-clause-in_order
 top_numbers-requires-clause-in_order c =
     subst MiddlesRise (sym c.as_slice-2.ensures.value)
-    (MiddlesRise-adjoin c.in_ok-spans.spans.items c.in_ok-spans.ensures.lawful c.in_ok-spans.ensures.adjoin)
+    (MiddlesRise-adjoin c.in_ok-stretches.stretches.items c.in_ok-stretches.ensures.lawful c.in_ok-stretches.ensures.adjoin)
 
-pub top_numbers-requires-2-clause-bounds : goal.top_numbers-requires-2-clause-bounds
-top_numbers-requires-2-clause-bounds c =
-    let P : List Bound → Type 0 = All IsLawfulBound in
+pub top_numbers-requires-2-clause-extremes : goal.top_numbers-requires-2-clause-extremes
+top_numbers-requires-2-clause-extremes c =
+    let P : List Extreme → Type 0 = All IsLawfulExtreme in
     subst P (sym c.as_slice-3.ensures.value)
-    (lawful_bounds High c.args.samples.now c.args.server c.in_ok-lows.highs.items c.in_ok-lows.ensures.highs)
+    (lawful_extremes High c.args.samples.now c.args.server c.in_ok-lows.highs.items c.in_ok-lows.ensures.highs)
 
 pub top_numbers-requires-2-clause-some : goal.top_numbers-requires-2-clause-some
 top_numbers-requires-2-clause-some c =
     let some : 0 < length c.in_ok-lows.lows.items = search rules in
-    subst (λ (b : List Bound). 0 < length b) (sym c.as_slice-3.ensures.value)
-    (some_bound High c.args.samples.now c.args.server c.in_ok-lows.highs.items c.in_ok-lows.ensures.highs
+    subst (λ (b : List Extreme). 0 < length b) (sym c.as_slice-3.ensures.value)
+    (some_extreme High c.args.samples.now c.args.server c.in_ok-lows.highs.items c.in_ok-lows.ensures.highs
     (some_sample Low c.args.samples.now c.args.server c.in_ok-lows.lows.items c.in_ok-lows.ensures.lows some))
 
 pub top_numbers-requires-2-clause-in_order : goal.top_numbers-requires-2-clause-in_order
 top_numbers-requires-2-clause-in_order c =
     subst MiddlesRise (sym c.as_slice-4.ensures.value)
-    (MiddlesRise-adjoin c.in_ok-spans.spans.items c.in_ok-spans.ensures.lawful c.in_ok-spans.ensures.adjoin)
+    (MiddlesRise-adjoin c.in_ok-stretches.stretches.items c.in_ok-stretches.ensures.lawful c.in_ok-stretches.ensures.adjoin)
 
 pub returns-clause-none : goal.returns-clause-none
 returns-clause-none c = (
@@ -56,16 +56,16 @@ returns-clause-none c = (
 
 pub returns-clause-best : goal.returns-clause-best
 returns-clause-best c =
-    AreBestOfPieces-tops c.args.samples.now c.args.server c.args.first c.args.ends.now c.args.drift_ppb
-    c.in_ok-lows.lows.items c.in_ok-lows.highs.items c.in_ok-spans.spans.items
+    AreBestOfPieces-tops c.first_best_of_both_ends_are_the_best.ensures.some c.args.samples.now c.args.server
+    c.args.first c.args.ends.now c.args.drift_ppb c.in_ok-lows.lows.items c.in_ok-lows.highs.items
+    c.in_ok-lows.ensures.lows c.in_ok-lows.ensures.highs c.in_ok-stretches.stretches.items
+    (subst (λ (first : ℤ). AreStretchesOf first c.args.ends.now c.in_ok-stretches.stretches.items)
+    (to_z-of_z w128 c.args.first c.ranges.first) c.in_ok-stretches.ensures)
     c.in_ok-low_numbers.low_numbers.items c.in_ok-high_numbers.high_numbers.items c.in_ok-chosen.chosen.items
-    c.in_ok-lows.ensures.lows c.in_ok-lows.ensures.highs
-    (subst (λ (first : ℤ). AreSpansOf first c.args.ends.now c.in_ok-spans.spans.items)
-    (to_z-of_z w128 c.args.first c.ranges.first) c.in_ok-spans.ensures)
-    (AreTopNumbers-lent c.args.drift_ppb _ c.in_ok-lows.lows.items _ c.in_ok-spans.spans.items
+    (AreTopNumbers-lent c.args.drift_ppb _ c.in_ok-lows.lows.items _ c.in_ok-stretches.stretches.items
     c.in_ok-low_numbers.low_numbers.items c.as_slice.ensures.value c.as_slice-2.ensures.value
     c.in_ok-low_numbers.ensures)
-    (AreTopNumbers-lent c.args.drift_ppb _ c.in_ok-lows.highs.items _ c.in_ok-spans.spans.items
+    (AreTopNumbers-lent c.args.drift_ppb _ c.in_ok-lows.highs.items _ c.in_ok-stretches.stretches.items
     c.in_ok-high_numbers.high_numbers.items c.as_slice-3.ensures.value c.as_slice-4.ensures.value
     c.in_ok-high_numbers.ensures)
     (ArePairsOf-lent _ c.in_ok-low_numbers.low_numbers.items _ c.in_ok-high_numbers.high_numbers.items

@@ -1,5 +1,5 @@
 use Rattle.sweep.proofs.QueueLemmas.{ArrivalsSoFar}
 use Rattle.sweep.proofs.queue.arrivals_of.Given as goal
 
-abbrev pub invariant-loop-place : goal.invariant-loop-place
-invariant-loop-place l = ArrivalsSoFar l.fn.drift_ppb l.fn.bounds l.place l.arrivals.items
+abbrev pub invariant-loop-index : goal.invariant-loop-index
+invariant-loop-index l = ArrivalsSoFar l.fn.drift_ppb l.fn.extremes l.index l.arrivals.items

@@ -23,7 +23,7 @@ returns-in_err-room c =
     (top-no_room c.args.ranking.now c.args.drift_ppb c.args.end g c.in_ok-greatest.ensures.greatest from_zero
     (omega (arith, size, depth, short)))
 
--- what is left of the greatest height over the depth of the span
+-- what is left of the greatest height over the depth of the stretch
 left_over : (g : ℤ) (size rate ppb end room : ℕ) → FitsSigned w128 g →
     size ≡ unsigned_abs (to_z w128 (of_z w128 g)) → rate ≡ ppb → (rate * end ≤ size) × (room ≡ size - rate * end) →
     room + ppb * end ≡ unsigned_abs g
@@ -32,15 +32,15 @@ left_over g size rate ppb end room fits is same room_is =
     let depth = ap (λ (r : ℕ). r * end) same in
     omega (arith, known, depth, room_is)
 
-pub returns-in_err-place : goal.returns-in_err-place
-returns-in_err-place c =
+pub returns-in_err-index : goal.returns-in_err-index
+returns-in_err-index c =
     let g = c.in_ok-greatest.greatest in
     let fits : FitsSigned w128 g = search rules in
     absurd
     (top-asked_some c.args.ranking.now c.args.drift_ppb c.args.end g c.in_ok-greatest.ensures.greatest
     (omega (arith, ints)) c.in_ok-room.room
     (left_over g _ _ _ _ _ fits c.unsigned_abs.ensures.value c.from-rate.ensures c.in_ok-room.ensures) c.requires.rate
-    fits c.from-rate.result c.from-rate.ensures c.in_err-place.ensures.none)
+    fits c.from-rate.result c.from-rate.ensures c.in_err-index.ensures.none)
 
 pub returns : goal.returns
 returns c =
@@ -49,4 +49,4 @@ returns c =
     top-asked c.args.ranking.now c.args.drift_ppb c.args.end g c.in_ok-greatest.ensures.greatest (omega (arith, ints))
     c.in_ok-room.room
     (left_over g _ _ _ _ _ fits c.unsigned_abs.ensures.value c.from-rate.ensures c.in_ok-room.ensures) c.requires.rate
-    fits c.from-rate.result c.from-rate.ensures c.in_ok-place.place c.in_ok-place.ensures.least
+    fits c.from-rate.result c.from-rate.ensures c.in_ok-index.index c.in_ok-index.ensures.least

@@ -1,6 +1,0 @@
-use Rattle.std.proofs.Common.{◌≡◌, take}
-use Rattle.checker.specs.Piece.{group_interval}
-use Rattle.checker.proofs.group.group_interval.Given as goal
-
-abbrev pub invariant-loop-part : goal.invariant-loop-part
-invariant-loop-part l = l.common ≡ group_interval l.groups (take l.part-index l.parts) l.group

@@ -1,0 +1,6 @@
+use Rattle.std.proofs.Common.{◌≡◌, take}
+use Rattle.span_cover.specs.Group.{group_interval}
+use Rattle.span_cover.proofs.group.group_interval.Given as goal
+
+abbrev pub invariant-loop-part : goal.invariant-loop-part
+invariant-loop-part l = l.common ≡ group_interval l.groups (take l.part-index l.parts) l.group

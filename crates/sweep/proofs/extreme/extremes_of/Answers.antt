@@ -1,0 +1,63 @@
+use Rattle.std.proofs.Common.{◌<◌, length, arith, subst, sym, ap, ◌∙◌, Vec, Global}
+use Rattle.std.proofs.lemmas.Option.{slice_get-get_or}
+use Rattle.sweep.specs.declared.extreme.Extreme.{Extreme}
+use Rattle.span_cover.specs.declared.choice.Side.TheVariants.{Low, High}
+use Rattle.sweep.proofs.ExtremeLemmas.{as_many_servers, server_at}
+use Rattle.sweep.proofs.ExtremeLemmas.{ExtremesSoFar, ExtremesSoFar-more, ExtremesSoFar-other, ExtremesSoFar-all}
+use Rattle.sweep.proofs.extreme.extremes_of.Goals as goal
+use Rattle.sweep.proofs.extreme.extremes_of.Goals.{then-of-server+in_ok-push+in_ok-push-2, else-of-server}
+
+pub bounds-samples-number : goal.bounds-samples-number
+bounds-samples-number c =
+    let as_many = as_many_servers c.args.samples.now c.args.servers.now c.requires.servers in
+    omega arith
+
+pub loop-number-preserved : goal.loop-number-preserved
+loop-number-preserved c =
+    let samples = c.args.samples.now in
+    let servers = c.args.servers.now in
+    let number = c.loop-number.number in
+    let lows = c.loop-number.invariant.lows in
+    let highs = c.loop-number.invariant.highs in
+    let as_many = as_many_servers samples servers c.requires.servers in
+    let within : number < length samples = omega arith in
+    let here = slice_get-get_or samples number _ within in
+    let of = server_at samples servers c.requires.servers number _ _ here in
+    elim c.if-of-server.branch [
+      | then-of-server+in_ok-push+in_ok-push-2 w ↦
+          let own = sym of ∙ w.if-of-server.true in
+          let lawful = c.requires.samples number _ within in
+          record {
+            lows = subst (ExtremesSoFar Low samples c.args.server _)
+                (sym (ap (λ (v : Vec Extreme Global). v.items) w.lows-is ∙ w.in_ok-push.ensures.items))
+                (ExtremesSoFar-more Low samples c.args.server number c.loop-number.lows.items lows _ w.extreme_of.result
+                here own lawful w.extreme_of.ensures.number w.extreme_of.ensures.is);
+            highs = subst (ExtremesSoFar High samples c.args.server _)
+                (sym (ap (λ (v : Vec Extreme Global). v.items) w.highs-is ∙ w.in_ok-push-2.ensures.items))
+                (ExtremesSoFar-more High samples c.args.server number c.loop-number.highs.items highs _
+                w.extreme_of-then-of-server.result here own lawful w.extreme_of-then-of-server.ensures.number w.extreme_of-then-of-server.ensures.is);
+          }
+      | else-of-server w ↦
+          record {
+            lows = subst (ExtremesSoFar Low samples c.args.server _)
+                (sym (ap (λ (v : Vec Extreme Global). v.items) w.lows-is))
+                (ExtremesSoFar-other Low samples c.args.server number c.loop-number.lows.items lows _ here
+                (λ same. w.if-of-server.false (of ∙ same)));
+            highs = subst (ExtremesSoFar High samples c.args.server _)
+                (sym (ap (λ (v : Vec Extreme Global). v.items) w.highs-is))
+                (ExtremesSoFar-other High samples c.args.server number c.loop-number.highs.items highs _ here
+                (λ same. w.if-of-server.false (of ∙ same)));
+          }
+    ]
+
+pub returns-clause-lows : goal.returns-clause-lows
+returns-clause-lows c =
+    let as_many = as_many_servers c.args.samples.now c.args.servers.now c.requires.servers in
+    ExtremesSoFar-all Low c.args.samples.now c.args.server c.loop-number.number c.loop-number.lows.items
+    c.loop-number.invariant.lows (omega arith)
+
+pub returns-clause-highs : goal.returns-clause-highs
+returns-clause-highs c =
+    let as_many = as_many_servers c.args.samples.now c.args.servers.now c.requires.servers in
+    ExtremesSoFar-all High c.args.samples.now c.args.server c.loop-number.number c.loop-number.highs.items
+    c.loop-number.invariant.highs (omega arith)

@@ -1,0 +1,9 @@
+use Rattle.span_cover.specs.declared.choice.Side.TheVariants.{Low, High}
+use Rattle.sweep.proofs.ExtremeLemmas.{ExtremesSoFar}
+use Rattle.sweep.proofs.extreme.extremes_of.Given as goal
+
+abbrev pub invariant-loop-number : goal.invariant-loop-number
+invariant-loop-number l = record {
+  lows : ExtremesSoFar Low l.fn.samples l.fn.server l.number l.lows.items;
+  highs : ExtremesSoFar High l.fn.samples l.fn.server l.number l.highs.items;
+}

@@ -1,0 +1,99 @@
+//! The ends of a server's samples, as numbers that aren't below zero.
+ghost use Rattle.std.specs.Prelude.{◌≡◌, ◌≤◌, length, All, IfOk, map};
+ghost use Rattle.sample_interval.specs.Sample.{IsLawfulSample};
+ghost use Rattle.sweep.specs.Extreme.{AreExtremesOf, IsExtremeOf, IsLawfulExtreme, mirrored_extreme};
+
+use crate::tick::{from_origin, mirrored_tick};
+use sample_interval::kinds::Sample;
+use span_cover::Side;
+use std::alloc::{AllocError, Global};
+
+/// An end of a sample. Time and error are counted from the origin. A high end has its sign turned,
+/// so that the greatest is the best of either kind.
+#[derive(Clone, Copy)]
+pub struct Extreme {
+    /// The number of the sample.
+    pub number: u32,
+    /// The end.
+    pub end: u128,
+    /// The least reading at which it holds.
+    pub from: u128,
+    /// The greatest reading at which it holds.
+    pub to: u128,
+}
+
+/// The server of each sample, in their order. Each server's samples are looked for in this list,
+/// which takes a hundredth of the memory of theirs.
+pub fn servers_of(alloc: Global, samples: &[Sample]) -> Result<Vec<u8>, AllocError>
+    ensures { IfOk result (λ servers. servers.items ≡ map (λ sample. sample.server) samples.now) }
+{
+    let mut servers = Vec::with_capacity(alloc, samples.len())?;
+    for sample in samples {
+        servers.push(sample.server)?;
+    }
+    Ok(servers)
+}
+
+/// The low ends of the server's samples, and the high ends, in the order of their numbers.
+pub fn extremes_of(
+    alloc: Global,
+    samples: &[Sample],
+    servers: &[u8],
+    server: u8,
+) -> Result<(Vec<Extreme>, Vec<Extreme>), AllocError>
+    requires samples { All IsLawfulSample samples.now }
+    requires few { length samples.now ≤ 1_000_000 }
+    requires servers { servers.now ≡ map (λ sample. sample.server) samples.now }
+    ensures lows { IfOk result (λ extremes. AreExtremesOf Side.Low samples.now server extremes.0.items) }
+    ensures highs { IfOk result (λ extremes. AreExtremesOf Side.High samples.now server extremes.1.items) }
+{
+    let mut lows = Vec::new(alloc);
+    let mut highs = Vec::new(alloc);
+    for (number, of) in servers.iter().enumerate() {
+        if *of == server {
+            let sample = &samples[number];
+            lows.push(extreme_of(number as u32, sample, Side::Low))?;
+            highs.push(extreme_of(number as u32, sample, Side::High))?;
+        }
+    }
+    Ok((lows, highs))
+}
+
+// The end of one sample.
+fn extreme_of(number: u32, sample: &Sample, side: Side) -> Extreme
+    requires { IsLawfulSample sample.now }
+    ensures number { result.number ≡ number }
+    ensures is { IsExtremeOf side sample.now result }
+{
+    match side {
+        Side::Low => Extreme {
+            number,
+            end: from_origin(sample.low),
+            from: from_origin(sample.low_from),
+            to: from_origin(sample.low_to),
+        },
+        Side::High => Extreme {
+            number,
+            end: from_origin(-sample.high),
+            from: from_origin(sample.high_from),
+            to: from_origin(sample.high_to),
+        },
+    }
+}
+
+/// The same ends where time runs backwards.
+pub fn mirrored_extremes(alloc: Global, extremes: &[Extreme]) -> Result<Vec<Extreme>, AllocError>
+    requires { All IsLawfulExtreme extremes.now }
+    ensures { IfOk result (λ mirrored. mirrored.items ≡ map mirrored_extreme extremes.now) }
+{
+    let mut mirrored = Vec::with_capacity(alloc, extremes.len())?;
+    for extreme in extremes {
+        mirrored.push(Extreme {
+            number: extreme.number,
+            end: extreme.end,
+            from: mirrored_tick(extreme.to),
+            to: mirrored_tick(extreme.from),
+        })?;
+    }
+    Ok(mirrored)
+}
