@@ -13,7 +13,7 @@ use Rattle.pcap_reader.specs.declared.format.Endian.{Endian}
 use Rattle.pcap_reader.specs.declared.format.Format.{Format}
 use Rattle.pcap_reader.specs.Capture.{Record, AreRecordsFrom, IsCapture, IsRecordAt, magic_of, record_spelling, spelling}
 use Rattle.pcap_reader.specs.Field.{spelled}
-use Rattle.audit.specs.Captured.{CapturedFrame, IsCaptureOf, IsInRange, frame_of, record_bytes}
+use Rattle.audit.specs.Captured.{CapturedFrame, IsCaptureOf, IsLawfulFrame, frame_of, record_bytes}
 
 -- ---- records, one by one
 
@@ -39,7 +39,7 @@ module _ (unit : TimeUnit) (records : List Record) (are : AreRecordsFrom unit 0 
       let is : 0 + k ≡ k = omega arith in
       subst (λ (n : ℕ). IsNumbered unit n r) is (each_from unit 0 24 records are k r at)
 
-  range_of : (k : ℕ) (r : Record) → IsNumbered unit k r → IsInRange unit (frame_of r)
+  range_of : (k : ℕ) (r : Record) → IsNumbered unit k r → IsLawfulFrame unit (frame_of r)
   range_of k r (place, is) = record {
     second = is.lawful.sec;
     part = subst (λ (u : TimeUnit). r.head.sub < per_second u) is.unit_is is.lawful.sub;
@@ -47,8 +47,8 @@ module _ (unit : TimeUnit) (records : List Record) (are : AreRecordsFrom unit 0 
     captured_length = (let most = is.lawful.captured in let whole = is.whole in omega (arith, most, whole));
   }
 
-  all_in_range : All (IsInRange unit) (map frame_of records)
-  all_in_range = All-map (IsInRange unit) frame_of records
+  all_in_range : All (IsLawfulFrame unit) (map frame_of records)
+  all_in_range = All-map (IsLawfulFrame unit) frame_of records
       (λ k d below. range_of k (get_or records k d)
       (each_record k (get_or records k d) (slice_get-get_or records k d below)))
 

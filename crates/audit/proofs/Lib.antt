@@ -14,4 +14,5 @@ pub mod HeldLemmas
 pub mod CapturedLemmas
 pub mod ExchangedLemmas
 pub mod ClaimedLemmas
+pub mod UniquenessLemmas
 pub mod HeadlineLemmas

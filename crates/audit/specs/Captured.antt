@@ -16,7 +16,7 @@ pub record CapturedFrame : Type 0 where
   pub bytes : List ℕ
 
 -- the numbers of its record are in range
-pub record IsInRange (unit : TimeUnit) (frame : CapturedFrame) : Type 0 where
+pub record IsLawfulFrame (unit : TimeUnit) (frame : CapturedFrame) : Type 0 where
   pub second : frame.second < 2 ^ 32
   pub part : frame.part < per_second unit
   pub wire_length : frame.wire_length < 2 ^ 32
@@ -34,7 +34,7 @@ pub record IsCaptureOf (bytes : List ℕ) (order : Endian) (unit : TimeUnit)
     (frames : List CapturedFrame) : Type 0 where
   pub ignored : List ℕ
   pub twelve_ignored : length ignored ≡ 12
-  pub in_range : All (IsInRange unit) frames
+  pub in_range : All (IsLawfulFrame unit) frames
   pub few : length frames ≤ 4000000
   pub joined : bytes ≡ spelled order 4 (magic_of unit) ++ spelled order 2 2 ++ spelled order 2 4
       ++ ignored ++ spelled order 4 1 ++ flat_map (record_bytes order) frames

@@ -96,6 +96,15 @@ pub fn claims_are_what_their_text_says()
     ratios_are_rounded_as_little_as_can_be();
 }
 
+/// A text says one claim at most.
+pub fn texts_say_one_claim()
+    ensures { (text : List ℕ) (claim other : ClaimData) → IsClaimText text claim →
+        IsClaimText text other → claim ≡ other }
+{
+    times_are_spelled();
+    addresses_are_dotted();
+}
+
 /// Where a claim and a capture are read, and the verdict on some certificate is yes, the theorem
 /// holds of their bytes, said in relations alone.
 pub fn yes_shows_the_headline()
