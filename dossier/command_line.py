@@ -58,7 +58,6 @@ def parser() -> Parser:
     picture.add_argument("claim", metavar="CLAIM")
     picture.add_argument("capture", metavar="CAPTURE")
     picture.add_argument("--step", type=in_range(1, 86_400), default=64, metavar="N")
-    commands.add_parser("worker").add_argument("given")
     return top
 
 
@@ -101,9 +100,6 @@ def say(line: str) -> None:
 
 
 def run(given: argparse.Namespace) -> int:
-    if given.command == "worker":
-        from .work import work
-        return work(given.given)
     if given.command == "page":
         from .page import write_page
         return write_page([tidy(folder) for folder in given.folders], given)
@@ -112,10 +108,10 @@ def run(given: argparse.Namespace) -> int:
         return run_draft(given, program)
     if given.command == "audit":
         from .audit import Options
-        from .work import audit_all
+        from .work import Task, audit_all
         jobs = given.jobs or len(os.sched_getaffinity(0))
         options = Options(given.step, given.days, given.again)
-        return audit_all([tidy(folder) for folder in given.folders], options, program, jobs)
+        return audit_all(Task([tidy(folder) for folder in given.folders], options, program), jobs)
     if given.command == "verify":
         from .verify import verify_all
         return verify_all([tidy(folder) for folder in given.folders], program)

@@ -233,7 +233,7 @@ def draft(program: Program, captures: list[str], wanted: Wanted) -> tuple[dict[s
                 (Path(place) / f"{number:06}.pcap").symlink_to(Path(capture).resolve(strict=True))
             except OSError:
                 raise Fault("ntpaudit: device capture", files.DEVICE) from None
-        files.join(Path(place), [f"{number:06}.pcap" for number in range(len(captures))])
+        files.join(place, [f"{number:06}.pcap" for number in range(len(captures))])
         drafting = Draft(program, place, Operand(files.JOINED))
         claim = drafting.claim(wanted)
         drafting.remarks.insert(0, f"{len(captures)} captures were joined in order of time.")

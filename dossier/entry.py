@@ -4,7 +4,6 @@ from __future__ import annotations
 import json
 import re
 from dataclasses import dataclass, field, fields
-from pathlib import Path
 from typing import Any
 
 from . import VERSION
@@ -93,9 +92,9 @@ def entry_text(entry: Entry) -> str:
     return "  {\n" + ",\n".join(f'   "{name}": {json.dumps(value)}' for name, value in vars(entry).items()) + "\n  }"
 
 
-def read_record(folder: Path) -> Record | None:
-    """The record of a folder; None where there is none, or one of another form."""
-    found = read_json(folder / AUDIT)
+def read_record(folder: str) -> Record | None:
+    """The record of a folder; None if there is none, or one of another form."""
+    found = read_json(f"{folder}/{AUDIT}")
     if not isinstance(found, dict) or found.get("dossier") != VERSION:
         return None
     try:

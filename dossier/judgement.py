@@ -123,8 +123,10 @@ def servers_of(claim: dict[str, Any], recording: Recording, envelope: Envelope) 
 
 
 def is_apart(lows: list[int], highs: list[int], hulls: list[Hull]) -> bool:
-    bounded = [(low, high, hull) for low, high, hull in zip(lows, highs, hulls) if not isinstance(hull, str)]
-    return bool(bounded) and not any(low <= hull[1] and hull[0] <= high for low, high, hull in bounded)
+    """Whether there are hulls, and these intervals meet none of them."""
+    bounded = ((low, high, hull) for low, high, hull in zip(lows, highs, hulls) if not isinstance(hull, str))
+    meets = (low <= hull[1] and hull[0] <= high for low, high, hull in bounded)
+    return not next(meets, True) and not any(meets)
 
 
 def refutation_of(texts: Texts) -> dict[str, Any]:

@@ -2,10 +2,10 @@
 from __future__ import annotations
 
 import argparse
+import os
 import sys
 from collections import Counter
 from dataclasses import dataclass
-from pathlib import Path
 
 from .article import article
 from .entry import MANGLED, NEITHER, NO, REFUSED, YES, Record
@@ -38,7 +38,7 @@ def write_page(folders: list[str], given: argparse.Namespace) -> int:
         text = page(records, given.title)
     data = text.encode("utf-8", "backslashreplace")
     if given.output:
-        write_beside(Path(given.output), data)
+        write_beside(*os.path.split(os.path.abspath(given.output)), data)
     else:
         sys.stdout.buffer.write(data)
     return 0
@@ -67,7 +67,7 @@ def sections_of(folder: str, record: Record, first: int) -> list[Section]:
     found = []
     for number, entry in enumerate(record.entries, first):
         name = f"a{number}"
-        said = article(name, Path(folder), record, entry, badge(entry.verdict))
+        said = article(name, folder, record, entry, badge(entry.verdict))
         found.append(Section(name, row_of(folder, entry), said))
     return found
 

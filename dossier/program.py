@@ -8,9 +8,10 @@ import subprocess
 import time
 from collections.abc import Callable
 from dataclasses import dataclass
+from functools import cached_property
 from pathlib import Path
 
-from .call import Call
+from .call import BLOCK, Call
 
 ROOT = Path(__file__).resolve().parent.parent
 
@@ -37,12 +38,12 @@ class Operand:
 
     name: str
 
-    @property
+    @cached_property
     def is_sayable(self) -> bool:
         """Whether the program takes the name as a word: it has to be UTF-8."""
-        return self.name.isascii() or not any("\udc80" <= c <= "\udcff" for c in self.name)
+        return not any("\udc80" <= c <= "\udcff" for c in self.name)
 
-    @property
+    @cached_property
     def word(self) -> str:
         if not self.is_sayable:
             return "/dev/stdin"
@@ -131,10 +132,13 @@ def find_program() -> Program:
     return Program(path, lines[0] if lines and not said_version.returncode else "", sum_of_file(path))
 
 
-def sum_of_file(path: str | Path) -> str:
-    """The SHA-256 of a file."""
-    with open(path, "rb") as opened:
-        return hashlib.file_digest(opened, "sha256").hexdigest()
+def sum_of_file(path: str) -> str:
+    """The SHA-256 of a file, of any size."""
+    found = hashlib.sha256()
+    with open(path, "rb", buffering=0) as opened:
+        while block := opened.read(BLOCK):
+            found.update(block)
+    return found.hexdigest()
 
 
 def sum_of(data: bytes) -> str:
