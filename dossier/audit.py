@@ -36,7 +36,7 @@ def audit_folder(folder: str, options: Options, program: Program) -> tuple[Recor
     """
     begun, old = time.monotonic(), read_record(folder)
     record = Record(program={"version": program.version, "sha256": program.sha256}, options=options.kept, inputs={},
-                    capture=None, entries=[], made=now(), seconds=0)
+                    capture="", entries=[], made=now(), seconds=0)
     try:
         record.inputs = sums(folder, files.inputs(folder))
         if old and not options.again and is_unchanged(folder, old, record):

@@ -6,6 +6,7 @@ import os
 import sys
 from collections.abc import Callable
 from pathlib import Path
+from typing import NoReturn
 
 from .program import Fault, Program, find_program
 
@@ -24,7 +25,7 @@ device, 5 the command line; the status of several folders is the worst of theirs
 
 
 class Parser(argparse.ArgumentParser):
-    def error(self, message: str) -> None:
+    def error(self, message: str) -> NoReturn:
         self.exit(USAGE, f"{self.prog}: {message}\n")
 
 
@@ -33,7 +34,7 @@ def parser() -> Parser:
     commands = top.add_subparsers(dest="command", required=True, metavar="COMMAND")
     draft = commands.add_parser("draft", help="print a claim to start from")
     draft.add_argument("captures", nargs="+", metavar="CAPTURE")
-    draft.add_argument("--client", metavar="ADDRESS", help="the client; the one that asks most where it is left out")
+    draft.add_argument("--client", metavar="ADDRESS", help="the client; the one that asks most if it is left out")
     draft.add_argument("--day", action="store_true", help="claim whole days (UTC)")
     draft.add_argument("--drift-ppb", type=int, default=100_000, metavar="N")
     draft.add_argument("--reading-ns", type=int, default=100_000, metavar="N")
@@ -43,7 +44,7 @@ def parser() -> Parser:
                        help="seconds of a piece; else the coarsest of 64, 16, 4, 1 that carries the claim")
     audit.add_argument("--days", action="store_true", help="a verdict for each day (UTC) of the span")
     audit.add_argument("--jobs", type=in_range(1, 4096), default=0, metavar="N",
-                       help="folders side by side; as many as processors where it is left out")
+                       help="folders side by side; as many as processors if it is left out")
     audit.add_argument("--again", action="store_true", help="audit folders that are done and unchanged, too")
     page = commands.add_parser("page", help="print a page of audits that were made")
     page.add_argument("folders", nargs="+", metavar="FOLDER")
@@ -88,7 +89,7 @@ def main(words: list[str]) -> int:
         say("ntpaudit-dossier: broken off; what is done isn't done again by the next call")
         return INTERRUPTED
     except Stopped as stopped:
-        return 128 + stopped.args[0]
+        return 128 + stopped.number
 
 
 def say(line: str) -> None:

@@ -143,9 +143,9 @@ def of_column(column: str) -> str:
 
 
 def cells_of(row: Row, name: str) -> list[str]:
-    """The cells of a line. Where there is no verdict there are no figures."""
+    """The cells of a line. If there is no verdict there are no figures."""
     cells = [f'<a href="#{name}">{html(row.machine)}</a>', row.day, badge(row.verdict)]
-    if row.bound_ns is None:
+    if row.bound_ns is None or row.groups is None:
         return [*cells, *[""] * (len(COLUMNS) - len(cells))]
     least = "none" if row.least_bound_ns is None else f"{ns_up_ms(row.least_bound_ns)} ms"
     servers = f"{row.servers} in {count(row.groups, 'group')}" if row.groups != row.servers else f"{row.servers}"

@@ -26,7 +26,7 @@ class Fault(Exception):
 
 @dataclass(frozen=True)
 class Ran:
-    """What a call gave, where it gave an answer: the status is 0 or 1."""
+    """What a call gave, if it gave an answer: the status is 0 or 1."""
 
     status: int
     text: bytes
@@ -111,7 +111,7 @@ def fault_of(status: int, error: bytes) -> Fault:
 
 def find_program() -> Program:
     """The program under which all is done: the file that the environment's NTPAUDIT names (from the repository's root);
-    or the one that the launcher keeps, which it has made sure of just now; or, where this is installed, the one that was
+    or the one that the launcher keeps, which it has made sure of just now; or, if this is installed, the one that was
     installed beside it; or `ntpaudit` on the PATH."""
     path = os.environ.get("NTPAUDIT")
     if path:

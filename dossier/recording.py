@@ -31,7 +31,7 @@ class Recording:
     """The first record whose time falls back: its number, the time before it, and its own."""
     first_request: int | None = None
     last_reply: int | None = None
-    times: array = field(default_factory=lambda: array("q"))
+    times: array[int] = field(default_factory=lambda: array("q"))
     """When each sample's reply was recorded, in rising order."""
 
     def nearest(self, begin: int, end: int) -> int:
@@ -44,9 +44,9 @@ class Recording:
 
 def read_recording(program: Program, folder: str, claim: Operand, capture: Operand) -> Recording:
     """Runs `samples` and `list`."""
-    found, replies, requests = Recording(), [], []
-    servers: Counter[bytes] = Counter()
-    closing = b""
+    found, servers, closing = Recording(), Counter[bytes](), b""
+    requests: list[int | None] = []
+    replies: list[bytes] = []
 
     def take(block: bytes) -> None:
         """A line of `samples` has its number, the server, the records of request and reply, and then its figures."""

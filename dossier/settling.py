@@ -77,7 +77,7 @@ class Settling:
         self.left[self.part.within(name)] = sum_of(data)
 
     def decide(self, step: int | None) -> Texts:
-        """The certificate and what `check` says about it; or what `find` says where it finds nothing."""
+        """The certificate and what `check` says about it; or what `find` says if it finds nothing."""
         step, found = self.find([step] if step else STEPS)
         decided_by, report = "find", found.text
         if found.status == 0:
@@ -89,18 +89,21 @@ class Settling:
     def find(self, steps: list[int]) -> tuple[int, Ran]:
         """The certificate with the first step that carries the claim, or what `find` says with the last that it takes.
         A piece that is unbounded or empty stays so however fine it is cut."""
-        last = None
-        for step in steps:
-            try:
-                ran = self.call("find", CLAIM, self.capture, "--step", str(step))
-            except Fault as fault:
-                if last and fault.line == TOO_MANY_PIECES:
-                    break
-                raise
-            last = step, ran
+        coarsest, *finer = steps
+        last, ran = coarsest, self.find_with(coarsest)
+        for step in finer:
             if ran.status == 0 or isinstance(read_nothing(ran.text).hull, str):
                 break
-        return last
+            try:
+                last, ran = step, self.find_with(step)
+            except Fault as fault:
+                if fault.line == TOO_MANY_PIECES:
+                    break
+                raise
+        return last, ran
+
+    def find_with(self, step: int) -> Ran:
+        return self.call("find", CLAIM, self.capture, "--step", str(step))
 
     def measure(self, texts: Texts, step: int | None) -> Texts:
         """The envelope, in pieces of the step that was asked for or of a finer one than the certificate's."""

@@ -38,7 +38,7 @@ class Row:
 
 
 def not_audited() -> Record:
-    return Record({}, {}, {}, None, [Entry(part=".", verdict=REFUSED, fault=NOT_AUDITED)], "", 0)
+    return Record({}, {}, {}, "", [Entry(part=".", verdict=REFUSED, fault=NOT_AUDITED)], "", 0)
 
 
 def records_of(folders: list[str]) -> list[tuple[str, Record]]:

@@ -18,7 +18,7 @@ DIFFERS = 1
 
 
 def verify_all(folders: list[str], program: Program) -> int:
-    """Prints `verified` or what differs, a line for each finding. The status is 0 where all is verified, and 1 where
+    """Prints `verified` or what differs, a line for each finding. The status is 0 if all is verified, and 1 if
     something differs; or a fault's."""
     worst = 0
     for folder in folders:

@@ -11,14 +11,14 @@ import select
 import signal
 import sys
 import time
-from collections.abc import Iterator
+from collections.abc import Generator
 from dataclasses import astuple, dataclass
 from typing import NoReturn
 
 from .audit import Options, audit_folder
 from .entry import NEITHER, NO, REFUSED, YES
 from .program import Fault, Program
-from .words import line_of
+from .words import line_of, refusal_of
 
 WIDTH = 30
 MOMENT = 0.5
@@ -37,6 +37,9 @@ class Done:
 
 class Stopped(BaseException):
     """A signal came: nothing more is begun, and nothing half done is left."""
+
+    def __init__(self, number: int):
+        self.number = number
 
 
 def stop(number: int, _: object) -> None:
@@ -62,7 +65,7 @@ class Task:
 
 
 def refused(folder: str, line: str, status: int) -> Done:
-    return Done(status, [REFUSED], [line_of(folder, None, line)])
+    return Done(status, [REFUSED], [refusal_of(folder, line)])
 
 
 def audit_all(task: Task, jobs: int) -> int:
@@ -85,14 +88,14 @@ def audit_all(task: Task, jobs: int) -> int:
     return worst
 
 
-def one_by_one(task: Task, shown: Progress) -> Iterator[Done]:
+def one_by_one(task: Task, shown: Progress) -> Generator[Done, None, None]:
     for number in range(len(task.folders)):
         done = task.audit(number)
         shown.add(done)
         yield done
 
 
-def side_by_side(task: Task, jobs: int, shown: Progress) -> Iterator[Done]:
+def side_by_side(task: Task, jobs: int, shown: Progress) -> Generator[Done, None, None]:
     """The answers of workers, in the order of the folders."""
     team = Team(task, shown)
     try:
