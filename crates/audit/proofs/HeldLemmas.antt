@@ -146,8 +146,8 @@ module _ (frame source : List ℕ) (source_port : ℕ) (destination : List ℕ) 
 
   packet_is_ipv4 : held.packet ≡ ipv4_bytes parts fields
   packet_is_ipv4 = held.ipv4.joined
-      ∙ ap (λ (n : ℕ). ipv4_head parts n ++ source ++ destination ++ held.ipv4.options ++ held.datagram ++ held.ipv4.rest)
-      total_is
+      ∙ ap (λ (n : ℕ). ipv4_head parts n ++ source ++ destination ++ held.ipv4.options ++ held.datagram
+      ++ held.ipv4.rest) total_is
       ∙ ap (λ (l : List ℕ). ipv4_head parts (total_length_of parts fields) ++ source ++ destination
       ++ held.ipv4.options ++ l ++ held.ipv4.rest) udp_is
       ∙ after_front source destination held.ipv4.options (udp_bytes parts fields) held.ipv4.rest

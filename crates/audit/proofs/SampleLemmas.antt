@@ -30,4 +30,5 @@ module _ (claim : ClaimData) (xs : List Exchange) (i : ℕ) (d : Exchange) (with
 pub listed_samples : (claim : ClaimData) (xs : List Exchange) (servers : ℕ) → All (IsLawful servers) xs →
     All (λ sample. sample.server < servers) (samples_of xs claim)
 listed_samples claim xs servers each =
-    All-map (λ sample. sample.server < servers) (λ x. sample_of x claim.reading) xs (λ k d within. (each k d within).listed)
+    All-map (λ sample. sample.server < servers) (λ x. sample_of x claim.reading) xs
+    (λ k d within. (each k d within).listed)

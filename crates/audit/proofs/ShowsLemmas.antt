@@ -216,4 +216,5 @@ module _ (laws : BytesLaws) (question : QuestionData) (claim second capture : Fe
   run_shows (Err fault) (Ok m) answer reads refused after (inl same) = cc
   run_shows (Ok c) (Ok m) answer reads refused after (inl same) =
       subst (λ (a : Result Outcome RunFault). IfOk a (Shows question claim second capture)) (sym same)
-      (from_bytes laws claim second capture (claim_data c) (known_claim claim.remaining c reads) question m.outcome after)
+      (from_bytes laws claim second capture (claim_data c) (known_claim claim.remaining c reads) question m.outcome
+      after)

@@ -153,7 +153,8 @@ module _ (laws : Laws) where
     bound_same : c.bound ≡ d.bound
     bound_same =
         let is = floor_same (d.bound_ns * ticks_per_second) nanoseconds_per_second x.bound y.bound
-        (subst (λ (n : ℕ). IsFloor (n * ticks_per_second) nanoseconds_per_second x.bound) bound_ns_same x.bound_is) y.bound_is in
+        (subst (λ (n : ℕ). IsFloor (n * ticks_per_second) nanoseconds_per_second x.bound) bound_ns_same x.bound_is)
+        y.bound_is in
         x.bound_in_ticks ∙ ap pos is ∙ sym y.bound_in_ticks
 
     reading_ns_same : c.reading_ns ≡ d.reading_ns

@@ -25,8 +25,8 @@ pub record IsTimeAt (value : Data) (name : List ℕ) (tick : ℤ) : Type 0 where
   pub is_time : IsTime text second
   pub in_ticks : tick ≡ pos (second * ticks_per_second)
 
--- The text is JSON, and its members say this claim. Names of times and addresses are as RFC 3339
--- and the dotted form have them; the bound is rounded down to ticks, the allowance up.
+-- The text is JSON, and its members say this claim. Times and addresses are written as RFC 3339 and
+-- the dotted form have them; the bound is rounded down to ticks, the allowance up.
 pub record IsClaimText (text : List ℕ) (claim : ClaimData) : Type 0 where
   pub value : Data
   pub is_json : parsed text ≡ Some value

@@ -15,8 +15,8 @@ use Rattle.pairing.specs.declared.exchange.Exchange.{Exchange}
 use Rattle.audit.specs.Captured.{CapturedFrame}
 use Rattle.audit.specs.Held.{HoldsPacket}
 
--- the frame holds a request, which is in mode 3, from this client and port to this server, with this
--- timestamp
+-- the frame holds a request, which is in mode 3, from this client and port to this server, with
+-- this transmit timestamp
 pub record HoldsRequest (frame client : List ℕ) (port : ℕ) (server : List ℕ) (stamp : ℕ) :
     Type 0 where
   pub header : List ℕ

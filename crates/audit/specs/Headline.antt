@@ -20,9 +20,9 @@ use Rattle.audit.specs.Claimed.{IsClaimText}
 use Rattle.audit.specs.Exchanged.{IsExchangeIn}
 
 -- The claim's bytes are the text of a claim, and the capture's bytes are a capture of frames. There
--- are exchanges in these frames of which this holds: for each reading of the span, a whole number of
--- 1/n tick, there are entries such that in every course of events that fits what they name of the
--- exchanges, and in which the client's clock reads that, its error is within the bound.
+-- are exchanges in these frames of which this holds: for each reading of the span, a whole number
+-- of 1/n tick, there are entries such that in every course of events that fits what they name of
+-- the exchanges, and in which the client's clock reads that, its error is within the bound.
 pub record IsShown (claim_bytes capture_bytes : List ℕ) : Type 0 where
   pub claim : ClaimData
   pub order : Endian

@@ -336,7 +336,8 @@ in_group n None groups e server group =
     let same : servers_of n ≡ groups = cc in
     subst (λ gs. (slice_get gs server ≡ Some group) ↔ ((server < n) × (group ≡ server))) same (
       λ at.
-          let small : server < n = rw (length-range_with_len 0 n) at (slice_get_within (servers_of n) server group at) in
+          let small : server < n =
+          rw (length-range_with_len 0 n) at (slice_get_within (servers_of n) server group at) in
           let is = get_or_from_slice_get (servers_of n) server group 0 at in
           let number = get_or-range_with_len 0 n server 0 small in
           (small, sym is ∙ number ∙ omega arith),
