@@ -19,7 +19,7 @@ def read_counts(line: str) -> dict[str, int]:
 
 @dataclass(frozen=True)
 class Nothing:
-    """What `find` says where it finds nothing: the first piece that fails, and its hull."""
+    """What `find` says if it finds nothing: the first piece that fails, and its hull."""
 
     piece: int
     hull: Hull

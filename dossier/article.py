@@ -3,7 +3,6 @@ from __future__ import annotations
 
 import shlex
 from collections.abc import Iterator
-from pathlib import Path
 
 from . import folder as files
 from .alerts import warning_words
@@ -33,11 +32,11 @@ COUNTS = {
 }
 
 
-def article(name: str, folder: Path, record: Record, entry: Entry, badge: str) -> str:
+def article(name: str, folder: str, record: Record, entry: Entry, badge: str) -> str:
     day = "" if entry.part == "." else f", {entry.part}"
     parts = [
         f'<article id="{name}">',
-        f"<h2>{html(str(folder))}{day} {badge}</h2>",
+        f"<h2>{html(folder)}{day} {badge}</h2>",
         f'<p class="lead">{minus(html(sentence(entry)))}</p>',
     ]
     if entry.verdict == REFUSED:
@@ -47,7 +46,7 @@ def article(name: str, folder: Path, record: Record, entry: Entry, badge: str) -
     return "\n".join([*parts, *sums(record, entry), "</article>"])
 
 
-def body(name: str, folder: Path, record: Record, entry: Entry) -> Iterator[str]:
+def body(name: str, folder: str, record: Record, entry: Entry) -> Iterator[str]:
     for words in (to_do(entry), fit(entry)):
         if words:
             yield f"<p>{minus(with_code(words))}</p>"
@@ -65,11 +64,11 @@ def body(name: str, folder: Path, record: Record, entry: Entry) -> Iterator[str]
 NO_PICTURE = f"<p><b>No picture:</b> {ENVELOPE} isn't there, or was changed since the audit.</p>"
 
 
-def kept_envelope(folder: Path, entry: Entry) -> Envelope | None:
+def kept_envelope(folder: str, entry: Entry) -> Envelope | None:
     """The envelope, if it is still the one that was audited."""
     name = ENVELOPE if entry.part == "." else f"{entry.part}/{ENVELOPE}"
     try:
-        text = (folder / name).read_bytes()
+        text = files.read(f"{folder}/{name}")
     except OSError:
         return None
     return read_envelope(text) if sum_of(text) == entry.outputs.get(name) else None
@@ -116,7 +115,7 @@ def servers(entry: Entry, drawn: list[str]) -> str:
     return "<h3>Servers</h3>\n" + rows(columns, lines)
 
 
-def granted(folder: Path, entry: Entry) -> str:
+def granted(folder: str, entry: Entry) -> str:
     """The premises, with room for a signature."""
     kept = evidence(folder)
     lines = [[html(premise.granted), html(premise.known), html(kept.get(premise.name, "")), ""]

@@ -2,15 +2,15 @@
 from __future__ import annotations
 
 import json
+import os
 import time
 from collections.abc import Iterator
 from dataclasses import dataclass
-from pathlib import Path
 from typing import Any
 
 from . import folder as files
 from .entry import REFUSED, Entry, Record, read_record, record_text
-from .folder import write_beside
+from .folder import read, remove, write_beside
 from .program import Fault, Operand, Program, now, sum_of_file
 from .recording import read_recording
 from .settling import CLAIM, Part, Settling
@@ -29,14 +29,14 @@ class Options:
         return {"step": self.step, "days": self.days}
 
 
-def audit_folder(folder: Path, options: Options, program: Program) -> tuple[Record, bool]:
-    """Audits a folder and leaves its files, audit.json last. True where it was done and nothing has changed since.
+def audit_folder(folder: str, options: Options, program: Program) -> tuple[Record, bool]:
+    """Audits a folder and leaves its files, audit.json last. True if it was done and nothing has changed since.
 
-    A refusal is an audit too, and is written down. A fault is raised only where that isn't possible.
+    A refusal is an audit too, and is written down. A fault is raised only if that isn't possible.
     """
     begun, old = time.monotonic(), read_record(folder)
     record = Record(program={"version": program.version, "sha256": program.sha256}, options=options.kept, inputs={},
-                    capture=None, entries=[], made=now(), seconds=0)
+                    capture="", entries=[], made=now(), seconds=0)
     try:
         record.inputs = sums(folder, files.inputs(folder))
         if old and not options.again and is_unchanged(folder, old, record):
@@ -45,24 +45,24 @@ def audit_folder(folder: Path, options: Options, program: Program) -> tuple[Reco
         record.capture = take_capture(folder, record)
         record.entries = audit_parts(folder, record.capture, options, program)
     except Fault as fault:
-        if not folder.is_dir():
+        if not os.path.isdir(folder):
             raise
         record.entries = [Entry(part=".", verdict=REFUSED, fault={"line": fault.line, "status": fault.status})]
     if old:
         remove_files(folder, old.outputs.keys() - record.outputs.keys() - set(record.inputs))
     record.seconds = round(time.monotonic() - begun, 3)
-    write_beside(folder / files.AUDIT, record_text(record))
+    write_beside(folder, files.AUDIT, record_text(record))
     return record, False
 
 
-def sums(folder: Path, names: list[str]) -> dict[str, str]:
+def sums(folder: str, names: list[str]) -> dict[str, str]:
     try:
-        return {name: sum_of_file(folder / name) for name in names}
+        return {name: sum_of_file(f"{folder}/{name}") for name in names}
     except OSError as error:
         raise Fault(f"ntpaudit-dossier: an input can't be read ({error.strerror})", files.DEVICE) from None
 
 
-def is_unchanged(folder: Path, old: Record, new: Record) -> bool:
+def is_unchanged(folder: str, old: Record, new: Record) -> bool:
     """Whether a record stands for what an audit would give: the same inputs, program and options, and all its files
     there as they were left. What was refused is tried again."""
     if (old.inputs, old.options, old.program) != (new.inputs, new.options, new.program) or not old.entries:
@@ -70,12 +70,12 @@ def is_unchanged(folder: Path, old: Record, new: Record) -> bool:
     if any(entry.verdict == REFUSED for entry in old.entries):
         return False
     try:
-        return all(sum_of_file(folder / name) == sum_ for name, sum_ in old.outputs.items())
+        return all(sum_of_file(f"{folder}/{name}") == sum_ for name, sum_ in old.outputs.items())
     except OSError:
         return False
 
 
-def take_capture(folder: Path, record: Record) -> str:
+def take_capture(folder: str, record: Record) -> str:
     names = [name for name in record.inputs if name != files.CLAIM]
     if len(names) == 1:
         return names[0]
@@ -83,14 +83,14 @@ def take_capture(folder: Path, record: Record) -> str:
     return files.JOINED
 
 
-def audit_parts(folder: Path, capture: str, options: Options, program: Program) -> list[Entry]:
-    recording = read_recording(program, str(folder), CLAIM, Operand(capture))
-    claim = json.loads((folder / files.CLAIM).read_bytes())
+def audit_parts(folder: str, capture: str, options: Options, program: Program) -> list[Entry]:
+    recording = read_recording(program, folder, CLAIM, Operand(capture))
+    claim = json.loads(read(f"{folder}/{files.CLAIM}"))
     entries = []
     for part in parts_of(claim, options.days):
         entry = Settling(folder, part, capture, program).settle(recording, options.step)
         if capture == files.JOINED:
-            entry.outputs[files.JOINED] = sum_of_file(folder / files.JOINED)
+            entry.outputs[files.JOINED] = sum_of_file(f"{folder}/{files.JOINED}")
         entries.append(entry)
     return entries
 
@@ -111,12 +111,12 @@ def parts_of(claim: dict[str, Any], days: bool) -> Iterator[Part]:
             return
 
 
-def remove_files(folder: Path, names: set[str]) -> None:
+def remove_files(folder: str, names: set[str]) -> None:
     """Takes away what an earlier audit left and this one didn't, and folders of days that are empty by that."""
     for name in names:
-        (folder / name).unlink(missing_ok=True)
-    for day in {Path(name).parent for name in names} - {Path(".")}:
+        remove(f"{folder}/{name}")
+    for day in {os.path.dirname(name) for name in names} - {""}:
         try:
-            (folder / day).rmdir()
+            os.rmdir(f"{folder}/{day}")
         except OSError:
             pass

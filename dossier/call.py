@@ -21,7 +21,7 @@ ENVIRONMENT = dict(os.environb)
 
 
 class Call:
-    """A running program. It is ended by `end`, or by `kill` where its answer isn't wanted any more."""
+    """A running program. It is ended by `end`, or by `kill` if its answer isn't wanted any more."""
 
     def __init__(self, words: list[str], folder: str, given: str = "/dev/null"):
         self.output, write = os.pipe()

@@ -1,4 +1,4 @@
-"""What a picture draws of an envelope: a cell for each piece, or for each column of it where the pieces are too many.
+"""What a picture draws of an envelope: a cell for each piece, or for each column of it if the pieces are too many.
 
 A cell of several pieces has the extremes of what falls into it: the lowest low end and the highest high end, never an
 average.

@@ -6,6 +6,7 @@ import os
 import sys
 from collections.abc import Callable
 from pathlib import Path
+from typing import NoReturn
 
 from .program import Fault, Program, find_program
 
@@ -24,7 +25,7 @@ device, 5 the command line; the status of several folders is the worst of theirs
 
 
 class Parser(argparse.ArgumentParser):
-    def error(self, message: str) -> None:
+    def error(self, message: str) -> NoReturn:
         self.exit(USAGE, f"{self.prog}: {message}\n")
 
 
@@ -33,7 +34,7 @@ def parser() -> Parser:
     commands = top.add_subparsers(dest="command", required=True, metavar="COMMAND")
     draft = commands.add_parser("draft", help="print a claim to start from")
     draft.add_argument("captures", nargs="+", metavar="CAPTURE")
-    draft.add_argument("--client", metavar="ADDRESS", help="the client; the one that asks most where it is left out")
+    draft.add_argument("--client", metavar="ADDRESS", help="the client; the one that asks most if it is left out")
     draft.add_argument("--day", action="store_true", help="claim whole days (UTC)")
     draft.add_argument("--drift-ppb", type=int, default=100_000, metavar="N")
     draft.add_argument("--reading-ns", type=int, default=100_000, metavar="N")
@@ -43,7 +44,7 @@ def parser() -> Parser:
                        help="seconds of a piece; else the coarsest of 64, 16, 4, 1 that carries the claim")
     audit.add_argument("--days", action="store_true", help="a verdict for each day (UTC) of the span")
     audit.add_argument("--jobs", type=in_range(1, 4096), default=0, metavar="N",
-                       help="folders side by side; as many as processors where it is left out")
+                       help="folders side by side; as many as processors if it is left out")
     audit.add_argument("--again", action="store_true", help="audit folders that are done and unchanged, too")
     page = commands.add_parser("page", help="print a page of audits that were made")
     page.add_argument("folders", nargs="+", metavar="FOLDER")
@@ -58,7 +59,6 @@ def parser() -> Parser:
     picture.add_argument("claim", metavar="CLAIM")
     picture.add_argument("capture", metavar="CAPTURE")
     picture.add_argument("--step", type=in_range(1, 86_400), default=64, metavar="N")
-    commands.add_parser("worker").add_argument("given")
     return top
 
 
@@ -89,7 +89,7 @@ def main(words: list[str]) -> int:
         say("ntpaudit-dossier: broken off; what is done isn't done again by the next call")
         return INTERRUPTED
     except Stopped as stopped:
-        return 128 + stopped.args[0]
+        return 128 + stopped.number
 
 
 def say(line: str) -> None:
@@ -101,9 +101,6 @@ def say(line: str) -> None:
 
 
 def run(given: argparse.Namespace) -> int:
-    if given.command == "worker":
-        from .work import work
-        return work(given.given)
     if given.command == "page":
         from .page import write_page
         return write_page([tidy(folder) for folder in given.folders], given)
@@ -112,10 +109,10 @@ def run(given: argparse.Namespace) -> int:
         return run_draft(given, program)
     if given.command == "audit":
         from .audit import Options
-        from .work import audit_all
+        from .work import Task, audit_all
         jobs = given.jobs or len(os.sched_getaffinity(0))
         options = Options(given.step, given.days, given.again)
-        return audit_all([tidy(folder) for folder in given.folders], options, program, jobs)
+        return audit_all(Task([tidy(folder) for folder in given.folders], options, program), jobs)
     if given.command == "verify":
         from .verify import verify_all
         return verify_all([tidy(folder) for folder in given.folders], program)

@@ -11,7 +11,7 @@ from typing import Any
 
 from . import folder as files
 from .answers import read_envelope
-from .program import Fault, Operand, Program
+from .program import Fault, Operand, Program, Word
 from .recording import SECOND, Recording, read_recording
 from .settling import envelope_step_of
 from .text import count, plain
@@ -44,8 +44,8 @@ class Traffic:
     """What a capture holds of NTP: who asked, who answered whom, and which references a server named to a client."""
 
     packets: int = 0
-    asked: Counter = field(default_factory=Counter)
-    answered: dict[str, Counter] = field(default_factory=lambda: defaultdict(Counter))
+    asked: Counter[str] = field(default_factory=Counter)
+    answered: dict[str, Counter[str]] = field(default_factory=lambda: defaultdict(Counter))
     references: dict[tuple[str, str], set[tuple[int, str]]] = field(default_factory=lambda: defaultdict(set))
 
 
@@ -97,13 +97,13 @@ def group(servers: list[str], references: References) -> list[list[int]]:
 
 def round_up(number: int) -> int:
     """The least number of two digits, with zeros behind them, that isn't below this one."""
-    unit = 10 ** max(0, len(str(number)) - 2)
+    unit: int = 10 ** max(0, len(str(number)) - 2)
     return -(-number // unit) * unit
 
 
-def span_of(recording: Recording, whole_days: bool) -> tuple[int, int]:
-    """The whole seconds between the first exchange and the last, or the whole days that hold them."""
-    first, last = -(-recording.first_request // SECOND), recording.last_reply // SECOND
+def span_of(first_request: int, last_reply: int, whole_days: bool) -> tuple[int, int]:
+    """The whole seconds between two times in nanoseconds, or the whole days that hold them."""
+    first, last = -(-first_request // SECOND), last_reply // SECOND
     if whole_days:
         return first - first % DAY, -(-last // DAY) * DAY
     return min(first, last), last
@@ -120,7 +120,7 @@ class Draft:
         self.remarks.append(" ".join(words))
 
     def claim(self, wanted: Wanted) -> dict[str, Any] | None:
-        """The claim, or None where the capture has no client with a server that answered it."""
+        """The claim, or None if the capture has no client with a server that answered it."""
         seen = read_traffic(self.program, self.folder, self.capture)
         client = self.choose(seen, wanted.client)
         if client is None:
@@ -134,11 +134,11 @@ class Draft:
             own = Operand(str(Path(place) / files.CLAIM))
             Path(own.name).write_bytes(files.compact(claim))
             recording = read_recording(self.program, self.folder, own, self.capture)
-            if not recording.times:
+            if recording.first_request is None or recording.last_reply is None:
                 self.remark(f"None of {client}'s servers gave a sample: {counted(recording.counts)}.")
                 return None
             self.name_servers(claim, recording, {server: seen.references[client, server] for server in servers})
-            first, last = span_of(recording, wanted.whole_days)
+            first, last = span_of(recording.first_request, recording.last_reply, wanted.whole_days)
             claim |= {"from": civil(first), "to": civil(last)}
             Path(own.name).write_bytes(files.compact(claim))
             self.take_bound(claim, own, last - first)
@@ -189,7 +189,7 @@ class Draft:
     def take_bound(self, claim: dict[str, Any], own: Operand, span: int) -> None:
         """The least bound that the envelope carries, rounded up to two digits."""
         step = envelope_step_of(claim, COARSEST)
-        words = ["envelope", own, self.capture, "--servers", "--step", str(step)]
+        words: list[Word] = ["envelope", own, self.capture, "--servers", "--step", str(step)]
         envelope = read_envelope(self.program.run(words, self.folder).text)
         claim["bound_ns"] = NO_BOUND
         if envelope.least_ns is None:
@@ -223,7 +223,7 @@ def counted(counts: dict[str, int]) -> str:
 
 
 def draft(program: Program, captures: list[str], wanted: Wanted) -> tuple[dict[str, Any] | None, list[str]]:
-    """A claim for captures, which are joined where there are several; and remarks for a person."""
+    """A claim for captures, which are joined if there are several; and remarks for a person."""
     if len(captures) == 1:
         drafting = Draft(program, ".", Operand(captures[0]))
         return drafting.claim(wanted), drafting.remarks
@@ -233,7 +233,7 @@ def draft(program: Program, captures: list[str], wanted: Wanted) -> tuple[dict[s
                 (Path(place) / f"{number:06}.pcap").symlink_to(Path(capture).resolve(strict=True))
             except OSError:
                 raise Fault("ntpaudit: device capture", files.DEVICE) from None
-        files.join(Path(place), [f"{number:06}.pcap" for number in range(len(captures))])
+        files.join(place, [f"{number:06}.pcap" for number in range(len(captures))])
         drafting = Draft(program, place, Operand(files.JOINED))
         claim = drafting.claim(wanted)
         drafting.remarks.insert(0, f"{len(captures)} captures were joined in order of time.")

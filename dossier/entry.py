@@ -4,7 +4,6 @@ from __future__ import annotations
 import json
 import re
 from dataclasses import dataclass, field, fields
-from pathlib import Path
 from typing import Any
 
 from . import VERSION
@@ -28,34 +27,35 @@ class Entry:
     part: str
     """The folder of its files, seen from the record's: `.`, or a day such as `2026-11-22`."""
     verdict: str
-    claim: dict[str, Any] | None = None
-    fault: dict[str, Any] | None = None
-    """The line and the status of a refusal."""
-    decided_by: str | None = None
-    """The command whose text is report.txt: `check`, or `find` where it found nothing."""
-    step: int | None = None
+    fault: dict[str, Any] = field(default_factory=dict)
+    """Of a refusal, its line and its status. What follows is there if there is none."""
+    claim: dict[str, Any] = field(default_factory=dict)
+    decided_by: str = ""
+    """The command whose text is report.txt: `check`, or `find` if it found nothing."""
+    step: int = 0
     """Seconds of the certificate's pieces, or of those in which `find` found nothing last."""
-    envelope_step: int | None = None
+    envelope_step: int = 0
+    """Seconds of the envelope's pieces."""
     pieces: int = 0
     """How many pieces the envelope has."""
     least_ns: int | None = None
-    """The least bound that the envelope carries, or None where a piece is unbounded or empty."""
-    worst: dict[str, Any] | None = None
+    """The least bound that the envelope carries; None if a piece is unbounded or empty."""
+    worst: dict[str, Any] = field(default_factory=dict)
     """The piece that needs the least bound, or the first that is unbounded or empty."""
-    reason: dict[str, Any] | None = None
+    reason: dict[str, Any] = field(default_factory=dict)
     """Of a no: the piece that fails, and how."""
     failing: dict[str, int] = field(default_factory=dict)
     """How many pieces of the envelope are unbounded, are empty, or lie beyond the bound."""
     counts: dict[str, int] = field(default_factory=dict)
     servers: list[dict[str, Any]] = field(default_factory=list)
-    refutation: dict[str, Any] | None = None
+    refutation: dict[str, Any] = field(default_factory=dict)
     warnings: list[dict[str, Any]] = field(default_factory=list)
     outputs: dict[str, str] = field(default_factory=dict)
     """The SHA-256 of each file that the audit left, by its name seen from the record's folder."""
 
     @property
     def status(self) -> int:
-        return self.fault["status"] if self.fault else STATUS[self.verdict]
+        return int(self.fault["status"]) if self.fault else STATUS[self.verdict]
 
 
 @dataclass
@@ -66,7 +66,7 @@ class Record:
     options: dict[str, Any]
     inputs: dict[str, str]
     """The SHA-256 of each input, by its name."""
-    capture: str | None
+    capture: str
     """The capture that was read: the one input, or the file in which several were joined."""
     entries: list[Entry]
     made: str
@@ -93,13 +93,14 @@ def entry_text(entry: Entry) -> str:
     return "  {\n" + ",\n".join(f'   "{name}": {json.dumps(value)}' for name, value in vars(entry).items()) + "\n  }"
 
 
-def read_record(folder: Path) -> Record | None:
-    """The record of a folder; None where there is none, or one of another form."""
-    found = read_json(folder / AUDIT)
+def read_record(folder: str) -> Record | None:
+    """The record of a folder; None if there is none, or one of another form."""
+    found: Any = read_json(f"{folder}/{AUDIT}")
     if not isinstance(found, dict) or found.get("dossier") != VERSION:
         return None
     try:
-        record = Record(**{**found, "entries": [Entry(**entry) for entry in found["entries"]]})
+        said: dict[str, Any] = {**found, "entries": [Entry(**entry) for entry in found["entries"]]}
+        record = Record(**said)
         return record if all(map(is_own, record.entries)) else None
     except (TypeError, KeyError, AttributeError):
         return None

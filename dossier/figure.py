@@ -8,7 +8,7 @@ from __future__ import annotations
 
 import json
 import sys
-from collections.abc import Callable
+from collections.abc import Callable, Collection
 
 from .answers import Envelope, read_envelope
 from .cells import Cell, cells_of
@@ -76,7 +76,7 @@ def extent(cells: list[Cell], bound: int) -> tuple[int, int]:
     high = max([bound, *(cell.hull[1] for cell in cells if cell.hull)])
     most = (high - low) * 8 // 5
     for place in range(len(cells[0].servers)):
-        own = [cell.servers[place] for cell in cells if cell.servers[place]]
+        own = [ends for cell in cells if (ends := cell.servers[place])]
         lower, higher = min([low, *(end for end, _ in own)]), max([high, *(end for _, end in own)])
         if higher - lower <= most:
             low, high = lower, higher
@@ -90,21 +90,23 @@ def x(part: float) -> int:
 
 def band(cells: list[Cell], y: Height) -> str:
     """The hull's path: along the high ends of cells, and back along the low ones. A cell without a hull is a gap."""
-    drawn, run = [], []
+    drawn = ""
+    run: list[tuple[Cell, tuple[int, int]]] = []
     for cell in [*cells, None]:
-        if cell is not None and cell.hull and (not run or run[-1].end == cell.begin):
-            run.append(cell)
+        if cell and cell.hull and (not run or run[-1][0].end == cell.begin):
+            run.append((cell, cell.hull))
             continue
         if run:
-            there = "".join(f"V{y(c.hull[1]):.1f}H{x(c.end)}" for c in run)
-            back = "".join(f"V{y(c.hull[0]):.1f}H{x(c.begin)}" for c in reversed(run))
-            drawn.append(f"M{x(run[0].begin)} {y(run[0].hull[1]):.1f}{there}{back}Z")
-        run = [cell] if cell is not None and cell.hull else []
-    return "".join(drawn)
+            first, (_, begin) = run[0]
+            there = "".join(f"V{y(high):.1f}H{x(c.end)}" for c, (_, high) in run)
+            back = "".join(f"V{y(low):.1f}H{x(c.begin)}" for c, (low, _) in reversed(run))
+            drawn += f"M{x(first.begin)} {y(begin):.1f}{there}{back}Z"
+        run = [(cell, cell.hull)] if cell and cell.hull else []
+    return drawn
 
 
 def strokes(cells: list[Cell], y: Height) -> list[str]:
-    """Of each server a stroke in each cell, side by side. One through the whole picture is faint, and where it lies
+    """Of each server a stroke in each cell, side by side. One through the whole picture is faint, and if it lies
     outside there is a short one at the edge."""
     servers = len(cells[0].servers)
     is_dense = " dense" if len(cells) * servers > 400 else ""
@@ -112,9 +114,10 @@ def strokes(cells: list[Cell], y: Height) -> list[str]:
     for place in range(servers):
         plain, wide = [], []
         for cell in cells:
-            if cell.servers[place] is None:
+            ends = cell.servers[place]
+            if ends is None:
                 continue
-            bottom, top = (y(end) for end in cell.servers[place])
+            bottom, top = map(y, ends)
             at = x(cell.begin + (cell.end - cell.begin) * (place + 1) / (servers + 1))
             if bottom < 0:
                 plain.append(f"M{at} 0v7")
@@ -200,14 +203,14 @@ def swatch(drawn: str) -> str:
     return f'<svg width="26" height="14" aria-hidden="true">{drawn}</svg>'
 
 
-def items(names: list[str], fails: set[str | None]) -> list[tuple[str, str]]:
+def items(names: list[str], fails: Collection[str | None]) -> list[tuple[str, str]]:
     """What stands for what: something drawn, and its name."""
     servers = [(f'<path class="server {server_class(place)}" d="M0 7H26"/>', name) for place, name in enumerate(names)]
     marks = [(f'<path class="mark {kind}" d="M0 7H26"/>', text) for kind, text in MARKS.items() if kind in fails]
     return [(HULL, "hull"), *servers, ('<path class="bound" d="M0 7H26"/>', "claimed bound"), *marks]
 
 
-def legend(names: list[str], fails: set[str | None]) -> str:
+def legend(names: list[str], fails: Collection[str | None]) -> str:
     """The legend beside a picture in a page."""
     lines = "".join(f"<li>{swatch(drawn)} {html(text)}</li>" for drawn, text in items(names, fails))
     return f'<ul class="legend">{lines}</ul>'

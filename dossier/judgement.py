@@ -16,7 +16,7 @@ from .recording import SECOND, Recording
 from .units import bound_ticks, seconds_of
 
 FAR = 10
-"""A piece is far from the samples where the nearest is farther than this part of the span."""
+"""A piece is far from the samples if the nearest is farther than this part of the span."""
 
 
 @dataclass(frozen=True)
@@ -29,7 +29,7 @@ class Texts:
     envelope_step: int = 0
     envelope: bytes = b""
     refutation: bytes | None = None
-    """The text of `find --refutation`, of the claim at a no and of the claim with the bound 0 at a yes; None where
+    """The text of `find --refutation`, of the claim at a no and of the claim with the bound 0 at a yes; None if
     nothing was found."""
     refute: bytes | None = None
     """What `refute` says about it."""
@@ -63,7 +63,7 @@ def judge(part: str, claim: dict[str, Any], recording: Recording, texts: Texts) 
         pieces=len(envelope.hulls),
         least_ns=envelope.least_ns,
         worst=piece_of(envelope, envelope.worst),
-        reason=None if texts.is_yes else reason_of(claim, report, texts),
+        reason={} if texts.is_yes else reason_of(claim, report, texts),
         failing=failing,
         counts=recording.counts,
         servers=servers_of(claim, recording, envelope),
@@ -101,7 +101,7 @@ def reason_of(claim: dict[str, Any], report: Report | None, texts: Texts) -> dic
 
 
 def why_of(hull: Hull, bound: int) -> str:
-    """`unbounded` and `empty` as they stand; `off` where the hull lies beyond the bound as a whole; else `exceeds`."""
+    """`unbounded` and `empty` as they stand; `off` if the hull lies beyond the bound as a whole; else `exceeds`."""
     if isinstance(hull, str):
         return hull
     return "off" if hull[0] > bound or hull[1] < -bound else "exceeds"
@@ -123,8 +123,10 @@ def servers_of(claim: dict[str, Any], recording: Recording, envelope: Envelope) 
 
 
 def is_apart(lows: list[int], highs: list[int], hulls: list[Hull]) -> bool:
-    bounded = [(low, high, hull) for low, high, hull in zip(lows, highs, hulls) if not isinstance(hull, str)]
-    return bool(bounded) and not any(low <= hull[1] and hull[0] <= high for low, high, hull in bounded)
+    """Whether there are hulls, and these intervals meet none of them."""
+    bounded = ((low, high, hull) for low, high, hull in zip(lows, highs, hulls) if not isinstance(hull, str))
+    meets = (low <= hull[1] and hull[0] <= high for low, high, hull in bounded)
+    return not next(meets, True) and not any(meets)
 
 
 def refutation_of(texts: Texts) -> dict[str, Any]:
@@ -146,7 +148,7 @@ def warnings(
     if (k := envelope.first("empty")) is not None:
         yield {"kind": "empty", "count": envelope.hulls.count("empty"), **piece_of(envelope, k)}
     first, last = seconds_of(claim["from"]), seconds_of(claim["to"])
-    if recording.first is not None:
+    if recording.first is not None and recording.last is not None:
         before, after = recording.first - first * SECOND, last * SECOND - recording.last
         if before > 0 or after > 0:
             yield {"kind": "outside", "before": max(0, before), "after": max(0, after)}

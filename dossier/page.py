@@ -2,10 +2,10 @@
 from __future__ import annotations
 
 import argparse
+import os
 import sys
 from collections import Counter
 from dataclasses import dataclass
-from pathlib import Path
 
 from .article import article
 from .entry import MANGLED, NEITHER, NO, REFUSED, YES, Record
@@ -38,7 +38,7 @@ def write_page(folders: list[str], given: argparse.Namespace) -> int:
         text = page(records, given.title)
     data = text.encode("utf-8", "backslashreplace")
     if given.output:
-        write_beside(Path(given.output), data)
+        write_beside(*os.path.split(os.path.abspath(given.output)), data)
     else:
         sys.stdout.buffer.write(data)
     return 0
@@ -67,7 +67,7 @@ def sections_of(folder: str, record: Record, first: int) -> list[Section]:
     found = []
     for number, entry in enumerate(record.entries, first):
         name = f"a{number}"
-        said = article(name, Path(folder), record, entry, badge(entry.verdict))
+        said = article(name, folder, record, entry, badge(entry.verdict))
         found.append(Section(name, row_of(folder, entry), said))
     return found
 
@@ -143,9 +143,9 @@ def of_column(column: str) -> str:
 
 
 def cells_of(row: Row, name: str) -> list[str]:
-    """The cells of a line. Where there is no verdict there are no figures."""
+    """The cells of a line. If there is no verdict there are no figures."""
     cells = [f'<a href="#{name}">{html(row.machine)}</a>', row.day, badge(row.verdict)]
-    if row.bound_ns is None:
+    if row.bound_ns is None or row.groups is None:
         return [*cells, *[""] * (len(COLUMNS) - len(cells))]
     least = "none" if row.least_bound_ns is None else f"{ns_up_ms(row.least_bound_ns)} ms"
     servers = f"{row.servers} in {count(row.groups, 'group')}" if row.groups != row.servers else f"{row.servers}"

@@ -6,7 +6,6 @@ for each is kept: an object of texts, with the names below.
 from __future__ import annotations
 
 from dataclasses import dataclass
-from pathlib import Path
 from typing import Any
 
 from .folder import EVIDENCE, read_json
@@ -45,7 +44,7 @@ def premises(claim: dict[str, Any]) -> list[Premise]:
     ]
 
 
-def evidence(folder: Path) -> dict[str, str]:
+def evidence(folder: str) -> dict[str, str]:
     """Where the evidence for each premise is kept, as evidence.json says it."""
-    found = read_json(folder / EVIDENCE)
+    found = read_json(f"{folder}/{EVIDENCE}")
     return {str(name): str(text) for name, text in found.items()} if isinstance(found, dict) else {}

@@ -8,9 +8,10 @@ import subprocess
 import time
 from collections.abc import Callable
 from dataclasses import dataclass
+from functools import cached_property
 from pathlib import Path
 
-from .call import Call
+from .call import BLOCK, Call
 
 ROOT = Path(__file__).resolve().parent.parent
 
@@ -25,7 +26,7 @@ class Fault(Exception):
 
 @dataclass(frozen=True)
 class Ran:
-    """What a call gave, where it gave an answer: the status is 0 or 1."""
+    """What a call gave, if it gave an answer: the status is 0 or 1."""
 
     status: int
     text: bytes
@@ -37,12 +38,12 @@ class Operand:
 
     name: str
 
-    @property
+    @cached_property
     def is_sayable(self) -> bool:
         """Whether the program takes the name as a word: it has to be UTF-8."""
-        return self.name.isascii() or not any("\udc80" <= c <= "\udcff" for c in self.name)
+        return not any("\udc80" <= c <= "\udcff" for c in self.name)
 
-    @property
+    @cached_property
     def word(self) -> str:
         if not self.is_sayable:
             return "/dev/stdin"
@@ -110,7 +111,7 @@ def fault_of(status: int, error: bytes) -> Fault:
 
 def find_program() -> Program:
     """The program under which all is done: the file that the environment's NTPAUDIT names (from the repository's root);
-    or the one that the launcher keeps, which it has made sure of just now; or, where this is installed, the one that was
+    or the one that the launcher keeps, which it has made sure of just now; or, if this is installed, the one that was
     installed beside it; or `ntpaudit` on the PATH."""
     path = os.environ.get("NTPAUDIT")
     if path:
@@ -131,10 +132,13 @@ def find_program() -> Program:
     return Program(path, lines[0] if lines and not said_version.returncode else "", sum_of_file(path))
 
 
-def sum_of_file(path: str | Path) -> str:
-    """The SHA-256 of a file."""
-    with open(path, "rb") as opened:
-        return hashlib.file_digest(opened, "sha256").hexdigest()
+def sum_of_file(path: str) -> str:
+    """The SHA-256 of a file, of any size."""
+    found = hashlib.sha256()
+    with open(path, "rb", buffering=0) as opened:
+        while block := opened.read(BLOCK):
+            found.update(block)
+    return found.hexdigest()
 
 
 def sum_of(data: bytes) -> str:

@@ -4,13 +4,12 @@ All of it is read off `list` and `samples`, in one pass over each.
 """
 from __future__ import annotations
 
-import re
 from array import array
 from bisect import bisect_left
 from collections import Counter
 from dataclasses import dataclass, field
-from itertools import repeat, takewhile
-from operator import itemgetter, lt, ne
+from itertools import takewhile
+from operator import itemgetter, lt
 
 from .answers import read_counts
 from .program import Operand, Program
@@ -32,41 +31,36 @@ class Recording:
     """The first record whose time falls back: its number, the time before it, and its own."""
     first_request: int | None = None
     last_reply: int | None = None
-    times: array = field(default_factory=lambda: array("q"))
+    times: array[int] = field(default_factory=lambda: array("q"))
     """When each sample's reply was recorded, in rising order."""
 
-    def nearest(self, begin: int, end: int) -> int | None:
-        """How far the nearest sample is from a piece of Unix seconds, in nanoseconds; 0 where one lies in it."""
+    def nearest(self, begin: int, end: int) -> int:
+        """How far the nearest sample is from a piece of Unix seconds, in nanoseconds; 0 if one lies in it. There has to
+        be one."""
         first, last = begin * SECOND, end * SECOND
         at = bisect_left(self.times, first)
-        after = self.times[at] - last if at < len(self.times) else None
-        before = first - self.times[at - 1] if at else None
-        found = [distance for distance in (after, before) if distance is not None]
-        return max(0, min(found)) if found else None
-
-
-SAMPLE = re.compile(rb"^\d+ (\S+) (\d+) (\d+) .*\n", re.MULTILINE)
-"""A line of `samples`: the server, and the records of the request and the reply."""
-
-PACKET = re.compile(rb"^(\d+) (\d+\.\d+) .*\n", re.MULTILINE)
-"""A line of `list`: the record and its time."""
+        return max(0, min([max(first - time, time - last) for time in self.times[max(0, at - 1) : at + 1]]))
 
 
 def read_recording(program: Program, folder: str, claim: Operand, capture: Operand) -> Recording:
     """Runs `samples` and `list`."""
-    found, replies, servers = Recording(), [], Counter()
-    first, closing = None, b""
+    found, servers, closing = Recording(), Counter[bytes](), b""
+    requests: list[int | None] = []
+    replies: list[bytes] = []
 
     def take(block: bytes) -> None:
-        nonlocal first, closing
-        samples = SAMPLE.findall(block)
-        servers.update(map(itemgetter(0), samples))
-        replies.extend(map(itemgetter(2), samples))
-        first = min([*([] if first is None else [first]), *map(int, map(itemgetter(1), samples))], default=None)
-        closing = block
+        """A line of `samples` has its number, the server, the records of request and reply, and then its figures."""
+        nonlocal closing
+        lines = [line.split(b" ", 4) for line in block.splitlines()]
+        if lines[-1][0] == b"records":
+            closing = b" ".join(lines.pop())
+        servers.update(map(itemgetter(1), lines))
+        replies.extend(map(itemgetter(3), lines))
+        requests.append(min(map(int, map(itemgetter(2), lines)), default=None))
     program.blocks(["samples", claim, capture], folder, take)
-    found.counts = read_counts(closing[closing.rindex(b"records ") :].decode("ascii"))
+    found.counts = read_counts(closing.decode("ascii"))
     found.by_server = {server.decode("ascii"): number for server, number in servers.items()}
+    first = min((request for request in requests if request is not None), default=None)
     Times(found, first, replies).read(program, folder, capture)
     return found
 
@@ -86,35 +80,36 @@ class Times:
         self.found.times = array("q", sorted(self.found.times))
 
     def take(self, block: bytes) -> None:
-        packets = dict(PACKET.findall(block))
-        if not packets:
+        """A line of `list` has the record's number, its time, and then the packet."""
+        lines = [line.split(b" ", 2) for line in block.splitlines()]
+        if lines[-1][0] == b"records":
+            lines.pop()
+        if not lines:
             return
-        found, words = self.found, list(packets.values())
-        if any(map(ne, map(len, words), repeat(len(words[0])))) or any(map(lt, words[1:], words)):
-            self.find_falls([int(number) for number in packets], [nanoseconds(word) for word in words])
-            low, high = min(words, key=nanoseconds), max(words, key=nanoseconds)
-        else:  # (the times are of one length and rise, so they may be compared as they are written)
-            self.find_falls([int(next(iter(packets)))], [nanoseconds(words[0])])
-            low, high = words[0], words[-1]
-        self.before = nanoseconds(words[-1])
-        found.first = min(nanoseconds(low), nanoseconds(low) if found.first is None else found.first)
-        found.last = max(nanoseconds(high), nanoseconds(high) if found.last is None else found.last)
+        numbers = list(map(itemgetter(0), lines))
+        times = nanoseconds(list(map(itemgetter(1), lines)))
+        self.find_falls(numbers, times)
+        found, packets = self.found, dict(zip(numbers, times))
+        found.first = min(times) if found.first is None else min(found.first, *times)
+        found.last = max(times) if found.last is None else max(found.last, *times)
         if self.request in packets:
-            found.first_request = nanoseconds(packets[self.request])
+            found.first_request = packets[self.request]
         next_ones = self.replies[self.taken : self.taken + len(packets)]
         there = list(takewhile(packets.__contains__, next_ones))
-        found.times.extend(map(nanoseconds, map(packets.__getitem__, there)))
+        found.times.extend(map(packets.__getitem__, there))
         self.taken += len(there)
 
-    def find_falls(self, numbers: list[int], times: list[int]) -> None:
+    def find_falls(self, numbers: list[bytes], times: list[int]) -> None:
         """Counts the records whose time is before that of the one before them."""
-        earlier = [times[0] if self.before is None else self.before, *times[:-1]]
-        falls = [fall for fall in zip(numbers, earlier, times) if fall[2] < fall[1]]
-        self.found.falls += len(falls)
-        self.found.fall = self.found.fall or next(iter(falls), None)
+        earlier = [times[0] if self.before is None else self.before, *times]
+        self.before = times[-1]
+        if any(map(lt, times, earlier)):
+            falls = [fall for fall in zip(map(int, numbers), earlier, times) if fall[2] < fall[1]]
+            self.found.falls += len(falls)
+            self.found.fall = self.found.fall or falls[0]
 
 
-def nanoseconds(time: bytes) -> int:
-    """Field 2 of the listing: seconds, a dot, and 6 or 9 digits."""
-    seconds, part = time.split(b".")
-    return int(seconds + part) * (1000 if len(part) == 6 else 1)
+def nanoseconds(times: list[bytes]) -> list[int]:
+    """Times as `list` prints them: seconds, a dot, and 6 digits or 9, as many in all records of a capture."""
+    unit = 10 ** (9 - len(times[0].partition(b".")[2]))
+    return [unit * int(time) for time in b" ".join(times).replace(b".", b"").split()]

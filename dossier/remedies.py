@@ -22,7 +22,7 @@ REMEDIES = [
            "pcapng: `editcap -F nsecpcap f.pcapng g.pcap` (`-F pcap` if it has microseconds). Compressed: "
            "unpack it first."),
     Remedy(r"capture 3 version", "The capture's version isn't 2.4: its header is most likely damaged.",
-           "Record again. Where another tool reads the file, `editcap -F pcap f.pcap g.pcap` writes it anew."),
+           "Record again. If another tool reads the file, `editcap -F pcap f.pcap g.pcap` writes it anew."),
     Remedy(r"capture 4 link", "The frames aren't Ethernet frames; `-i any` records others.",
            "Record on one Ethernet interface by its name."),
     Remedy(r"capture 5 torn-record", "The file ends inside a record: the recording was cut off, or copied while it grew.",

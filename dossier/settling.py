@@ -1,8 +1,8 @@
 """How one claim is settled: the program's calls, in order, and the files that they leave."""
 from __future__ import annotations
 
+import os
 from dataclasses import dataclass, replace
-from pathlib import Path
 from typing import Any
 
 from . import folder as files
@@ -35,6 +35,9 @@ class Part:
     name: str
     claim: dict[str, Any]
 
+    def place(self, folder: str) -> str:
+        return folder if self.name == "." else f"{folder}/{self.name}"
+
     def within(self, name: str) -> str:
         """A file of this part, seen from the folder of the record."""
         return name if self.name == "." else f"{self.name}/{name}"
@@ -47,9 +50,9 @@ class Part:
 class Settling:
     """A claim that is being settled: what was called, and what was left."""
 
-    def __init__(self, folder: Path, part: Part, capture: str, program: Program):
+    def __init__(self, folder: str, part: Part, capture: str, program: Program):
         self.part, self.program = part, program
-        self.place = folder / part.name
+        self.place = part.place(folder)
         self.capture = part.capture(capture)
         self.left: dict[str, str] = {}
 
@@ -57,7 +60,7 @@ class Settling:
         """Makes all calls and leaves all files, with pieces of this length or of the one that is found."""
         try:
             if self.part.name != ".":
-                self.place.mkdir(exist_ok=True)
+                os.makedirs(self.place, exist_ok=True)
                 self.leave(files.CLAIM, compact(self.part.claim))
         except OSError as error:
             raise Fault(f"ntpaudit-dossier: the folder can't be written ({error.strerror})", files.DEVICE) from None
@@ -67,14 +70,14 @@ class Settling:
         return entry
 
     def call(self, *words: str | Operand) -> Ran:
-        return self.program.run(list(words), str(self.place))
+        return self.program.run(list(words), self.place)
 
     def leave(self, name: str, data: bytes) -> None:
-        write_beside(self.place / name, data)
+        write_beside(self.place, name, data)
         self.left[self.part.within(name)] = sum_of(data)
 
     def decide(self, step: int | None) -> Texts:
-        """The certificate and what `check` says about it; or what `find` says where it finds nothing."""
+        """The certificate and what `check` says about it; or what `find` says if it finds nothing."""
         step, found = self.find([step] if step else STEPS)
         decided_by, report = "find", found.text
         if found.status == 0:
@@ -86,18 +89,21 @@ class Settling:
     def find(self, steps: list[int]) -> tuple[int, Ran]:
         """The certificate with the first step that carries the claim, or what `find` says with the last that it takes.
         A piece that is unbounded or empty stays so however fine it is cut."""
-        last = None
-        for step in steps:
-            try:
-                ran = self.call("find", CLAIM, self.capture, "--step", str(step))
-            except Fault as fault:
-                if last and fault.line == TOO_MANY_PIECES:
-                    break
-                raise
-            last = step, ran
+        coarsest, *finer = steps
+        last, ran = coarsest, self.find_with(coarsest)
+        for step in finer:
             if ran.status == 0 or isinstance(read_nothing(ran.text).hull, str):
                 break
-        return last
+            try:
+                last, ran = step, self.find_with(step)
+            except Fault as fault:
+                if fault.line == TOO_MANY_PIECES:
+                    break
+                raise
+        return last, ran
+
+    def find_with(self, step: int) -> Ran:
+        return self.call("find", CLAIM, self.capture, "--step", str(step))
 
     def measure(self, texts: Texts, step: int | None) -> Texts:
         """The envelope, in pieces of the step that was asked for or of a finer one than the certificate's."""

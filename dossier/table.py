@@ -5,7 +5,6 @@ import csv
 import io
 import json
 from dataclasses import asdict, dataclass, field
-from pathlib import Path
 
 from .alerts import warning_words
 from .entry import MANGLED, REFUSED, Entry, Record, read_record
@@ -39,12 +38,12 @@ class Row:
 
 
 def not_audited() -> Record:
-    return Record({}, {}, {}, None, [Entry(part=".", verdict=REFUSED, fault=NOT_AUDITED)], "", 0)
+    return Record({}, {}, {}, "", [Entry(part=".", verdict=REFUSED, fault=NOT_AUDITED)], "", 0)
 
 
 def records_of(folders: list[str]) -> list[tuple[str, Record]]:
     """The record of each folder. One that wasn't audited gets a record that says so."""
-    return [(folder, read_record(Path(folder)) or not_audited()) for folder in folders]
+    return [(folder, read_record(folder) or not_audited()) for folder in folders]
 
 
 def row_of(folder: str, entry: Entry) -> Row:

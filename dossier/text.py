@@ -29,7 +29,7 @@ def with_code(words: str) -> str:
 
 
 def reference(digits: str) -> str:
-    """A reference identifier as the program prints it, and in letters where it has any: `47505300, GPS`."""
+    """A reference identifier as the program prints it, and in letters if it has any: `47505300, GPS`."""
     try:
         letters = bytes.fromhex(digits).rstrip(b"\0").decode("ascii")
     except ValueError:

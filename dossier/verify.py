@@ -3,7 +3,6 @@ from __future__ import annotations
 
 import json
 from dataclasses import replace
-from pathlib import Path
 from typing import Any
 
 from . import folder as files
@@ -19,12 +18,12 @@ DIFFERS = 1
 
 
 def verify_all(folders: list[str], program: Program) -> int:
-    """Prints `verified` or what differs, a line for each finding. The status is 0 where all is verified, and 1 where
+    """Prints `verified` or what differs, a line for each finding. The status is 0 if all is verified, and 1 if
     something differs; or a fault's."""
     worst = 0
     for folder in folders:
         try:
-            findings, notes = verify(Path(folder), program)
+            findings, notes = verify(folder, program)
             status = DIFFERS if findings else 0
         except Fault as fault:
             findings, notes, status = [fault.line], [], fault.status
@@ -38,7 +37,7 @@ def verify_all(folders: list[str], program: Program) -> int:
     return worst
 
 
-def verify(folder: Path, program: Program) -> tuple[list[str], list[str]]:
+def verify(folder: str, program: Program) -> tuple[list[str], list[str]]:
     """What differs in a folder, and what is worth a note and differs in nothing."""
     record = read_record(folder)
     if record is None:
@@ -52,8 +51,8 @@ def verify(folder: Path, program: Program) -> tuple[list[str], list[str]]:
     notes = []
     if record.program["sha256"] != program.sha256:
         notes.append("by another build of the program than the audit's")
-    recording = read_recording(program, str(folder), CLAIM, Operand(record.capture))
-    claim = json.loads((folder / files.CLAIM).read_bytes())
+    recording = read_recording(program, folder, CLAIM, Operand(record.capture))
+    claim = json.loads(files.read(f"{folder}/{files.CLAIM}"))
     claims = {part.name: part.claim for part in parts_of(claim, record.options["days"])}
     if list(claims) != [entry.part for entry in record.entries]:
         return ["audit.json: other days than those of the claim's span"], notes
@@ -62,12 +61,12 @@ def verify(folder: Path, program: Program) -> tuple[list[str], list[str]]:
     return findings, notes
 
 
-def changed(folder: Path, record: Record) -> list[str]:
+def changed(folder: str, record: Record) -> list[str]:
     """The files that aren't there any more, or aren't what they were; and inputs that came."""
     found = []
     for name, wanted in {**record.inputs, **record.outputs}.items():
         try:
-            if sum_of_file(folder / name) != wanted:
+            if sum_of_file(f"{folder}/{name}") != wanted:
                 is_input = name in record.inputs
                 what = "isn't the file that was audited" if is_input else "was changed since the audit"
                 found.append(f"{name} {what}")
@@ -83,14 +82,17 @@ def changed(folder: Path, record: Record) -> list[str]:
 class Again:
     """An audit whose calls are made again, with the certificate and the refutation that it left."""
 
-    def __init__(self, folder: Path, entry: Entry, capture: str, program: Program):
-        self.place, self.entry, self.program = folder / entry.part, entry, program
+    def __init__(self, folder: str, entry: Entry, capture: str, program: Program):
+        self.place, self.entry, self.program = f"{folder}/{entry.part}", entry, program
         self.capture = Operand(capture if entry.part == "." else f"../{capture}")
         self.found: list[str] = []
 
+    def kept(self, name: str) -> bytes:
+        return files.read(f"{self.place}/{name}")
+
     def call(self, name: str, *words: str | Operand) -> bytes:
         """A call, whose answer is held to the file that is kept of it."""
-        text, kept = self.program.run(list(words), str(self.place)).text, (self.place / name).read_bytes()
+        text, kept = self.program.run(list(words), self.place).text, self.kept(name)
         if text != kept:
             self.found.append(f"{self.entry.part}/{name}: {first_difference(kept, text)}".removeprefix("./"))
         return text
@@ -107,13 +109,13 @@ class Again:
         if not entry.refutation["found"]:
             return texts
         claim = CLAIM_OF_0 if texts.is_yes else CLAIM
-        refute = self.program.run(["refute", claim, self.capture, REFUTATION], str(self.place)).text
-        return replace(texts, refutation=(self.place / files.REFUTATION).read_bytes(), refute=refute)
+        refute = self.program.run(["refute", claim, self.capture, REFUTATION], self.place).text
+        return replace(texts, refutation=self.kept(files.REFUTATION), refute=refute)
 
     def findings(self, claim: dict[str, Any], recording: Recording) -> list[str]:
         """What differs: an answer from its file, or audit.json from what the answers come to."""
         texts = self.texts()
-        if texts.is_yes and (self.place / files.CLAIM_OF_0).read_bytes() != at_bound_0(claim):
+        if texts.is_yes and self.kept(files.CLAIM_OF_0) != at_bound_0(claim):
             self.found.append(f"{files.CLAIM_OF_0} isn't the claim with the bound 0")
         if not self.found:
             of = "" if self.entry.part == "." else f" of {self.entry.part}"

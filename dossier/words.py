@@ -15,10 +15,15 @@ from .text import count, plain
 from .units import high_ms, low_ms, ns_ms, ns_up_ms, range_ms, seconds_of, shown_time
 
 
-def line_of(folder: str, entry: Entry | None, fault: str = "") -> str:
-    """One line for a terminal: the verdict, the figures, and the folder."""
-    if entry is None or entry.fault:
-        return f"{REFUSED:8}{plain(folder)}: {plain(fault or entry.fault['line'])}"
+def refusal_of(folder: str, line: str) -> str:
+    """One line for a terminal, of a folder without a verdict."""
+    return f"{REFUSED:8}{plain(folder)}: {plain(line)}"
+
+
+def line_of(folder: str, entry: Entry) -> str:
+    """One line for a terminal: the verdict, the folder, and the figures."""
+    if entry.fault:
+        return refusal_of(folder, entry.fault["line"])
     name = plain(folder) + ("" if entry.part == "." else f" {entry.part}")
     return f"{entry.verdict:8}{name}: {figures(entry)}"
 
@@ -64,8 +69,10 @@ def sentence(entry: Entry) -> str:
     claim = entry.claim
     within = f"the clock of {claim['client']} was within {ns_ms(claim['bound_ns'])} ms of UTC"
     if entry.verdict == YES:
-        off = f"Then the widest it may have been off was {ns_up_ms(entry.least_ns)} ms, {between(entry.worst)}."
-        return f"{capital(span(claim))} {within}, {granted(claim)} and what else the claim grants is true. {off}"
+        said = f"{capital(span(claim))} {within}, {granted(claim)} and what else the claim grants is true."
+        if entry.least_ns is None:
+            return said
+        return f"{said} Then the widest it may have been off was {ns_up_ms(entry.least_ns)} ms, {between(entry.worst)}."
     if entry.verdict == NEITHER:
         empty = next(warning for warning in entry.warnings if warning["kind"] == "empty")
         return (f"Whether {span(claim)} {within} is answered by neither yes nor no. A certificate carries it, but "
@@ -123,7 +130,7 @@ def to_do(entry: Entry) -> str:
                 "The counts tell what became of their replies.")
     if why in ("empty", "contradiction"):
         return ("See in the picture which server stands apart: grant that it was wrong (false_max), and name more. Or "
-                " the claim grants too little (reading_ns, drift_ppb), or the clock was stepped.")
+                "the claim grants too little (reading_ns, drift_ppb), or the clock was stepped.")
     least = f"A bound of {ns_up_ms(entry.least_ns)} ms is carried. " if entry.least_ns is not None else ""
     if why == "off":
         return f"{least}See in the picture how it went; claim a wider bound, or another span."

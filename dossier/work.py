@@ -1,34 +1,29 @@
 """Audits side by side: workers, each a process of its own that takes one folder after another, and a progress bar.
 
-A worker reads the path of a folder from its standard input and answers with a line; it ends where its input does. So
-none outlives a call that was killed.
+A worker is forked, so it has all that is loaded. It reads the number of a folder from a pipe and answers by a line, and it
+ends where the pipe does: none outlives a call that was killed.
 """
 from __future__ import annotations
 
 import json
 import os
+import select
 import signal
-import subprocess
 import sys
-import threading
 import time
-from collections.abc import Iterator
-from dataclasses import asdict, dataclass
-from pathlib import Path
-from queue import Empty, SimpleQueue
+from collections.abc import Generator
+from dataclasses import astuple, dataclass
+from typing import NoReturn
 
 from .audit import Options, audit_folder
 from .entry import NEITHER, NO, REFUSED, YES
 from .program import Fault, Program
-from .words import line_of
+from .words import line_of, refusal_of
 
-HOME = Path(__file__).resolve().parent.parent
-SCRIPT = next(place for place in (HOME / "ntpaudit-dossier", HOME.parent.parent / "bin" / "ntpaudit-dossier")
-              if place.exists())
-"""The script that a worker runs: beside this folder, or where it was installed."""
 WIDTH = 30
 MOMENT = 0.5
-"""Seconds after which a bar is drawn again, and answers are looked for again."""
+"""Seconds after which a bar is drawn again."""
+ENDED = "ntpaudit-dossier: the worker of this folder was ended"
 
 
 @dataclass(frozen=True)
@@ -43,24 +38,42 @@ class Done:
 class Stopped(BaseException):
     """A signal came: nothing more is begun, and nothing half done is left."""
 
-
-def audit_one(folder: str, options: Options, program: Program) -> Done:
-    try:
-        record, is_old = audit_folder(Path(folder), options, program)
-    except Fault as fault:
-        return Done(fault.status, [REFUSED], [line_of(folder, None, fault.line)])
-    lines = [line_of(folder, entry) + (" (unchanged)" if is_old else "") for entry in record.entries]
-    return Done(record.status, [entry.verdict for entry in record.entries], lines)
+    def __init__(self, number: int):
+        self.number = number
 
 
-def audit_all(folders: list[str], options: Options, program: Program, jobs: int) -> int:
+def stop(number: int, _: object) -> None:
+    raise Stopped(number)
+
+
+@dataclass(frozen=True)
+class Task:
+    """The folders to be audited, and how."""
+
+    folders: list[str]
+    options: Options
+    program: Program
+
+    def audit(self, number: int) -> Done:
+        folder = self.folders[number]
+        try:
+            record, is_old = audit_folder(folder, self.options, self.program)
+        except Fault as fault:
+            return refused(folder, fault.line, fault.status)
+        lines = [line_of(folder, entry) + (" (unchanged)" if is_old else "") for entry in record.entries]
+        return Done(record.status, [entry.verdict for entry in record.entries], lines)
+
+
+def refused(folder: str, line: str, status: int) -> Done:
+    return Done(status, [REFUSED], [refusal_of(folder, line)])
+
+
+def audit_all(task: Task, jobs: int) -> int:
     """Audits all folders and prints a line for each audit, in the order of the folders. The status is the worst."""
     signal.signal(signal.SIGTERM, stop)
-    shown, worst = Progress(len(folders)), 0
-    if min(jobs, len(folders)) < 2:
-        results = one_by_one(folders, options, program, shown)
-    else:
-        results = side_by_side(folders, options, program, jobs, shown)
+    shown, worst = Progress(len(task.folders)), 0
+    is_alone = min(jobs, len(task.folders)) < 2
+    results = one_by_one(task, shown) if is_alone else side_by_side(task, jobs, shown)
     try:
         for done in results:
             worst = max(worst, done.status)
@@ -70,102 +83,140 @@ def audit_all(folders: list[str], options: Options, program: Program, jobs: int)
     finally:
         results.close()
         shown.clear()
-    if len(folders) > 1:
+    if len(task.folders) > 1:
         print(shown.summed(", "))
     return worst
 
 
-def stop(number: int, _: object) -> None:
-    raise Stopped(number)
-
-
-def one_by_one(folders: list[str], options: Options, program: Program, shown: Progress) -> Iterator[Done]:
-    for folder in folders:
-        done = audit_one(folder, options, program)
+def one_by_one(task: Task, shown: Progress) -> Generator[Done, None, None]:
+    for number in range(len(task.folders)):
+        done = task.audit(number)
         shown.add(done)
         yield done
 
 
-def side_by_side(folders: list[str], options: Options, program: Program, jobs: int, shown: Progress) -> Iterator[Done]:
+def side_by_side(task: Task, jobs: int, shown: Progress) -> Generator[Done, None, None]:
     """The answers of workers, in the order of the folders."""
-    team = Team(folders, options, program, shown)
-    for _ in range(min(jobs, len(folders))):
-        threading.Thread(target=team.feed, args=(team.start(),), daemon=True).start()
+    team = Team(task, shown)
     try:
-        for answer in team.answers:
-            while answer.empty():
+        team.begin(min(jobs, len(task.folders)))
+        for number in range(len(task.folders)):
+            while number not in team.answers:
                 shown.show()
                 team.wait()
-            yield answer.get()
+            yield team.answers.pop(number)
     finally:
         team.end()
 
 
-class Team:
-    """The workers, what is still to be done, and a place for the answer of each folder."""
+class Worker:
+    """A forked process, and the two pipes to it and from it."""
 
-    def __init__(self, folders: list[str], options: Options, program: Program, shown: Progress):
-        self.folders, self.shown, self.is_over = folders, shown, False
-        self.given = json.dumps([asdict(options), asdict(program)])
-        self.todo, self.answers = SimpleQueue(), [SimpleQueue() for _ in folders]
-        self.workers: list[subprocess.Popen] = []
-        self.came: SimpleQueue[None] = SimpleQueue()
-        for number in range(len(folders)):
-            self.todo.put(number)
+    def __init__(self, task: Task, others: list[Worker]):
+        its_input, self.input = os.pipe()
+        self.output, its_output = os.pipe()
+        self.process = os.fork()
+        if not self.process:
+            for end in (self.input, self.output, *(end for other in others for end in (other.input, other.output))):
+                os.close(end)
+            work(task, its_input, its_output)
+        os.close(its_input)
+        os.close(its_output)
+        self.number = -1
 
-    def start(self) -> subprocess.Popen:
-        """A new worker, in a session of its own: Ctrl-C is for this process alone, which then ends its workers."""
-        worker = subprocess.Popen([sys.executable, str(SCRIPT), "worker", self.given], stdin=subprocess.PIPE,
-                                  stdout=subprocess.PIPE, text=True, start_new_session=True)
-        self.workers.append(worker)
-        return worker
-
-    def feed(self, worker: subprocess.Popen) -> None:
-        """Gives a worker one folder after another. Where it is ended from outside, a new one takes its place."""
-        while not self.is_over:
-            try:
-                number = self.todo.get_nowait()
-            except Empty:
-                return
-            try:
-                print(json.dumps(self.folders[number]), file=worker.stdin, flush=True)
-                done = Done(*json.loads(worker.stdout.readline()))
-            except (OSError, ValueError):
-                if self.is_over:
-                    return
-                line = "ntpaudit-dossier: the worker of this folder was ended"
-                done, worker = Done(3, [REFUSED], [line_of(self.folders[number], None, line)]), self.start()
-            self.shown.add(done)
-            self.answers[number].put(done)
-            self.came.put(None)
-
-    def wait(self) -> None:
-        """Waits until some answer has come, or for a moment. (A queue may be left by a signal at any point of the wait.)"""
+    def give(self, number: int) -> None:
+        """Gives it a folder. If it was ended meanwhile, `answer` tells."""
+        self.number = number
         try:
-            self.came.get(timeout=MOMENT)
-        except Empty:
+            os.write(self.input, b"%d\n" % number)
+        except BrokenPipeError:
             pass
 
+    def answer(self) -> Done | None:
+        """Its answer; None if it was ended from outside."""
+        line = b""
+        while not line.endswith(b"\n"):
+            block = os.read(self.output, 65_536)
+            if not block:
+                return None
+            line += block
+        return Done(*json.loads(line))
+
     def end(self) -> None:
-        self.is_over = True
-        for worker in self.workers:
-            worker.terminate()
-        for worker in self.workers:
-            worker.wait()
+        os.kill(self.process, signal.SIGTERM)
+
+    def wait(self) -> None:
+        """Waits until it has ended."""
+        os.waitpid(self.process, 0)
+        os.close(self.input)
+        os.close(self.output)
 
 
-def work(words: str) -> int:
-    """The life of a worker."""
-    signal.signal(signal.SIGINT, signal.SIG_IGN)
-    signal.signal(signal.SIGTERM, stop)
-    options, program = json.loads(words)
+def work(task: Task, given: int, answers: int) -> NoReturn:
+    """The life of a worker, in a session of its own: Ctrl-C is for the process that forked it, which then ends it."""
     try:
-        for line in sys.stdin:
-            done = audit_one(json.loads(line), Options(**options), Program(**program))
-            print(json.dumps([done.status, done.verdicts, done.lines]), flush=True)
+        signal.signal(signal.SIGINT, signal.SIG_IGN)
+        os.setsid()
+        with open(given, encoding="ascii") as numbers:
+            for number in iter(numbers.readline, ""):
+                os.write(answers, json.dumps(astuple(task.audit(int(number)))).encode() + b"\n")
     except (Stopped, BrokenPipeError):
-        os._exit(0)
-    return 0
+        pass
+    except BaseException:
+        sys.excepthook(*sys.exc_info())
+    os._exit(0)
+
+
+class Team:
+    """The workers, the folders that are still to be done, and the answers that weren't taken yet."""
+
+    def __init__(self, task: Task, shown: Progress):
+        self.task, self.shown = task, shown
+        self.todo = iter(range(len(task.folders)))
+        self.workers: dict[int, Worker] = {}
+        self.answers: dict[int, Done] = {}
+        self.poll = select.poll()
+
+    def begin(self, number: int) -> None:
+        for _ in range(number):
+            self.give(self.start())
+
+    def start(self) -> Worker:
+        worker = Worker(self.task, list(self.workers.values()))
+        self.workers[worker.output] = worker
+        self.poll.register(worker.output, select.POLLIN)
+        return worker
+
+    def give(self, worker: Worker) -> None:
+        """Gives a worker the next folder. If there is none, nothing is awaited from it any more."""
+        number = next(self.todo, None)
+        if number is None:
+            self.poll.unregister(worker.output)
+        else:
+            worker.give(number)
+
+    def wait(self) -> None:
+        """Takes the answers that come within a moment. If a worker was ended, a new one takes its place."""
+        for output, _ in self.poll.poll(MOMENT * 1000):
+            worker = self.workers[output]
+            number, done = worker.number, worker.answer()
+            if done is None:
+                done, worker = refused(self.task.folders[number], ENDED, 3), self.replace(worker)
+            self.answers[number] = done
+            self.shown.add(done)
+            self.give(worker)
+
+    def replace(self, worker: Worker) -> Worker:
+        self.poll.unregister(worker.output)
+        del self.workers[worker.output]
+        worker.wait()
+        return self.start()
+
+    def end(self) -> None:
+        for worker in self.workers.values():
+            worker.end()
+        for worker in self.workers.values():
+            worker.wait()
 
 
 class Progress:
@@ -174,14 +225,12 @@ class Progress:
     def __init__(self, total: int):
         self.total, self.finished, self.begun = total, 0, time.monotonic()
         self.tally = dict.fromkeys((YES, NO, NEITHER, REFUSED), 0)
-        self.lock = threading.Lock()
         self.is_shown = sys.stderr.isatty() and total > 1
 
     def add(self, done: Done) -> None:
-        with self.lock:
-            self.finished += 1
-            for verdict in done.verdicts:
-                self.tally[verdict] += 1
+        self.finished += 1
+        for verdict in done.verdicts:
+            self.tally[verdict] += 1
 
     def summed(self, between: str) -> str:
         return between.join(f"{number} {verdict}" for verdict, number in self.tally.items() if number)

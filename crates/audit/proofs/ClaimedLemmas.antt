@@ -1,29 +1,130 @@
 -- What a claim that was read says of its text.
-use Rattle.std.proofs.Common.{◌≡◌, ℕ, ◌*◌, ◌<◌, Bool, true, false, ◌↔◌, List, [], ◌∷◌, length, Option, Some, None, Result, Ok, Err, refl, ap, subst, arith}
+use Rattle.std.proofs.Common.{◌≡◌, ℕ, ◌*◌, ◌<◌, ◌≤◌, Bool, true, false, ◌↔◌, List, [], ◌∷◌, length, map, codes, Option, Some, None, Result, Ok, Err, refl, ap, ◌∙◌, subst, arith}
+use Rattle.std.specs.Prelude.{slice_get}
+use Rattle.std.proofs.lemmas.Bool.Decides.{nat_tests}
 use Rattle.std.specs.List.{AllZip}
 use Rattle.std.specs.Option.{option_and_then, option_map}
 use Rattle.std.specs.Net.Grammar.{IsDotted}
 use Rattle.era_unfold.specs.Nanoseconds.{nanoseconds_per_second, ticks_down, ticks_up}
 use Rattle.era_unfold.specs.Ratio.{IsFloor, IsCeiling, floor_of, ceiling_of}
 use Rattle.era_unfold.specs.Window.{ticks_per_second}
-use Rattle.serde_json.specs.Data.{Data}
+use Rattle.serde_json.specs.Data.{Data, null, boolean, number, string, array, object, Items, no_items, item, Num, unsigned, negative, float}
+use Rattle.serde_json.specs.Find.{get, as_array, as_str, as_u64}
+use Rattle.serde_json.specs.View.{items_of}
+use Rattle.json_text.specs.Member.{unsigned_at, unsigned_of}
 use Rattle.json_text.specs.Step.{given, asked, after}
 use Rattle.json_text.specs.Text.{parsed}
 use Rattle.claim_file.specs.declared.fault.ClaimFault.TheVariants.{Field}
 use Rattle.claim_file.specs.Address.{address_of, addresses_of, are_different}
 use Rattle.claim_file.specs.Claim.{ClaimData}
-use Rattle.claim_file.specs.Fields.{FieldsData, fields_of}
-use Rattle.claim_file.specs.Group.{groups_of}
+use Rattle.claim_file.specs.Fields.{FieldsData, absent_or, all_of, fields_of, number_lists_of, numbers_of, texts_of}
+use Rattle.claim_file.specs.Group.{IsInGroup, groups_of}
 use Rattle.claim_file.specs.Reading.{NamedData, named_of, is_in_range, claim_with, within_limits, claim_from, claim_of}
 use Rattle.claim_file.specs.Time.{IsTime, time_of}
-use Rattle.audit.specs.Claimed.{IsClaimText}
+use Rattle.audit.specs.Claimed.{IsClaimText, numbers_value}
 
 -- the laws of the layers below
 pub record Laws : Type 0 where
   pub time : (text : List ℕ) (second : ℕ) → (time_of text ≡ Some second) ↔ IsTime text second
   pub address : (text address : List ℕ) → (address_of text ≡ Some address) ↔ IsDotted text address
+  pub group_for_each : (n : ℕ) (listed : Option (List (List ℕ))) (groups : List ℕ) → 1 ≤ n
+      → groups_of n listed ≡ Some groups → length groups ≡ n
+  pub groups : (n : ℕ) (listed : Option (List (List ℕ))) (groups : List ℕ) → groups_of n listed ≡ Some groups
+      → (server group : ℕ) → (slice_get groups server ≡ Some group) ↔ IsInGroup n listed server group
   pub down : (n d : ℕ) → 0 < d → IsFloor n d (floor_of n d)
   pub up : (n d : ℕ) → 0 < d → IsCeiling n d (ceiling_of n d)
+
+-- ---- members of a kind
+
+string_is : (d : Data) (text : List ℕ) → as_str d ≡ Some text → d ≡ string text
+string_is null text e = absurd cc
+string_is (boolean b) text e = absurd cc
+string_is (number n) text e = absurd cc
+string_is (string s) text e = let same : s ≡ text = cc in ap string same
+string_is (array items) text e = absurd cc
+string_is (object _) text e = absurd cc
+
+array_is : (d : Data) (items : Items) → as_array d ≡ Some items → d ≡ array items
+array_is null items e = absurd cc
+array_is (boolean b) items e = absurd cc
+array_is (number n) items e = absurd cc
+array_is (string s) items e = absurd cc
+array_is (array list) items e = let same : list ≡ items = cc in ap array same
+array_is (object _) items e = absurd cc
+
+whole_is : (num : Num) (n : ℕ) → as_u64 num ≡ Some n → num ≡ unsigned n
+whole_is (unsigned m) n e = let same : m ≡ n = cc in ap unsigned same
+whole_is (negative z) n e = absurd cc
+whole_is (float x) n e = absurd cc
+
+number_is : (d : Data) (n : ℕ) → unsigned_of d ≡ Some n → d ≡ number (unsigned n)
+number_is null n e = absurd cc
+number_is (boolean b) n e = absurd cc
+number_is (number num) n e = ap number (whole_is num n e)
+number_is (string s) n e = absurd cc
+number_is (array items) n e = absurd cc
+number_is (object _) n e = absurd cc
+
+-- a member where there is one of a kind
+member_is : {A : Type 0} (kind : Data → Option A) (make : A → Data)
+    → ((d : Data) (a : A) → kind d ≡ Some a → d ≡ make a) → (o : Option Data) (a : A)
+    → option_and_then kind o ≡ Some a → o ≡ Some (make a)
+member_is kind make is None a e = absurd cc
+member_is kind make is (Some d) a e = ap Some (is d a e)
+
+-- the elements of an array of a kind
+items_are : {A : Type 0} (kind : Data → Option A) (make : A → Data)
+    → ((d : Data) (a : A) → kind d ≡ Some a → d ≡ make a) → (items : Items) (xs : List A)
+    → all_of kind items ≡ Some xs → items ≡ items_of (map make xs)
+items_are kind make is no_items xs e = let same : [] ≡ xs = cc in ap (λ l. items_of (map make l)) same
+items_are kind make is (item d rest) xs e =
+    at (kind d) (all_of kind rest) refl (λ others of_rest. items_are kind make is rest others of_rest) e
+  where
+    at : (first : Option _) (others : Option (List _)) → kind d ≡ first
+        → ((list : List _) → others ≡ Some list → rest ≡ items_of (map make list))
+        → option_and_then (λ a. option_map (λ as'. a ∷ as') others) first ≡ Some xs
+        → item d rest ≡ items_of (map make xs)
+    at None others first_is rest_is h = absurd cc
+    at (Some a) None first_is rest_is h = absurd cc
+    at (Some a) (Some as') first_is rest_is h =
+        let same : a ∷ as' ≡ xs = cc in
+        ap (λ (v : Data). item v rest) (is d a first_is) ∙ ap (λ (l : Items). item (make a) l) (rest_is as' refl)
+        ∙ ap (λ l. items_of (map make l)) same
+
+-- an array of a kind, as the value of a member
+list_is : {A : Type 0} (kind : Data → Option A) (make : A → Data)
+    → ((d : Data) (a : A) → kind d ≡ Some a → d ≡ make a) → (d : Data) (xs : List A)
+    → option_and_then (all_of kind) (as_array d) ≡ Some xs → d ≡ array (items_of (map make xs))
+list_is kind make is d xs e = at (as_array d) refl e
+  where
+    at : (o : Option Items) → as_array d ≡ o → option_and_then (all_of kind) o ≡ Some xs
+        → d ≡ array (items_of (map make xs))
+    at None found h = absurd cc
+    at (Some items) found h = array_is d items found ∙ ap array (items_are kind make is items xs h)
+
+numbers_are : (d : Data) (ns : List ℕ) → numbers_of d ≡ Some ns → d ≡ numbers_value ns
+numbers_are d ns e = list_is unsigned_of (λ n. number (unsigned n)) number_is d ns e
+
+-- an array of texts, where the member is looked up first
+texts_are : (o : Option Data) (texts : List (List ℕ)) → option_and_then texts_of (option_and_then as_array o) ≡ Some texts
+    → o ≡ Some (array (items_of (map string texts)))
+texts_are None texts e = absurd cc
+texts_are (Some d) texts e = ap Some (list_is as_str string string_is d texts e)
+
+-- groups, which may be absent
+groups_are : (o : Option Data) (listed : Option (List (List ℕ))) → absent_or number_lists_of o ≡ Some listed
+    → o ≡ option_map (λ groups. array (items_of (map numbers_value groups))) listed
+groups_are None listed e = let same : None ≡ listed = cc in
+    ap (option_map (λ groups. array (items_of (map numbers_value groups)))) same
+groups_are (Some d) listed e = at (number_lists_of d) refl e
+  where
+    at : (o : Option (List (List ℕ))) → number_lists_of d ≡ o → option_map Some o ≡ Some listed
+        → Some d ≡ option_map (λ groups. array (items_of (map numbers_value groups))) listed
+    at None found h = absurd cc
+    at (Some groups) found h =
+        let same : Some groups ≡ listed = cc in
+        ap Some (list_is numbers_of numbers_value numbers_are d groups found)
+        ∙ ap (option_map (λ lists. array (items_of (map numbers_value lists)))) same
 
 -- ---- one step of a reading
 
@@ -135,13 +236,17 @@ named_parts x y z w (Some a) (Some b) (Some s) (Some t) n h =
 
 limits_parts : {E : Type 0} (x y z : E) (a b : Bool) (o : Option (List ℕ)) (made : List ℕ → ClaimData)
     (claim : ClaimData) → asked x a (asked y b (given z o λ groups. Ok (made groups))) ≡ Ok claim
-    → (groups : List ℕ) × (o ≡ Some groups) × (made groups ≡ claim)
+    → (groups : List ℕ) × (a ≡ true) × (o ≡ Some groups) × (made groups ≡ claim)
 limits_parts x y z false b o made claim h = absurd cc
 limits_parts x y z true false o made claim h = absurd cc
 limits_parts x y z true true None made claim h = absurd cc
 limits_parts x y z true true (Some groups) made claim h =
     let same : made groups ≡ claim = cc in
-    (groups, refl, same)
+    (groups, refl, refl, same)
+
+-- a claim in range has a server
+some_server : (f : FieldsData) (n : NamedData) → is_in_range f n ≡ true → 1 ≤ length n.servers
+some_server f n e = grind (arith, nat_tests)
 
 -- ---- addresses
 
@@ -167,48 +272,53 @@ module _ (laws : Laws) where
 
   read_from : (text : List ℕ) (value : Data) (f : FieldsData) (n : NamedData) (groups : List ℕ)
       → parsed text ≡ Some value → fields_of value ≡ Ok f → named_of f ≡ Ok n
-      → groups_of (length n.servers) f.groups ≡ Some groups → IsClaimText text (claim_with f n groups)
+      → groups_of (length n.servers) f.groups ≡ Some groups → 1 ≤ length n.servers
+      → IsClaimText text (claim_with f n groups)
   unfolding ticks_down ticks_up
-  read_from text value f n groups json fields named grouped =
+  read_from text value f n groups json fields named grouped some =
       let parts = fields_parts Field (_, _, _, _, _, _, _, _, _, _) f fields in
       let names = named_parts _ _ _ _ (address_of f.client) (addresses_of f.servers) (time_of f.begin) (time_of f.end) n
       named in
+      let whole_at : (name : List ℕ) (k : ℕ) → unsigned_at name value ≡ Some k
+      → get name value ≡ Some (number (unsigned k)) =
+      λ name k e. member_is unsigned_of (λ m. number (unsigned m)) number_is (get name value) k e in
       record {
         value = value;
         is_json = json;
         client_text = f.client;
-        client_stands = parts.0;
+        client_stands = member_is as_str string string_is (get (codes "client") value) f.client parts.0;
         client = (laws.address f.client n.client).0 (names.0);
         server_texts = f.servers;
-        servers_stand = parts.1;
+        servers_stand = texts_are (get (codes "servers") value) f.servers parts.1;
         servers = dotted f.servers n.servers (names.1);
-        false_max = parts.2;
+        false_max = whole_at (codes "false_max") f.false_max parts.2;
         first = record {
           text = f.begin;
           second = n.first;
-          stands = parts.3;
+          stands = member_is as_str string string_is (get (codes "from") value) f.begin parts.3;
           is_time = (laws.time f.begin n.first).0 (names.2);
           in_ticks = refl;
         };
         last = record {
           text = f.end;
           second = n.last;
-          stands = parts.4;
+          stands = member_is as_str string string_is (get (codes "to") value) f.end parts.4;
           is_time = (laws.time f.end n.last).0 (names.3);
           in_ticks = refl;
         };
-        bound_ns = parts.5;
+        bound_ns = whole_at (codes "bound_ns") f.bound_ns parts.5;
         bound = ticks_down f.bound_ns;
         bound_in_ticks = refl;
         bound_is = laws.down (f.bound_ns * ticks_per_second) nanoseconds_per_second (omega arith);
-        drift = parts.6;
-        reading_ns = parts.7;
+        drift = whole_at (codes "drift_ppb") f.drift_ppb parts.6;
+        reading_ns = whole_at (codes "reading_ns") f.reading_ns parts.7;
         reading = ticks_up f.reading_ns;
         reading_in_ticks = refl;
         reading_is = laws.up (f.reading_ns * ticks_per_second) nanoseconds_per_second (omega arith);
         listed = f.groups;
-        groups_stand = parts.8;
-        groups = grouped;
+        groups_stand = groups_are (get (codes "groups") value) f.groups parts.8;
+        each_in_a_group = laws.group_for_each (length n.servers) f.groups groups some grouped;
+        groups = laws.groups (length n.servers) f.groups groups grouped;
       }
 
   limits_read : (text : List ℕ) (value : Data) (f : FieldsData) (n : NamedData) (claim : ClaimData)
@@ -217,7 +327,8 @@ module _ (laws : Laws) where
   limits_read text value f n claim json fields named e =
       let found = limits_parts _ _ _ (is_in_range f n) (are_different (n.client ∷ n.servers))
       (groups_of (length n.servers) f.groups) (claim_with f n) claim e in
-      subst (IsClaimText text) found.2 (read_from text value f n found.0 json fields named found.1)
+      subst (IsClaimText text) found.3
+      (read_from text value f n found.0 json fields named found.2 (some_server f n found.1))
 
   pub read : (text : List ℕ) (claim : ClaimData) → claim_of text ≡ Ok claim → IsClaimText text claim
   read text claim e =

@@ -1,5 +1,5 @@
 -- The exchanges of records are exchanges in them.
-use Rattle.std.proofs.Common.{◌≡◌, ◌≢◌, ℕ, zero, suc, ◌+◌, ◌*◌, ◌<◌, ℤ, pos, int_lt, Bool, true, false, cond, ◌&&◌, ◌==◌, ◌↔◌, List, [], ◌∷◌, ◌++◌, length, get_or, Option, Some, None, refl, sym, ap, ◌∙◌, subst, arith}
+use Rattle.std.proofs.Common.{◌≡◌, ◌≢◌, ℕ, zero, suc, ◌+◌, ◌*◌, ◌<◌, ℤ, pos, int_lt, Bool, true, false, cond, ◌&&◌, ◌==◌, ◌⊎◌, inr, ◌↔◌, List, [], ◌∷◌, ◌++◌, length, map, get_or, Option, Some, None, refl, sym, ap, ◌∙◌, subst, arith}
 use Rattle.std.specs.Prelude.{All, AllPairs, Contains, slice_get, filter, filter_map, unwrap_or}
 use Rattle.std.specs.List.{cons_option}
 use Rattle.std.specs.Option.{option_and_then, option_map}
@@ -19,10 +19,10 @@ use Rattle.era_unfold.specs.Window.{per_second, ticks_per_second, window_low, wi
 use Rattle.pcap_reader.specs.declared.format.RecordHead.{RecordHead}
 use Rattle.pcap_reader.specs.declared.format.Endian.{Endian}
 use Rattle.pcap_reader.specs.declared.format.Format.{Format}
-use Rattle.pcap_reader.specs.Capture.{Record, AreRecordsFrom, IsCapture, spelling, record_spelling}
+use Rattle.pcap_reader.specs.Capture.{Record, IsCapture, spelling, record_spelling}
 use Rattle.pcap_reader.specs.Field.{spelled}
-use Rattle.ntp_packet.specs.Header.{precision_of, origin_of, receive_of, transmit_of, root_distance_of}
-use Rattle.ntp_packet.specs.Packet.{Packet, packet_of}
+use Rattle.ntp_packet.specs.Header.{mode_of, precision_of, precision_ticks_of, root_delay_of, root_dispersion_of, origin_of, receive_of, transmit_of, root_distance_of}
+use Rattle.ntp_packet.specs.Packet.{Packet, ntp_port, packet_of}
 use Rattle.claim_file.specs.Claim.{ClaimData}
 use Rattle.pairing.specs.declared.exchange.Exchange.{Exchange}
 use Rattle.pairing.specs.Message.{Request, Reply, IsRequestTo, IsReplyOf, request_of, reply_of, requested_server, replying_server, request_in, reply_in, request_to, reply_from}
@@ -32,12 +32,18 @@ use Rattle.pairing.specs.Refusal.{refusal_of}
 use Rattle.sample_interval.specs.Sample.{sample_of}
 use Rattle.sample_interval.specs.declared.kinds.Sample.{Sample}
 use Rattle.checker.specs.Traceability.{samples_of}
-use Rattle.audit.specs.Held.{HoldsPacket}
+use Rattle.audit.specs.Captured.{CapturedFrame, frame_of}
+use Rattle.audit.specs.Held.{HoldsPacket, HoldsShown, packet_with}
 use Rattle.audit.specs.Exchanged.{HoldsRequest, IsUsable, IsWindowOf, IsExchangeIn}
+use Rattle.audit.proofs.CapturedLemmas.{each_record, frame_at, said_by}
 
 -- the laws of the layers below
 pub record Laws : Type 0 where
-  pub packet : (frame : List ℕ) (p : Packet) → IsBytes frame → (packet_of frame ≡ Some p) ↔ HoldsPacket frame p
+  pub given : (frame : List ℕ) (p : Packet) → IsBytes frame → packet_of frame ≡ Some p → HoldsShown frame p
+  pub held : (frame source : List ℕ) (source_port : ℕ) (destination : List ℕ) (destination_port : ℕ)
+      (header : List ℕ) → IsBytes frame → (source_port ≡ ntp_port) ⊎ (destination_port ≡ ntp_port)
+      → HoldsPacket frame source source_port destination destination_port header → (rest : List ℕ)
+      × (packet_of frame ≡ Some (packet_with source source_port destination destination_port header rest))
   pub usable : (header : List ℕ) → (refusal_of header ≡ None) ↔ IsUsable header
   pub request : (claim : ClaimData) (packet : Packet) (server : ℕ) → AllPairs (λ a b. a ≢ b) claim.servers
       → (requested_server claim packet ≡ Some server) ↔ IsRequestTo claim server packet
@@ -106,11 +112,11 @@ module _ (laws : Laws) (claim : ClaimData) (apart : AllPairs (λ a b. a ≢ b) c
   -- the packet of a record that gives a reply
   pub record IsReplyAt (r : Record) (reply : Reply) : Type 0 where
     pub packet : Packet
-    pub held : HoldsPacket r.bytes packet
+    pub held : HoldsShown r.bytes packet
     pub answers' : IsReplyOf claim reply.server packet
     pub is : reply ≡ reply_from r.head packet reply.server
 
-  reply_by : (r : Record) (reply : Reply) (p : Packet) → HoldsPacket r.bytes p → (o : Option ℕ)
+  reply_by : (r : Record) (reply : Reply) (p : Packet) → HoldsShown r.bytes p → (o : Option ℕ)
       → replying_server claim p ≡ o → option_map (reply_from r.head p) o ≡ Some reply → IsReplyAt r reply
   reply_by r reply p held None at e = absurd cc
   reply_by r reply p held (Some server) at e =
@@ -126,7 +132,7 @@ module _ (laws : Laws) (claim : ClaimData) (apart : AllPairs (λ a b. a ≢ b) c
       → option_and_then (reply_in claim r.head) o ≡ Some reply → IsReplyAt r reply
   reply_in' r reply bytes None at e = absurd cc
   reply_in' r reply bytes (Some p) at e =
-      reply_by r reply p ((laws.packet r.bytes p bytes).0 at) (replying_server claim p) refl e
+      reply_by r reply p (laws.given r.bytes p bytes at) (replying_server claim p) refl e
 
   pub reply_at : (r : Record) (reply : Reply) → IsBytes r.bytes → reply_of claim r ≡ Some reply → IsReplyAt r reply
   unfolding reply_of
@@ -135,11 +141,11 @@ module _ (laws : Laws) (claim : ClaimData) (apart : AllPairs (λ a b. a ≢ b) c
   -- and of one that gives a request
   pub record IsRequestAt (r : Record) (q : Request) : Type 0 where
     pub packet : Packet
-    pub held : HoldsPacket r.bytes packet
+    pub held : HoldsShown r.bytes packet
     pub asks : IsRequestTo claim q.server packet
     pub is : q ≡ request_to r.head packet q.server
 
-  request_by : (r : Record) (q : Request) (p : Packet) → HoldsPacket r.bytes p → (o : Option ℕ)
+  request_by : (r : Record) (q : Request) (p : Packet) → HoldsShown r.bytes p → (o : Option ℕ)
       → requested_server claim p ≡ o → option_map (request_to r.head p) o ≡ Some q → IsRequestAt r q
   request_by r q p held None at e = absurd cc
   request_by r q p held (Some server) at e =
@@ -155,25 +161,30 @@ module _ (laws : Laws) (claim : ClaimData) (apart : AllPairs (λ a b. a ≢ b) c
       → option_and_then (request_in claim r.head) o ≡ Some q → IsRequestAt r q
   request_in' r q bytes None at e = absurd cc
   request_in' r q bytes (Some p) at e =
-      request_by r q p ((laws.packet r.bytes p bytes).0 at) (requested_server claim p) refl e
+      request_by r q p (laws.given r.bytes p bytes at) (requested_server claim p) refl e
 
   pub request_at : (r : Record) (q : Request) → IsBytes r.bytes → request_of claim r ≡ Some q → IsRequestAt r q
   unfolding request_of
   request_at r q bytes e = request_in' r q bytes (packet_of r.bytes) refl e
 
   -- a record that holds a request gives it
-  pub gives_request : (r : Record) (server port stamp : ℕ) → IsBytes r.bytes
-      → HoldsRequest claim server port stamp r
+  pub gives_request : (r : Record) (server : ℕ) (address : List ℕ) (port stamp : ℕ)
+      → slice_get claim.servers server ≡ Some address → IsBytes r.bytes
+      → HoldsRequest r.bytes claim.client port address stamp
       → request_of claim r ≡ Some (record { server = server; port = port; stamp = stamp; head = r.head })
   unfolding request_of
-  gives_request r server port stamp bytes holds =
-      let packet = (laws.packet r.bytes holds.packet bytes).1 holds.held in
-      let asked = (laws.request claim holds.packet server apart).1 holds.asks in
-      ap (option_and_then (request_in claim r.head)) packet
-      ∙ ap (option_map (request_to r.head holds.packet)) asked
-      ∙ ap
-      (λ (n : ℕ). Some (record { server = server; port = n; stamp = transmit_of holds.packet.header; head = r.head }))
-      holds.from_port
+  gives_request r server address port stamp listed bytes holds =
+      let found = laws.held r.bytes claim.client port address ntp_port holds.header bytes (inr refl) holds.held in
+      let p = packet_with claim.client port address ntp_port holds.header found.0 in
+      let asked = (laws.request claim p server apart).1 (record {
+        from_client = refl;
+        to_server = listed;
+        to_port = refl;
+        mode = holds.mode;
+        version = holds.version;
+      }) in
+      ap (option_and_then (request_in claim r.head)) found.1
+      ∙ ap (option_map (request_to r.head p)) asked
       ∙ ap (λ (n : ℕ). Some (record { server = server; port = port; stamp = n; head = r.head })) holds.stamped
 
   three_pass : (a b c d e f : ℕ) → a ≡ b → c ≡ d → e ≡ f → (a == b && (c == d && e == f)) ≡ true
@@ -186,43 +197,67 @@ some_units Micro = omega arith
 some_units Nano = omega arith
 
 module _ (laws : Laws) where
-  window_of : (head : RecordHead) → IsWindowOf head (low_of head) (high_of head)
+  window_of : (unit : TimeUnit) (head : RecordHead) → head.unit ≡ unit → (frame : CapturedFrame)
+      → frame.second ≡ head.sec → frame.part ≡ head.sub → IsWindowOf unit frame (low_of head) (high_of head)
   unfolding window_low window_high
-  window_of head = record {
-    low_tick = window_low head.unit head.sec head.sub;
-    high_tick = window_high head.unit head.sec head.sub;
-    low_is = refl;
-    high_is = refl;
-    floor = laws.down ((head.sec * per_second head.unit + head.sub) * ticks_per_second) (per_second head.unit)
-        (some_units head.unit);
-    ceiling = laws.up ((head.sec * per_second head.unit + head.sub + 1) * ticks_per_second) (per_second head.unit)
-        (some_units head.unit);
-  }
+  window_of unit head is frame second part =
+      let units = laws.down ((head.sec * per_second head.unit + head.sub) * ticks_per_second) (per_second head.unit)
+      (some_units head.unit) in
+      let next = laws.up ((head.sec * per_second head.unit + head.sub + 1) * ticks_per_second) (per_second head.unit)
+      (some_units head.unit) in
+      record {
+        low_tick = window_low head.unit head.sec head.sub;
+        high_tick = window_high head.unit head.sec head.sub;
+        low_is = refl;
+        high_is = refl;
+        floor = rw (second, part, sym is) units;
+        ceiling = rw (second, part, sym is) next;
+      }
 
-  distance_is : (header : List ℕ) → IsUsable header → root_distance_of header ≡ Some (distance_of header)
+  distance_is : (header : List ℕ) → IsUsable header → distance_of header ≡ pos (root_delay_of header * 32768
+      + root_dispersion_of header * 65536 + precision_ticks_of (precision_of header))
   unfolding root_distance_of
   distance_is header usable =
       let precise : int_lt (pos 16) (precision_of header) ≡ false =
       (let h = usable.precision in grind (arith, ints)) in
-      let some = cond-false (int_lt (pos 16) (precision_of header)) None _ precise in
-      some ∙ ap Some (sym (ap (λ (o : Option ℤ). unwrap_or o (pos 0)) some))
+      ap (λ (o : Option ℤ). unwrap_or o (pos 0)) (cond-false (int_lt (pos 16) (precision_of header)) None _ precise)
 
 -- ---- exchanges
 
--- the records stand at their numbers, and hold bytes
-pub record AreInPlace (records : List Record) : Type 0 where
+-- the records stand at their numbers, in one unit, and hold bytes
+pub record AreInPlace (unit : TimeUnit) (records : List Record) : Type 0 where
   pub numbered : (k : ℕ) (r : Record) → slice_get records k ≡ Some r → r.head.number ≡ k
+  pub in_unit : (k : ℕ) (r : Record) → slice_get records k ≡ Some r → r.head.unit ≡ unit
   pub bytes : (k : ℕ) (r : Record) → slice_get records k ≡ Some r → IsBytes r.bytes
 
-module _ (laws : Laws) (claim : ClaimData) (apart : AllPairs (λ a b. a ≢ b) claim.servers) (records : List Record)
-    (given : AreInPlace records) where
-  number_at : (k : ℕ) (r : Record) → slice_get records k ≡ Some r → slice_get records r.head.number ≡ Some r
-  number_at k r at = ap (slice_get records) (given.numbered k r at) ∙ at
+-- the same packet, where addresses and ports are said in other words
+moved : (frame header : List ℕ) (s s₂ : List ℕ) (p p₂ : ℕ) (d d₂ : List ℕ) (q q₂ : ℕ) → s ≡ s₂ → p ≡ p₂ → d ≡ d₂
+    → q ≡ q₂ → HoldsPacket frame s p d q header → HoldsPacket frame s₂ p₂ d₂ q₂ header
+moved frame header s s₂ p p₂ d d₂ q q₂ a b c e held =
+    subst (λ (x : List ℕ). HoldsPacket frame x p₂ d₂ q₂ header) a
+    (subst (λ (x : ℕ). HoldsPacket frame s x d₂ q₂ header) b
+    (subst (λ (x : List ℕ). HoldsPacket frame s p x q₂ header) c
+    (subst (λ (x : ℕ). HoldsPacket frame s p d x header) e held)))
+
+module _ (laws : Laws) (claim : ClaimData) (apart : AllPairs (λ a b. a ≢ b) claim.servers) (unit : TimeUnit)
+    (records : List Record) (given : AreInPlace unit records) where
+  -- the record with the number of a head
+  number_at : (k : ℕ) (r : Record) (head : RecordHead) → head ≡ r.head → slice_get records k ≡ Some r
+      → slice_get (map frame_of records) head.number ≡ Some (frame_of r)
+  number_at k r head is at =
+      let number : head.number ≡ k = ap (λ (h : RecordHead). h.number) is ∙ given.numbered k r at in
+      ap (slice_get (map frame_of records)) number ∙ frame_at records k r at
+
+  window_at : (k : ℕ) (r : Record) (head : RecordHead) → head ≡ r.head → slice_get records k ≡ Some r
+      → IsWindowOf unit (frame_of r) (low_of head) (high_of head)
+  window_at k r head is at =
+      window_of laws unit head (ap (λ (h : RecordHead). h.unit) is ∙ given.in_unit k r at) (frame_of r)
+      (sym (ap (λ (h : RecordHead). h.sec) is)) (sym (ap (λ (h : RecordHead). h.sub) is))
 
   exchange_in : (q : Request) (reply : Reply) → Contains (replies_of claim records) reply
       → refusal_of reply.header ≡ None → requests_for reply (requests_of claim records) ≡ q ∷ []
       → reply.server ≡ q.server → reply.port ≡ q.port → origin_of reply.header ≡ q.stamp
-      → IsExchangeIn claim records (exchange_of q reply)
+      → IsExchangeIn claim unit (map frame_of records) (exchange_of q reply)
   unfolding requests_of replies_of
   exchange_in q reply contained accepted only same_server same_port same_stamp =
       let replied = of_element (GivesAt (reply_of claim) records) (replies_of claim records) reply
@@ -238,75 +273,75 @@ module _ (laws : Laws) (claim : ClaimData) (apart : AllPairs (λ a b. a ≢ b) c
       let head_s : q.head ≡ s.head = ap (λ (x : Request). x.head) at_s.is in
       let header : reply.header ≡ at_r.packet.header = ap (λ (x : Reply). x.header) at_r.is in
       let port : reply.port ≡ at_r.packet.datagram.destination_port = ap (λ (x : Reply). x.port) at_r.is in
-      let usable = (laws.usable reply.header).0 accepted in
+      let from_port : q.port ≡ at_s.packet.datagram.source_port = ap (λ (x : Request). x.port) at_s.is in
+      let stamp : q.stamp ≡ transmit_of at_s.packet.header = ap (λ (x : Request). x.stamp) at_s.is in
+      let server = at_r.packet.datagram.source in
+      let listed : slice_get claim.servers reply.server ≡ Some server = at_r.answers'.from_server in
+      let to_server : at_s.packet.datagram.destination ≡ server =
+      (let there = at_s.asks.to_server in let here = ap (slice_get claim.servers) same_server in cc) in
       record {
-        request = s;
-        reply = r;
-        packet = at_r.packet;
-        request_stands = ap (λ (h : RecordHead). slice_get records h.number) head_s ∙ number_at asked.0 s asked.2;
-        reply_stands = ap (λ (h : RecordHead). slice_get records h.number) head_r
-            ∙ number_at replied.0 r replied.2;
-        held = at_r.held;
-        answers = at_r.answers';
-        usable = subst IsUsable header usable;
-        named = record {
-          packet = at_s.packet;
-          held = at_s.held;
-          asks = subst (λ (n : ℕ). IsRequestTo claim n at_s.packet) (sym same_server) at_s.asks;
-          from_port = sym (ap (λ (x : Request). x.port) at_s.is) ∙ sym same_port ∙ port;
-          stamped = sym (ap (λ (x : Request). x.stamp) at_s.is) ∙ sym same_stamp ∙ ap origin_of header;
+        request = frame_of s;
+        reply = frame_of r;
+        request_stands = number_at asked.0 s q.head head_s asked.2;
+        reply_stands = number_at replied.0 r reply.head head_r replied.2;
+        server = server;
+        port = reply.port;
+        header = reply.header;
+        server_listed = listed;
+        answers = subst
+            (λ (h : List ℕ). HoldsPacket r.bytes server ntp_port claim.client reply.port h) (sym header)
+            (moved r.bytes at_r.packet.header server server at_r.packet.datagram.source_port ntp_port
+            at_r.packet.datagram.destination claim.client at_r.packet.datagram.destination_port reply.port refl
+            at_r.answers'.from_port at_r.answers'.to_client (sym port) at_r.held);
+        mode = ap mode_of header ∙ at_r.answers'.mode;
+        usable = (laws.usable reply.header).0 accepted;
+        asks = record {
+          header = at_s.packet.header;
+          held = moved s.bytes at_s.packet.header at_s.packet.datagram.source claim.client
+              at_s.packet.datagram.source_port reply.port at_s.packet.datagram.destination server
+              at_s.packet.datagram.destination_port ntp_port at_s.asks.from_client
+              (sym from_port ∙ sym same_port) to_server at_s.asks.to_port at_s.held;
+          version = at_s.asks.version;
+          mode = at_s.asks.mode;
+          stamped = sym stamp ∙ sym same_stamp;
         };
-        only = λ k other at holds.
+        only = λ k frame at holds.
+            let said = said_by records k frame at in
+            let other = said.by in
             let found : Request = record {
               server = reply.server;
-              port = at_r.packet.datagram.destination_port;
-              stamp = origin_of at_r.packet.header;
+              port = reply.port;
+              stamp = origin_of reply.header;
               head = other.head;
             } in
-            let gives = gives_request laws claim apart other reply.server at_r.packet.datagram.destination_port
-            (origin_of at_r.packet.header) (given.bytes k other at) holds in
-            let passes = three_pass laws claim apart reply.server reply.server reply.port
-            at_r.packet.datagram.destination_port (origin_of reply.header) (origin_of at_r.packet.header) refl port
-            (ap origin_of header) in
-            let kept = kept_at (request_of claim) (answers reply) records k other found at gives passes in
+            let holds_other = subst
+            (λ (f : CapturedFrame). HoldsRequest f.bytes claim.client reply.port server (origin_of reply.header))
+            (sym said.is) holds in
+            let gives = gives_request laws claim apart other reply.server server reply.port (origin_of reply.header)
+            listed (given.bytes k other said.stands) holds_other in
+            let passes = three_pass laws claim apart reply.server reply.server reply.port reply.port
+            (origin_of reply.header) (origin_of reply.header) refl refl refl in
+            let kept = kept_at (request_of claim) (answers reply) records k other found said.stands gives passes in
             let same = lone_at q found kept.0
             (sym (ap (λ (qs : List Request). slice_get qs kept.0) only) ∙ kept.1) in
-            sym (ap (λ (x : Request). x.head.number) same ∙ given.numbered k other at);
-        t1 = subst (λ (h : RecordHead). IsWindowOf h (low_of q.head) (high_of q.head)) head_s
-            (window_of laws q.head);
-        t2 = subst (λ (h : List ℕ). IsUnfolded (receive_of h) (low_of q.head)
-            (unfolded (receive_of reply.header) (low_of q.head))) header
-            (laws.stamp (receive_of reply.header) (low_of q.head));
-        t3 = subst (λ (h : List ℕ). IsUnfolded (transmit_of h) (low_of q.head)
-            (unfolded (transmit_of reply.header) (low_of q.head))) header
-            (laws.stamp (transmit_of reply.header) (low_of q.head));
-        t4 = subst (λ (h : RecordHead). IsWindowOf h (low_of reply.head) (high_of reply.head)) head_r
-            (window_of laws reply.head);
-        distance = subst (λ (h : List ℕ). root_distance_of h ≡ Some (distance_of reply.header)) header
-            (distance_is laws reply.header usable);
+            sym (ap (λ (x : Request). x.head.number) same ∙ given.numbered k other said.stands);
+        t1 = window_at asked.0 s q.head head_s asked.2;
+        t2 = laws.stamp (receive_of reply.header) (low_of q.head);
+        t3 = laws.stamp (transmit_of reply.header) (low_of q.head);
+        t4 = window_at replied.0 r reply.head head_r replied.2;
+        distance = distance_is laws reply.header ((laws.usable reply.header).0 accepted);
       }
 
   pub all_exchanges : All (IsExchangeOf claim records) (exchanges_of claim records) → (k : ℕ) (x : Exchange)
-      → slice_get (exchanges_of claim records) k ≡ Some x → IsExchangeIn claim records x
+      → slice_get (exchanges_of claim records) k ≡ Some x → IsExchangeIn claim unit (map frame_of records) x
   all_exchanges sound k x at =
       let of = subst (IsExchangeOf claim records) (get_or_from_slice_get (exchanges_of claim records) k x x at)
       (sound k x (slice_get_within (exchanges_of claim records) k x at)) in
-      subst (IsExchangeIn claim records) (sym of.made)
+      subst (IsExchangeIn claim unit (map frame_of records)) (sym of.made)
       (exchange_in of.request of.reply of.pair.given of.pair.accepted of.pair.only of.named.server of.named.port
       of.named.stamp)
 
 -- ---- the records of a capture
-
-numbered_from : (unit : TimeUnit) (number place : ℕ) (records : List Record) → AreRecordsFrom unit number place records
-    → (k : ℕ) (r : Record) → slice_get records k ≡ Some r → r.head.number ≡ number + k
-numbered_from unit number place [] are k r at = absurd cc
-numbered_from unit number place (first ∷ records) are zero r at =
-    let same : first ≡ r = cc in
-    let is = subst (λ (x : Record). x.head.number ≡ number) same are.0.number_is in
-    omega (arith, is)
-numbered_from unit number place (first ∷ records) are (suc k) r at =
-    let rest = numbered_from unit (number + 1) (place + (16 + length first.bytes)) records are.1 k r at in
-    omega (arith, rest)
 
 module _ (xs ys : List ℕ) (all : IsBytes (xs ++ ys)) where
   bytes_before : IsBytes xs
@@ -333,24 +368,23 @@ bytes_of_each order (first ∷ records) h (suc k) r at =
     bytes_of_each order records (bytes_after (record_spelling order first) (spelling order records) h) k r at
 
 pub in_place : (bytes : List ℕ) (format : Format) (records : List Record) → IsBytes bytes
-    → IsCapture bytes format records → AreInPlace records
+    → IsCapture bytes format records → AreInPlace format.unit records
 in_place bytes format records all capture = record {
-  numbered = λ k r at.
-      let is = numbered_from format.unit 0 24 records capture.are_records k r at in
-      omega (arith, is);
+  numbered = λ k r at. (each_record format.unit records capture.are_records k r at).1.number_is;
+  in_unit = λ k r at. (each_record format.unit records capture.are_records k r at).1.unit_is;
   bytes = bytes_of_each format.order records
       (bytes_after capture.header (spelling format.order records) (subst IsBytes capture.joined all));
 }
 
 -- ---- servers
 
-pub listed_servers : (claim : ClaimData) (records : List Record) (xs : List Exchange)
-    → ((k : ℕ) (x : Exchange) → slice_get xs k ≡ Some x → IsExchangeIn claim records x)
+pub listed_servers : (claim : ClaimData) (unit : TimeUnit) (frames : List CapturedFrame) (xs : List Exchange)
+    → ((k : ℕ) (x : Exchange) → slice_get xs k ≡ Some x → IsExchangeIn claim unit frames x)
     → All (λ sample. sample.server < length claim.servers) (samples_of xs claim)
-listed_servers claim records xs are =
+listed_servers claim unit frames xs are =
     All-map (λ (sample : Sample). sample.server < length claim.servers) (λ x. sample_of x claim.reading) xs
     (λ k d below.
     let x = get_or xs k d in
     let is : x ≡ get_or xs k x = grind (arith, common_steps) in
     let found = are k x (slice_get_read xs (length xs) k x refl below is) in
-    slice_get_within claim.servers x.server _ found.answers.from_server)
+    slice_get_within claim.servers x.server found.server found.server_listed)

@@ -1,17 +1,18 @@
 -- packets and headers
-use Rattle.std.proofs.Common.{◌≡◌, ◌≢◌, ℕ, ◌+◌, ◌≤◌, pos, int_lt, Bool, true, false, cond, ◌||◌, ◌==◌, not, ◌⊎◌, inl, inr, ⊎_elim, ◌↔◌, List, ◌++◌, length, take, drop, Option, Some, None, Result, Ok, Err, refl, sym, ap, ◌∙◌, subst, arith}
+use Rattle.std.proofs.Common.{◌≡◌, ◌≢◌, ℕ, ◌+◌, ◌*◌, ◌≤◌, pos, int_lt, Bool, true, false, cond, ◌||◌, ◌==◌, not, ◌⊎◌, inl, inr, ⊎_elim, ◌↔◌, List, [], ◌∷◌, ◌++◌, length, append_assoc, take, drop, Option, Some, None, Result, Ok, Err, refl, sym, ap, ◌∙◌, subst, arith}
 use Rattle.std.proofs.lemmas.Bool.Decides.{nat_tests}
 use Rattle.std.proofs.lemmas.Int.{ints}
 use Rattle.std.proofs.lemmas.List.{take-append-drop, length-take-le, length-append}
 use Rattle.std.proofs.Math.Seq.{take-append_seam}
 use Rattle.byte_stream.specs.Bytes.{IsBytes}
 use Rattle.frame_reader.specs.declared.skip.Skip.{Skip}
-use Rattle.frame_reader.specs.Frame.{Fields, datagram_of, HoldsDatagram}
+use Rattle.byteorder.specs.Endian.{big_bytes}
+use Rattle.frame_reader.specs.Frame.{Fields, Parts, datagram_of, HoldsDatagram, ipv4_bytes, tag_bytes, total_length_of, udp_bytes}
 use Rattle.ntp_packet.specs.Header.{header_of, version_of, leap_of, stratum_of, precision_of, origin_of, receive_of, transmit_of}
 use Rattle.ntp_packet.specs.Packet.{Packet, packet_of, is_ntp, ntp_port}
 use Rattle.pairing.specs.Refusal.{refusal_of, has_zero_stamp, is_synchronized_stratum}
 use Rattle.std.proofs.lemmas.Bool.{cond-false}
-use Rattle.audit.specs.Held.{HoldsPacket}
+use Rattle.audit.specs.Held.{HoldsPacket, HoldsShown, packet_with}
 use Rattle.audit.specs.Exchanged.{IsUsable}
 
 by_test : {P : Type 0} (b : Bool) → (b ≡ true → P) → (b ≡ false → P) → P
@@ -32,21 +33,160 @@ ntp_port_of d h = (
   grind (arith, nat_tests),
 )
 
+-- ---- lists that are joined
+
+module _ (a b c d e : List ℕ) where
+  five : a ++ b ++ c ++ d ++ e ≡ a ++ (b ++ (c ++ (d ++ e)))
+  five = append_assoc (a ++ b ++ c) d e ∙ append_assoc (a ++ b) c (d ++ e) ∙ append_assoc a b (c ++ (d ++ e))
+
+  module _ (front : List ℕ) where
+    after_front : front ++ a ++ b ++ c ++ d ++ e ≡ front ++ (a ++ (b ++ (c ++ (d ++ e))))
+    after_front = append_assoc (front ++ a ++ b ++ c) d e ∙ append_assoc (front ++ a ++ b) c (d ++ e)
+        ∙ append_assoc (front ++ a) b (c ++ (d ++ e)) ∙ append_assoc front a (b ++ (c ++ (d ++ e)))
+
+-- what stands before the payload of a UDP datagram
+abbrev udp_head : ℕ → ℕ → ℕ → ℕ → List ℕ
+udp_head source_port destination_port size checksum =
+    big_bytes 2 source_port ++ big_bytes 2 destination_port ++ big_bytes 2 size ++ big_bytes 2 checksum
+
+-- and before the addresses of an IPv4 packet
+abbrev ipv4_head : Parts → ℕ → List ℕ
+ipv4_head p total =
+    ((4 * 16 + p.header_words) ∷ p.type_of_service ∷ []) ++ big_bytes 2 total
+    ++ big_bytes 2 p.identification ++ (64 * p.flags ∷ 0 ∷ [])
+    ++ (p.time_to_live ∷ 17 ∷ []) ++ big_bytes 2 p.header_checksum
+
+udp_length : (source_port destination_port size checksum : ℕ) (payload : List ℕ)
+    → length (udp_head source_port destination_port size checksum ++ payload) ≡ 8 + length payload
+udp_length source_port destination_port size checksum payload = omega arith
+
+-- ---- a frame by its layers
+
+module _ (frame : List ℕ) (d : Fields) (header rest : List ℕ) (payload : d.payload ≡ header ++ rest)
+    (whole : length header ≡ 48) where
+  layers_of : HoldsDatagram frame d
+      → HoldsPacket frame d.source d.source_port d.destination d.destination_port header
+  layers_of holds =
+      let p = holds.parts in
+      let fit = holds.fit in
+      let udp = udp_bytes p d in
+      let sized : length udp ≡ 8 + length d.payload =
+      udp_length d.source_port d.destination_port (8 + length d.payload) p.udp_checksum d.payload in
+      let total : total_length_of p d ≡ 4 * p.header_words + length udp + length p.rest = omega (arith, sized) in
+      let fits = fit.total_length in
+      record {
+        packet = ipv4_bytes p d;
+        datagram = udp;
+        checksum = p.udp_checksum;
+        rest = rest;
+        ethernet = record {
+          addresses = p.ethernet_addresses;
+          tag = p.tag;
+          padding = p.padding;
+          both_addresses = fit.ethernet_addresses;
+          joined = holds.joined
+              ∙ sym (five p.ethernet_addresses (tag_bytes p.tag) (0x08 ∷ 0x00 ∷ []) (ipv4_bytes p d) p.padding);
+        };
+        ipv4 = record {
+          words = p.header_words;
+          type_of_service = p.type_of_service;
+          identification = p.identification;
+          flags = p.flags;
+          time_to_live = p.time_to_live;
+          checksum = p.header_checksum;
+          options = p.options;
+          rest = p.rest;
+          addresses = (fit.source, fit.destination);
+          header_length = (fit.header_words, fit.header);
+          two_flags = fit.flags;
+          whole_length = omega (arith, total, fits);
+          joined = sym (after_front d.source d.destination p.options udp p.rest (ipv4_head p (total_length_of p d)))
+              ∙ ap (λ (n : ℕ). ipv4_head p n ++ d.source ++ d.destination ++ p.options ++ udp ++ p.rest) total;
+        };
+        ports = (fit.source_port, fit.destination_port);
+        udp = ap (λ (l : List ℕ). udp_head d.source_port d.destination_port (8 + length l) p.udp_checksum ++ l) payload
+            ∙ sym (append_assoc
+            (udp_head d.source_port d.destination_port (8 + length (header ++ rest)) p.udp_checksum) header rest);
+        whole = whole;
+      }
+
+module _ (frame source : List ℕ) (source_port : ℕ) (destination : List ℕ) (destination_port : ℕ) (header : List ℕ)
+    (held : HoldsPacket frame source source_port destination destination_port header) where
+  -- the datagram of such a packet
+  abbrev fields : Fields
+  fields = (packet_with source source_port destination destination_port header held.rest).datagram
+
+  abbrev parts : Parts
+  parts = record {
+    ethernet_addresses = held.ethernet.addresses;
+    tag = held.ethernet.tag;
+    header_words = held.ipv4.words;
+    type_of_service = held.ipv4.type_of_service;
+    identification = held.ipv4.identification;
+    flags = held.ipv4.flags;
+    time_to_live = held.ipv4.time_to_live;
+    header_checksum = held.ipv4.checksum;
+    options = held.ipv4.options;
+    udp_checksum = held.checksum;
+    rest = held.ipv4.rest;
+    padding = held.ethernet.padding;
+  }
+
+  udp_is : held.datagram ≡ udp_bytes parts fields
+  udp_is = held.udp
+      ∙ append_assoc (udp_head source_port destination_port (8 + length (header ++ held.rest)) held.checksum) header
+      held.rest
+
+  total_is : 4 * held.ipv4.words + length held.datagram + length held.ipv4.rest ≡ total_length_of parts fields
+  total_is =
+      let size = ap length udp_is in
+      let sized = udp_length source_port destination_port (8 + length (header ++ held.rest)) held.checksum
+      (header ++ held.rest) in
+      omega (arith, size, sized)
+
+  packet_is_ipv4 : held.packet ≡ ipv4_bytes parts fields
+  packet_is_ipv4 = held.ipv4.joined
+      ∙ ap (λ (n : ℕ). ipv4_head parts n ++ source ++ destination ++ held.ipv4.options ++ held.datagram ++ held.ipv4.rest)
+      total_is
+      ∙ ap (λ (l : List ℕ). ipv4_head parts (total_length_of parts fields) ++ source ++ destination
+      ++ held.ipv4.options ++ l ++ held.ipv4.rest) udp_is
+      ∙ after_front source destination held.ipv4.options (udp_bytes parts fields) held.ipv4.rest
+      (ipv4_head parts (total_length_of parts fields))
+
+  datagram_held : HoldsDatagram frame fields
+  datagram_held = record {
+    parts = parts;
+    fit = record {
+      ethernet_addresses = held.ethernet.both_addresses;
+      header = held.ipv4.header_length.1;
+      header_words = held.ipv4.header_length.0;
+      flags = held.ipv4.two_flags;
+      total_length = (let fits = held.ipv4.whole_length in let is = total_is in omega (arith, fits, is));
+      source = held.ipv4.addresses.0;
+      destination = held.ipv4.addresses.1;
+      source_port = held.ports.0;
+      destination_port = held.ports.1;
+    };
+    joined = held.ethernet.joined
+        ∙ ap (λ (l : List ℕ). held.ethernet.addresses ++ tag_bytes held.ethernet.tag ++ (0x08 ∷ 0x00 ∷ []) ++ l
+        ++ held.ethernet.padding) packet_is_ipv4
+        ∙ five held.ethernet.addresses (tag_bytes held.ethernet.tag) (0x08 ∷ 0x00 ∷ []) (ipv4_bytes parts fields)
+        held.ethernet.padding;
+  }
+
+-- ---- packets that are read
+
 held_from : (frame : List ℕ) (p : Packet) (d : Fields) → HoldsDatagram frame d → ntp_of d ≡ Some p
-    → HoldsPacket frame p
+    → HoldsShown frame p
 held_from frame p d holds e = by_test (is_ntp d)
     (λ yes'.
     let facts = ntp_port_of d yes' in
     let here : Some (record { datagram = d; header = header_of d.payload }) ≡ Some p =
     ap (λ (b : Bool). cond b (Some (record { datagram = d; header = header_of d.payload })) None) (sym yes') ∙ e in
     let same : record { datagram = d; header = header_of d.payload } ≡ p = cc in
-    subst (HoldsPacket frame) same (record {
-      datagram = holds;
-      port = facts.0;
-      rest = drop 48 d.payload;
-      joined = sym (take-append-drop 48 d.payload);
-      whole = length-take-le 48 d.payload facts.1;
-    }))
+    subst (HoldsShown frame) same
+    (layers_of frame d (header_of d.payload) (drop 48 d.payload) (sym (take-append-drop 48 d.payload))
+    (length-take-le 48 d.payload facts.1) holds))
     (λ no'. absurd (
     let none : None ≡ Some p =
     ap (λ (b : Bool). cond b (Some (record { datagram = d; header = header_of d.payload })) None) (sym no') ∙ e in
@@ -66,7 +206,7 @@ packet_is frame (Ok d) is = rw (packet_of, is) refl
 packet_is frame (Err skip) is = rw (packet_of, is) refl
 
 given_held : (law : DatagramLaw) (frame : List ℕ) (p : Packet) → IsBytes frame → (r : Result Fields Skip)
-    → datagram_of frame ≡ r → packet_from r ≡ Some p → HoldsPacket frame p
+    → datagram_of frame ≡ r → packet_from r ≡ Some p → HoldsShown frame p
 given_held law frame p bytes (Ok d) is e = held_from frame p d ((law frame d bytes).0 is) e
 given_held law frame p bytes (Err skip) is e = absurd cc
 
@@ -86,20 +226,26 @@ header_is header rest payload joined whole =
       omega (arith, long, whole),
     )
 
-pub packet_held : (law : DatagramLaw) (frame : List ℕ) (p : Packet) → IsBytes frame
-    → (packet_of frame ≡ Some p) ↔ HoldsPacket frame p
-packet_held law frame p bytes = (
-  (λ e. given_held law frame p bytes (datagram_of frame) refl (sym (packet_is frame (datagram_of frame) refl) ∙ e)),
-  (λ held.
-      let datagram = (law frame p.datagram bytes).1 held.datagram in
-      let facts = header_is p.header held.rest p.datagram.payload held.joined held.whole in
-      let ntp = is_ntp_from p.datagram held.port facts.1 in
-      packet_is frame (Ok p.datagram) datagram
-      ∙ ap
-      (λ (b : Bool). cond b (Some (record { datagram = p.datagram; header = header_of p.datagram.payload })) None)
-      ntp
-      ∙ ap (λ (h : List ℕ). Some (record { datagram = p.datagram; header = h })) facts.0),
-)
+module _ (law : DatagramLaw) (frame : List ℕ) (bytes : IsBytes frame) where
+  pub packet_given : (p : Packet) → packet_of frame ≡ Some p → HoldsShown frame p
+  packet_given p e =
+      given_held law frame p bytes (datagram_of frame) refl (sym (packet_is frame (datagram_of frame) refl) ∙ e)
+
+  pub packet_held : (source : List ℕ) (source_port : ℕ) (destination : List ℕ) (destination_port : ℕ)
+      (header : List ℕ) → (source_port ≡ ntp_port) ⊎ (destination_port ≡ ntp_port)
+      → HoldsPacket frame source source_port destination destination_port header → (rest : List ℕ)
+      × (packet_of frame ≡ Some (packet_with source source_port destination destination_port header rest))
+  packet_held source source_port destination destination_port header port held =
+      let d = fields frame source source_port destination destination_port header held in
+      let datagram = (law frame d bytes).1
+      (datagram_held frame source source_port destination destination_port header held) in
+      let facts = header_is header held.rest d.payload refl held.whole in
+      let ntp = is_ntp_from d port facts.1 in (
+        held.rest,
+        packet_is frame (Ok d) datagram
+            ∙ ap (λ (b : Bool). cond b (Some (record { datagram = d; header = header_of d.payload })) None) ntp
+            ∙ ap (λ (h : List ℕ). Some (record { datagram = d; header = h })) facts.0,
+      )
 
 -- ---- headers
 

@@ -11,6 +11,8 @@ pub mod RunLemmas
 pub mod ShowsLemmas
 pub mod StatusLemmas
 pub mod HeldLemmas
+pub mod CapturedLemmas
 pub mod ExchangedLemmas
 pub mod ClaimedLemmas
+pub mod UniquenessLemmas
 pub mod HeadlineLemmas

@@ -1,28 +1,29 @@
--- An exchange of a capture, as a relation on its records (RFC 5905, section 8).
+-- An exchange of a capture, as a relation on its frames (RFC 5905, section 8).
 --
 -- A reply of a server that is usable, and the one and only request of the whole capture that it
--- names by server, port and timestamp. T1 and T4 are the windows of the two records, T2 and T3 the
--- reply's timestamps.
+-- names by server, port and timestamp. T1 and T4 are the windows of the times at which the two were
+-- captured, T2 and T3 the reply's timestamps.
 use Rattle.std.specs.Prelude.{◌≡◌, ◌≢◌, ℕ, ◌+◌, ◌*◌, ◌≤◌, ℤ, pos, ◌≤ℤ◌, List, Some, slice_get}
 use Rattle.era_unfold.specs.Ratio.{IsFloor, IsCeiling}
 use Rattle.era_unfold.specs.Stamp.{IsUnfolded}
 use Rattle.era_unfold.specs.Window.{per_second, ticks_per_second}
-use Rattle.pcap_reader.specs.declared.format.RecordHead.{RecordHead}
-use Rattle.pcap_reader.specs.Capture.{Record}
-use Rattle.ntp_packet.specs.Header.{version_of, leap_of, stratum_of, precision_of, origin_of, receive_of, transmit_of, root_distance_of}
-use Rattle.ntp_packet.specs.Packet.{Packet}
+use Rattle.era_unfold.specs.declared.unit.Unit.{Unit as TimeUnit}
+use Rattle.ntp_packet.specs.Header.{version_of, leap_of, mode_of, stratum_of, precision_of, precision_ticks_of, root_delay_of, root_dispersion_of, origin_of, receive_of, transmit_of}
+use Rattle.ntp_packet.specs.Packet.{ntp_port}
 use Rattle.claim_file.specs.Claim.{ClaimData}
 use Rattle.pairing.specs.declared.exchange.Exchange.{Exchange}
-use Rattle.pairing.specs.Message.{IsRequestTo, IsReplyOf}
+use Rattle.audit.specs.Captured.{CapturedFrame}
 use Rattle.audit.specs.Held.{HoldsPacket}
 
--- the record holds a request to this server, from this port, with this timestamp
-pub record HoldsRequest (claim : ClaimData) (server port stamp : ℕ) (r : Record) : Type 0 where
-  pub packet : Packet
-  pub held : HoldsPacket r.bytes packet
-  pub asks : IsRequestTo claim server packet
-  pub from_port : packet.datagram.source_port ≡ port
-  pub stamped : transmit_of packet.header ≡ stamp
+-- the frame holds a request, which is in mode 3, from this client and port to this server, with this
+-- timestamp
+pub record HoldsRequest (frame client : List ℕ) (port : ℕ) (server : List ℕ) (stamp : ℕ) :
+    Type 0 where
+  pub header : List ℕ
+  pub held : HoldsPacket frame client port server ntp_port header
+  pub version : version_of header ≡ 4
+  pub mode : mode_of header ≡ 3
+  pub stamped : transmit_of header ≡ stamp
 
 -- a reply's header says that the server is synchronized, and leaves no timestamp unknown
 pub record IsUsable (header : List ℕ) : Type 0 where
@@ -35,37 +36,41 @@ pub record IsUsable (header : List ℕ) : Type 0 where
   pub receive : receive_of header ≢ 0
   pub transmit : transmit_of header ≢ 0
 
--- the window of a record's time: the least range of whole ticks that holds it and the next unit
-pub record IsWindowOf (head : RecordHead) (low high : ℤ) : Type 0 where
+-- the window of a frame's time: the least range of whole ticks that holds it and the next unit
+pub record IsWindowOf (unit : TimeUnit) (frame : CapturedFrame) (low high : ℤ) : Type 0 where
   pub low_tick : ℕ
   pub high_tick : ℕ
   pub low_is : low ≡ pos low_tick
   pub high_is : high ≡ pos high_tick
-  pub floor : IsFloor ((head.sec * per_second head.unit + head.sub) * ticks_per_second)
-      (per_second head.unit) low_tick
-  pub ceiling : IsCeiling ((head.sec * per_second head.unit + head.sub + 1) * ticks_per_second)
-      (per_second head.unit) high_tick
+  pub floor : IsFloor ((frame.second * per_second unit + frame.part) * ticks_per_second)
+      (per_second unit) low_tick
+  pub ceiling : IsCeiling ((frame.second * per_second unit + frame.part + 1) * ticks_per_second)
+      (per_second unit) high_tick
 
--- an exchange of these records
-pub record IsExchangeIn (claim : ClaimData) (records : List Record) (x : Exchange) : Type 0 where
-  pub request : Record
-  pub reply : Record
-  pub packet : Packet
-  pub request_stands : slice_get records x.request ≡ Some request
-  pub reply_stands : slice_get records x.reply ≡ Some reply
-  -- the reply is one of the server, and usable
-  pub held : HoldsPacket reply.bytes packet
-  pub answers : IsReplyOf claim x.server packet
-  pub usable : IsUsable packet.header
-  -- the request is the one that it names, and no other record holds such a one
-  pub named : HoldsRequest claim x.server packet.datagram.destination_port
-      (origin_of packet.header) request
-  pub only : (k : ℕ) (r : Record) → slice_get records k ≡ Some r
-      → HoldsRequest claim x.server packet.datagram.destination_port (origin_of packet.header) r
-      → k ≡ x.request
-  -- the four times, and the root distance that the reply announces
-  pub t1 : IsWindowOf request.head x.t1_low x.t1_high
-  pub t2 : IsUnfolded (receive_of packet.header) x.t1_low x.t2
-  pub t3 : IsUnfolded (transmit_of packet.header) x.t1_low x.t3
-  pub t4 : IsWindowOf reply.head x.t4_low x.t4_high
-  pub distance : root_distance_of packet.header ≡ Some x.distance
+-- an exchange of these frames
+pub record IsExchangeIn (claim : ClaimData) (unit : TimeUnit) (frames : List CapturedFrame)
+    (x : Exchange) : Type 0 where
+  pub request : CapturedFrame
+  pub reply : CapturedFrame
+  pub request_stands : slice_get frames x.request ≡ Some request
+  pub reply_stands : slice_get frames x.reply ≡ Some reply
+  -- the reply is one of the server to the client, in mode 4, and usable
+  pub server : List ℕ
+  pub port : ℕ
+  pub header : List ℕ
+  pub server_listed : slice_get claim.servers x.server ≡ Some server
+  pub answers : HoldsPacket reply.bytes server ntp_port claim.client port header
+  pub mode : mode_of header ≡ 4
+  pub usable : IsUsable header
+  -- the request is the one that it names, and no other frame holds such a one
+  pub asks : HoldsRequest request.bytes claim.client port server (origin_of header)
+  pub only : (k : ℕ) (frame : CapturedFrame) → slice_get frames k ≡ Some frame
+      → HoldsRequest frame.bytes claim.client port server (origin_of header) → k ≡ x.request
+  -- the four times, and the root distance that the reply announces: half the root delay, the root
+  -- dispersion and the precision (RFC 5905, section 11.2)
+  pub t1 : IsWindowOf unit request x.t1_low x.t1_high
+  pub t2 : IsUnfolded (receive_of header) x.t1_low x.t2
+  pub t3 : IsUnfolded (transmit_of header) x.t1_low x.t3
+  pub t4 : IsWindowOf unit reply x.t4_low x.t4_high
+  pub distance : x.distance ≡ pos (root_delay_of header * 32768
+      + root_dispersion_of header * 65536 + precision_ticks_of (precision_of header))

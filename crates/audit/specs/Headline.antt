@@ -2,8 +2,8 @@
 use Rattle.std.specs.Prelude.{◌≡◌, ℕ, ℤ, List, Some, Ok, slice_get}
 use Rattle.byte_stream.specs.Bytes.{IsBytes}
 use Rattle.certificate.specs.Certificate.{CertificateData}
-use Rattle.pcap_reader.specs.declared.format.Format.{Format}
-use Rattle.pcap_reader.specs.Capture.{Record, IsCapture}
+use Rattle.era_unfold.specs.declared.unit.Unit.{Unit as TimeUnit}
+use Rattle.pcap_reader.specs.declared.format.Endian.{Endian}
 use Rattle.claim_file.specs.Claim.{ClaimData}
 use Rattle.pairing.specs.Pairing.{Collection}
 use Rattle.pairing.specs.declared.exchange.Exchange.{Exchange}
@@ -15,22 +15,24 @@ use Rattle.checker.specs.Traceability.{IsWithinNanoseconds, samples_of}
 use Rattle.checker.specs.Verdict.{verdict_of}
 use Rattle.checker.specs.declared.verdict.Verdict.TheVariants.{Yes}
 use Rattle.audit.specs.CaptureInput.{capture_read}
+use Rattle.audit.specs.Captured.{CapturedFrame, IsCaptureOf}
 use Rattle.audit.specs.Claimed.{IsClaimText}
 use Rattle.audit.specs.Exchanged.{IsExchangeIn}
 
--- The claim's bytes are the text of a claim, and the capture's bytes are a capture of records.
--- There are exchanges in these records of which this holds: for each reading of the span, a whole
--- number of 1/n tick, there are entries such that in every course of events that fits what they
--- name of the exchanges, and in which the client's clock reads that, its error is within the bound.
+-- The claim's bytes are the text of a claim, and the capture's bytes are a capture of frames. There
+-- are exchanges in these frames of which this holds: for each reading of the span, a whole number of
+-- 1/n tick, there are entries such that in every course of events that fits what they name of the
+-- exchanges, and in which the client's clock reads that, its error is within the bound.
 pub record IsShown (claim_bytes capture_bytes : List ℕ) : Type 0 where
   pub claim : ClaimData
-  pub format : Format
-  pub records : List Record
+  pub order : Endian
+  pub unit : TimeUnit
+  pub frames : List CapturedFrame
   pub exchanges : List Exchange
   pub claim_is : IsClaimText claim_bytes claim
-  pub capture_is : IsCapture capture_bytes format records
+  pub capture_is : IsCaptureOf capture_bytes order unit frames
   pub exchanges_are : (k : ℕ) (x : Exchange) → slice_get exchanges k ≡ Some x
-      → IsExchangeIn claim records x
+      → IsExchangeIn claim unit frames x
   pub within : (n : ℕ) (reading : ℤ) → IsInWindow n claim.first claim.last reading
       → (entries : List (ℕ × ℕ)) × ((course : Course) → course.fineness ≡ n
       → course.observation.reading ≡ reading → FitsPiece claim exchanges entries course

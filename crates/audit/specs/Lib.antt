@@ -14,5 +14,6 @@ pub mod Nanoseconds
 pub mod Run
 pub mod Held
 pub mod Exchanged
+pub mod Captured
 pub mod Claimed
 pub mod Headline

@@ -2,11 +2,11 @@
 //! and so what a yes shows of them. A law is a function that does nothing: its contract is the law,
 //! for all bytes.
 
-ghost use Rattle.std.specs.Prelude.{◌≡◌, ℕ, ◌↔◌, ◌≢◌, List, None, Some, Ok, AllPairs, slice_get};
+ghost use Rattle.std.specs.Prelude.{◌≡◌, ℕ, ◌↔◌, ◌≢◌, ◌⊎◌, List, map, None, Some, Ok, AllPairs, slice_get};
 ghost use Rattle.byte_stream.specs.Bytes.{IsBytes};
 ghost use Rattle.claim_file.specs.Claim.{ClaimData};
 ghost use Rattle.claim_file.specs.Reading.{claim_of};
-ghost use Rattle.ntp_packet.specs.Packet.{Packet, packet_of};
+ghost use Rattle.ntp_packet.specs.Packet.{Packet, ntp_port, packet_of};
 ghost use Rattle.pairing.specs.Pairing.{exchanges_of};
 ghost use Rattle.pairing.specs.Refusal.{refusal_of};
 ghost use Rattle.pairing.specs.declared.exchange.Exchange.{Exchange};
@@ -15,7 +15,8 @@ ghost use Rattle.pcap_reader.specs.Capture.{Record, IsCapture};
 ghost use Rattle.audit.specs.Headline.{ShowsHeadline};
 ghost use Rattle.audit.specs.Claimed.{IsClaimText};
 ghost use Rattle.audit.specs.Exchanged.{IsUsable, IsExchangeIn};
-ghost use Rattle.audit.specs.Held.{HoldsPacket};
+ghost use Rattle.audit.specs.Captured.{IsCaptureOf, frame_of};
+ghost use Rattle.audit.specs.Held.{HoldsPacket, HoldsShown, packet_with};
 ghost use Rattle.audit.specs.Nanoseconds.{GivesNanoseconds};
 
 use checker::laws::{
@@ -23,7 +24,8 @@ use checker::laws::{
     yes_is_acceptance,
 };
 use claim_file::laws::{
-    addresses_are_dotted, claims_are_lawful, nanoseconds_become_ticks, times_are_spelled,
+    addresses_are_dotted, claims_are_lawful, nanoseconds_become_ticks, servers_are_in_their_groups,
+    times_are_spelled,
 };
 use era_unfold::laws::{every_stamp_is_unfolded, ratios_are_rounded_as_little_as_can_be};
 use frame_reader::laws::given_where_held;
@@ -40,10 +42,16 @@ pub fn bounds_of_bytes_hold_in_nanoseconds()
     bounds_hold_in_nanoseconds();
 }
 
-/// A frame gives an NTP packet exactly where it holds it.
+/// A frame gives an NTP packet exactly where it holds it, its layers joined from Ethernet to NTP.
 pub fn packet_is_given_where_held()
-    ensures { (frame : List ℕ) (p : Packet) → IsBytes frame →
-        (packet_of frame ≡ Some p) ↔ HoldsPacket frame p }
+    ensures given { (frame : List ℕ) (p : Packet) → IsBytes frame → packet_of frame ≡ Some p →
+        HoldsShown frame p }
+    ensures held { (frame source : List ℕ) (source_port : ℕ) (destination : List ℕ)
+        (destination_port : ℕ) (header : List ℕ) → IsBytes frame →
+        (source_port ≡ ntp_port) ⊎ (destination_port ≡ ntp_port) →
+        HoldsPacket frame source source_port destination destination_port header →
+        (rest : List ℕ) × (packet_of frame ≡
+        Some (packet_with source source_port destination destination_port header rest)) }
 {
     given_where_held();
 }
@@ -53,13 +61,20 @@ pub fn usable_replies_are_not_refused()
     ensures { (header : List ℕ) → (refusal_of header ≡ None) ↔ IsUsable header }
 {}
 
-/// The exchanges that are collected of a capture are exchanges in its records.
-pub fn exchanges_are_in_the_records()
+/// A capture of records is one of the frames that these say.
+pub fn records_are_frames()
+    ensures { (bytes : List ℕ) (format : Format) (records : List Record) →
+        IsCapture bytes format records →
+        IsCaptureOf bytes format.order format.unit (map frame_of records) }
+{}
+
+/// The exchanges that are collected of a capture are exchanges in its frames.
+pub fn exchanges_are_in_the_frames()
     ensures { (bytes : List ℕ) (format : Format) (records : List Record) (claim : ClaimData) →
         IsBytes bytes → IsCapture bytes format records →
         AllPairs (λ a b. a ≢ b) claim.servers →
         (k : ℕ) (x : Exchange) → slice_get (exchanges_of claim records) k ≡ Some x →
-        IsExchangeIn claim records x }
+        IsExchangeIn claim format.unit (map frame_of records) x }
 {
     packet_is_given_where_held();
     usable_replies_are_not_refused();
@@ -77,18 +92,29 @@ pub fn claims_are_what_their_text_says()
 {
     times_are_spelled();
     addresses_are_dotted();
+    servers_are_in_their_groups();
     ratios_are_rounded_as_little_as_can_be();
 }
 
-/// Where the bytes of a claim and of a capture are read, and the verdict on some certificate is yes,
-/// the theorem holds of them, said in relations alone.
+/// A text says one claim at most.
+pub fn texts_say_one_claim()
+    ensures { (text : List ℕ) (claim other : ClaimData) → IsClaimText text claim →
+        IsClaimText text other → claim ≡ other }
+{
+    times_are_spelled();
+    addresses_are_dotted();
+}
+
+/// Where a claim and a capture are read, and the verdict on some certificate is yes, the theorem
+/// holds of their bytes, said in relations alone.
 pub fn yes_shows_the_headline()
     ensures { ShowsHeadline }
 {
     claims_are_what_their_text_says();
     claims_are_lawful();
     what_is_read_is_a_capture();
-    exchanges_are_in_the_records();
+    records_are_frames();
+    exchanges_are_in_the_frames();
     verdicts_are_traceable();
     yes_is_acceptance();
     pieces_hold_every_reading();

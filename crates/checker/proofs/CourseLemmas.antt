@@ -10,8 +10,9 @@ use Rattle.sample_interval.specs.Moment.{Moment, error_of, error_change, DriftsW
 use Rattle.checker.specs.Course.{Fits, IsClientMoment, ReadsInWindows, KeepsRootDistance}
 use Rattle.checker.specs.Groups.{holds_false, false_group_count}
 use Rattle.span_cover.specs.Group.{numbers_below}
-use Rattle.checker.specs.PieceFit.{OfEachEntry, ReadsEntryInWindows, FitsPiece}
+use Rattle.checker.specs.PieceFit.{OfEachEntry, FitsPiece}
 use Rattle.checker.specs.Traceability.{IsTraceable}
+use Rattle.checker.proofs.PieceFitLemmas.{few_from_count}
 use Rattle.checker.specs.WorkedCourse.{worked_second, worked_claim, worked_exchange, moment_with, served_course, slow_reply, slow_course, slow_claim, earlier_exchange, stepped_course, lone_course}
 
 -- ---- no false server
@@ -171,8 +172,12 @@ stepped_fits =
     let near = keeps_its_distance error reading served (omega (arith, ints)) (omega (arith, ints)) in
     record {
       some_fineness = omega arith;
-      few_false = rw (no_false_group (0 ∷ [])) (omega arith);
-      in_windows = of_worked (ReadsEntryInWindows stepped_course worked_claim)
+      few_false = few_from_count worked_claim (earlier_exchange ∷ worked_exchange ∷ []) ((1, 1) ∷ []) stepped_course
+          stepped_course.is_false (rw (no_false_group (0 ∷ [])) (omega arith))
+          (λ j a b x y named at_a at_b false'. false');
+      in_windows = of_worked
+          (λ a x b y. IsInWindow 1 (x.t1_low -ℤ pos 0) (x.t1_high +ℤ pos 0) (stepped_course.request a).reading
+          × IsInWindow 1 (y.t4_low -ℤ pos 0) (y.t4_high +ℤ pos 0) (stepped_course.reply b).reading)
           ((omega (arith, ints), omega (arith, ints)), (omega (arith, ints), omega (arith, ints)));
       drift = of_worked
           (λ a x b y. DriftsWithin 0 (stepped_course.request a) stepped_course.observation

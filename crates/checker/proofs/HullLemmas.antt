@@ -1,9 +1,7 @@
 -- Why a hull holds the error: from what entries name of a course to the hull of what they say.
-use Rattle.std.proofs.Common.{◌≡◌, ℕ, ◌<◌, ◌≤◌, ℤ, pos, ◌*ℤ◌, ◌≤ℤ◌, Bool, true, false, ◌&&◌, List, [], ◌∷◌, length, Option, Some, None, refl, sym, ap, ◌∙◌, subst, arith}
-use Rattle.std.specs.Prelude.{All, slice_get, ◌==◌}
+use Rattle.std.proofs.Common.{◌≡◌, ℕ, ◌<◌, ◌≤◌, ℤ, pos, ◌*ℤ◌, ◌≤ℤ◌, Bool, false, List, [], ◌∷◌, length, Option, Some, None, refl, sym, ap, ◌∙◌, subst, arith}
+use Rattle.std.specs.Prelude.{All, slice_get}
 use Rattle.std.specs.Option.{option_map}
-use Rattle.std.proofs.lemmas.Bool.Decides.{nat_tests}
-use Rattle.std.proofs.lemmas.Map.Keys.{any_passes_from_place}
 use Rattle.std.proofs.lemmas.Option.{slice_get-map}
 use Rattle.claim_file.specs.Claim.{ClaimData, IsLawful}
 use Rattle.intersection.specs.Fraction.{HoldsFraction, IsAdmissibleFraction, HullHoldsFraction}
@@ -22,13 +20,13 @@ use Rattle.checker.specs.Comparison.{IsOfSamples}
 use Rattle.checker.specs.Course.{Course, Fits}
 use Rattle.checker.specs.Groups.{false_group_count}
 use Rattle.span_cover.specs.Group.{group_intervals, piece_hull}
-use Rattle.checker.specs.PieceFit.{is_with, has_entry, FitsPiece}
+use Rattle.checker.specs.PieceFit.{FitsPiece}
 use Rattle.checker.specs.Traceability.{samples_of, IsObservedIn, IsInHull, HoldsError, HoldsErrorOfPiece}
 use Rattle.span_cover.specs.declared.part.Part.{Part}
 use Rattle.span_cover.specs.declared.stretch.Stretch.{Stretch}
 use Rattle.checker.proofs.PartLemmas.{All-slice_get}
 use Rattle.checker.proofs.CountingLemmas.{few_leave_it_out}
-use Rattle.checker.proofs.PieceFitLemmas.{fits_piece}
+use Rattle.checker.proofs.PieceFitLemmas.{counts_as_false, count_from_few, true_if_uncounted, fits_piece}
 use Rattle.checker.proofs.SaidLemmas.{zip_all}
 
 -- the law on the error throughout a piece
@@ -80,14 +78,6 @@ module _ (xs : List Exchange) (claim : ClaimData) (samples : List Sample) where
       ∙ ap (λ (s : List Sample). slice_get s k) (sym made) ∙ at)
 
 -- ---- one course
-
-same_passes : (a b : ℕ) → a ≡ b → (a == b) ≡ true
-same_passes a b is = grind (arith, nat_tests)
-
--- one that is named and doesn't count as false isn't false
-true_of_used : (false' named : Bool) → named ≡ true → (false' && named) ≡ false → false' ≡ false
-true_of_used true named is unused = absurd (let no : true ≡ false = sym is ∙ unused in cc)
-true_of_used false named is unused = refl
 
 module _ (laws : Laws) (claim : ClaimData) (samples : List Sample) (lawful : IsLawful claim) (xs : List Exchange)
     (course : Course) (made : samples ≡ samples_of xs claim) where
@@ -157,14 +147,20 @@ module _ (laws : Laws) (claim : ClaimData) (samples : List Sample) (lawful : IsL
         (piece_interval_of said.low s stretch.begin stretch.end claim.drift_ppb) error course.fineness in
         subst Holds (sym said.is) (subst at_second second.is (subst at_first first.is holds))
 
-    -- and its server has an entry
-    is_named : (j : ℕ) (entry : ℕ × ℕ) (part : Part) → slice_get entries j ≡ Some entry
-        → IsSaidBy samples stretch claim.drift_ppb entry part → has_entry xs entries part.server ≡ true
-    is_named j entry part named said =
+    -- and an entry's server isn't false if it doesn't count as false
+    entry_is_true : (j : ℕ) (entry : ℕ × ℕ) (part : Part) → slice_get entries j ≡ Some entry
+        → IsSaidBy samples stretch claim.drift_ppb entry part → part.server < length claim.groups
+        → counts_as_false claim xs entries course fits.few_false part.server ≡ false
+        → course.is_false part.server ≡ false
+    entry_is_true j entry part named said below uncounted =
         let first = made_of xs claim samples entry.0 said.low made said.low_is in
+        let second = made_of xs claim samples entry.1 said.high made said.high_is in
         let of_x = server_of stretch entry part said in
-        any_passes_from_place (λ (e : ℕ × ℕ). is_with part.server (slice_get xs e.0)) entries j entry named
-        (ap (is_with part.server) first.at ∙ same_passes first.exchange.server part.server of_x)
+        subst (λ (server : ℕ). course.is_false server ≡ false) of_x
+        (true_if_uncounted claim xs entries course fits.few_false j entry.0 entry.1 first.exchange second.exchange
+        named first.at second.at (subst (λ (server : ℕ). server < length claim.groups) (sym of_x) below)
+        (subst (λ (server : ℕ). counts_as_false claim xs entries course fits.few_false server ≡ false) (sym of_x)
+        uncounted))
 
   said_of : (stretch : Stretch) (part : Part) (given : IsOfSamples samples stretch claim.drift_ppb part)
       → IsSaidBy samples stretch claim.drift_ppb (given.low_number, given.high_number) part
@@ -214,15 +210,15 @@ module _ (laws : Laws) (claim : ClaimData) (samples : List Sample) (lawful : IsL
       → IsObservedIn course stretch.begin stretch.end → AreSaidBy samples stretch claim.drift_ppb entries parts
       → IsInHull course (piece_hull claim.groups claim.false_max parts)
   holds_of_piece entries parts stretch listed fits observed said =
-      let used : ℕ → Bool = λ server. course.is_false server && has_entry xs entries server in
-      hull_of_parts used parts fits.some_fineness fits.few_false
+      let used : ℕ → Bool = counts_as_false claim xs entries course fits.few_false in
+      hull_of_parts used parts fits.some_fineness (count_from_few claim xs entries course fits.few_false)
       (zip_all (IsSaidBy samples stretch claim.drift_ppb) (λ part. part.server < length claim.groups) entries parts said
       (λ j entry part named is. listed_at stretch entry part listed is))
       (zip_all (IsSaidBy samples stretch claim.drift_ppb) (λ part. used part.server ≡ false → Holds part) entries parts
       said
       (λ j entry part named is unused. entry_holds entries fits stretch observed j entry part named is
-      (true_of_used (course.is_false part.server) (has_entry xs entries part.server)
-      (is_named entries fits stretch observed j entry part named is) unused)))
+      (entry_is_true entries fits stretch observed j entry part named is (listed_at stretch entry part listed is)
+      unused)))
 
   pub holds_of_capture : (parts : List Part) (stretch : Stretch)
       → All (λ sample. sample.server < length claim.servers) samples → Fits claim xs course

@@ -1,47 +1,113 @@
 -- A course that fits a capture fits what any entries name of it.
-use Rattle.std.proofs.Common.{◌≡◌, ℕ, ◌≤◌, Bool, true, cond, ◌&&◌, List, length, Some, refl, inl, inr, arith}
+use Rattle.std.proofs.Common.{◌≡◌, ℕ, zero, suc, ◌+◌, ◌<◌, ◌≤◌, Bool, true, false, cond, ◌&&◌, List, [], ◌∷◌, ◌++◌, length, Some, count_by, refl, sym, ap, ◌∙◌, subst, inl, inr, arith}
 use Rattle.std.specs.Prelude.{slice_get, slice_index, ◌==◌}
+use Rattle.std.specs.List.{range_with_len}
 use Rattle.std.proofs.lemmas.Bool.{cond-true, cond-false, and_parts, and_from}
-use Rattle.std.proofs.lemmas.List.Folds.{Any-from_list_any, list_any-from_Any}
+use Rattle.std.proofs.lemmas.Bool.Decides.{nat_tests}
+use Rattle.std.proofs.lemmas.List.Folds.{Any-from_list_any}
 use Rattle.std.proofs.lemmas.List.Sums.{sum_by-le-sum_by}
-use Rattle.std.proofs.lemmas.Option.{slice_get_within}
+use Rattle.std.proofs.lemmas.Option.{get_or_from_slice_get, slice_get-get_or, slice_get_within}
 use Rattle.claim_file.specs.Claim.{ClaimData}
 use Rattle.pairing.specs.declared.exchange.Exchange.{Exchange}
 use Rattle.sample_interval.specs.Moment.{DriftsWithin}
 use Rattle.checker.specs.Course.{Course, Fits}
 use Rattle.checker.specs.Groups.{holds_false, false_group_count}
 use Rattle.span_cover.specs.Group.{numbers_below}
-use Rattle.checker.specs.PieceFit.{has_entry, FitsPiece}
+use Rattle.checker.specs.PieceFit.{HasFewFalse, OfEachEntry, FitsPiece}
+use Rattle.checker.proofs.CountingLemmas.{fails_below}
 use Rattle.checker.proofs.PartLemmas.{by_test}
 
-module _ (groups : List ℕ) (fewer more : ℕ → Bool) (all : (s : ℕ) → fewer s ≡ true → more s ≡ true) where
-  still_holds : (g : ℕ) → holds_false groups fewer g ≡ true → holds_false groups more g ≡ true
-  still_holds g holds =
-      let numbers = numbers_below (length groups) in
-      let found = Any-from_list_any (λ server. (slice_index groups server == g) && fewer server) numbers holds in
-      let tests = and_parts (slice_index groups found.1 == g) (fewer found.1) found.4 in
-      list_any-from_Any (λ server. (slice_index groups server == g) && more server) numbers (
-        found.0,
-        found.1,
-        found.2,
-        found.3,
-        and_from (slice_index groups found.1 == g) (more found.1) tests.0 (all found.1 tests.1),
-      )
+-- ---- numbers
 
-  no_more_at : (g : ℕ) → cond (holds_false groups fewer g) 1 0 ≤ cond (holds_false groups more g) 1 0
-  no_more_at g = by_test (holds_false groups fewer g)
-      (λ holds. omega (
-        arith,
-        cond-true {A = ℕ} (holds_false groups fewer g) 1 0 holds,
-        cond-true {A = ℕ} (holds_false groups more g) 1 0 (still_holds g holds),
-      ))
-      (λ fails. omega (arith, cond-false {A = ℕ} (holds_false groups fewer g) 1 0 fails))
+one_more : (a n : ℕ) → range_with_len a (suc n) ≡ range_with_len a n ++ (a + n) ∷ []
+one_more a zero = let is : a ≡ a + 0 = omega arith in ap (λ (k : ℕ). k ∷ []) is
+one_more a (suc n) =
+    let is : a + 1 + n ≡ a + suc n = omega arith in
+    ap (λ (l : List ℕ). a ∷ l) (one_more (a + 1) n)
+    ∙ ap (λ (k : ℕ). a ∷ (range_with_len (a + 1) n ++ k ∷ [])) is
 
-  -- where fewer servers are false, no more groups hold one
-  pub no_more_groups : false_group_count groups fewer ≤ false_group_count groups more
-  no_more_groups =
-      sum_by-le-sum_by (λ g. cond (holds_false groups fewer g) 1 0) (λ g. cond (holds_false groups more g) 1 0)
-      (numbers_below (length groups)) no_more_at
+-- the numbers of n groups
+pub all_numbers : (n : ℕ) → numbers_below n ≡ range_with_len 0 n
+all_numbers zero = refl
+all_numbers (suc n) =
+    let is : n ≡ 0 + n = omega arith in
+    ap (λ (l : List ℕ). l ++ n ∷ []) (all_numbers n) ∙ ap (λ (k : ℕ). range_with_len 0 n ++ k ∷ []) is
+    ∙ sym (one_more 0 n)
+
+-- ---- few false servers
+
+module _ (claim : ClaimData) (xs : List Exchange) (entries : List (ℕ × ℕ)) (course : Course) where
+  -- where few groups hold a server that counts, and false servers with an entry do, few are false
+  module _ (counts : ℕ → Bool) (few : false_group_count claim.groups counts ≤ claim.false_max)
+      (all : OfEachEntry xs entries (λ a x b y. course.is_false x.server ≡ true → counts x.server ≡ true)) where
+    group_counts : (server group : ℕ) → slice_get claim.groups server ≡ Some group → counts server ≡ true
+        → holds_false claim.groups counts group ≡ true
+    group_counts server group at counted =
+        let is : slice_index claim.groups server ≡ group = get_or_from_slice_get claim.groups server group 0 at in
+        let same : (slice_index claim.groups server == group) ≡ true = grind (arith, nat_tests) in
+        let both = and_from (slice_index claim.groups server == group) (counts server) same counted in
+        by_test (holds_false claim.groups counts group) (λ holds. holds)
+        (λ none. absurd (
+        let fails = fails_below (λ s. (slice_index claim.groups s == group) && counts s) (length claim.groups)
+        server (slice_get_within claim.groups server group at) none in
+        cc))
+
+    pub few_from_count : HasFewFalse claim xs entries course
+    few_from_count = record {
+      is_wrong = holds_false claim.groups counts;
+      few = subst (λ (l : List ℕ). count_by (holds_false claim.groups counts) l ≤ claim.false_max)
+          (all_numbers (length claim.groups)) few;
+      in_wrong_group = λ j a b x y named at_a at_b false' group at.
+          group_counts x.server group at (all j a b x y named at_a at_b false');
+    }
+
+  -- and the other way: the groups of servers that are false and of a wrong group
+  module _ (few : HasFewFalse claim xs entries course) where
+    abbrev pub counts_as_false : ℕ → Bool
+    counts_as_false server = course.is_false server && few.is_wrong (slice_index claim.groups server)
+
+    is_wrong_group : (group : ℕ) → holds_false claim.groups counts_as_false group ≡ true → few.is_wrong group ≡ true
+    is_wrong_group group holds =
+        let found = Any-from_list_any (λ s. (slice_index claim.groups s == group) && counts_as_false s)
+        (numbers_below (length claim.groups)) holds in
+        let server = found.1 in
+        let tests = and_parts (slice_index claim.groups server == group) (counts_as_false server) found.4 in
+        let both = and_parts (course.is_false server) (few.is_wrong (slice_index claim.groups server)) tests.1 in
+        let same = tests.0 in
+        let is : slice_index claim.groups server ≡ group = grind (arith, nat_tests) in
+        subst (λ (g : ℕ). few.is_wrong g ≡ true) is both.1
+
+    no_more_at : (g : ℕ) →
+        cond (holds_false claim.groups counts_as_false g) 1 0 ≤ cond (few.is_wrong g) 1 0
+    no_more_at g = by_test (holds_false claim.groups counts_as_false g)
+        (λ holds. omega (
+          arith,
+          cond-true {A = ℕ} (holds_false claim.groups counts_as_false g) 1 0 holds,
+          cond-true {A = ℕ} (few.is_wrong g) 1 0 (is_wrong_group g holds),
+        ))
+        (λ fails. omega (arith, cond-false {A = ℕ} (holds_false claim.groups counts_as_false g) 1 0 fails))
+
+    pub count_from_few : false_group_count claim.groups counts_as_false ≤ claim.false_max
+    count_from_few =
+        let less = sum_by-le-sum_by (λ g. cond (holds_false claim.groups counts_as_false g) 1 0)
+        (λ g. cond (few.is_wrong g) 1 0) (numbers_below (length claim.groups)) no_more_at in
+        let most = subst (λ (l : List ℕ). count_by few.is_wrong l ≤ claim.false_max)
+        (sym (all_numbers (length claim.groups))) few.few in
+        omega arith
+
+    -- a server of an entry that doesn't count as false isn't false
+    pub true_if_uncounted : (j a b : ℕ) (x y : Exchange) → slice_get entries j ≡ Some (a, b)
+        → slice_get xs a ≡ Some x → slice_get xs b ≡ Some y → x.server < length claim.groups
+        → counts_as_false x.server ≡ false → course.is_false x.server ≡ false
+    true_if_uncounted j a b x y named at_a at_b listed uncounted = by_test (course.is_false x.server)
+        (λ is. absurd (
+        let wrong = few.in_wrong_group j a b x y named at_a at_b is (slice_index claim.groups x.server)
+        (slice_get-get_or claim.groups x.server 0 listed) in
+        let counted = and_from (course.is_false x.server) (few.is_wrong (slice_index claim.groups x.server)) is wrong in
+        cc))
+        (λ not'. not')
+
+-- ---- the whole capture
 
 pub fits_piece : (claim : ClaimData) (xs : List Exchange) (entries : List (ℕ × ℕ)) (course : Course)
     → Fits claim xs course → FitsPiece claim xs entries course
@@ -55,12 +121,8 @@ fits_piece claim xs entries course fits =
     ) in
     record {
       some_fineness = fits.some_fineness;
-      few_false =
-          let fewer = no_more_groups claim.groups
-          (λ server. course.is_false server && has_entry xs entries server) course.is_false
-          (λ s both. (and_parts (course.is_false s) (has_entry xs entries s) both).0) in
-          let few = fits.few_false in
-          omega arith;
+      few_false = few_from_count claim xs entries course course.is_false fits.few_false
+          (λ j a b x y named at_a at_b false'. false');
       in_windows = λ j a b x y named at_a at_b. ((fits.in_windows a x at_a).0, (fits.in_windows b y at_b).1);
       drift = λ j a b x y named at_a at_b. ((drifts_from a x at_a).0, (drifts_from b y at_b).1);
       ordered = λ j a b x y named at_a at_b true_x true_y.

@@ -5,23 +5,12 @@
 -- for what the piece shows. So a course may do as it likes outside of these moments: the clock may
 -- be stepped before the first of them or after the last, and servers may be false in another hour,
 -- other ones for each piece.
-use Rattle.std.specs.Prelude.{◌≡◌, ℕ, ◌<◌, ◌≤◌, ◌==◌, ◌≤ℤ◌, Bool, false, ◌&&◌, List, slice_get, Option, Some, None}
-use Rattle.std.specs.List.{list_any}
+use Rattle.std.specs.Prelude.{◌≡◌, ℕ, ◌<◌, ◌≤◌, ◌+ℤ◌, ◌-ℤ◌, ◌≤ℤ◌, Bool, true, false, List, length, count_by, slice_get, Some}
+use Rattle.std.specs.List.{range_with_len}
 use Rattle.claim_file.specs.Claim.{ClaimData}
 use Rattle.pairing.specs.declared.exchange.Exchange.{Exchange}
 use Rattle.sample_interval.specs.Moment.{DriftsWithin, IsInWindow, IsWithinDistance}
-use Rattle.sample_interval.specs.Window.{request_start, request_end, reply_start, reply_end}
 use Rattle.checker.specs.Course.{Course}
-use Rattle.checker.specs.Groups.{false_group_count}
-
--- whether there is an exchange, of this server
-abbrev pub is_with : ℕ → Option Exchange → Bool
-is_with server None = false
-is_with server (Some x) = x.server == server
-
--- whether an entry is of this server
-abbrev pub has_entry : List Exchange → List (ℕ × ℕ) → ℕ → Bool
-has_entry xs entries server = list_any (λ entry. is_with server (slice_get xs entry.0)) entries
 
 -- this holds of each entry: of the number and the exchange for its low end, and of those for its
 -- high end
@@ -36,13 +25,14 @@ abbrev pub OfEachTrueEntry :
 OfEachTrueEntry xs entries course P = OfEachEntry xs entries
     (λ a x b y. course.is_false x.server ≡ false → course.is_false y.server ≡ false → P a x b y)
 
--- what the clock read at the request and at the reply lies in the windows of their records
-abbrev pub ReadsEntryInWindows : Course → ClaimData → ℕ → Exchange → ℕ → Exchange → Type 0
-ReadsEntryInWindows course claim a x b y =
-    IsInWindow course.fineness (request_start x claim.reading) (request_end x claim.reading)
-    (course.request a).reading
-    × IsInWindow course.fineness (reply_start y claim.reading) (reply_end y claim.reading)
-    (course.reply b).reading
+-- some of the groups are wrong, at most as many as the claim allows for, and each false server that
+-- has an entry is in one of these
+pub record HasFewFalse (claim : ClaimData) (xs : List Exchange) (entries : List (ℕ × ℕ))
+    (course : Course) : Type 0 where
+  pub is_wrong : ℕ → Bool
+  pub few : count_by is_wrong (range_with_len 0 (length claim.groups)) ≤ claim.false_max
+  pub in_wrong_group : OfEachEntry xs entries (λ a x b y. course.is_false x.server ≡ true
+      → (group : ℕ) → slice_get claim.groups x.server ≡ Some group → is_wrong group ≡ true)
 
 -- the course is one that may have given what these entries use of these exchanges, under what the
 -- claim grants
@@ -50,11 +40,14 @@ pub record FitsPiece (claim : ClaimData) (xs : List Exchange) (entries : List (�
     (course : Course) : Type 0 where
   -- a tick has at least one part
   pub some_fineness : 0 < course.fineness
-  -- at most `false_max` groups hold a false server that has an entry
-  pub few_false : false_group_count claim.groups
-      (λ server. course.is_false server && has_entry xs entries server) ≤ claim.false_max
+  -- the false servers that have an entry are of at most `false_max` groups
+  pub few_false : HasFewFalse claim xs entries course
   -- each record time that is used is right within its unit and the claimed allowance
-  pub in_windows : OfEachEntry xs entries (ReadsEntryInWindows course claim)
+  pub in_windows : OfEachEntry xs entries (λ a x b y.
+      IsInWindow course.fineness (x.t1_low -ℤ claim.reading) (x.t1_high +ℤ claim.reading)
+      (course.request a).reading
+      × IsInWindow course.fineness (y.t4_low -ℤ claim.reading) (y.t4_high +ℤ claim.reading)
+      (course.reply b).reading)
   -- from each moment that is used to the observation the error changes by the claimed rate at most
   pub drift : OfEachEntry xs entries (λ a x b y.
       DriftsWithin claim.drift_ppb (course.request a) course.observation

@@ -5,7 +5,7 @@
 //! (`sample_interval`), the error throughout a piece (`span_cover`), how many groups leave it out
 //! (here), the hull of whole points that holds it (`intersection`), the pieces that hold every
 //! reading of the span (here).
-ghost use Rattle.std.specs.Prelude.{◌≡◌, ℕ, ◌+◌, ◌<◌, ◌≤◌, ℤ, pos, neg_ℤ, ◌≤ℤ◌, ◌⊎◌, ◌↔◌, Bool, false};
+ghost use Rattle.std.specs.Prelude.{true, ◌≡◌, ℕ, ◌+◌, ◌<◌, ◌≤◌, ℤ, pos, neg_ℤ, ◌≤ℤ◌, ◌⊎◌, ◌↔◌, Bool, false};
 ghost use Rattle.std.specs.Prelude.{List, [], ◌∷◌, length, All, slice_get, IsSomeAnd, None, Some, Ok};
 ghost use Rattle.certificate.specs.Certificate.{PieceData, CertificateData};
 ghost use Rattle.claim_file.specs.Claim.{ClaimData, IsLawful};
@@ -27,7 +27,7 @@ ghost use Rattle.checker.specs.Comparison.{AreNarrower, IsOfSamples};
 ghost use Rattle.checker.specs.Course.{Course, Fits};
 ghost use Rattle.checker.specs.Groups.{false_group_count};
 ghost use Rattle.span_cover.specs.Group.{group_intervals, piece_hull};
-ghost use Rattle.checker.specs.PieceFit.{FitsPiece};
+ghost use Rattle.checker.specs.PieceFit.{FitsPiece, HasFewFalse, OfEachEntry};
 ghost use Rattle.checker.specs.Span.{IsSpanWithin, claim_within, certificate_within};
 ghost use Rattle.checker.specs.Stretch.{begin_of, stretches_from, stretches_of, last_end};
 ghost use Rattle.checker.specs.Stretch.{SomeHoldsReading};
@@ -77,6 +77,15 @@ pub fn pieces_hold_every_reading()
     ensures { (n : ℕ) (reading begin : ℤ) (pieces : List PieceData) → 0 < length pieces →
         IsInWindow n begin (last_end begin pieces) reading →
         SomeHoldsReading (stretches_from begin pieces) n reading }
+{}
+
+/// The wrong groups may be told by a count: if each false server that has an entry counts, and at
+/// most `false_max` groups hold one that counts, few are false.
+pub fn few_are_false_by_count()
+    ensures { (claim : ClaimData) (xs : List Exchange) (entries : List (ℕ × ℕ)) (course : Course)
+        (counts : ℕ → Bool) → false_group_count claim.groups counts ≤ claim.false_max →
+        OfEachEntry xs entries (λ a x b y. course.is_false x.server ≡ true →
+        counts x.server ≡ true) → HasFewFalse claim xs entries course }
 {}
 
 /// A course that fits the exchanges of a capture fits what any entries name of them.

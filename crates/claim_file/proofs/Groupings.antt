@@ -1,14 +1,15 @@
 -- The numbers of groups that a claim gives to its servers.
-use Rattle.std.proofs.Common.{◌≡◌, ℕ, zero, suc, ◌+◌, ◌<◌, ◌≤◌, ◌==◌, ◌||◌, nat_lt, Bool, true, false, not, cond, if◌then◌else◌, List, [], ◌∷◌, ◌++◌, length, map, get_or, Option, Some, None, unwrap_or, refl, sym, ap, ◌∙◌, subst, arith}
+use Rattle.std.proofs.Common.{◌≡◌, ℕ, zero, suc, ◌+◌, ◌<◌, ◌≤◌, ◌==◌, ◌||◌, nat_lt, Bool, true, false, not, cond, if◌then◌else◌, List, [], ◌∷◌, ◌++◌, length, map, get_or, Option, Some, None, unwrap_or, ◌↔◌, refl, sym, ap, ◌∙◌, subst, arith}
 use Rattle.std.proofs.lemmas.Bool.{ltb-true, ltb-false}
 use Rattle.std.proofs.lemmas.Bool.Decides.{Decides-eqb}
 use Rattle.std.proofs.lemmas.List.FromFn.{length-range_with_len, get_or-range_with_len, length-map-range_with_len, get_or-map-range_with_len}
 use Rattle.std.proofs.lemmas.List.Sums.{AllPass-from_list_all, sum_by-cons, sum_by-append}
-use Rattle.std.proofs.lemmas.List.Folds.{list_all-append}
-use Rattle.std.specs.Prelude.{All}
+use Rattle.std.proofs.lemmas.List.Folds.{list_all-append, Any-from_list_any, list_any-from_Any}
+use Rattle.std.proofs.lemmas.Option.{get_or_from_slice_get, slice_get-get_or, slice_get_within}
+use Rattle.std.specs.Prelude.{All, Contains, IsSomeAnd, slice_get}
 use Rattle.std.specs.List.{concat, list_all, list_any, position_from}
 use Rattle.claim_file.specs.Claim.{IsWithoutGap, group_count}
-use Rattle.claim_file.specs.Group.{servers_of, times_listed, groups_of, group_of, is_grouping}
+use Rattle.claim_file.specs.Group.{servers_of, times_listed, groups_of, group_of, is_grouping, IsInGroup}
 use Rattle.claim_file.proofs.Groups.{both_true, length-groups, once_each}
 
 -- a place below n, or 0
@@ -258,3 +259,114 @@ group_count-listed n listed groups e =
         absurd (omega arith)
     at false t most = let least : length listed ≤ group_count groups =
         ltb-false (group_count groups) (length listed) t in omega arith
+
+-- ---- groups as a relation
+
+-- the group at a number's place holds the number
+place_holds : (x : ℕ) (i : ℕ) (groups : List (List ℕ)) → 1 ≤ times_listed x (concat groups) →
+    (j : ℕ) × (unwrap_or (position_from (λ g. list_any (λ s. s == x) g) i groups) 0 ≡ i + j) × (j < length groups)
+    × (list_any (λ s. s == x) (get_or groups j []) ≡ true)
+place_holds x i [] some = absurd (omega arith)
+place_holds x i (g ∷ gs) some = here (list_any (λ s. s == x) g) (place_holds x (i + 1) gs) refl
+  where
+    here : (b : Bool) →
+        (1 ≤ times_listed x (concat gs) →
+        (j : ℕ) × (unwrap_or (position_from (λ g. list_any (λ s. s == x) g) (i + 1) gs) 0 ≡ i + 1 + j)
+        × (j < length gs) × (list_any (λ s. s == x) (get_or gs j []) ≡ true)) →
+        list_any (λ s. s == x) g ≡ b →
+        (j : ℕ)
+        × (unwrap_or (cond b (Some i) (position_from (λ g. list_any (λ s. s == x) g) (i + 1) gs)) 0 ≡ i + j)
+        × (j < length (g ∷ gs)) × (list_any (λ s. s == x) (get_or (g ∷ gs) j []) ≡ true)
+    here true later e = (0, omega arith, omega arith, e)
+    here false later e =
+        let none = not_held_times x g e in
+        let split = times-append x g (concat gs) in
+        let rest = later (omega arith) in
+        let place = rest.1 in
+        let below = rest.2 in
+        (suc rest.0, omega arith, omega arith, rest.3)
+
+any_contains : (x : ℕ) (ys : List ℕ) → list_any (λ s. s == x) ys ≡ true → Contains ys x
+any_contains x ys e =
+    let found = Any-from_list_any (λ s. s == x) ys e in
+    let is : found.1 ≡ x = (Decides-eqb found.1 x).0 found.4 in
+    subst (Contains ys) is (found.0, found.2, found.3)
+
+contains_any : (x : ℕ) (ys : List ℕ) → Contains ys x → list_any (λ s. s == x) ys ≡ true
+contains_any x ys (k, below, is) = list_any-from_Any (λ s. s == x) ys (k, x, below, is, (Decides-eqb x x).1 refl)
+
+-- a number that a group holds is below n, where all are
+held_below : (n x : ℕ) (ys : List ℕ) → list_any (λ s. s == x) ys ≡ true → list_all (λ s. nat_lt s n) ys ≡ true → x < n
+held_below n x ys held below =
+    let found = Any-from_list_any (λ s. s == x) ys held in
+    let is : found.1 ≡ x = (Decides-eqb found.1 x).0 found.4 in
+    let small = AllPass-from_list_all (λ s. nat_lt s n) ys below found.0 found.1 found.2 in
+    let same : get_or ys found.0 found.1 ≡ x = found.3 ∙ is in
+    ltb-true x n (subst (λ (y : ℕ). nat_lt y n ≡ true) same small)
+
+group_below : (n x : ℕ) (groups : List (List ℕ)) (g : ℕ) → g < length groups →
+    list_any (λ s. s == x) (get_or groups g []) ≡ true → list_all (λ s. nat_lt s n) (concat groups) ≡ true → x < n
+group_below n x [] g less held below = absurd (omega arith)
+group_below n x (h ∷ hs) zero less held below =
+    held_below n x h held (both_true _ _ (sym (list_all-append (λ s. nat_lt s n) h (concat hs)) ∙ below)).0
+group_below n x (h ∷ hs) (suc g) less held below =
+    group_below n x hs g (omega arith) held
+    (both_true _ _ (sym (list_all-append (λ s. nat_lt s n) h (concat hs)) ∙ below)).1
+
+-- a place in a list, and what stands there
+some_at : (P : List ℕ → Type 0) (groups : List (List ℕ)) (g : ℕ) → g < length groups → P (get_or groups g []) →
+    IsSomeAnd (slice_get groups g) P
+some_at P groups g less holds = subst (λ o. IsSomeAnd o P) (sym (slice_get-get_or groups g [] less)) holds
+
+at_some : (P : List ℕ → Type 0) (groups : List (List ℕ)) (g : ℕ) → IsSomeAnd (slice_get groups g) P →
+    (g < length groups) × P (get_or groups g [])
+at_some P groups g some = at (slice_get groups g) refl some
+  where
+    at : (o : Option (List ℕ)) → slice_get groups g ≡ o → IsSomeAnd o P → (g < length groups) × P (get_or groups g [])
+    at None e none = absurd none
+    at (Some list) e holds = (
+      slice_get_within groups g list e,
+      subst P (sym (get_or_from_slice_get groups g list [] e)) holds,
+    )
+
+-- the number of a server's group is given exactly where it is in that group
+pub in_group : (n : ℕ) (listed : Option (List (List ℕ))) (groups : List ℕ) → groups_of n listed ≡ Some groups →
+    (server group : ℕ) → (slice_get groups server ≡ Some group) ↔ IsInGroup n listed server group
+in_group n None groups e server group =
+    let same : servers_of n ≡ groups = cc in
+    subst (λ gs. (slice_get gs server ≡ Some group) ↔ ((server < n) × (group ≡ server))) same (
+      λ at.
+          let small : server < n = rw (length-range_with_len 0 n) at (slice_get_within (servers_of n) server group at) in
+          let is = get_or_from_slice_get (servers_of n) server group 0 at in
+          let number = get_or-range_with_len 0 n server 0 small in
+          (small, sym is ∙ number ∙ omega arith),
+      λ (small, is).
+          let within : server < length (servers_of n) = rw (length-range_with_len 0 n) small in
+          slice_get-get_or (servers_of n) server 0 within
+          ∙ ap Some (get_or-range_with_len 0 n server 0 small ∙ omega (arith, is)),
+    )
+in_group n (Some listed) groups e server group =
+    let (test, same) = given_grouping n listed groups e in
+    let parts = grouping_parts n listed test in
+    let sized : length groups ≡ n = ap length (sym same) ∙ length-map-range_with_len (group_of listed) 0 n in (
+      λ at.
+          let within = slice_get_within groups server group at in
+          let small : server < n = omega arith in
+          let number : get_or groups server 0 ≡ group_of listed server =
+          subst (λ gs. get_or gs server 0 ≡ group_of listed server) same
+          (get_or-map-range_with_len (group_of listed) 0 n server server 0 small (omega arith)) in
+          let place = place_holds server 0 listed (omega (arith, parts.once server small)) in
+          let is : place.0 ≡ group =
+          (let found = place.1 in let given = get_or_from_slice_get groups server group 0 at in
+          omega (arith, found, given, number)) in
+          some_at (λ servers. Contains servers server) listed group
+          (subst (λ (g : ℕ). g < length listed) is place.2)
+          (subst (λ (g : ℕ). Contains (get_or listed g []) server) is
+          (any_contains server (get_or listed place.0 []) place.3)),
+      λ some.
+          let (less, holds) = at_some (λ servers. Contains servers server) listed group some in
+          let held = contains_any server (get_or listed group []) holds in
+          let small = group_below n server listed group less held parts.below in
+          slice_get-get_or groups server 0 (omega arith)
+          ∙ ap Some (group_number n listed groups e server group small less held),
+    )

@@ -1,11 +1,12 @@
 -- The answers of the reader of times.
-use Rattle.std.proofs.Common.{◌+◌, nat_lt, negsuc, ◌*◌, ◌/◌, ◌%◌, ◌≤◌, ◌<◌, arith, ◌≡◌, ◌<◌, ◌^◌, ℕ, ℤ, pos, List, Bool, true, false, ◌&&◌, Option, Some, None, if◌then◌else◌, option_and_then, refl, sym, ap, ◌∙◌}
+use Rattle.std.proofs.Common.{◌+◌, nat_lt, nat_le, negsuc, ◌*◌, ◌/◌, ◌%◌, ◌≤◌, ◌<◌, arith, ◌≡◌, ◌<◌, ◌^◌, ℕ, ℤ, pos, List, Bool, true, false, ◌&&◌, Option, Some, None, if◌then◌else◌, option_and_then, refl, sym, ap, ◌∙◌}
 use Rattle.std.proofs.lemmas.Bool.{leb-true, ltb-true}
-use Rattle.std.proofs.lemmas.Bool.Decides.{Decides-ltb}
+use Rattle.std.proofs.lemmas.Bool.Decides.{Decides-ltb, nat_tests}
+use Rattle.std.proofs.lemmas.Int.{ints}
 use Rattle.jiff_core.proofs.CalendarLemmas.{days_in_month_bounds}
 use Rattle.std.proofs.lemmas.Slice.Eq.{bytes_eq-Decides}
 use Rattle.std.specs.Str.{bytes_eq}
-use Rattle.jiff_core.specs.Calendar.{days_in_month}
+use Rattle.jiff_core.specs.Calendar.{IsCivilDate, days_in_month}
 use Rattle.claim_file.proofs.Groups.{both_true}
 use Rattle.claim_file.specs.declared.time.Moment.{Moment}
 use Rattle.claim_file.specs.Time.{IsTime, exists, spelling, unix_second, pair_value, moment_at, in_u32, time_of}
@@ -113,23 +114,71 @@ unsaid true true z second e =
 unsaid true false z second e = cc
 unsaid false same z second e = cc
 
+-- ---- moments by their parts
+
+passes : (a b : ℕ) → a ≤ b → nat_le a b ≡ true
+passes a b less = grind (arith, nat_tests)
+
+-- a moment exists if the calendar has its day, and the day its time
+exists_from : (m : Moment) → IsCivilDate (pos m.year) m.month m.day → m.hour < 24 → m.minute < 60 → m.second < 60 →
+    exists m ≡ true
+exists_from m date hour minute second =
+    let year : nat_lt m.year 10000 ≡ true = (let d = date.0.1 in
+    (Decides-ltb m.year 10000).1 (omega (arith, ints, d))) in
+    let first_month : nat_le 1 m.month ≡ true = passes 1 m.month date.1.0 in
+    let last_month : nat_le m.month 12 ≡ true = passes m.month 12 date.1.1 in
+    let first_day : nat_le 1 m.day ≡ true = passes 1 m.day date.2.0 in
+    let last_day : nat_le m.day (days_in_month (pos m.year) m.month) ≡ true =
+    passes m.day (days_in_month (pos m.year) m.month) date.2.1 in
+    let h : nat_lt m.hour 24 ≡ true = (Decides-ltb m.hour 24).1 hour in
+    let mi : nat_lt m.minute 60 ≡ true = (Decides-ltb m.minute 60).1 minute in
+    let s : nat_lt m.second 60 ≡ true = (Decides-ltb m.second 60).1 second in
+    rw (year, first_month, last_month, first_day, last_day, h, mi, s) refl
+
 -- a text that writes a moment says its second
 pub time_of-IsTime : (text : List ℕ) (second : ℕ) → IsTime text second → time_of text ≡ Some second
 time_of-IsTime text second time =
-    let same : moment_at text ≡ time.moment = ap moment_at time.spelled ∙ moment_at-spelling time.moment time.there in
-    said _ _ _ second (ap exists same ∙ time.there)
+    let m : Moment = record {
+      year = time.year;
+      month = time.month;
+      day = time.day;
+      hour = time.hour;
+      minute = time.minute;
+      second = time.second_of_minute;
+    } in
+    let there = exists_from m time.date time.time_of_day.0 time.time_of_day.1 time.time_of_day.2 in
+    let same : moment_at text ≡ m = ap moment_at time.spelled ∙ moment_at-spelling m there in
+    said _ _ _ second (ap exists same ∙ there)
     ((bytes_eq-Decides text (spelling (moment_at text))).1 (time.spelled ∙ ap spelling (sym same)))
     (ap unix_second same ∙ time.counted) time.in_range
 
 -- a text that says a second writes a moment
 pub IsTime-time_of : (text : List ℕ) (second : ℕ) → time_of text ≡ Some second → IsTime text second
 IsTime-time_of text second says =
-    let parts = unsaid (exists (moment_at text)) (bytes_eq text (spelling (moment_at text)))
-    (unix_second (moment_at text)) second says in
+    let m = moment_at text in
+    let parts = unsaid (exists m) (bytes_eq text (spelling m)) (unix_second m) second says in
+    let (e3, second') = both_true _ _ parts.is_there in
+    let (e2, minute) = both_true _ _ e3 in
+    let (date, hour) = both_true _ _ e2 in
+    let (d4, last_day) = both_true _ _ date in
+    let (d3, first_day) = both_true _ _ d4 in
+    let (d2, last_month) = both_true _ _ d3 in
+    let (year, first_month) = both_true _ _ d2 in
+    let y : m.year < 10000 = ltb-true _ _ year in
     record {
-      moment = moment_at text;
-      there = parts.is_there;
-      spelled = (bytes_eq-Decides text (spelling (moment_at text))).0 parts.is_same;
+      year = m.year;
+      month = m.month;
+      day = m.day;
+      hour = m.hour;
+      minute = m.minute;
+      second_of_minute = m.second;
+      date = (
+        (omega (arith, ints), omega (arith, ints, y)),
+        (leb-true _ _ first_month, leb-true _ _ last_month),
+        (leb-true _ _ first_day, leb-true _ _ last_day),
+      );
+      time_of_day = (ltb-true _ _ hour, ltb-true _ _ minute, ltb-true _ _ second');
+      spelled = (bytes_eq-Decides text (spelling m)).0 parts.is_same;
       counted = parts.counted;
       in_range = parts.small;
     }

@@ -3,7 +3,7 @@
 -- A claim may list groups as arrays of server numbers. The number of each server has to stand there
 -- exactly once, no other number may, and no group may be empty. Without groups each server is a
 -- group of its own.
-use Rattle.std.specs.Prelude.{ℕ, ◌==◌, ◌&&◌, Bool, not, List, length, map, nat_lt, unwrap_or, count_by}
+use Rattle.std.specs.Prelude.{◌≡◌, ℕ, ◌<◌, ◌==◌, ◌&&◌, Bool, not, Contains, IsSomeAnd, slice_get, List, length, map, nat_lt, unwrap_or, count_by}
 use Rattle.std.specs.Prelude.{Option, Some, None, if◌then◌else◌}
 use Rattle.std.specs.List.{concat, list_all, list_any, position_from, range_with_len}
 
@@ -32,3 +32,10 @@ abbrev pub groups_of : ℕ → Option (List (List ℕ)) → Option (List ℕ)
 groups_of n None = Some (servers_of n)
 groups_of n (Some groups) =
     if is_grouping n groups then Some (map (group_of groups) (servers_of n)) else None
+
+-- A server is in a group: in the group with this number, which lists it, or, where no groups are
+-- listed, alone in the group of its own number.
+abbrev pub IsInGroup : ℕ → Option (List (List ℕ)) → ℕ → ℕ → Type 0
+IsInGroup n None server group = (server < n) × (group ≡ server)
+IsInGroup n (Some groups) server group =
+    IsSomeAnd (slice_get groups group) (λ servers. Contains servers server)

@@ -4,10 +4,10 @@
 -- 8601 that RFC 3339 has, with capital letters, without a fraction and always in UTC. Its Unix
 -- second is the number of its day, counted from 1970-01-01 in the Gregorian calendar, times 86400,
 -- and the time of day.
-use Rattle.std.specs.Prelude.{◌≡◌, ℕ, ◌+◌, ◌-◌, ◌*◌, ◌/◌, ◌%◌, ◌^◌, ◌<◌, ℤ, pos, negsuc, ◌+ℤ◌, ◌*ℤ◌, Bool, true, ◌&&◌}
+use Rattle.std.specs.Prelude.{◌≡◌, ℕ, ◌+◌, ◌-◌, ◌*◌, ◌/◌, ◌%◌, ◌^◌, ◌<◌, ℤ, pos, negsuc, ◌+ℤ◌, ◌*ℤ◌, Bool, ◌&&◌}
 use Rattle.std.specs.Prelude.{List, [], ◌∷◌, ◌++◌, slice_index, codes, nat_lt, nat_le, Option, Some, None, if◌then◌else◌}
 use Rattle.std.specs.Str.{bytes_eq}
-use Rattle.jiff_core.specs.Calendar.{days_in_month, days_from_civil}
+use Rattle.jiff_core.specs.Calendar.{IsCivilDate, days_in_month, days_from_civil}
 use Rattle.claim_file.specs.declared.time.Moment.{Moment}
 
 -- the calendar has this day, in a year of four digits
@@ -41,12 +41,22 @@ spelling m =
     ++ codes "T" ++ two_digits m.hour ++ codes ":" ++ two_digits m.minute ++ codes ":"
     ++ two_digits m.second ++ codes "Z"
 
--- the text writes a moment that exists, and has this number among the 2^32 seconds from 1970 on
+-- the text writes a moment of UTC that exists, and the moment has this number among the 2^32
+-- seconds from 1970-01-01T00:00:00Z on
 pub record IsTime (text : List ℕ) (second : ℕ) : Type 0 where
-  pub moment : Moment
-  pub there : exists moment ≡ true
-  pub spelled : text ≡ spelling moment
-  pub counted : unix_second moment ≡ pos second
+  pub year : ℕ
+  pub month : ℕ
+  pub day : ℕ
+  pub hour : ℕ
+  pub minute : ℕ
+  pub second_of_minute : ℕ
+  pub date : IsCivilDate (pos year) month day
+  pub time_of_day : (hour < 24) × (minute < 60) × (second_of_minute < 60)
+  pub spelled : text ≡ four_digits year ++ codes "-" ++ two_digits month ++ codes "-"
+      ++ two_digits day ++ codes "T" ++ two_digits hour ++ codes ":" ++ two_digits minute
+      ++ codes ":" ++ two_digits second_of_minute ++ codes "Z"
+  pub counted : days_from_civil (pos year) month day *ℤ pos 86400
+      +ℤ pos (hour * 3600 + minute * 60 + second_of_minute) ≡ pos second
   pub in_range : second < 2 ^ 32
 
 -- the number that two digits say

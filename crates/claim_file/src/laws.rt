@@ -1,7 +1,7 @@
 //! What holds of the definitions that the contracts cite. A law is a function that does nothing:
 //! its contract is the law, for every text and every number.
 
-ghost use Rattle.std.specs.Prelude.{◌≡◌, ℕ, pos, ◌<◌, ◌==◌, ◌↔◌, List, [], length, All};
+ghost use Rattle.std.specs.Prelude.{◌≡◌, ℕ, pos, ◌<◌, ◌≤◌, ◌==◌, ◌↔◌, List, [], length, All, Option, slice_get};
 ghost use Rattle.std.specs.Prelude.{true, IsTrue, codes, Ok, Some, slice_index};
 ghost use Rattle.std.specs.List.{concat, list_any, slice_index_or};
 ghost use Rattle.std.specs.Net.Grammar.{IsDotted};
@@ -10,7 +10,7 @@ ghost use Rattle.claim_file.specs.Address.{address_of};
 ghost use Rattle.claim_file.specs.Claim.{ClaimData, IsLawful, IsWithoutGap, group_count};
 ghost use Rattle.era_unfold.specs.Nanoseconds.{ticks_down, ticks_up};
 ghost use Rattle.claim_file.specs.Worked.{worked_text, worked_claim};
-ghost use Rattle.claim_file.specs.Group.{groups_of, times_listed};
+ghost use Rattle.claim_file.specs.Group.{groups_of, times_listed, IsInGroup};
 ghost use Rattle.claim_file.specs.Reading.{claim_of};
 ghost use Rattle.claim_file.specs.Time.{IsTime, exists, spelling, time_of};
 
@@ -57,6 +57,15 @@ pub fn first_and_last_time()
 /// with dots between them.
 pub fn addresses_are_dotted()
     ensures { (text address : List ℕ) → (address_of text ≡ Some address) ↔ IsDotted text address }
+{}
+
+/// Each of n servers is in one group, and its number is that group's.
+pub fn servers_are_in_their_groups()
+    ensures count { (n : ℕ) (listed : Option (List (List ℕ))) (groups : List ℕ) → 1 ≤ n →
+        groups_of n listed ≡ Some groups → length groups ≡ n }
+    ensures number { (n : ℕ) (listed : Option (List (List ℕ))) (groups : List ℕ) →
+        groups_of n listed ≡ Some groups → (server group : ℕ) →
+        (slice_get groups server ≡ Some group) ↔ IsInGroup n listed server group }
 {}
 
 /// Where groups are listed, each server stands in them once and nothing else does, the number of a

@@ -29,6 +29,7 @@ pub(crate) enum Opening {
 
 /// How the next value begins. Invalid exactly where none does: what is after the beginning of an
 /// array or an object is not looked at.
+#[inline(always)]
 fn open_value(reader: &mut Reader<'_>, depth: usize) -> Result<Opening, Invalid>
     ensures opened { MatchResult result (λ opening. Opens opening depth reader.old reader.new)
         (λ _. next_value depth reader.old ≡ None) }

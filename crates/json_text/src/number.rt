@@ -14,13 +14,22 @@ pub(crate) fn unsigned_in(text: &str) -> Option<Option<u64>>
     ensures { result ≡ option_map as_u64 (number_of text.now) }
 {
     let bytes = text.as_bytes();
-    if let Some(number) = digits_in(bytes) {
-        return Some(Some(number));
+    match digits_in(bytes) {
+        Some(number) => Some(Some(number)),
+        None => other_in(bytes),
     }
-    if has_minus(bytes) {
-        negative(&Numeral::scan(&bytes[1..]))
+}
+
+/// The same of any number, the long way. It stays apart so that the short way needs no room for it.
+#[cold]
+#[inline(never)]
+fn other_in(text: &[u8]) -> Option<Option<u64>>
+    ensures { result ≡ option_map as_u64 (number_of text.now) }
+{
+    if has_minus(text) {
+        negative(&Numeral::scan(&text[1..]))
     } else {
-        positive(&Numeral::scan(bytes))
+        positive(&Numeral::scan(text))
     }
 }
 

@@ -1,4 +1,4 @@
-//! The commands: their operands and options, what help says of them, and what their words call for.
+//! The commands: operands and options, what help says about them, and what their words call for.
 
 use crate::invocation::{Invocation, Paths, SecondPath};
 use audit::{Question, Step};
@@ -13,38 +13,38 @@ Answers go to standard output, and faults to standard error, one line each.
 Status:   0 done, or yes; 1 no; 2 an input is refused; 3 out of memory; 4 a file can't be opened,
           or a device failed; 5 the command line is refused
 Example:  ntpaudit list recording.pcap
-Guide:    docs/GUIDE.md, from recording to a verdict";
+More:     man ntpaudit";
 
 const LIST_HELP: &str = "\
 Prints:   a line of twenty fields for each NTP packet, then `records R packets P`
 Status:   0 done; 2 the capture is refused, after the lines of the records before; 3 out of
           memory; 4 the file or the output failed; 5 the command line is refused
 Example:  ntpaudit list recording.pcap
-Guide:    docs/GUIDE.md; docs/FORMATS.md has the fields";
+More:     man ntpaudit, which has the fields";
 
 const SAMPLES_HELP: &str = "\
 Prints:   a line for each exchange, `K SERVER REQUEST REPLY offset LO HI delay LO HI low L high H`,
-          with its record numbers, and times in ticks of 2^-32 s; then a line of counts
+          with the numbers of its two records, and ticks of 2^-32 s; then a line of counts
 Status:   0 done; 2 an input is refused; 3 out of memory; 4 a file or the output failed; 5 the
           command line is refused
 Example:  ntpaudit samples claim.json recording.pcap
-Guide:    docs/GUIDE.md; docs/FORMATS.md has the fields";
+More:     man ntpaudit, which has the fields and the counts";
 
 const AT_HELP: &str = "\
-Prints:   a line for each server that has a sample, `SERVER LO HI`: between what the clock's error
-          was by this server, in ticks of 2^-32 s; then `hull LO HI`, `hull unbounded` or
-          `hull empty`: between what it was if at most false_max groups of servers are wrong
+Prints:   a line for each server that has a sample, `SERVER LO HI`: the clock's error, from LO to HI
+          ticks of 2^-32 s, if this server is right; then `hull LO HI`, `hull unbounded` or
+          `hull empty`: the clock's error if at most false_max groups of servers are wrong
 Status:   0 done; 2 an input is refused; 3 out of memory; 4 a file or the output failed; 5 the
           command line is refused
 Example:  ntpaudit at claim.json recording.pcap 2026-11-22T06:46:09Z
-Guide:    docs/GUIDE.md";
+More:     man ntpaudit";
 
 const CHECK_HELP: &str = "\
 Prints:   a report, whose last line is `verdict yes` or `verdict no piece K WHY`
 Status:   0 yes; 1 no; 2 an input is refused; 3 out of memory; 4 a file or the output failed; 5 the
           command line is refused
 Example:  ntpaudit check claim.json recording.pcap certificate.json
-Guide:    docs/GUIDE.md; docs/THEOREM.md says what a yes means";
+More:     man ntpaudit, which says what a yes means";
 
 const FIND_HELP: &str = "\
 Prints:   a certificate, or `nothing piece K` and the hull of the first piece that shows too little.
@@ -52,23 +52,23 @@ Prints:   a certificate, or `nothing piece K` and the hull of the first piece th
 Status:   0 something is found; 1 nothing; 2 an input is refused, or there are over 100000 pieces;
           3 out of memory; 4 a file or the output failed; 5 the command line is refused
 Example:  ntpaudit find claim.json recording.pcap --step 8 > certificate.json
-Guide:    docs/GUIDE.md";
+More:     man ntpaudit";
 
 const REFUTE_HELP: &str = "\
 Prints:   `refuted yes` or `refuted no`
 Status:   0 yes; 1 no; 2 an input is refused; 3 out of memory; 4 a file or the output failed; 5 the
           command line is refused
 Example:  ntpaudit refute claim.json recording.pcap refutation.json
-Guide:    docs/GUIDE.md; docs/FORMATS.md says when a refutation stands";
+More:     man ntpaudit, which says when a refutation stands";
 
 const ENVELOPE_HELP: &str = "\
 Prints:   a line for each piece, `K FROM TO LOW HIGH`, `K FROM TO unbounded` or `K FROM TO empty`:
-          between what the clock's error was, in ticks of 2^-32 s; then `bound_ns N piece K`, the
+          the clock's error, from LOW to HIGH ticks of 2^-32 s; then `bound_ns N piece K`, the
           least bound that holds, or `bound_ns none piece K`. The claim's bound plays no part
 Status:   0 a bound holds; 1 none; 2 an input is refused, or there are over 100000 pieces; 3 out of
           memory; 4 a file or the output failed; 5 the command line is refused
 Example:  ntpaudit envelope claim.json recording.pcap --step 8
-Guide:    docs/GUIDE.md; docs/FORMATS.md has the fields";
+More:     man ntpaudit";
 
 /// The operand CLAIM.
 fn claim_operand<'a>(alloc: Global) -> Arg<'a> {
@@ -101,7 +101,7 @@ fn evidence_command<'a>(
 /// The command `list`.
 fn list_command<'a>(alloc: Global) -> Result<Command<'a>, AllocError> {
     let capture = Arg::new(alloc, "CAPTURE").help(
-        "The capture, a classic pcap file; standard input where it's left out",
+        "The capture, a classic pcap file; standard input if it's left out",
     );
     Command::new(alloc, "list")
         .about("Print one line for each NTP packet of a capture")
@@ -111,7 +111,7 @@ fn list_command<'a>(alloc: Global) -> Result<Command<'a>, AllocError> {
 
 /// The command `samples`.
 fn samples_command<'a>(alloc: Global) -> Result<Command<'a>, AllocError> {
-    let about = "Print what each exchange of a capture says of the clock";
+    let about = "Print what each exchange of a capture says about the clock";
     evidence_command(alloc, "samples", about, SAMPLES_HELP)
 }
 
@@ -120,7 +120,7 @@ fn at_command<'a>(alloc: Global) -> Result<Command<'a>, AllocError> {
     let time = Arg::new(alloc, "TIME").help(
         "The moment, as 2026-11-22T06:46:09Z; it may lie outside the claim's span",
     );
-    let about = "Print what a capture says of the clock at one moment";
+    let about = "Print what a capture says about the clock at one moment";
     evidence_command(alloc, "at", about, AT_HELP)?.arg(time.required(true))
 }
 
@@ -158,8 +158,7 @@ fn flag<'a>(alloc: Global, name: &'a str, help: &'a str) -> Arg<'a> {
 
 /// The command `find`.
 fn find_command<'a>(alloc: Global) -> Result<Command<'a>, AllocError> {
-    let step = "How long each piece of the certificate is, in seconds, 1 to 86400; beside \
-                --refutation it plays no part";
+    let step = "Seconds of each piece, 1 to 86400; plays no part beside --refutation";
     let refutation = "Find a refutation of the claim in place of a certificate";
     let about = "Find a certificate for a claim in a capture, or a refutation";
     evidence_command(alloc, "find", about, FIND_HELP)?
@@ -169,8 +168,8 @@ fn find_command<'a>(alloc: Global) -> Result<Command<'a>, AllocError> {
 
 /// The command `envelope`.
 fn envelope_command<'a>(alloc: Global) -> Result<Command<'a>, AllocError> {
-    let step = "How long each piece is, in seconds, 1 to 86400";
-    let servers = "Print before each piece what each server says of it, `K SERVER LOW HIGH`";
+    let step = "Seconds of each piece, 1 to 86400";
+    let servers = "Print before each piece what each server says about it, `K SERVER LOW HIGH`";
     let about = "Print how far off the clock may have been, piece by piece";
     evidence_command(alloc, "envelope", about, ENVELOPE_HELP)?
         .arg(step_option(alloc, step))?
@@ -181,7 +180,7 @@ fn envelope_command<'a>(alloc: Global) -> Result<Command<'a>, AllocError> {
 pub(crate) fn program<'a>(alloc: Global) -> Result<Command<'a>, AllocError> {
     Command::new(alloc, "ntpaudit")
         .version("0.2.0 (rattle-kit-13b logic dac8208d650f15bf)")
-        .about("What a packet capture of NTP shows of a clock")
+        .about("What a packet capture of NTP shows about a clock")
         .after_help(PROGRAM_HELP)
         .subcommand_required(true)
         .subcommand(list_command(alloc)?)?
@@ -193,7 +192,7 @@ pub(crate) fn program<'a>(alloc: Global) -> Result<Command<'a>, AllocError> {
         .subcommand(envelope_command(alloc)?)
 }
 
-/// The text of an operand, empty where it was left out.
+/// The text of an operand, empty if it was left out.
 fn operand(alloc: Global, matches: &ArgMatches, name: &str) -> Result<String, AllocError> {
     String::from_str(alloc, matches.get_str(name).unwrap_or(""))
 }

@@ -16,7 +16,7 @@ use Rattle.pairing.specs.declared.counts.Counts.{Counts}
 use Rattle.pairing.specs.declared.index.Key.{Key}
 use Rattle.pairing.specs.declared.index.Place.{Place}
 use Rattle.pairing.specs.declared.message.Message.{Message}
-use Rattle.pairing.specs.declared.message.Message.TheVariants.{Question, Refused, Answer}
+use Rattle.pairing.specs.declared.message.Message.TheVariants.{Request as Asks, Refused, Reply as Waits}
 use Rattle.pairing.specs.declared.refusal.Refusal.{Refusal}
 use Rattle.pairing.specs.declared.refusal.Refusal.TheVariants.{Version, Leap, Stratum, Precision, ZeroStamp, NoRequest, Ambiguous}
 use Rattle.pairing.specs.declared.waiting.Waiting.{Waiting}
@@ -55,11 +55,11 @@ gathered_start claim look_up indexed = record {
 -- What a record's message says of its request and its reply.
 pub data Says (head : RecordHead) : Option Message → List Request → List Reply → Type 0 where
   silent : Says head None [] []
-  asks : (key : Key) → Says head (Some (Question key)) (request_at key head ∷ []) []
+  asks : (key : Key) → Says head (Some (Asks key)) (request_at key head ∷ []) []
   refused : (reply : Reply) (refusal : Refusal) → refusal_of reply.header ≡ Some refusal →
       Says head (Some (Refused refusal)) [] (reply ∷ [])
   accepted : (reply : Reply) → refusal_of reply.header ≡ None →
-      Says head (Some (Answer (waiting_of reply))) [] (reply ∷ [])
+      Says head (Some (Waits (waiting_of reply))) [] (reply ∷ [])
 
 says_judged : (head : RecordHead) (reply : Reply) (o : Option Refusal) → refusal_of reply.header ≡ o →
     Says head (Some (judged reply)) [] (reply ∷ [])
@@ -69,7 +69,7 @@ says_judged head reply (Some refusal) h = rw h (refused reply refusal h)
 says_servers : (head : RecordHead) (p : Packet) (asked answered : Option ℕ) → (IsSome asked → answered ≡ None) →
     Says head
     (elim (option_map (request_to head p) asked) [
-      | Some q ↦ Some (Question (key_of q))
+      | Some q ↦ Some (Asks (key_of q))
       | None ↦ option_map judged
           (option_map (reply_from head p) answered)
     ])

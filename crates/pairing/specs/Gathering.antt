@@ -7,7 +7,7 @@ use Rattle.pairing.specs.declared.counts.Counts.{Counts}
 use Rattle.pairing.specs.declared.index.Key.{Key}
 use Rattle.pairing.specs.declared.index.Place.{Place}
 use Rattle.pairing.specs.declared.message.Message.{Message}
-use Rattle.pairing.specs.declared.message.Message.TheVariants.{Question, Refused, Answer}
+use Rattle.pairing.specs.declared.message.Message.TheVariants.{Request as Asks, Refused, Reply as Waits}
 use Rattle.pairing.specs.declared.refusal.Refusal.{Refusal}
 use Rattle.pairing.specs.declared.waiting.Waiting.{Waiting}
 use Rattle.pairing.specs.Counts.{HasRoom, count_for, with_refusal}
@@ -20,22 +20,22 @@ use Rattle.pairing.specs.Waiting.{IsPlace, waiting_of}
 -- the counts with a record that says this
 abbrev pub counts_with : Option Message → Counts → Counts
 counts_with None counts = record counts { records = counts.records + 1 }
-counts_with (Some (Question key)) counts =
+counts_with (Some (Asks key)) counts =
     record counts { records = counts.records + 1; requests = counts.requests + 1 }
 counts_with (Some (Refused refusal)) counts =
     with_refusal refusal
     (record counts { records = counts.records + 1; replies = counts.replies + 1 })
-counts_with (Some (Answer reply)) counts =
+counts_with (Some (Waits reply)) counts =
     record counts { records = counts.records + 1; replies = counts.replies + 1 }
 
 -- the request of a record that says this
 abbrev pub requests_in : Option Message → RecordHead → List Request
-requests_in (Some (Question key)) head = request_at key head ∷ []
+requests_in (Some (Asks key)) head = request_at key head ∷ []
 requests_in _ head = []
 
 -- the waiting reply of a record that says this
 abbrev pub waiting_in : Option Message → List Waiting
-waiting_in (Some (Answer reply)) = reply ∷ []
+waiting_in (Some (Waits reply)) = reply ∷ []
 waiting_in _ = []
 
 -- whether a reply's own header refuses it for this reason

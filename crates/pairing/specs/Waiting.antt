@@ -14,7 +14,7 @@ use Rattle.pairing.specs.declared.index.Moment.{Moment}
 use Rattle.pairing.specs.declared.index.Place.{Place}
 use Rattle.pairing.specs.declared.index.Place.TheVariants.{One, Several}
 use Rattle.pairing.specs.declared.message.Message.{Message}
-use Rattle.pairing.specs.declared.message.Message.TheVariants.{Question, Refused, Answer}
+use Rattle.pairing.specs.declared.message.Message.TheVariants.{Request as Asks, Refused, Reply as Waits}
 use Rattle.pairing.specs.declared.refusal.Refusal.{Refusal}
 use Rattle.pairing.specs.declared.refusal.Refusal.TheVariants.{NoRequest, Ambiguous}
 use Rattle.pairing.specs.declared.waiting.Waiting.{Waiting}
@@ -79,7 +79,7 @@ outcomes_at look_up waiting = map (λ w. exchange_at (look_up w.key) w) waiting
 -- What a record says: a request with this key, a reply refused by its own header, or one that
 -- waits.
 abbrev pub judged_by : Option Refusal → Reply → Message
-judged_by None reply = Answer (waiting_of reply)
+judged_by None reply = Waits (waiting_of reply)
 judged_by (Some refusal) reply = Refused refusal
 
 abbrev pub judged : Reply → Message
@@ -88,7 +88,7 @@ judged reply = judged_by (refusal_of reply.header) reply
 abbrev pub message_in : ClaimData → RecordHead → Packet → Option Message
 message_in claim head p =
     elim (request_in claim head p) [
-      | Some q ↦ Some (Question (key_of q))
+      | Some q ↦ Some (Asks (key_of q))
       | None ↦ option_map judged (reply_in claim head p)
     ]
 

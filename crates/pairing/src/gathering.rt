@@ -61,7 +61,7 @@ impl<H: BuildHasher + Drop> Gathering<H> {
         self.counts.records += 1;
         match message {
             None => {}
-            Some(Message::Question(key)) => {
+            Some(Message::Request(key)) => {
                 self.counts.requests += 1;
                 self.index.note(key, head)?;
             }
@@ -69,7 +69,7 @@ impl<H: BuildHasher + Drop> Gathering<H> {
                 self.counts.replies += 1;
                 self.counts.refuse(refusal);
             }
-            Some(Message::Answer(reply)) => {
+            Some(Message::Reply(reply)) => {
                 self.counts.replies += 1;
                 self.waiting.push(reply)?;
             }

@@ -13,25 +13,24 @@ use crate::refusal::{Refusal, accepted_distance};
 use crate::waiting::Waiting;
 use claim_file::Claim;
 use ntp_packet::kinds::Packet;
-use ntp_packet::packet;
+use ntp_packet::{NTP_PORT, packet};
 use pcap_reader::RecordHead;
 
-/// The port of NTP, at the server's end.
-const NTP_PORT: u16 = 123;
-
+/// The mode of a request (RFC 5905, section 7.3).
 const CLIENT_MODE: u8 = 3;
 
+/// The mode of a reply.
 const SERVER_MODE: u8 = 4;
 
 /// What a record says to the pairing.
 #[derive(Clone, Copy, Debug, PartialEq, Eq)]
 pub(crate) enum Message {
     /// A request with this key.
-    Question(Key),
+    Request(Key),
     /// A reply that its own header refuses.
     Refused(Refusal),
     /// A reply that waits for its request.
-    Answer(Waiting),
+    Reply(Waiting),
 }
 
 /// The place of this address among the servers'.
@@ -90,7 +89,7 @@ fn judge(server: u8, head: &RecordHead, packet: &Packet<'_>) -> Message
     ensures { result ≡ judged (reply_from head.now (packet_shown packet.now) server) }
 {
     match accepted_distance(&packet.header) {
-        Ok(distance) => Message::Answer(Waiting::new(server, head, packet, distance)),
+        Ok(distance) => Message::Reply(Waiting::new(server, head, packet, distance)),
         Err(refusal) => Message::Refused(refusal),
     }
 }
@@ -101,7 +100,7 @@ fn message_in(claim: &Claim, head: &RecordHead, packet: &Packet<'_>) -> Option<M
     ensures { result ≡ message_in (data_of claim.now) head.now (packet_shown packet.now) }
 {
     if let Some(server) = requested_server(claim, packet) {
-        return Some(Message::Question(Key {
+        return Some(Message::Request(Key {
             server,
             port: packet.datagram.source_port,
             stamp: packet.header.transmit(),

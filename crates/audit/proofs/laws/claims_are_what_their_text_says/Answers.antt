@@ -6,6 +6,8 @@ returns c text claim e =
     let laws : Laws = record {
       time = c.times_are_spelled.ensures;
       address = c.addresses_are_dotted.ensures;
+      group_for_each = c.servers_are_in_their_groups.ensures.count;
+      groups = c.servers_are_in_their_groups.ensures.number;
       down = c.ratios_are_rounded_as_little_as_can_be.ensures.down;
       up = c.ratios_are_rounded_as_little_as_can_be.ensures.up;
     } in

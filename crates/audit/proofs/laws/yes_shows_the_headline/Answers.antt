@@ -1,10 +1,11 @@
-use Rattle.std.proofs.Common.{◌≡◌, List, ℤ, refl, sym, subst}
+use Rattle.std.proofs.Common.{◌≡◌, List, map, ℤ, refl, sym, subst}
 use Rattle.sample_interval.specs.Moment.{IsInWindow}
 use Rattle.checker.specs.Traceability.{samples_of}
 use Rattle.checker.specs.Verdict.{verdict_of}
 use Rattle.checker.specs.declared.verdict.Verdict.TheVariants.{Yes}
 use Rattle.pairing.specs.declared.exchange.Exchange.{Exchange}
 use Rattle.pairing.specs.Pairing.{exchanges_of}
+use Rattle.audit.specs.Captured.{frame_of}
 use Rattle.audit.proofs.ExchangedLemmas.{listed_servers}
 use Rattle.audit.proofs.HeadlineLemmas.{collected_of, piece_of}
 use Rattle.audit.proofs.NanosecondLemmas.{claim_of_read}
@@ -19,20 +20,21 @@ returns c claim_bytes capture_bytes claim collection certificate all claim_read'
     let text = c.claims_are_what_their_text_says.ensures claim_bytes claim is_claim in
     let lawful = c.claims_are_lawful.ensures.lawful claim_bytes claim is_claim in
     let found = c.what_is_read_is_a_capture.ensures capture_bytes records all collected.1 in
-    let are = c.exchanges_are_in_the_records.ensures capture_bytes found.0 records claim all found.1
+    let are = c.exchanges_are_in_the_frames.ensures capture_bytes found.0 records claim all found.1
     lawful.addresses_differ in
-    let listed = listed_servers claim records xs are in
+    let listed = listed_servers claim found.0.unit (map frame_of records) xs are in
     let yes = subst (λ (ys : List Exchange). verdict_of (samples_of ys claim) claim certificate ≡ Yes) collected.2
     yes' in
     let accepted = (c.yes_is_acceptance.ensures (samples_of xs claim) claim certificate).0 yes in
     let pieces = c.verdicts_are_traceable.ensures.by_pieces claim (samples_of xs claim) certificate lawful listed yes in
     record {
       claim = claim;
-      format = found.0;
-      records = records;
+      order = found.0.order;
+      unit = found.0.unit;
+      frames = map frame_of records;
       exchanges = xs;
       claim_is = text;
-      capture_is = found.1;
+      capture_is = c.records_are_frames.ensures capture_bytes found.0 records found.1;
       exchanges_are = are;
       within = λ n reading observed.
           let in_span = subst (λ (end : ℤ). IsInWindow n claim.first end reading) (sym accepted.ends_with_span)

@@ -1,32 +1,10 @@
-use Rattle.std.proofs.Common.{◌≡◌, ◌<◌, ◌^◌, Some, drop, get_or, true, false, ◌==◌, option_map, sym, ap, ◌∙◌, arith, take_all, length-drop}
-use Rattle.fast_float.specs.Text.{scan}
+use Rattle.std.proofs.Common.{◌≡◌, ◌<◌, ◌^◌, Some, option_map, sym, ap, ◌∙◌, arith}
 use Rattle.std.specs.Str.Parse.{digits_value}
 use Rattle.serde_json.specs.Data.{unsigned}
 use Rattle.serde_json.specs.Find.{as_u64}
-use Rattle.serde_json.specs.Read.{number_of, number_from}
+use Rattle.serde_json.specs.Read.{number_of}
 use Rattle.json_text.proofs.Digits.{number_of-digits}
 use Rattle.json_text.proofs.number.unsigned_in.Goals as goal
-
-pub returns-then-has_minus : goal.returns-then-has_minus
-unfolding number_of
-returns-then-has_minus c =
-    let s = c.as_bytes-bytes.result.now in
-    let signed : (get_or s 0 0 == 45) ≡ true = sym c.if-has_minus.ensures.value in
-    let parts : c.scan.result ≡ scan (drop 1 s) =
-    c.scan.ensures.parts ∙ ap scan (take_all _ (drop 1 s) (omega (arith, length-drop 1 s))) in
-    let read : number_from true (scan (drop 1 s)) ≡ number_of s = rw signed in
-    c.negative.ensures
-    ∙ ap (option_map as_u64) (ap (number_from true) parts ∙ read ∙ ap number_of c.as_bytes-bytes.ensures.value)
-
-pub returns-else-has_minus : goal.returns-else-has_minus
-unfolding number_of
-returns-else-has_minus c =
-    let s = c.as_bytes-bytes.result.now in
-    let unsigned : (get_or s 0 0 == 45) ≡ false = sym c.if-has_minus.ensures.value in
-    let read : number_from false (scan s) ≡ number_of s = rw unsigned in
-    c.positive.ensures
-    ∙ ap (option_map as_u64)
-    (ap (number_from false) c.scan-else-has_minus.ensures.parts ∙ read ∙ ap number_of c.as_bytes-bytes.ensures.value)
 
 pub returns-in-Some : goal.returns-in-Some
 returns-in-Some c =
@@ -37,3 +15,6 @@ returns-in-Some c =
     number_of-digits bytes c.in-Some.ensures.numeral fits in
     sym (ap (option_map as_u64) (sym (ap number_of c.as_bytes-bytes.ensures.value) ∙ read)
     ∙ ap (λ n. Some (Some n)) (sym value))
+
+pub returns-in-None : goal.returns-in-None
+returns-in-None c = c.other_in.ensures ∙ ap (λ s. option_map as_u64 (number_of s)) c.as_bytes-bytes.ensures.value

@@ -1,10 +1,11 @@
 use Rattle.audit.proofs.ExchangedLemmas.{Laws, in_place, all_exchanges}
-use Rattle.audit.proofs.laws.exchanges_are_in_the_records.Goals as goal
+use Rattle.audit.proofs.laws.exchanges_are_in_the_frames.Goals as goal
 
 pub returns : goal.returns
 returns c bytes format records claim all capture apart =
     let laws : Laws = record {
-      packet = c.packet_is_given_where_held.ensures;
+      given = c.packet_is_given_where_held.ensures.given;
+      held = c.packet_is_given_where_held.ensures.held;
       usable = c.usable_replies_are_not_refused.ensures;
       request = c.request_is_to_one_server.ensures;
       reply = c.reply_is_of_one_server.ensures;
@@ -12,5 +13,5 @@ returns c bytes format records claim all capture apart =
       up = c.ratios_are_rounded_as_little_as_can_be.ensures.up;
       stamp = c.every_stamp_is_unfolded.ensures;
     } in
-    all_exchanges laws claim apart records (in_place bytes format records all capture)
+    all_exchanges laws claim apart format.unit records (in_place bytes format records all capture)
     (c.exchanges_are_those_of_the_pairs.ensures.sound claim records)

@@ -1,0 +1,129 @@
+-- What a capture's records are, one by one, and the frames that they say.
+use Rattle.std.proofs.Common.{◌≡◌, ℕ, zero, suc, ◌+◌, ◌<◌, ◌≤◌, nat_lt, Bool, true, false, ⊎_elim, List, [], ◌∷◌, ◌++◌, length, map, get_or, Option, Some, None, refl, sym, ap, ◌∙◌, subst, append_assoc, arith}
+use Rattle.std.specs.Prelude.{All, slice_get}
+use Rattle.std.specs.List.{flat_map}
+use Rattle.std.specs.Option.{option_map}
+use Rattle.std.proofs.lemmas.Bool.{ltb-true, ltb-false}
+use Rattle.std.proofs.lemmas.List.{length-append, length-map}
+use Rattle.std.proofs.lemmas.List.Elements.{All-map}
+use Rattle.std.proofs.lemmas.Option.{slice_get-get_or, slice_get-map, slice_get_cases}
+use Rattle.era_unfold.specs.declared.unit.Unit.{Unit as TimeUnit}
+use Rattle.era_unfold.specs.Window.{per_second}
+use Rattle.pcap_reader.specs.declared.format.Endian.{Endian}
+use Rattle.pcap_reader.specs.declared.format.Format.{Format}
+use Rattle.pcap_reader.specs.Capture.{Record, AreRecordsFrom, IsCapture, IsRecordAt, magic_of, record_spelling, spelling}
+use Rattle.pcap_reader.specs.Field.{spelled}
+use Rattle.audit.specs.Captured.{CapturedFrame, IsCaptureOf, IsLawfulFrame, frame_of, record_bytes}
+
+-- ---- records, one by one
+
+-- the record with this number, wherever it stands
+abbrev pub IsNumbered : TimeUnit → ℕ → Record → Type 0
+IsNumbered unit number r = (place : ℕ) × IsRecordAt unit number place r
+
+each_from : (unit : TimeUnit) (number place : ℕ) (records : List Record) → AreRecordsFrom unit number place records
+    → (k : ℕ) (r : Record) → slice_get records k ≡ Some r → IsNumbered unit (number + k) r
+each_from unit number place [] are k r at = absurd cc
+each_from unit number place (first ∷ records) are zero r at =
+    let same : first ≡ r = cc in
+    let is : number ≡ number + 0 = omega arith in
+    subst (λ (n : ℕ). IsNumbered unit n r) is (place, subst (IsRecordAt unit number place) same are.0)
+each_from unit number place (first ∷ records) are (suc k) r at =
+    let is : number + 1 + k ≡ number + suc k = omega arith in
+    subst (λ (n : ℕ). IsNumbered unit n r) is
+    (each_from unit (number + 1) (place + (16 + length first.bytes)) records are.1 k r at)
+
+module _ (unit : TimeUnit) (records : List Record) (are : AreRecordsFrom unit 0 24 records) where
+  pub each_record : (k : ℕ) (r : Record) → slice_get records k ≡ Some r → IsNumbered unit k r
+  each_record k r at =
+      let is : 0 + k ≡ k = omega arith in
+      subst (λ (n : ℕ). IsNumbered unit n r) is (each_from unit 0 24 records are k r at)
+
+  range_of : (k : ℕ) (r : Record) → IsNumbered unit k r → IsLawfulFrame unit (frame_of r)
+  range_of k r (place, is) = record {
+    second = is.lawful.sec;
+    part = subst (λ (u : TimeUnit). r.head.sub < per_second u) is.unit_is is.lawful.sub;
+    wire_length = is.lawful.original;
+    captured_length = (let most = is.lawful.captured in let whole = is.whole in omega (arith, most, whole));
+  }
+
+  all_in_range : All (IsLawfulFrame unit) (map frame_of records)
+  all_in_range = All-map (IsLawfulFrame unit) frame_of records
+      (λ k d below. range_of k (get_or records k d)
+      (each_record k (get_or records k d) (slice_get-get_or records k d below)))
+
+  too_many : 4000000 < length records → ⊥
+  too_many many = ⊎_elim
+      (λ found.
+      let is = each_record 4000000 found.0 found.2 in
+      let number = is.1.number_is in
+      let small = is.1.lawful.number in
+      omega (arith, number, small))
+      (λ past. let most = past.0 in omega (arith, most, many))
+      (slice_get_cases records 4000000).1
+
+-- ---- their bytes
+
+module _ (order : Endian) (unit : TimeUnit) where
+  respelled : (number place : ℕ) (records : List Record) → AreRecordsFrom unit number place records
+      → spelling order records ≡ flat_map (record_bytes order) (map frame_of records)
+  respelled number place [] are = refl
+  respelled number place (r ∷ records) are =
+      ap (λ (n : ℕ). (spelled order 4 r.head.sec ++ spelled order 4 r.head.sub ++ spelled order 4 n
+      ++ spelled order 4 r.head.original ++ r.bytes) ++ spelling order records) (sym are.0.whole)
+      ∙ ap (λ (l : List ℕ). record_bytes order (frame_of r) ++ l)
+      (respelled (number + 1) (place + (16 + length r.bytes)) records are.1)
+
+few_frames : (n : ℕ) → (4000000 < n → ⊥) → n ≤ 4000000
+few_frames n no' = at (nat_lt 4000000 n) refl
+  where
+    at : (b : Bool) → nat_lt 4000000 n ≡ b → n ≤ 4000000
+    at true e = absurd (no' (ltb-true 4000000 n e))
+    at false e = ltb-false 4000000 n e
+
+-- a capture of records is one of the frames that they say
+pub captured : (bytes : List ℕ) (format : Format) (records : List Record) → IsCapture bytes format records
+    → IsCaptureOf bytes format.order format.unit (map frame_of records)
+captured bytes format records capture =
+    let h = capture.is_header in
+    let front = spelled format.order 4 (magic_of format.unit) ++ spelled format.order 2 2
+    ++ spelled format.order 2 4 in
+    let frames = map frame_of records in
+    let sized : length frames ≡ length records = length-map records frame_of in
+    record {
+      ignored = h.ignored ++ h.snapshot;
+      twelve_ignored = (let parts = length-append h.ignored h.snapshot in
+          let a = h.ignored_length in let b = h.snapshot_length in omega (arith, parts, a, b));
+      in_range = all_in_range format.unit records capture.are_records;
+      few = (let most = few_frames (length records)
+          (too_many format.unit records capture.are_records) in
+          omega (arith, sized, most));
+      joined = capture.joined
+          ∙ ap (λ (l : List ℕ). l ++ spelling format.order records)
+          (h.joined ∙ ap (λ (l : List ℕ). l ++ spelled format.order 4 1) (append_assoc front h.ignored h.snapshot))
+          ∙ ap (λ (l : List ℕ). front ++ (h.ignored ++ h.snapshot) ++ spelled format.order 4 1 ++ l)
+          (respelled format.order format.unit 0 24 records capture.are_records);
+    }
+
+-- ---- frames, one by one
+
+-- a frame of these records is said by one of them
+pub record SaidBy (records : List Record) (k : ℕ) (frame : CapturedFrame) : Type 0 where
+  pub by : Record
+  pub stands : slice_get records k ≡ Some by
+  pub is : frame_of by ≡ frame
+
+said_from : (records : List Record) (k : ℕ) (frame : CapturedFrame) (o : Option Record) → slice_get records k ≡ o
+    → option_map frame_of o ≡ Some frame → SaidBy records k frame
+said_from records k frame None at is = absurd cc
+said_from records k frame (Some r) at is =
+    record { by = r; stands = at; is = (let same : frame_of r ≡ frame = cc in same) }
+
+pub said_by : (records : List Record) (k : ℕ) (frame : CapturedFrame)
+    → slice_get (map frame_of records) k ≡ Some frame → SaidBy records k frame
+said_by records k frame at =
+    said_from records k frame (slice_get records k) refl (sym (slice_get-map frame_of records k) ∙ at)
+
+pub frame_at : (records : List Record) (k : ℕ) (r : Record) → slice_get records k ≡ Some r
+    → slice_get (map frame_of records) k ≡ Some (frame_of r)
+frame_at records k r at = slice_get-map frame_of records k ∙ ap (option_map frame_of) at

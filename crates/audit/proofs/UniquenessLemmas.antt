@@ -1,0 +1,197 @@
+-- A text says one claim at most.
+use Rattle.std.proofs.Common.{◌≡◌, ℕ, zero, suc, ◌*◌, ℤ, pos, ◌↔◌, List, [], ◌∷◌, length, map, codes, Option, Some, None, refl, sym, ap, ◌∙◌, subst, arith}
+use Rattle.std.specs.Prelude.{slice_get}
+use Rattle.std.specs.List.{AllZip}
+use Rattle.std.specs.Option.{option_map}
+use Rattle.std.specs.Net.Grammar.{IsDotted}
+use Rattle.era_unfold.specs.Nanoseconds.{nanoseconds_per_second}
+use Rattle.era_unfold.specs.Ratio.{IsFloor, IsCeiling}
+use Rattle.era_unfold.specs.Window.{ticks_per_second}
+use Rattle.serde_json.specs.Data.{Data, number, string, unsigned, array, Items, item}
+use Rattle.serde_json.specs.Find.{get}
+use Rattle.serde_json.specs.View.{items_of}
+use Rattle.claim_file.specs.Address.{address_of}
+use Rattle.claim_file.specs.Claim.{ClaimData}
+use Rattle.claim_file.specs.Group.{IsInGroup}
+use Rattle.claim_file.specs.Time.{IsTime, time_of}
+use Rattle.audit.specs.Claimed.{IsClaimText, IsTimeAt, numbers_value}
+
+-- the laws of the layers below
+pub record Laws : Type 0 where
+  pub time : (text : List ℕ) (second : ℕ) → (time_of text ≡ Some second) ↔ IsTime text second
+  pub address : (text address : List ℕ) → (address_of text ≡ Some address) ↔ IsDotted text address
+
+-- ---- members
+
+some_same : {A : Type 0} (o : Option A) (a b : A) → o ≡ Some a → o ≡ Some b → a ≡ b
+some_same o a b x y = cc
+
+string_same : (a b : List ℕ) → string a ≡ string b → a ≡ b
+string_same a b e = cc
+
+number_same : (a b : ℕ) → number (unsigned a) ≡ number (unsigned b) → a ≡ b
+number_same a b e = cc
+
+array_same : (a b : Items) → array a ≡ array b → a ≡ b
+array_same a b e = cc
+
+-- arrays of one kind
+items_same : {A : Type 0} (make : A → Data) → ((a b : A) → make a ≡ make b → a ≡ b) → (xs ys : List A)
+    → items_of (map make xs) ≡ items_of (map make ys) → xs ≡ ys
+items_same make same [] [] e = refl
+items_same make same [] (y ∷ ys) e = absurd cc
+items_same make same (x ∷ xs) [] e = absurd cc
+items_same make same (x ∷ xs) (y ∷ ys) e =
+    let first : make x ≡ make y = cc in
+    let rest : items_of (map make xs) ≡ items_of (map make ys) = cc in
+    ap (λ z. z ∷ xs) (same x y first) ∙ ap (λ zs. y ∷ zs) (items_same make same xs ys rest)
+
+lists_same : {A : Type 0} (make : A → Data) → ((a b : A) → make a ≡ make b → a ≡ b) → (xs ys : List A)
+    → array (items_of (map make xs)) ≡ array (items_of (map make ys)) → xs ≡ ys
+lists_same make same xs ys e =
+    items_same make same xs ys (array_same (items_of (map make xs)) (items_of (map make ys)) e)
+
+numbers_same : (a b : List ℕ) → numbers_value a ≡ numbers_value b → a ≡ b
+numbers_same a b e = lists_same (λ n. number (unsigned n)) number_same a b e
+
+-- groups, which may be absent
+abbrev groups_value : List (List ℕ) → Data
+groups_value groups = array (items_of (map numbers_value groups))
+
+groups_same : (a b : Option (List (List ℕ))) → option_map groups_value a ≡ option_map groups_value b → a ≡ b
+groups_same None None e = refl
+groups_same None (Some y) e = absurd cc
+groups_same (Some x) None e = absurd cc
+groups_same (Some x) (Some y) e =
+    ap Some (lists_same numbers_value numbers_same x y (let same : groups_value x ≡ groups_value y = cc in same))
+
+-- ---- values
+
+floor_same : (n d a b : ℕ) → IsFloor n d a → IsFloor n d b → a ≡ b
+floor_same n d a b x y =
+    let least = x.greatest b y.not_above in
+    let most = y.greatest a x.not_above in
+    omega (arith, least, most)
+
+ceiling_same : (n d a b : ℕ) → IsCeiling n d a → IsCeiling n d b → a ≡ b
+ceiling_same n d a b x y =
+    let most = x.least b y.not_below in
+    let least = y.least a x.not_below in
+    omega (arith, least, most)
+
+-- lists of one length, where what stands in the first stands in the second
+same_list : (a b : List ℕ) → length a ≡ length b
+    → ((k x : ℕ) → slice_get a k ≡ Some x → slice_get b k ≡ Some x) → a ≡ b
+same_list [] [] sized each = refl
+same_list [] (y ∷ b) sized each = absurd (omega (arith, sized))
+same_list (x ∷ a) [] sized each = absurd (omega (arith, sized))
+same_list (x ∷ a) (y ∷ b) sized each =
+    let first : y ≡ x = some_same (Some y) y x refl (each 0 x refl) in
+    let rest = same_list a b (omega (arith, sized)) (λ k z at. each (suc k) z at) in
+    ap (λ z. z ∷ a) (sym first) ∙ ap (λ zs. y ∷ zs) rest
+
+module _ (laws : Laws) where
+  dotted_same : (text a b : List ℕ) → IsDotted text a → IsDotted text b → a ≡ b
+  dotted_same text a b x y =
+      some_same (address_of text) a b ((laws.address text a).1 x) ((laws.address text b).1 y)
+
+  all_dotted_same : (texts a b : List (List ℕ)) → AllZip IsDotted texts a → AllZip IsDotted texts b → a ≡ b
+  all_dotted_same [] [] [] x y = refl
+  all_dotted_same [] [] (q ∷ b) x y = absurd y
+  all_dotted_same [] (p ∷ a) b x y = absurd x
+  all_dotted_same (text ∷ texts) [] b x y = absurd x
+  all_dotted_same (text ∷ texts) (p ∷ a) [] x y = absurd y
+  all_dotted_same (text ∷ texts) (p ∷ a) (q ∷ b) x y =
+      ap (λ z. z ∷ a) (dotted_same text p q x.0 y.0)
+      ∙ ap (λ zs. q ∷ zs) (all_dotted_same texts a b x.1 y.1)
+
+  time_same : (value : Data) (name : List ℕ) (s t : ℤ) → IsTimeAt value name s → IsTimeAt value name t → s ≡ t
+  time_same value name s t x y =
+      let text = string_same x.text y.text
+      (some_same (get name value) (string x.text) (string y.text) x.stands y.stands) in
+      let second = some_same (time_of y.text) x.second y.second
+      (subst (λ (l : List ℕ). time_of l ≡ Some x.second) text ((laws.time x.text x.second).1 x.is_time))
+      ((laws.time y.text y.second).1 y.is_time) in
+      x.in_ticks ∙ ap (λ (n : ℕ). pos (n * ticks_per_second)) second ∙ sym y.in_ticks
+
+  -- two claims that one value says
+  module _ (text : List ℕ) (c d : ClaimData) (x : IsClaimText text c) (y : IsClaimText text d) where
+    value_same : x.value ≡ y.value
+    value_same = some_same _ x.value y.value x.is_json y.is_json
+
+    -- the member of a name, once for both
+    member_same : (name : List ℕ) (a b : Data) → get name x.value ≡ Some a → get name y.value ≡ Some b → a ≡ b
+    member_same name a b in_x in_y =
+        some_same (get name y.value) a b (subst (λ (v : Data). get name v ≡ Some a) value_same in_x) in_y
+
+    number_at : (name : List ℕ) (m n : ℕ) → get name x.value ≡ Some (number (unsigned m))
+        → get name y.value ≡ Some (number (unsigned n)) → m ≡ n
+    number_at name m n in_x in_y =
+        number_same m n (member_same name (number (unsigned m)) (number (unsigned n)) in_x in_y)
+
+    time_at : (name : List ℕ) (s t : ℤ) → IsTimeAt x.value name s → IsTimeAt y.value name t → s ≡ t
+    time_at name s t in_x in_y =
+        time_same y.value name s t (subst (λ (v : Data). IsTimeAt v name s) value_same in_x) in_y
+
+    client_same : c.client ≡ d.client
+    client_same =
+        let texts = string_same x.client_text y.client_text
+        (member_same (codes "client") (string x.client_text) (string y.client_text) x.client_stands y.client_stands) in
+        dotted_same y.client_text c.client d.client
+        (subst (λ (l : List ℕ). IsDotted l c.client) texts x.client) y.client
+
+    servers_same : c.servers ≡ d.servers
+    servers_same =
+        let texts = lists_same string string_same x.server_texts y.server_texts
+        (member_same (codes "servers") _ _ x.servers_stand y.servers_stand) in
+        all_dotted_same y.server_texts c.servers d.servers
+        (subst (λ (l : List (List ℕ)). AllZip IsDotted l c.servers) texts x.servers) y.servers
+
+    bound_ns_same : c.bound_ns ≡ d.bound_ns
+    bound_ns_same = number_at (codes "bound_ns") c.bound_ns d.bound_ns x.bound_ns y.bound_ns
+
+    bound_same : c.bound ≡ d.bound
+    bound_same =
+        let is = floor_same (d.bound_ns * ticks_per_second) nanoseconds_per_second x.bound y.bound
+        (subst (λ (n : ℕ). IsFloor (n * ticks_per_second) nanoseconds_per_second x.bound) bound_ns_same x.bound_is) y.bound_is in
+        x.bound_in_ticks ∙ ap pos is ∙ sym y.bound_in_ticks
+
+    reading_ns_same : c.reading_ns ≡ d.reading_ns
+    reading_ns_same = number_at (codes "reading_ns") c.reading_ns d.reading_ns x.reading_ns y.reading_ns
+
+    reading_same : c.reading ≡ d.reading
+    reading_same =
+        let is = ceiling_same (d.reading_ns * ticks_per_second) nanoseconds_per_second x.reading y.reading
+        (subst (λ (n : ℕ). IsCeiling (n * ticks_per_second) nanoseconds_per_second x.reading) reading_ns_same
+        x.reading_is) y.reading_is in
+        x.reading_in_ticks ∙ ap pos is ∙ sym y.reading_in_ticks
+
+    listed_same : x.listed ≡ y.listed
+    listed_same = groups_same x.listed y.listed
+        (sym x.groups_stand ∙ ap (get (codes "groups")) value_same ∙ y.groups_stand)
+
+    counts_same : length c.servers ≡ length d.servers
+    counts_same = ap length servers_same
+
+    group_same : c.groups ≡ d.groups
+    group_same = same_list c.groups d.groups
+        (x.each_in_a_group ∙ counts_same ∙ sym y.each_in_a_group)
+        (λ server group at. (y.groups server group).1
+        (subst (λ (o : Option (List (List ℕ))). IsInGroup (length d.servers) o server group) listed_same
+        (subst (λ (n : ℕ). IsInGroup n x.listed server group) counts_same ((x.groups server group).0 at))))
+
+    -- a text says one claim
+    pub one_claim : c ≡ d
+    one_claim = λ i. record {
+      client = client_same i;
+      servers = servers_same i;
+      groups = group_same i;
+      false_max = number_at (codes "false_max") c.false_max d.false_max x.false_max y.false_max i;
+      first = time_at (codes "from") c.first d.first x.first y.first i;
+      last = time_at (codes "to") c.last d.last x.last y.last i;
+      bound = bound_same i;
+      bound_ns = bound_ns_same i;
+      drift_ppb = number_at (codes "drift_ppb") c.drift_ppb d.drift_ppb x.drift y.drift i;
+      reading = reading_same i;
+      reading_ns = reading_ns_same i;
+    }

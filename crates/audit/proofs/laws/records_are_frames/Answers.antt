@@ -1,0 +1,5 @@
+use Rattle.audit.proofs.CapturedLemmas.{captured}
+use Rattle.audit.proofs.laws.records_are_frames.Goals as goal
+
+pub returns : goal.returns
+returns c = captured
