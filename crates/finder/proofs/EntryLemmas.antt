@@ -6,9 +6,7 @@ use Rattle.std.proofs.lemmas.List.Elements.{All-nil, All-cons}
 use Rattle.std.proofs.lemmas.Option.{slice_get-get_or, slice_get_within}
 use Rattle.claim_file.specs.Claim.{ClaimData}
 use Rattle.claim_file.specs.Group.{servers_of}
-use Rattle.intersection.specs.declared.kinds.Interval.{Interval}
 use Rattle.sample_interval.specs.declared.kinds.Sample.{Sample}
-use Rattle.span_cover.specs.Piece.{piece_interval_of}
 use Rattle.span_cover.specs.Part.{part_of}
 use Rattle.span_cover.specs.declared.part.Part.{Part}
 use Rattle.span_cover.specs.declared.stretch.Stretch.{Stretch}
@@ -24,17 +22,13 @@ pub part_there : (samples : List Sample) (claim : ClaimData) (stretch : Stretch)
 part_there samples claim stretch entry d e low high =
     rw (slice_get-get_or samples entry.0 d low, slice_get-get_or samples entry.1 e high) refl
 
--- the same where the interval was computed
+-- the same if what is said was computed
 pub part_computed : (samples : List Sample) (claim : ClaimData) (stretch : Stretch) (entry : ℕ × ℕ) (d : Sample)
-    (interval : Interval) → entry.0 < length samples → entry.1 < length samples
-    → interval ≡ piece_interval_of (get_or samples entry.0 d) (get_or samples entry.1 d) stretch.begin stretch.end
-    claim.drift_ppb
-    → part_named samples claim stretch entry
-    ≡ Some (record { server = (get_or samples entry.0 d).server; interval = interval })
-part_computed samples claim stretch entry d interval low high is =
-    let server : ℕ = (get_or samples entry.0 d).server in
-    let make : Interval → Option Part = λ i. Some (record { server = server; interval = i }) in
-    part_there samples claim stretch entry d d low high ∙ ap make (sym is)
+    (part : Part) → entry.0 < length samples → entry.1 < length samples
+    → part ≡ part_of (get_or samples entry.0 d) (get_or samples entry.1 d) stretch claim.drift_ppb
+    → part_named samples claim stretch entry ≡ Some part
+part_computed samples claim stretch entry d part low high is =
+    part_there samples claim stretch entry d d low high ∙ ap Some (sym is)
 
 -- ---- what holds of whatever entries say
 

@@ -13,9 +13,10 @@ use crate::fault::FindFault;
 use crate::hull::hull_of;
 use crate::laws::{last_piece_ends_with_the_span, least_bound_is_the_least};
 use crate::least::LeastBound;
-use crate::piece::{MAX_PIECES, piece_count};
+use crate::piece::piece_count;
 use crate::table::tables;
 use arrayvec::ArrayVec;
+use certificate::MAX_PIECES;
 use claim_file::Claim;
 use intersection::kinds::Hull;
 use sample_interval::kinds::Sample;
@@ -80,7 +81,7 @@ pub fn find_envelope(
     last_piece_ends_with_the_span();
     least_bound_is_the_least();
     let count = piece_count(claim.first, claim.last, step_s);
-    if count > MAX_PIECES {
+    if count > MAX_PIECES as u64 {
         return Err(FindFault::TooManyPieces);
     }
     let found = envelope_to(alloc, samples, claim, step_s, count as u32)?;

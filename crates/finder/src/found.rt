@@ -17,9 +17,9 @@ use crate::entry::entries_at;
 use crate::fault::FindFault;
 use crate::hull::hull_of;
 use crate::laws::{best_hulls_hold_the_error, last_piece_ends_with_the_span};
-use crate::piece::{MAX_PIECES, piece_count};
+use crate::piece::piece_count;
 use crate::table::tables;
-use certificate::{Certificate, Piece};
+use certificate::{Certificate, MAX_PIECES, Piece};
 use checker::laws::{
     narrower_parts_narrow, parts_are_of_samples, pieces_give_the_verdict, verdicts_are_traceable,
 };
@@ -104,7 +104,7 @@ pub fn find(
     verdicts_are_traceable();
     best_hulls_hold_the_error();
     let count = piece_count(claim.first, claim.last, step_s);
-    if count > MAX_PIECES {
+    if count > MAX_PIECES as u64 {
         return Err(FindFault::TooManyPieces);
     }
     let found = find_pieces(alloc, samples, claim, step_s, count as u32)?;

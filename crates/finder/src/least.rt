@@ -4,12 +4,8 @@ ghost use Rattle.std.specs.Prelude.{◌≡◌, ◌*◌, ◌^◌, ◌<◌, ◌≤
 ghost use Rattle.finder.specs.Envelope as spec;
 ghost use Rattle.finder.specs.Envelope.{nanoseconds_of, reach_of, with_piece, IsBelowLimit};
 
+use era_unfold::{NANOSECONDS_PER_SECOND, TICKS_PER_SECOND};
 use intersection::kinds::Hull;
-
-/// Ticks of 2^-32 s in a second.
-const TICKS_PER_SECOND: u128 = 1 << 32;
-
-const NANOSECONDS_PER_SECOND: u128 = 1_000_000_000;
 
 /// The least bound that holds over pieces of a span.
 #[derive(Clone, Copy, Debug, PartialEq, Eq)]
@@ -92,7 +88,8 @@ fn nanoseconds_of(ticks: u128) -> u128
     ensures value { result ≡ nanoseconds_of ticks }
     ensures in_range { result < 2 ^ 127 }
 {
+    let per_second = u128::from(NANOSECONDS_PER_SECOND);
     let seconds = ticks / TICKS_PER_SECOND;
     let rest = ticks % TICKS_PER_SECOND;
-    seconds * NANOSECONDS_PER_SECOND + (rest * NANOSECONDS_PER_SECOND).div_ceil(TICKS_PER_SECOND)
+    seconds * per_second + (rest * per_second).div_ceil(TICKS_PER_SECOND)
 }

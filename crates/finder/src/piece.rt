@@ -3,13 +3,9 @@
 ghost use Rattle.std.specs.Prelude.{◌≡◌, ◌<◌, ◌≤◌, ◌^◌, pos, ◌≤ℤ◌, ◌<ℤ◌, IfOk};
 ghost use Rattle.finder.specs.Piece.{piece_count_of, ends_of};
 
+use era_unfold::TICKS_PER_SECOND;
 use span_cover::piece_end;
 use std::alloc::{AllocError, Global};
-
-const TICKS_PER_SECOND: u128 = 1 << 32;
-
-/// The most pieces of a certificate.
-pub(crate) const MAX_PIECES: u64 = 100_000;
 
 /// How many pieces a span has that is cut every `step_s` seconds: the last is the first that ends
 /// with the span.

@@ -82,7 +82,8 @@ abs_times : (z : ℤ) (n : ℕ) → (z *ℤ pos n) ≤ℤ pos (unsigned_abs z * 
 abs_times (pos x) n = omega (arith, ints)
 abs_times (negsuc x) n = omega (arith, ints)
 
-between : (far moment reading : ℤ) (most : ℕ) → far ≤ℤ pos most → (reading -ℤ moment) ≤ℤ far → (moment -ℤ reading) ≤ℤ far →
+between : (far moment reading : ℤ) (most : ℕ) → far ≤ℤ pos most → (reading -ℤ moment) ≤ℤ far →
+    (moment -ℤ reading) ≤ℤ far →
     unsigned_abs (reading -ℤ moment) ≤ most
 between far moment reading most a b c = omega (arith, ints)
 

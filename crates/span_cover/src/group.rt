@@ -7,7 +7,8 @@ use arrayvec::ArrayVec;
 use intersection::kinds::{Hull, Interval};
 use intersection::{hull, meet};
 
-/// The hull over the groups of servers that say something, if up to `false_max` groups may be false.
+/// The hull over the groups of servers that say something, if up to `false_max` groups may be
+/// false.
 ///
 /// `groups` has the number of each server's group, from 0, for at most 32 servers.
 pub fn piece_hull(parts: &[Part], groups: &[u8], false_max: u8) -> Hull

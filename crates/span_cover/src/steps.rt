@@ -3,7 +3,7 @@ ghost use Rattle.std.specs.Prelude.{◌≡◌, ◌+◌, ◌*◌, ◌^◌, ◌≤
 ghost use Rattle.era_unfold.specs.Window.{ticks_per_second};
 ghost use Rattle.span_cover.specs.Step.{piece_end_of};
 
-const TICKS_PER_SECOND: u128 = 1 << 32;
+use era_unfold::TICKS_PER_SECOND;
 
 /// The end of piece `k`, counted from 0, of a span that is cut every `step_s` seconds: the lesser
 /// of `first + (k + 1) * step_s * 2^32` and `last`, in Unix ticks from 0 to below 2^64.

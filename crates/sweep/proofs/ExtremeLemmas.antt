@@ -25,7 +25,8 @@ lawful_end value start stop extreme a b c d is = record {
   ends = omega (arith, ints, is.to);
 }
 
-lawful_extreme : (side : Side) (sample : Sample) (extreme : Extreme) → IsLawfulSample sample → IsExtremeOf side sample extreme →
+lawful_extreme : (side : Side) (sample : Sample) (extreme : Extreme) → IsLawfulSample sample →
+    IsExtremeOf side sample extreme →
     IsLawfulExtreme extreme
 lawful_extreme Low sample extreme s is =
     lawful_end sample.low sample.low_from sample.low_to extreme s.low s.low_from s.low_place_in_order s.low_to is

@@ -68,9 +68,11 @@ AreLateTops-mirrored ppb extremes stretches tops early = record {
   as_many = early.as_many ∙ length-reverse (map mirrored_stretch stretches) ∙ length-map stretches mirrored_stretch;
   each = λ k stretch top at there.
       early.each (length stretches - 1 - k) (mirrored_stretch stretch) top
-      (subst (λ (n : ℕ). slice_get (reverse (map mirrored_stretch stretches)) (n - 1 - k) ≡ Some (mirrored_stretch stretch))
+      (subst (λ (n : ℕ). slice_get (reverse (map mirrored_stretch stretches)) (n - 1 - k)
+          ≡ Some (mirrored_stretch stretch))
       (length-map stretches mirrored_stretch)
-      (reverse_at (map mirrored_stretch stretches) k (mirrored_stretch stretch) (map_at mirrored_stretch stretches k stretch at)))
+      (reverse_at (map mirrored_stretch stretches) k (mirrored_stretch stretch)
+          (map_at mirrored_stretch stretches k stretch at)))
       there;
 }
 

@@ -30,7 +30,8 @@ pub record TopsSoFar (ppb : ℕ) (extremes : List Extreme) (stretches : List Str
   pub holds : HoldsFirst queue next held
   pub early : AreEarlyFrom queue stretches next n
   pub as_many : length tops ≡ n
-  pub each : (k : ℕ) (stretch : Stretch) (top : Option Top) → slice_get stretches k ≡ Some stretch → slice_get tops k ≡ Some top →
+  pub each : (k : ℕ) (stretch : Stretch) (top : Option Top) → slice_get stretches k ≡ Some stretch →
+      slice_get tops k ≡ Some top →
       IsTopOf (IsEarlyAtLeast ppb extremes stretch) top
 
 module _ (ppb : ℕ) (extremes : List Extreme) (stretches : List Stretch) (queue : List Arrival)
@@ -61,7 +62,8 @@ module _ (ppb : ℕ) (extremes : List Extreme) (stretches : List Stretch) (queue
       (early : (i : ℕ) (a : Arrival) → i < next → slice_get queue i ≡ Some a → a.at ≤ stretch.begin + stretch.end)
       (waiting : (a : Arrival) → slice_get queue next ≡ Some a → stretch.begin + stretch.end < a.at)
       (within : next ≤ length queue) where
-    to_extreme : (index level : ℕ) → HasHeight ppb held stretch.end index level → IsEarlyAtLeast ppb extremes stretch index level
+    to_extreme : (index level : ℕ) → HasHeight ppb held stretch.end index level →
+        IsEarlyAtLeast ppb extremes stretch index level
     to_extreme index level has =
         let first = holds.only index has.value has.is_held in
         let of = is_queue.each first.turn first.arrival first.stands in
@@ -94,7 +96,8 @@ module _ (ppb : ℕ) (extremes : List Extreme) (stretches : List Stretch) (queue
         let of = is_queue.each there.0 a there.2 in
         let one : of.extreme ≡ reaches.extreme =
         same_Some of.extreme reaches.extreme (sym of.stands ∙ ap (slice_get extremes) there.3 ∙ reaches.stands) in
-        let at_is : a.at ≡ reaches.extreme.from + reaches.extreme.to = of.at ∙ ap (λ (b : Extreme). b.from + b.to) one in
+        let at_is : a.at ≡ reaches.extreme.from + reaches.extreme.to =
+        of.at ∙ ap (λ (b : Extreme). b.from + b.to) one in
         let height_is : a.height ≡ height ppb reaches.extreme = of.height ∙ ap (height ppb) one in
         let come = has_come there.0 a there.2 (let e = reaches.early in omega arith) in
         record {
@@ -105,7 +108,8 @@ module _ (ppb : ℕ) (extremes : List Extreme) (stretches : List Stretch) (queue
 
     early_top : (top : Option Top) → IsTopOf (HasHeight ppb held stretch.end) top →
         IsTopOf (IsEarlyAtLeast ppb extremes stretch) top
-    early_top top = same_top (HasHeight ppb held stretch.end) (IsEarlyAtLeast ppb extremes stretch) top to_extreme from_extreme
+    early_top top = same_top (HasHeight ppb held stretch.end) (IsEarlyAtLeast ppb extremes stretch) top to_extreme
+        from_extreme
 
   module _ (rise : MiddlesRise stretches) (n next : ℕ) (before : List (Option ℤ)) (tops : List (Option Top))
       (so_far : TopsSoFar ppb extremes stretches queue n next before tops) (stretch : Stretch)

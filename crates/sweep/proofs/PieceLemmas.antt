@@ -49,7 +49,8 @@ module _ (law : BestLaw) (samples : List Sample) (server : ℕ) (first : ℤ) (e
   }
 
 -- the same of lists that were lent
-pub AreTopNumbers-lent : (ppb : ℕ) (lent extremes : List Extreme) (lent_stretches stretches : List Stretch) (numbers : List ℕ) →
+pub AreTopNumbers-lent : (ppb : ℕ) (lent extremes : List Extreme) (lent_stretches stretches : List Stretch)
+    (numbers : List ℕ) →
     lent ≡ extremes → lent_stretches ≡ stretches → AreTopNumbers ppb lent lent_stretches numbers →
     AreTopNumbers ppb extremes stretches numbers
 AreTopNumbers-lent ppb lent extremes lent_stretches stretches numbers a b is =

@@ -39,11 +39,13 @@ module _ (scale rate distance from to end level wide : ℕ) (apart : distance + 
 module _ (widens : (ppb distance : ℕ) → ppb < billion → IsWidening ppb distance (widening ppb distance)) (ppb : ℕ)
     (slow : ppb ≤ 500000000) where
   -- an early extreme's distance is from its begin to the stretch's end
-  early_distance : (extreme : Extreme) (stretch : Stretch) → IsLawfulExtreme extreme → IsLawfulStretch stretch → IsEarly extreme stretch →
+  early_distance : (extreme : Extreme) (stretch : Stretch) → IsLawfulExtreme extreme → IsLawfulStretch stretch →
+      IsEarly extreme stretch →
       distance extreme stretch + extreme.from ≡ stretch.end
   early_distance extreme stretch b s early = omega (arith, b.in_order, s.in_order)
 
-  module _ (extreme : Extreme) (stretch : Stretch) (b : IsLawfulExtreme extreme) (s : IsLawfulStretch stretch) (level : ℕ) where
+  module _ (extreme : Extreme) (stretch : Stretch) (b : IsLawfulExtreme extreme) (s : IsLawfulStretch stretch)
+      (level : ℕ) where
     wide : ℕ
     wide = widening ppb (distance extreme stretch)
 
@@ -61,7 +63,8 @@ module _ (widens : (ppb distance : ℕ) → ppb < billion → IsWidening ppb dis
         (widening ppb (distance extreme stretch)) (early_distance extreme stretch b s early)
         (widens ppb (distance extreme stretch) (omega arith)) (omega arith)
 
-  module _ (extremes : List Extreme) (stretch : Stretch) (all : All IsLawfulExtreme extremes) (s : IsLawfulStretch stretch) where
+  module _ (extremes : List Extreme) (stretch : Stretch) (all : All IsLawfulExtreme extremes)
+      (s : IsLawfulStretch stretch) where
     pub reaches_either : (index level : ℕ) → IsAtLeast ppb extremes stretch index level →
         IsEarlyAtLeast ppb extremes stretch index level
         ⊎ IsEarlyAtLeast ppb (map mirrored_extreme extremes) (mirrored_stretch stretch) index level
@@ -75,7 +78,8 @@ module _ (widens : (ppb distance : ℕ) → ppb < billion → IsWidening ppb dis
           extreme = mirrored_extreme extreme;
           stands = map_at mirrored_extreme extremes index extreme is.stands;
           early = omega (arith, b.ends, b.in_order, s.ends, s.in_order);
-          at_least = early_height (mirrored_extreme extreme) (mirrored_stretch stretch) (lawful-mirrored_extreme extreme b)
+          at_least = early_height (mirrored_extreme extreme) (mirrored_stretch stretch)
+              (lawful-mirrored_extreme extreme b)
               (lawful-mirrored_stretch stretch s) level (omega (arith, b.ends, b.in_order, s.ends, s.in_order))
               (subst (λ (d : ℕ). level + widening ppb d ≤ extreme.end) (sym same) enough);
         }))
@@ -87,15 +91,18 @@ module _ (widens : (ppb distance : ℕ) → ppb < billion → IsWidening ppb dis
         }))
         (cases_lt (stretch.begin + stretch.end) (extreme.from + extreme.to))
 
-    early_is : (index level : ℕ) → IsEarlyAtLeast ppb extremes stretch index level → IsAtLeast ppb extremes stretch index level
+    early_is : (index level : ℕ) → IsEarlyAtLeast ppb extremes stretch index level →
+        IsAtLeast ppb extremes stretch index level
     early_is index level is = record {
       extreme = is.extreme;
       stands = is.stands;
-      at_least = early_reaches is.extreme stretch (all_at IsLawfulExtreme extremes index is.extreme all is.stands) s level is.early
+      at_least = early_reaches is.extreme stretch (all_at IsLawfulExtreme extremes index is.extreme all is.stands) s
+          level is.early
           is.at_least;
     }
 
-    late_is : (index level : ℕ) → IsEarlyAtLeast ppb (map mirrored_extreme extremes) (mirrored_stretch stretch) index level →
+    late_is : (index level : ℕ) →
+        IsEarlyAtLeast ppb (map mirrored_extreme extremes) (mirrored_stretch stretch) index level →
         IsAtLeast ppb extremes stretch index level
     late_is index level is =
         let back = at_map mirrored_extreme extremes index is.extreme is.stands in
@@ -104,13 +111,16 @@ module _ (widens : (ppb distance : ℕ) → ppb < billion → IsWidening ppb dis
         let early : IsEarly (mirrored_extreme extreme) (mirrored_stretch stretch) =
         subst (λ (x : Extreme). IsEarly x (mirrored_stretch stretch)) back.2 is.early in
         let high : height_for ppb (mirrored_stretch stretch).end level ≤ height ppb (mirrored_extreme extreme) =
-        subst (λ (x : Extreme). height_for ppb (mirrored_stretch stretch).end level ≤ height ppb x) back.2 is.at_least in
-        let reaches = early_reaches (mirrored_extreme extreme) (mirrored_stretch stretch) (lawful-mirrored_extreme extreme b)
+        subst (λ (x : Extreme). height_for ppb (mirrored_stretch stretch).end level ≤ height ppb x) back.2
+        is.at_least in
+        let reaches = early_reaches (mirrored_extreme extreme) (mirrored_stretch stretch)
+            (lawful-mirrored_extreme extreme b)
         (lawful-mirrored_stretch stretch s) level early high in
         record {
           extreme = extreme;
           stands = back.1;
-          at_least = subst (λ (d : ℕ). level + widening ppb d ≤ extreme.end) (distance-mirrored extreme stretch b s) reaches;
+          at_least = subst (λ (d : ℕ). level + widening ppb d ≤ extreme.end) (distance-mirrored extreme stretch b s)
+              reaches;
         }
 
     pub either_reaches : (index level : ℕ) →

@@ -66,7 +66,8 @@ module _ (first : ℤ) (ends : List ℤ) (n : ℕ) (begin : ℤ) (stretches : Li
           (sym at.begins ∙ ap (slice_get (first ∷ ends)) (sym here) ∙ there.begins) in
           let same_q : end ≡ q = same_Some end q (sym at.ends_at ∙ ap (slice_get ends) (sym here) ∙ there.ends_at) in
           subst (λ (x : Stretch). IsStretchOf p q x) (sym new.1)
-          (subst (λ (x : ℤ). IsStretchOf x q stretch) same_p (subst (λ (x : ℤ). IsStretchOf begin x stretch) same_q is)))
+          (subst (λ (x : ℤ). IsStretchOf x q stretch) same_p
+              (subst (λ (x : ℤ). IsStretchOf begin x stretch) same_q is)))
           (pushed_cases stretches stretch s k stands)
 
   pub StretchesSoFar-all : n ≡ length ends → AreStretchesOf first ends stretches
@@ -77,7 +78,8 @@ module _ (first : ℤ) (ends : List ℤ) (n : ℕ) (begin : ℤ) (stretches : Li
     adjoin = adjoin;
   }
     where
-      adjoin : (k : ℕ) (a b : Stretch) → slice_get stretches k ≡ Some a → slice_get stretches (k + 1) ≡ Some b → a.end ≡ b.begin
+      adjoin : (k : ℕ) (a b : Stretch) → slice_get stretches k ≡ Some a → slice_get stretches (k + 1) ≡ Some b →
+          a.end ≡ b.begin
       adjoin k a b at_a at_b =
           let within = slice_get_within stretches (k + 1) b at_b in
           let p : ℤ = get_or (first ∷ ends) k (pos 0) in
@@ -101,7 +103,8 @@ module _ (stretches : List Stretch) (lawful : All IsLawfulStretch stretches)
       let is_b = all_at IsLawfulStretch stretches (k + 1) b lawful at_b in
       omega (arith, adjoin k a b at_a at_b, is_a.in_order, is_b.in_order)
 
-  later_rises : (steps k : ℕ) (a b : Stretch) → slice_get stretches k ≡ Some a → slice_get stretches (steps + k) ≡ Some b →
+  later_rises : (steps k : ℕ) (a b : Stretch) → slice_get stretches k ≡ Some a →
+      slice_get stretches (steps + k) ≡ Some b →
       a.begin + a.end ≤ b.begin + b.end
   later_rises zero k a b at_a at_b =
       let same : a ≡ b = same_Some a b (sym at_a ∙ ap (slice_get stretches) (sym (zero-add k)) ∙ at_b) in
@@ -109,7 +112,8 @@ module _ (stretches : List Stretch) (lawful : All IsLawfulStretch stretches)
   later_rises (suc steps) k a b at_a at_b =
       let inside = slice_get_within stretches (suc steps + k) b at_b in
       let between : Stretch = get_or stretches (steps + k) a in
-      let there : slice_get stretches (steps + k) ≡ Some between = slice_get-get_or stretches (steps + k) a (omega arith) in
+      let there : slice_get stretches (steps + k) ≡ Some between = slice_get-get_or stretches (steps + k) a
+          (omega arith) in
       let next : suc steps + k ≡ steps + k + 1 = omega arith in
       let first = later_rises steps k a between at_a there in
       let last = next_rises (steps + k) between b there (ap (slice_get stretches) (sym next) ∙ at_b) in

@@ -21,7 +21,8 @@ pub record IsEndAt (value start stop : ℤ) (extreme : Extreme) : Type 0 where
 
 abbrev pub IsExtremeOf : Side → Sample → Extreme → Type 0
 IsExtremeOf Low sample extreme = IsEndAt sample.low sample.low_from sample.low_to extreme
-IsExtremeOf High sample extreme = IsEndAt (neg_ℤ sample.high) sample.high_from sample.high_to extreme
+IsExtremeOf High sample extreme =
+    IsEndAt (neg_ℤ sample.high) sample.high_from sample.high_to extreme
 
 -- no number of ticks is further from zero than a sample's may be
 pub record IsLawfulExtreme (extreme : Extreme) : Type 0 where
@@ -41,8 +42,8 @@ pub record IsOfServer (side : Side) (samples : List Sample) (server : ℕ) (extr
   pub lawful : IsLawfulExtreme extreme
 
 -- the extremes of all samples of this server, in the order of their numbers
-pub record AreExtremesOf (side : Side) (samples : List Sample) (server : ℕ) (extremes : List Extreme)
-    : Type 0 where
+pub record AreExtremesOf (side : Side) (samples : List Sample) (server : ℕ)
+    (extremes : List Extreme) : Type 0 where
   pub few : length extremes ≤ length samples
   pub each : (index : ℕ) (extreme : Extreme) → slice_get extremes index ≡ Some extreme →
       IsOfServer side samples server extreme

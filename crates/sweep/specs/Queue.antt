@@ -19,7 +19,8 @@ IsArrivalAt ppb extremes index arrival =
     (arrival.index ≡ index) × IsArrivalOf ppb extremes arrival × (arrival.height < 2 ^ 110)
 
 -- the arrivals in the order of the extremes
-pub record AreArrivalsOf (ppb : ℕ) (extremes : List Extreme) (arrivals : List Arrival) : Type 0 where
+pub record AreArrivalsOf (ppb : ℕ) (extremes : List Extreme) (arrivals : List Arrival)
+    : Type 0 where
   pub as_many : length arrivals ≡ length extremes
   pub each : (i : ℕ) (a : Arrival) → slice_get arrivals i ≡ Some a → IsArrivalAt ppb extremes i a
 

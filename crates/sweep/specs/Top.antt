@@ -1,9 +1,9 @@
 -- The highest level that is reached, and the first index that reaches it.
 --
--- An extreme is early for a stretch if the middle of its window isn't after that of the stretch. Then the
--- greatest distance between the two runs from the window's begin to the stretch's end. Where time runs
--- backwards the others are early. So whether an extreme reaches a level is decided by one number of
--- the extreme and one of the stretch, in one of the two directions.
+-- An extreme is early for a stretch if the middle of its window isn't after that of the stretch.
+-- Then the greatest distance between the two runs from the window's begin to the stretch's end.
+-- Where time runs backwards the others are early. So whether an extreme reaches a level is decided
+-- by one number of the extreme and one of the stretch, in one of the two directions.
 --
 -- A level is a whole number. If an index reaches a level, it reaches each lower one. An extreme
 -- reaches a level over a stretch where its end, moved down for the stretch, is at least the level.
@@ -44,7 +44,8 @@ abbrev pub distance : Extreme → Stretch → ℕ
 distance extreme stretch = max (stretch.end - extreme.from) (extreme.to - stretch.begin)
 
 -- moved down for the stretch, the extreme's end is at least the level
-pub record IsAtLeast (ppb : ℕ) (extremes : List Extreme) (stretch : Stretch) (index level : ℕ) : Type 0 where
+pub record IsAtLeast (ppb : ℕ) (extremes : List Extreme) (stretch : Stretch) (index level : ℕ)
+    : Type 0 where
   pub extreme : Extreme
   pub stands : slice_get extremes index ≡ Some extreme
   pub at_least : level + widening ppb (distance extreme stretch) ≤ extreme.end
@@ -85,7 +86,8 @@ pub record AreLateTops (ppb : ℕ) (extremes : List Extreme) (stretches : List S
       IsTopOf (IsEarlyAtLeast ppb (map mirrored_extreme extremes) (mirrored_stretch stretch)) top
 
 -- the number belongs to the extreme that is highest over the stretch, the first of those
-pub record IsTopNumber (ppb : ℕ) (extremes : List Extreme) (stretch : Stretch) (chosen : ℕ) : Type 0 where
+pub record IsTopNumber (ppb : ℕ) (extremes : List Extreme) (stretch : Stretch) (chosen : ℕ)
+    : Type 0 where
   pub top : Top
   pub is_top : IsTop (IsAtLeast ppb extremes stretch) top
   pub extreme : Extreme

@@ -11,7 +11,8 @@ use crate::top::{Top, higher};
 use sample_interval::laws::widening_is_one_number;
 use std::alloc::{AllocError, Global};
 
-/// For each stretch the number of the extreme that is highest over it, the first of those that agree.
+/// For each stretch the number of the extreme that is highest over it, of several that agree the
+/// first.
 pub fn top_numbers(
     alloc: Global,
     extremes: &[Extreme],
@@ -24,7 +25,8 @@ pub fn top_numbers(
     requires stretches { All IsLawfulStretch stretches.now }
     requires in_order { MiddlesRise stretches.now }
     requires rate { drift_ppb ≤ 500_000_000 }
-    ensures { IfOk result (λ numbers. AreTopNumbers drift_ppb extremes.now stretches.now numbers.items) }
+    ensures { IfOk result (λ numbers.
+        AreTopNumbers drift_ppb extremes.now stretches.now numbers.items) }
 {
     // What the proof knows of widenings.
     widening_is_one_number();
@@ -38,8 +40,8 @@ pub fn top_numbers(
     Ok(numbers)
 }
 
-// The top of the extremes that are early where time runs backwards: over the last stretch, then over the
-// one before it, and so on.
+// The top of the extremes that are early where time runs backwards: over the last stretch, then over
+// the one before it, and so on.
 fn late_tops(
     alloc: Global,
     extremes: &[Extreme],

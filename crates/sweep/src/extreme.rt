@@ -44,8 +44,10 @@ pub fn extremes_of(
     requires samples { All IsLawfulSample samples.now }
     requires few { length samples.now ≤ 1_000_000 }
     requires servers { servers.now ≡ map (λ sample. sample.server) samples.now }
-    ensures lows { IfOk result (λ extremes. AreExtremesOf Side.Low samples.now server extremes.0.items) }
-    ensures highs { IfOk result (λ extremes. AreExtremesOf Side.High samples.now server extremes.1.items) }
+    ensures lows { IfOk result (λ extremes.
+        AreExtremesOf Side.Low samples.now server extremes.0.items) }
+    ensures highs { IfOk result (λ extremes.
+        AreExtremesOf Side.High samples.now server extremes.1.items) }
 {
     let mut lows = Vec::new(alloc);
     let mut highs = Vec::new(alloc);

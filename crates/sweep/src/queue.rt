@@ -4,9 +4,8 @@ ghost use Rattle.sweep.specs.Extreme.{IsLawfulExtreme};
 ghost use Rattle.sweep.specs.Queue.{AreArrivalsOf, IsQueueOf};
 
 use crate::extreme::Extreme;
+use sample_interval::PARTS;
 use std::alloc::{AllocError, Global};
-
-const PARTS: u128 = 1_000_000_000;
 
 /// An extreme that becomes early at some stretch, and stays so.
 #[derive(Clone, Copy)]
@@ -20,7 +19,11 @@ pub struct Arrival {
 }
 
 /// The arrivals of the extremes, in order.
-pub fn queue_of(alloc: Global, extremes: &[Extreme], drift_ppb: u32) -> Result<Vec<Arrival>, AllocError>
+pub fn queue_of(
+    alloc: Global,
+    extremes: &[Extreme],
+    drift_ppb: u32,
+) -> Result<Vec<Arrival>, AllocError>
     requires extremes { All IsLawfulExtreme extremes.now }
     requires few { length extremes.now ≤ 1_000_000 }
     requires rate { drift_ppb ≤ 500_000_000 }
@@ -32,7 +35,11 @@ pub fn queue_of(alloc: Global, extremes: &[Extreme], drift_ppb: u32) -> Result<V
 }
 
 // The arrivals in the order of the extremes.
-fn arrivals_of(alloc: Global, extremes: &[Extreme], drift_ppb: u32) -> Result<Vec<Arrival>, AllocError>
+fn arrivals_of(
+    alloc: Global,
+    extremes: &[Extreme],
+    drift_ppb: u32,
+) -> Result<Vec<Arrival>, AllocError>
     requires extremes { All IsLawfulExtreme extremes.now }
     requires few { length extremes.now ≤ 1_000_000 }
     requires rate { drift_ppb ≤ 500_000_000 }

@@ -36,7 +36,8 @@ pub fn stretches_of(alloc: Global, first: i128, ends: &[i128]) -> Result<Vec<Str
 /// The same pieces where time runs backwards: the last comes first.
 pub fn mirrored_stretches(alloc: Global, stretches: &[Stretch]) -> Result<Vec<Stretch>, AllocError>
     requires { All IsLawfulStretch stretches.now }
-    ensures { IfOk result (λ mirrored. mirrored.items ≡ reverse (map mirrored_stretch stretches.now)) }
+    ensures { IfOk result (λ mirrored.
+        mirrored.items ≡ reverse (map mirrored_stretch stretches.now)) }
 {
     let mut mirrored = Vec::with_capacity(alloc, stretches.len())?;
     for stretch in stretches {

@@ -3,8 +3,7 @@ ghost use Rattle.std.specs.Prelude.{◌≡◌, ◌≤◌, ◌^◌};
 ghost use Rattle.sweep.specs.Top.{IsTopOf, HasHeight, higher_of, is_above};
 
 use ranking::Ranking;
-
-const PARTS: u128 = 1_000_000_000;
+use sample_interval::PARTS;
 
 /// The highest level, and the first index that reaches it.
 #[derive(Clone, Copy)]

@@ -8,12 +8,12 @@ use Rattle.finder.proofs.EnvelopeLemmas.{envelope_of_many, envelope_of_few, leas
 use Rattle.finder.proofs.PieceLemmas.{count_kept}
 use Rattle.finder.proofs.envelope.find_envelope.Goals as goal
 
-pub returns-then-count-gt-MAX_PIECES-clause-exact : goal.returns-then-count-gt-MAX_PIECES-clause-exact
-returns-then-count-gt-MAX_PIECES-clause-exact c =
+pub returns-then-count-clause-exact : goal.returns-then-count-clause-exact
+returns-then-count-clause-exact c =
     let claim = claim_data c.args.claim.now in
     let count = count_kept claim c.requires.claim c.args.step_s c.piece_count-count.result
     c.piece_count-count.ensures in
-    let many : max_pieces < count_of claim c.args.step_s = rw count at c.if-count-gt-MAX_PIECES.true in
+    let many : max_pieces < count_of claim c.args.step_s = rw count at c.if-count.true in
     inr (envelope_of_many c.args.samples.now claim c.args.step_s many)
 
 pub returns-clause-exact : goal.returns-clause-exact
@@ -22,7 +22,7 @@ returns-clause-exact c =
     let samples = c.args.samples.now in
     let step = c.args.step_s in
     let count = count_kept claim c.requires.claim step c.piece_count-count.result c.piece_count-count.ensures in
-    let few : count_of claim step ≤ max_pieces = rw count at c.if-count-gt-MAX_PIECES.false in
+    let few : count_of claim step ≤ max_pieces = rw count at c.if-count.false in
     let found : data_of c.in_ok-found.found ≡ envelope_to samples claim step (count_of claim step) =
     rw count at c.in_ok-found.ensures.value in
     envelope_of_few samples claim step few ∙ ap Ok (sym found)

@@ -13,12 +13,12 @@ use Rattle.finder.proofs.PieceLemmas.{count_kept}
 use Rattle.finder.proofs.RefusalLemmas.{Laws, none_accepted, contradicted}
 use Rattle.finder.proofs.found.find.Goals as goal
 
-pub returns-then-count-gt-MAX_PIECES-clause-exact : goal.returns-then-count-gt-MAX_PIECES-clause-exact
-returns-then-count-gt-MAX_PIECES-clause-exact c =
+pub returns-then-count-clause-exact : goal.returns-then-count-clause-exact
+returns-then-count-clause-exact c =
     let claim = claim_data c.args.claim.now in
     let count = count_kept claim c.requires.claim c.args.step_s c.piece_count-count.result
     c.piece_count-count.ensures in
-    let many : max_pieces < count_of claim c.args.step_s = rw count at c.if-count-gt-MAX_PIECES.true in
+    let many : max_pieces < count_of claim c.args.step_s = rw count at c.if-count.true in
     inr (found_of_many c.args.samples.now claim c.args.step_s many)
 
 pub returns-clause-exact : goal.returns-clause-exact
@@ -26,7 +26,7 @@ returns-clause-exact c =
     let claim = claim_data c.args.claim.now in
     let count = count_kept claim c.requires.claim c.args.step_s c.piece_count-count.result
     c.piece_count-count.ensures in
-    let few : count_of claim c.args.step_s ≤ max_pieces = rw count at c.if-count-gt-MAX_PIECES.false in
+    let few : count_of claim c.args.step_s ≤ max_pieces = rw count at c.if-count.false in
     found_of_few c.args.samples.now claim c.args.step_s few ∙ ap Ok (sym c.in_ok-found.ensures)
 
 pub returns-clause-accepted : goal.returns-clause-accepted
@@ -47,7 +47,7 @@ returns-clause-few c =
     let samples = c.args.samples.now in
     let step = c.args.step_s in
     let count = count_kept claim c.requires.claim step c.piece_count-count.result c.piece_count-count.ensures in
-    let few : count_of claim step ≤ max_pieces = rw count at c.if-count-gt-MAX_PIECES.false in
+    let few : count_of claim step ≤ max_pieces = rw count at c.if-count.false in
     if_certificate samples claim step (IsWhole samples claim step) (λ found. length found.pieces ≤ max_pieces)
     c.in_ok-found.found (whole_few samples claim step few)
     (whole samples claim step c.in_ok-found.found c.in_ok-found.ensures)

@@ -1,16 +1,14 @@
 use Rattle.std.proofs.Common.{◌<◌, ◌≤◌, length, get_or, arith}
 use Rattle.std.proofs.lemmas.Grind.{common_steps}
-use Rattle.std.proofs.lemmas.Int.{ints}
 use Rattle.std.proofs.lemmas.List.{take_all}
 use Rattle.claim_file.specs.Claim.{data_of}
 use Rattle.finder.specs.Entry.{part_named}
 use Rattle.finder.proofs.EntryLemmas.{listed_parts, part_computed}
-use Rattle.finder.proofs.Kept.{kept}
 use Rattle.finder.proofs.ListLemmas.{filter_map_more}
 use Rattle.finder.proofs.hull.parts.Goals as goal
 
-pub piece_interval-requires-clause-low : goal.piece_interval-requires-clause-low
-piece_interval-requires-clause-low c =
+pub part_of-requires-clause-low : goal.part_of-requires-clause-low
+part_of-requires-clause-low c =
     let same = c.as_slice-entry-items.ensures.value in
     let within = c.loop-entry-test.true in
     let index = c.loop-entry.entry-index in
@@ -24,21 +22,15 @@ loop-entry-preserved c =
     let within = c.loop-entry-test.true in
     let index = c.loop-entry.entry-index in
     let entries = c.args.entries.now.items in
-    let stretch = c.args.stretch in
-    let piece = c.requires.stretch in
-    let from_zero = piece.from_zero in
-    let in_order = piece.in_order in
-    let in_range = piece.in_range in
-    let begin = kept stretch.begin (omega (arith, ints)) in
-    let end = kept stretch.end (omega (arith, ints)) in
     let inside : index < length entries = rw (← same) within in
+    let stretch = c.args.stretch in
     let says = part_computed c.args.samples.now (data_of c.args.claim.now) stretch (get_or entries index (0, 0)) _
-    c.piece_interval.result (c.requires.low index (0, 0) inside) (c.requires.high index (0, 0) inside)
-    (rw (same, begin, end) at c.piece_interval.ensures) in
+    c.part_of.result (c.requires.low index (0, 0) inside) (c.requires.high index (0, 0) inside)
+    (rw same at c.part_of.ensures) in
     record {
       so_far = filter_map_more (part_named c.args.samples.now (data_of c.args.claim.now) stretch) entries index (0, 0) _
           c.loop-entry.parts.items c.push.new.self.items c.loop-entry.invariant.so_far inside says
-          (rw same at c.push.ensures.items);
+          c.push.ensures.items;
       fits = grind (arith, common_steps);
     }
 

@@ -17,7 +17,8 @@ returns-then-root-at_least-clause-none c =
     let less : c.root.result <ℤ c.max-at_least.result = grind (arith, ints) in
     let is = c.root.ensures ∙ ap (λ nodes. value_of nodes 0) c.deref.ensures.value in
     rw (← c.self.view_is)
-    (all_below c.self.inside.nodes.items c.self.inside.leaves c.self.invariant.tree c.args.at_least c.max-at_least.result
+    (all_below c.self.inside.nodes.items c.self.inside.leaves c.self.invariant.tree c.args.at_least
+        c.max-at_least.result
     (λ value something enough. omega (arith, ints, clamps)) (rw (← is) less))
 
 pub returns-then-self-at_least-clause-least : goal.returns-then-self-at_least-clause-least
