@@ -8,7 +8,8 @@ into a capture can choose transmit timestamps whose hashes begin at one place of
 with a small program that the C compiler makes: 200,000 of them (if nothing is said) take half a minute. With --random
 the timestamps are any. The capture has N requests of the client 192.0.2.100 from one port to one server, and no reply.
 
-The hash is that of the toolchain's crate `core`, FoldHasher, as its crate `indexmap` uses it.
+The hash is that of `crates/pairing/src/hashing.rt`, with the two numbers that FoldHasher of the toolchain's crate `core`
+gives, whose seed is fixed. The program takes two random numbers, and no file can hold keys that collide under those.
 """
 import argparse
 import random
@@ -29,11 +30,13 @@ SEARCH = r"""
 #include <stdlib.h>
 
 int main(int count, char **words) {
-    uint64_t state = strtoull(words[1], 0, 0), by = strtoull(words[2], 0, 0), mask = strtoull(words[3], 0, 0);
-    long wanted = atol(words[4]);
+    uint64_t state = strtoull(words[1], 0, 0), by = strtoull(words[2], 0, 0);
+    uint64_t multiplier = strtoull(words[3], 0, 0), mask = strtoull(words[4], 0, 0);
+    long wanted = atol(words[5]);
     for (uint64_t mixed = 1; wanted; mixed++) {
         unsigned __int128 product = (unsigned __int128)mixed * by;
-        uint64_t hash = (uint64_t)product ^ (uint64_t)(product >> 64);
+        uint64_t folded = (uint64_t)product ^ (uint64_t)(product >> 64);
+        uint64_t hash = __builtin_bswap64(folded * multiplier);
         if (((hash ^ hash >> 32) & mask) == 0) {
             uint64_t stamp = mixed ^ state;
             fwrite(&stamp, 8, 1, stdout);
@@ -53,13 +56,14 @@ def fold(state, word, length):
 def colliding(count):
     """Timestamps whose keys begin their search at the same place, in a table that holds this many."""
     low, high = PORT & 255, PORT >> 8
-    state = fold(fold(STATE, 0, 1), low | high << 8 | high << 16, 2)
+    start, multiplier = fold(STATE, fold(STATE, 0, 8), 8), fold(STATE, 1, 8) | 1
+    state = fold(fold(start, 0, 1), low | high << 8 | high << 16, 2)
     bits = (count // MOST_ENTRIES_OF_A_GROUP).bit_length() + 1
     with tempfile.TemporaryDirectory() as folder:
         source, search = Path(folder) / "search.c", Path(folder) / "search"
         source.write_text(SEARCH)
         subprocess.run(["cc", "-O2", "-o", search, source], check=True)
-        words = [search, hex(state), hex(MULTIPLIER ^ 16), hex(2**bits - 1), str(count)]
+        words = [search, hex(state), hex(MULTIPLIER ^ 16), hex(multiplier), hex(2**bits - 1), str(count)]
         return struct.unpack(f"={count}Q", subprocess.run(words, check=True, stdout=subprocess.PIPE).stdout)
 
 

@@ -61,7 +61,11 @@ fn ticks_up(sub: u32, unit: Unit) -> u64
 {
     let scaled = (sub as u64) << 32;
     match unit {
-        Unit::Micro => scaled.div_ceil(MICROSECONDS_PER_SECOND as u64),
-        Unit::Nano => scaled.div_ceil(NANOSECONDS_PER_SECOND as u64),
+        Unit::Micro => {
+            (scaled + (MICROSECONDS_PER_SECOND as u64 - 1)) / MICROSECONDS_PER_SECOND as u64
+        }
+        Unit::Nano => {
+            (scaled + (NANOSECONDS_PER_SECOND as u64 - 1)) / NANOSECONDS_PER_SECOND as u64
+        }
     }
 }

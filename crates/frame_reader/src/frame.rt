@@ -12,6 +12,7 @@ use crate::udp::segment_datagram;
 /// The UDP datagram that an Ethernet II frame holds (RFC 768, RFC 791, IEEE 802.1Q), or the first
 /// reason to skip the frame. The payload is the UDP length less the 8 bytes of the UDP header; what
 /// follows it is padding. The frame may have any length.
+#[inline(always)]
 #[tactic(auto, unfolding(crate::specs::Frame::datagram_of, crate::specs::Frame::skip_of))]
 pub fn datagram(frame: &[u8]) -> Result<Datagram<'_>, Skip>
     ensures exact { MatchResult result

@@ -12,6 +12,7 @@ pub const NTP_PORT: u16 = 123;
 
 /// The NTP packet that a frame holds: a datagram from or to port 123 with a payload of at least 48
 /// bytes (RFC 5905, section 7.2). `None` comes for any other frame. It takes no memory.
+#[inline(always)]
 #[tactic(auto, unfolding(crate::specs::Packet::packet_of))]
 pub fn packet(frame: &[u8]) -> Option<Packet<'_>>
     ensures exact { MatchOption result

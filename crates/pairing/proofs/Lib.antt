@@ -8,3 +8,4 @@ pub mod Tallies
 pub mod Order
 pub mod Pairs
 pub mod Servers
+pub mod Words

@@ -3,6 +3,7 @@ pub mod Counts
 pub mod Exchange
 pub mod Fault
 pub mod Gathering
+pub mod Hashing
 pub mod Index
 pub mod Message
 pub mod Pair

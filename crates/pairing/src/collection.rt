@@ -12,6 +12,7 @@ ghost use Rattle.pairing.specs.Reading.{GathersAll};
 use crate::collected::Collected;
 use crate::fault::PairFault;
 use crate::gathering::Gathering;
+use crate::hashing::KeyHasher;
 use crate::laws::exchanges_keep_their_limits;
 use crate::message::read_message;
 use claim_file::Claim;
@@ -20,10 +21,10 @@ use std::alloc::Global;
 use std::hash::{BuildHasher, BuildHasherDefault, FoldHasher};
 
 /// Gathers what each record of a source says.
-fn gather<S: RecordSource, H: BuildHasher + Drop>(
+fn gather<S: RecordSource>(
     source: &mut S,
     claim: &Claim,
-    gathering: &mut Gathering<H>,
+    gathering: &mut Gathering,
 ) -> Result<(), PairFault>
     requires lawful { IsLawful (data_of claim.now) }
     requires fresh { IsFresh (S.state source.old) }
@@ -52,8 +53,8 @@ fn gather<S: RecordSource, H: BuildHasher + Drop>(
 }
 
 /// Collects the exchanges and counts of a whole capture, in one pass, with an index of requests
-/// that hashes by `hasher`. Who doesn't trust the capture's writer passes a hasher with a random
-/// key.
+/// whose hash is keyed by two numbers of `hasher`. Who doesn't trust the capture's writer passes a
+/// hasher with a random key.
 ///
 /// The source has given nothing and answered no fault, and the claim keeps its limits. `Capture`
 /// comes where the source ends with a fault, `TooManyExchanges` where it ends whole with over
@@ -71,7 +72,7 @@ pub fn collect_with<S: RecordSource, H: BuildHasher + Drop>(
     ensures { Collects (data_of claim.now) (S.state source.old) result (S.state source.new) }
 {
     exchanges_keep_their_limits();
-    let mut gathering = Gathering::new(alloc, hasher);
+    let mut gathering = Gathering::new(alloc, KeyHasher::keyed_by(&hasher));
     match gather(source, claim, &mut gathering) {
         Ok(()) => gathering.finish(alloc),
         Err(fault) => Err(fault),

@@ -6,23 +6,23 @@ ghost use Rattle.indexmap.specs.IndexMap.{get};
 use crate::collected::Collected;
 use crate::counts::Counts;
 use crate::fault::PairFault;
+use crate::hashing::KeyHasher;
 use crate::index::Index;
 use crate::join::join;
 use crate::message::Message;
 use crate::waiting::Waiting;
 use pcap_reader::RecordHead;
 use std::alloc::{AllocError, Global};
-use std::hash::BuildHasher;
 
 /// The requests by their keys, the replies that wait, and the counts.
 #[derive(Drop)]
-pub(crate) struct Gathering<H: BuildHasher> {
-    pub index: Index<H>,
+pub(crate) struct Gathering {
+    pub index: Index,
     pub waiting: Vec<Waiting>,
     pub counts: Counts,
 }
 
-impl<H: BuildHasher + Drop> Gathering<H> {
+impl Gathering {
     ghost use Rattle.pairing.specs.Counts.{HasRoom};
     ghost use Rattle.pairing.specs.Gathering.{counts_with, requests_in, waiting_in, IsGatheredFrom, IsReady};
     ghost use Rattle.pairing.specs.Index.{Indexes, same_key};
@@ -32,7 +32,7 @@ impl<H: BuildHasher + Drop> Gathering<H> {
     ghost use Rattle.pcap_reader.specs.Capture.{Record};
 
     /// Nothing yet.
-    pub(crate) fn new(alloc: Global, hasher: H) -> Gathering<H>
+    pub(crate) fn new(alloc: Global, hasher: KeyHasher) -> Gathering
         ensures { (claim : ClaimData) → IsGatheredFrom claim []
             (get same_key result.index.places) result.waiting.items result.counts }
     {
@@ -44,6 +44,7 @@ impl<H: BuildHasher + Drop> Gathering<H> {
     }
 
     /// Gathers what one more record says.
+    #[inline(always)]
     pub(crate) fn take(
         &mut self,
         head: &RecordHead,
@@ -58,7 +59,6 @@ impl<H: BuildHasher + Drop> Gathering<H> {
             ≡ self.old.waiting.items ++ waiting_in message) }
         ensures counted { OnOk result (self.new.counts ≡ counts_with message self.old.counts) }
     {
-        self.counts.records += 1;
         match message {
             None => {}
             Some(Message::Request(key)) => {
@@ -74,6 +74,7 @@ impl<H: BuildHasher + Drop> Gathering<H> {
                 self.waiting.push(reply)?;
             }
         }
+        self.counts.records += 1;
         Ok(())
     }
 

@@ -6,11 +6,11 @@ ghost use Rattle.pcap_reader.specs.declared.format.RecordHead.{RecordHead as Hea
 ghost use Rattle.pairing.specs.Index.{Indexes, moment_of, request_at, same_key};
 ghost use Rattle.pairing.specs.Message.{Request};
 
+use crate::hashing::KeyHasher;
 use era_unfold::Unit;
 use indexmap::IndexMap;
 use pcap_reader::RecordHead;
 use std::alloc::{AllocError, Global};
-use std::hash::BuildHasher;
 
 /// What a request and its replies share.
 #[derive(Clone, Copy, Debug, PartialEq, Eq, Hash)]
@@ -61,13 +61,13 @@ pub(crate) enum Place {
 
 /// Each key's requests, as far as the capture was read.
 #[derive(Drop)]
-pub(crate) struct Index<H: BuildHasher> {
-    places: IndexMap<Key, Place, H>,
+pub(crate) struct Index {
+    places: IndexMap<Key, Place, KeyHasher>,
 }
 
-impl<H: BuildHasher + Drop> Index<H> {
+impl Index {
     /// The index of no request.
-    pub(crate) fn new(alloc: Global, hasher: H) -> Index<H>
+    pub(crate) fn new(alloc: Global, hasher: KeyHasher) -> Index
         ensures { Indexes (get same_key result.places) [] }
     {
         Index {

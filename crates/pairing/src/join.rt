@@ -16,12 +16,11 @@ use crate::fault::PairFault;
 use crate::index::Index;
 use crate::waiting::Waiting;
 use std::alloc::Global;
-use std::hash::BuildHasher;
 
 /// Joins each waiting reply with its request, from these counts on.
-pub(crate) fn join<H: BuildHasher + Drop>(
+pub(crate) fn join(
     alloc: Global,
-    index: &Index<H>,
+    index: &Index,
     waiting: &[Waiting],
     counts: Counts,
 ) -> Result<Collected, PairFault>

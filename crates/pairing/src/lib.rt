@@ -12,6 +12,7 @@ mod counts;
 mod exchange;
 mod fault;
 mod gathering;
+mod hashing;
 mod index;
 mod join;
 pub mod laws;

@@ -33,15 +33,25 @@ pub(crate) enum Message {
     Reply(Waiting),
 }
 
+/// Whether two addresses are the same, each compared as one number.
+#[inline(always)]
+fn is_same(a: [u8; 4], b: [u8; 4]) -> bool
+    ensures { result ≡ bytes_eq a b }
+{
+    u32::from_be_bytes(a) == u32::from_be_bytes(b)
+}
+
 /// The place of this address among the servers'.
+#[inline(always)]
 fn place_of(servers: &[[u8; 4]], address: [u8; 4]) -> Option<usize>
     ensures place { result ≡ position (λ server. bytes_eq server address) servers.now }
     ensures within { IfSome result (λ place. place < length servers.now) }
 {
-    servers.iter().position(|server| *server == address)
+    servers.iter().position(|server| is_same(*server, address))
 }
 
 /// The number of the server with this address.
+#[inline(always)]
 fn server_at(claim: &Claim, address: [u8; 4]) -> Option<u8>
     requires { IsLawful (data_of claim.now) }
     ensures { result ≡ server_at (data_of claim.now) address }
@@ -52,13 +62,14 @@ fn server_at(claim: &Claim, address: [u8; 4]) -> Option<u8>
 
 /// The server that a packet is a request to: a packet of mode 3 and version 4, from the client's
 /// address to the server's, port 123.
+#[inline(always)]
 #[tactic(auto, unfolding(crate::specs::Message::requested_server))]
 pub(crate) fn requested_server(claim: &Claim, packet: &Packet<'_>) -> Option<u8>
     requires { IsLawful (data_of claim.now) }
     ensures { result ≡ requested_server (data_of claim.now) (packet_shown packet.now) }
 {
     let datagram = &packet.datagram;
-    if datagram.source != claim.client || datagram.destination_port != NTP_PORT {
+    if !is_same(datagram.source, claim.client) || datagram.destination_port != NTP_PORT {
         return None;
     }
     if packet.header.mode() != CLIENT_MODE || packet.header.version() != 4 {
@@ -69,13 +80,14 @@ pub(crate) fn requested_server(claim: &Claim, packet: &Packet<'_>) -> Option<u8>
 
 /// The server that a packet is a reply of: a packet of mode 4, from the server's address, port 123,
 /// to the client's.
+#[inline(always)]
 #[tactic(auto, unfolding(crate::specs::Message::replying_server))]
 pub(crate) fn replying_server(claim: &Claim, packet: &Packet<'_>) -> Option<u8>
     requires { IsLawful (data_of claim.now) }
     ensures { result ≡ replying_server (data_of claim.now) (packet_shown packet.now) }
 {
     let datagram = &packet.datagram;
-    if datagram.destination != claim.client || datagram.source_port != NTP_PORT {
+    if !is_same(datagram.destination, claim.client) || datagram.source_port != NTP_PORT {
         return None;
     }
     if packet.header.mode() != SERVER_MODE {
@@ -85,6 +97,7 @@ pub(crate) fn replying_server(claim: &Claim, packet: &Packet<'_>) -> Option<u8>
 }
 
 /// What a reply of this server says.
+#[inline(always)]
 fn judge(server: u8, head: &RecordHead, packet: &Packet<'_>) -> Message
     ensures { result ≡ judged (reply_from head.now (packet_shown packet.now) server) }
 {
@@ -95,6 +108,7 @@ fn judge(server: u8, head: &RecordHead, packet: &Packet<'_>) -> Message
 }
 
 /// What a packet says.
+#[inline(always)]
 fn message_in(claim: &Claim, head: &RecordHead, packet: &Packet<'_>) -> Option<Message>
     requires { IsLawful (data_of claim.now) }
     ensures { result ≡ message_in (data_of claim.now) head.now (packet_shown packet.now) }
@@ -111,6 +125,7 @@ fn message_in(claim: &Claim, head: &RecordHead, packet: &Packet<'_>) -> Option<M
 }
 
 /// What a record says: a request, a reply, or nothing.
+#[inline(always)]
 #[tactic(auto, unfolding(crate::specs::Waiting::message_of))]
 pub(crate) fn read_message(claim: &Claim, head: &RecordHead, bytes: &[u8]) -> Option<Message>
     requires { IsLawful (data_of claim.now) }

@@ -36,6 +36,7 @@ pub(crate) fn announced_distance(header: &NtpView<'_>) -> Option<u64>
 }
 
 /// The root distance of a reply in ticks, or the first reason that its header gives to refuse it.
+#[inline(always)]
 #[tactic(auto, unfolding(crate::specs::Refusal::refusal_of))]
 pub(crate) fn accepted_distance(header: &NtpView<'_>) -> Result<u64, Refusal>
     ensures exact { MatchResult result

@@ -38,7 +38,7 @@ outcome_found : (look_up : Key → Option Place) (w : Waiting) (found : Option P
 outcome_found look_up w found outcome is at = is ∙ ap (λ (p : Option Place). exchange_at p w) at
 
 pub take-requires-clause-room : goal.take-requires-clause-room
-take-requires-clause-room g c =
+take-requires-clause-room c =
     let f = at_index (get same_key c.args.index.now.places) in
     let xs = c.args.waiting.now in
     let i = c.loop-reply.reply-index in
@@ -53,7 +53,7 @@ take-requires-clause-room g c =
     c.loop-reply.invariant.joined c.requires.room fewer
 
 pub returns-in_err-take : goal.returns-in_err-take
-returns-in_err-take g c =
+returns-in_err-take c =
     let p = err_from_is_err_and c.from_residual.result c.from_residual.ensures.1 in
     let f = at_index (get same_key c.args.index.now.places) in
     let xs = c.args.waiting.now in
@@ -73,7 +73,7 @@ returns-in_err-take g c =
     ])
 
 pub loop-reply-preserved : goal.loop-reply-preserved
-loop-reply-preserved g c =
+loop-reply-preserved c =
     let f = at_index (get same_key c.args.index.now.places) in
     let xs = c.args.waiting.now in
     let i = c.loop-reply.reply-index in

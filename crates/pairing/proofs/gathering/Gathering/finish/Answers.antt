@@ -7,7 +7,7 @@ use Rattle.pairing.proofs.Exactness.{collected}
 use Rattle.pairing.proofs.gathering.Gathering.finish.Goals as goal
 
 pub returns : goal.returns
-returns g c claim records gathered =
+returns c claim records gathered =
     let look_up = get same_key c.args.self.now.index.places in
     collected claim records look_up c.deref.result.now c.args.self.now.counts c.join.result
     (subst (λ (ws : List Waiting). IsGatheredFrom claim records look_up ws c.args.self.now.counts)
