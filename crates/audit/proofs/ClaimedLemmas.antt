@@ -107,7 +107,8 @@ numbers_are d ns e = list_is unsigned_of (λ n. number (unsigned n)) number_is d
 
 -- an array of texts, where the member is looked up first
 texts_are : (o : Option Data) (texts : List (List ℕ))
-    → option_and_then texts_of (option_and_then as_array o) ≡ Some texts → o ≡ Some (array (items_of (map string texts)))
+    → option_and_then texts_of (option_and_then as_array o) ≡ Some texts
+    → o ≡ Some (array (items_of (map string texts)))
 texts_are None texts e = absurd cc
 texts_are (Some d) texts e = ap Some (list_is as_str string string_is d texts e)
 

@@ -43,10 +43,10 @@ time_of-read {text} {bytes} {slice} {m} {second} {found} same known at unix is s
 pair_value-digits : (n : ℕ) → n < 100 → pair_value (48 + n / 10) (48 + n % 10) ≡ n
 pair_value-digits n small = omega arith
 
--- a moment that exists has numbers of as many digits as are written
-small_parts : (m : Moment) → exists m ≡ true →
-    (m.year < 10000) × (m.month < 100) × (m.day < 100) × (m.hour < 100) × (m.minute < 100) × (m.second < 100)
-small_parts m there =
+-- a moment that exists, by its parts
+exists_parts : (m : Moment) → exists m ≡ true →
+    IsCivilDate (pos m.year) m.month m.day × (m.hour < 24) × (m.minute < 60) × (m.second < 60)
+exists_parts m there =
     let (e3, second) = both_true _ _ there in
     let (e2, minute) = both_true _ _ e3 in
     let (date, hour) = both_true _ _ e2 in
@@ -54,14 +54,27 @@ small_parts m there =
     let (d3, first_day) = both_true _ _ d4 in
     let (d2, last_month) = both_true _ _ d3 in
     let (year, first_month) = both_true _ _ d2 in
-    let y : m.year < 10000 = ltb-true _ _ year in
-    let mo : m.month ≤ 12 = leb-true _ _ last_month in
-    let d : m.day ≤ days_in_month (pos m.year) m.month = leb-true _ _ last_day in
+    let y : m.year < 10000 = ltb-true _ _ year in (
+      (
+        (omega (arith, ints), omega (arith, ints, y)),
+        (leb-true _ _ first_month, leb-true _ _ last_month),
+        (leb-true _ _ first_day, leb-true _ _ last_day),
+      ),
+      ltb-true _ _ hour,
+      ltb-true _ _ minute,
+      ltb-true _ _ second,
+    )
+
+-- a moment that exists has numbers of as many digits as are written
+small_parts : (m : Moment) → exists m ≡ true →
+    (m.year < 10000) × (m.month < 100) × (m.day < 100) × (m.hour < 100) × (m.minute < 100) × (m.second < 100)
+small_parts m there =
+    let (date, h, mi, s) = exists_parts m there in
+    let y = date.0.1 in
+    let mo = date.1.1 in
+    let d = date.2.1 in
     let few : days_in_month (pos m.year) m.month ≤ 31 = (days_in_month_bounds (pos m.year) m.month).0 in
-    let h : m.hour < 24 = ltb-true _ _ hour in
-    let mi : m.minute < 60 = ltb-true _ _ minute in
-    let s : m.second < 60 = ltb-true _ _ second in
-    (y, omega arith, omega arith, omega arith, omega arith, omega arith)
+    (omega (arith, ints, y), omega arith, omega arith, omega arith, omega arith, omega arith)
 
 -- what was written is read again
 pub moment_at-spelling : (m : Moment) → exists m ≡ true → moment_at (spelling m) ≡ m
@@ -157,14 +170,7 @@ pub IsTime-time_of : (text : List ℕ) (second : ℕ) → time_of text ≡ Some 
 IsTime-time_of text second says =
     let m = moment_at text in
     let parts = unsaid (exists m) (bytes_eq text (spelling m)) (unix_second m) second says in
-    let (e3, second') = both_true _ _ parts.is_there in
-    let (e2, minute) = both_true _ _ e3 in
-    let (date, hour) = both_true _ _ e2 in
-    let (d4, last_day) = both_true _ _ date in
-    let (d3, first_day) = both_true _ _ d4 in
-    let (d2, last_month) = both_true _ _ d3 in
-    let (year, first_month) = both_true _ _ d2 in
-    let y : m.year < 10000 = ltb-true _ _ year in
+    let (date, hour, minute, second') = exists_parts m parts.is_there in
     record {
       year = m.year;
       month = m.month;
@@ -172,12 +178,8 @@ IsTime-time_of text second says =
       hour = m.hour;
       minute = m.minute;
       second_of_minute = m.second;
-      date = (
-        (omega (arith, ints), omega (arith, ints, y)),
-        (leb-true _ _ first_month, leb-true _ _ last_month),
-        (leb-true _ _ first_day, leb-true _ _ last_day),
-      );
-      time_of_day = (ltb-true _ _ hour, ltb-true _ _ minute, ltb-true _ _ second');
+      date = date;
+      time_of_day = (hour, minute, second');
       spelled = (bytes_eq-Decides text (spelling m)).0 parts.is_same;
       counted = parts.counted;
       in_range = parts.small;
