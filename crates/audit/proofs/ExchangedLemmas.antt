@@ -231,9 +231,9 @@ pub record AreInPlace (unit : TimeUnit) (records : List Record) : Type 0 where
   pub bytes : (k : ℕ) (r : Record) → slice_get records k ≡ Some r → IsBytes r.bytes
 
 -- the same packet, where addresses and ports are said in other words
-moved : (frame header : List ℕ) (s s₂ : List ℕ) (p p₂ : ℕ) (d d₂ : List ℕ) (q q₂ : ℕ) → s ≡ s₂ → p ≡ p₂ → d ≡ d₂
+moved : {s s₂ : List ℕ} {p p₂ : ℕ} {d d₂ : List ℕ} {q q₂ : ℕ} (frame header : List ℕ) → s ≡ s₂ → p ≡ p₂ → d ≡ d₂
     → q ≡ q₂ → HoldsPacket frame s p d q header → HoldsPacket frame s₂ p₂ d₂ q₂ header
-moved frame header s s₂ p p₂ d d₂ q q₂ a b c e held =
+moved {s} {s₂} {p} {p₂} {d} {d₂} {q} {q₂} frame header a b c e held =
     subst (λ (x : List ℕ). HoldsPacket frame x p₂ d₂ q₂ header) a
     (subst (λ (x : ℕ). HoldsPacket frame s x d₂ q₂ header) b
     (subst (λ (x : List ℕ). HoldsPacket frame s p x q₂ header) c
@@ -290,17 +290,13 @@ module _ (laws : Laws) (claim : ClaimData) (apart : AllPairs (λ a b. a ≢ b) c
         server_listed = listed;
         answers = subst
             (λ (h : List ℕ). HoldsPacket r.bytes server ntp_port claim.client reply.port h) (sym header)
-            (moved r.bytes at_r.packet.header server server at_r.packet.datagram.source_port ntp_port
-            at_r.packet.datagram.destination claim.client at_r.packet.datagram.destination_port reply.port refl
-            at_r.answers'.from_port at_r.answers'.to_client (sym port) at_r.held);
+            (moved r.bytes at_r.packet.header refl at_r.answers'.from_port at_r.answers'.to_client (sym port) at_r.held);
         mode = ap mode_of header ∙ at_r.answers'.mode;
         usable = (laws.usable reply.header).0 accepted;
         asks = record {
           header = at_s.packet.header;
-          held = moved s.bytes at_s.packet.header at_s.packet.datagram.source claim.client
-              at_s.packet.datagram.source_port reply.port at_s.packet.datagram.destination server
-              at_s.packet.datagram.destination_port ntp_port at_s.asks.from_client
-              (sym from_port ∙ sym same_port) to_server at_s.asks.to_port at_s.held;
+          held = moved s.bytes at_s.packet.header at_s.asks.from_client (sym from_port ∙ sym same_port) to_server
+              at_s.asks.to_port at_s.held;
           version = at_s.asks.version;
           mode = at_s.asks.mode;
           stamped = sym stamp ∙ sym same_stamp;
