@@ -10,12 +10,11 @@ import os
 import signal
 from collections.abc import Iterator
 
-BLOCK = 1 << 20
-"""Bytes that are read at once."""
+BLOCK = 1 << 16
+"""Bytes that are read at once: what a pipe holds."""
 
 DEFAULTS = [signal.SIGPIPE, signal.SIGXFSZ]
 """Signals that Python ignores, and that the program is to get as usual."""
-
 
 ENVIRONMENT = dict(os.environb)
 

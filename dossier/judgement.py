@@ -7,6 +7,7 @@ from __future__ import annotations
 import json
 from collections.abc import Iterator
 from dataclasses import dataclass
+from functools import cached_property
 from typing import Any
 
 from .answers import Envelope, Hull, Report, read_envelope, read_nothing, read_report
@@ -34,9 +35,14 @@ class Texts:
     refute: bytes | None = None
     """What `refute` says about it."""
 
+    @cached_property
+    def said(self) -> Report | None:
+        """The report of `check`, if it decided."""
+        return read_report(self.report) if self.decided_by == "check" else None
+
     @property
     def is_yes(self) -> bool:
-        return self.decided_by == "check" and read_report(self.report).is_yes
+        return self.said is not None and self.said.is_yes
 
 
 def at_bound_0(claim: dict[str, Any]) -> bytes:
@@ -50,7 +56,7 @@ def groups_of(claim: dict[str, Any]) -> list[list[int]]:
 
 def judge(part: str, claim: dict[str, Any], recording: Recording, texts: Texts) -> Entry:
     envelope = read_envelope(texts.envelope)
-    report = read_report(texts.report) if texts.decided_by == "check" else None
+    report = texts.said
     failing = count_failing(envelope, bound_ticks(claim["bound_ns"]))
     verdict = NO if not texts.is_yes else NEITHER if failing["empty"] else YES
     return Entry(
