@@ -126,7 +126,8 @@ padded_more w n long fits =
     let v : w - 1 - 1 - 1 ≡ w - 3 = omega arith in
     padded_step w n (omega arith) fits
     ∙ ap (λ (l : List ℕ). l ++ ((48 + n % 10) ∷ [])) (padded_step (w - 1) (n / 10) (omega arith) (omega arith)
-    ∙ ap (λ (l : List ℕ). l ++ ((48 + n / 10 % 10) ∷ [])) (padded_step (w - 1 - 1) (n / 10 / 10) (omega arith) (omega arith)))
+    ∙ ap (λ (l : List ℕ). l ++ ((48 + n / 10 % 10) ∷ []))
+    (padded_step (w - 1 - 1) (n / 10 / 10) (omega arith) (omega arith)))
     ∙ regrouped (zero_padded (w - 1 - 1 - 1) (n / 10 / 10 / 10)) ((48 + n / 10 / 10 % 10) ∷ [])
     ((48 + n / 10 % 10) ∷ []) ((48 + n % 10) ∷ [])
     ∙ ap (λ (l : List ℕ). zero_padded (w - 1 - 1 - 1) (n / 10 / 10 / 10) ++ l) (last_three n)
@@ -145,7 +146,8 @@ decimal_more n wide fits =
     decimal_step n (omega arith) fits
     ∙ ap (λ (l : List ℕ). l ++ ((48 + n % 10) ∷ [])) (decimal_step (n / 10) (omega arith) (omega arith)
     ∙ ap (λ (l : List ℕ). l ++ ((48 + n / 10 % 10) ∷ [])) (decimal_step (n / 10 / 10) (omega arith) (omega arith)))
-    ∙ regrouped (decimal (n / 10 / 10 / 10)) ((48 + n / 10 / 10 % 10) ∷ []) ((48 + n / 10 % 10) ∷ []) ((48 + n % 10) ∷ [])
+    ∙ regrouped (decimal (n / 10 / 10 / 10)) ((48 + n / 10 / 10 % 10) ∷ [])
+    ((48 + n / 10 % 10) ∷ []) ((48 + n % 10) ∷ [])
     ∙ ap (λ (l : List ℕ). decimal (n / 10 / 10 / 10) ++ l) (last_three n)
     ∙ ap (λ (m : ℕ). decimal m ++ three (n % 1000)) a
 
@@ -160,7 +162,8 @@ last_nine n =
     ∙ ap (λ (m : ℕ). zero_padded 6 (n % 10 ^ 9 / 1000) ++ three m) d
     ∙ ap (λ (l : List ℕ). l ++ three (n % 1000)) (padded_more 6 (n % 10 ^ 9 / 1000) (omega arith) (omega arith)
     ∙ ap (λ (m : ℕ). zero_padded 3 (n % 10 ^ 9 / 1000 / 1000) ++ three m) b
-    ∙ ap (λ (l : List ℕ). l ++ three (n / 1000 % 1000)) (padded_three (n % 10 ^ 9 / 1000 / 1000) (omega arith) ∙ ap three a))
+    ∙ ap (λ (l : List ℕ). l ++ three (n / 1000 % 1000))
+    (padded_three (n % 10 ^ 9 / 1000 / 1000) (omega arith) ∙ ap three a))
 
 -- nine digits more
 pub decimal_nine_more : (n : ℕ) → 10 ^ 9 ≤ n → n < 2 ^ 64 →

@@ -32,7 +32,7 @@ returns-in_err-format-clause-refusal g c =
     in
     let value = ap header_of (sym c.held.ensures.value) ∙ sym c.in_err-format.ensures.value in
     rw (p.1, p.2) (header_refused (state s.feed).remaining (state i.feed).remaining (held_bytes i)
-      c.in_err-format.field-0.0 keeps end value)
+    c.in_err-format.field-0.0 keeps end value)
 
 pub returns-in_err-format-clause-not_memory : goal.returns-in_err-format-clause-not_memory
 returns-in_err-format-clause-not_memory g c =

@@ -16,6 +16,7 @@ loop-left-preserved c =
     let more = nine_more l.left (omega arith) l.auto.left-fits.fits in
     record {
       text = written (decimal (l.left / 10 ^ 9)) (zero_padded 9 (l.left % 10 ^ 9)) l.self
-          c.put_nine_digits.ensures.text (decimal_nine_more l.left (omega arith) l.auto.left-fits.fits) l.invariant.text;
+          c.put_nine_digits.ensures.text (decimal_nine_more l.left (omega arith) l.auto.left-fits.fits)
+          l.invariant.text;
       grown = omega arith;
     }
