@@ -11,7 +11,7 @@ use Rattle.era_unfold.specs.declared.unit.Unit.{Unit as TimeUnit}
 use Rattle.era_unfold.specs.Window.{per_second}
 use Rattle.pcap_reader.specs.declared.format.Endian.{Endian}
 use Rattle.pcap_reader.specs.declared.format.Format.{Format}
-use Rattle.pcap_reader.specs.Capture.{Record, AreRecordsFrom, IsCapture, IsRecordAt, magic_of, record_spelling, spelling}
+use Rattle.pcap_reader.specs.Capture.{Record, AreRecordsFrom, IsCapture, IsRecordAt, magic_of, spelling}
 use Rattle.pcap_reader.specs.Field.{spelled}
 use Rattle.audit.specs.Captured.{CapturedFrame, IsCaptureOf, IsLawfulFrame, frame_of, record_bytes}
 

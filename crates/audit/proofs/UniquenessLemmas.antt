@@ -1,5 +1,5 @@
 -- A text says one claim at most.
-use Rattle.std.proofs.Common.{◌≡◌, ℕ, zero, suc, ◌*◌, ℤ, pos, ◌↔◌, List, [], ◌∷◌, length, map, codes, Option, Some, None, refl, sym, ap, ◌∙◌, subst, arith}
+use Rattle.std.proofs.Common.{◌≡◌, ℕ, suc, ◌*◌, ℤ, pos, ◌↔◌, List, [], ◌∷◌, length, map, codes, Option, Some, None, refl, sym, ap, ◌∙◌, subst, arith}
 use Rattle.std.specs.Prelude.{slice_get}
 use Rattle.std.specs.List.{AllZip}
 use Rattle.std.specs.Option.{option_map}
@@ -7,7 +7,7 @@ use Rattle.std.specs.Net.Grammar.{IsDotted}
 use Rattle.era_unfold.specs.Nanoseconds.{nanoseconds_per_second}
 use Rattle.era_unfold.specs.Ratio.{IsFloor, IsCeiling}
 use Rattle.era_unfold.specs.Window.{ticks_per_second}
-use Rattle.serde_json.specs.Data.{Data, number, string, unsigned, array, Items, item}
+use Rattle.serde_json.specs.Data.{Data, number, string, unsigned, array, Items}
 use Rattle.serde_json.specs.Find.{get}
 use Rattle.serde_json.specs.View.{items_of}
 use Rattle.claim_file.specs.Address.{address_of}
