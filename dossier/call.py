@@ -1,8 +1,8 @@
 """One call of a program: a process with its output to be read.
 
-A thousand small audits are ten thousand calls, so this goes to posix_spawn directly: subprocess takes nearly as long over
-a call as the program itself. The working folder is that of this whole process for as long as the process is made: no
-other thread may hang on it.
+A thousand small audits are seven thousand calls, so this goes to posix_spawn directly: subprocess takes nearly as long
+over a call as the program itself. The working folder is that of this whole process for as long as the process is made:
+no other thread may hang on it.
 """
 from __future__ import annotations
 
