@@ -8,6 +8,7 @@ import json
 from collections.abc import Iterator
 from dataclasses import dataclass
 from functools import cached_property
+from operator import sub
 from typing import Any
 
 from .answers import Envelope, Hull, Report, read_envelope, read_nothing, read_report
@@ -163,7 +164,7 @@ def warnings(
     if recording.fall:
         record, before, after = recording.fall
         yield {"kind": "falls", "count": recording.falls, "record": record, "before": before, "after": after}
-    yield from far_pieces(recording, envelope, last - first)
+    yield from far_pieces(claim, recording, envelope)
     if recording.counts.get("warnings"):
         yield {"kind": "leap", "count": recording.counts["warnings"]}
     if report is not None and report.sources is not None:
@@ -172,14 +173,13 @@ def warnings(
         yield {"kind": "reference", "reference": report.reference}
 
 
-def far_pieces(recording: Recording, envelope: Envelope, span: int) -> Iterator[Alert]:
-    limit, far, worst = span * SECOND // FAR, 0, (-1, 0)
-    if not recording.times:
-        return
-    for k, (begin, end) in enumerate(zip(envelope.begins, envelope.ends)):
-        distance = recording.nearest(begin, end)
-        if distance > limit:
-            far += 1
-            worst = max(worst, (distance, -k))
-    if far:
-        yield {"kind": "far", "count": far, "distance": worst[0], **piece_of(envelope, -worst[1])}
+def far_pieces(claim: dict[str, Any], recording: Recording, envelope: Envelope) -> Iterator[Alert]:
+    first, last = seconds_of(claim["from"]) * SECOND, seconds_of(claim["to"]) * SECOND
+    limit, times = (last - first) // FAR, [first, *recording.times, last]
+    if not recording.times or max(map(sub, times[1:], times)) <= limit:
+        return  # (a piece can't be farther from a sample than the samples are from one another)
+    distances = list(map(recording.nearest, envelope.begins, envelope.ends))
+    farthest = max(distances)
+    if farthest > limit:
+        far = sum(distance > limit for distance in distances)
+        yield {"kind": "far", "count": far, "distance": farthest, **piece_of(envelope, distances.index(farthest))}

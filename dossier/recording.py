@@ -80,7 +80,7 @@ class Times:
         self.found.times = array("q", sorted(self.found.times))
 
     def take(self, block: bytes) -> None:
-        """A line of `list` has the record's number, its time, and then the packet. What comes last is a line of counts."""
+        """A line of `list` has the record's number, its time, and then the packet; the last line has counts."""
         lines = [line.split(b" ", 2) for line in block.splitlines()]
         if lines[-1][0] == b"records":
             lines.pop()
