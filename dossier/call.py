@@ -1,8 +1,8 @@
 """One call of a program: a process with its output to be read.
 
-A thousand small audits are ten thousand calls, so this goes to posix_spawn directly: subprocess takes nearly as long over
-a call as the program itself. The working folder is that of this whole process for as long as the process is made: no
-other thread may hang on it.
+A thousand small audits are seven thousand calls, so this goes to posix_spawn directly: subprocess takes nearly as long
+over a call as the program itself. The working folder is that of this whole process for as long as the process is made:
+no other thread may hang on it.
 """
 from __future__ import annotations
 
@@ -10,14 +10,16 @@ import os
 import signal
 from collections.abc import Iterator
 
-BLOCK = 1 << 20
-"""Bytes that are read at once."""
+BLOCK = 1 << 16
+"""Bytes that are read at once: what a pipe holds."""
 
 DEFAULTS = [signal.SIGPIPE, signal.SIGXFSZ]
 """Signals that Python ignores, and that the program is to get as usual."""
 
-
 ENVIRONMENT = dict(os.environb)
+
+HOME = os.open(".", os.O_PATH | os.O_DIRECTORY)
+"""The folder in which this was called."""
 
 
 class Call:
@@ -28,7 +30,6 @@ class Call:
         self.error = os.memfd_create("said")
         actions = [(os.POSIX_SPAWN_OPEN, 0, given, os.O_RDONLY, 0), (os.POSIX_SPAWN_DUP2, write, 1),
                    (os.POSIX_SPAWN_DUP2, self.error, 2)]
-        home = os.open(".", os.O_RDONLY | os.O_DIRECTORY)
         try:
             os.chdir(folder)
             self.process = os.posix_spawn(words[0], words, ENVIRONMENT, file_actions=actions, setsigdef=DEFAULTS)
@@ -38,8 +39,7 @@ class Call:
             raise
         finally:
             os.close(write)
-            os.fchdir(home)
-            os.close(home)
+            os.fchdir(HOME)
 
     def blocks(self) -> Iterator[bytes]:
         while block := os.read(self.output, BLOCK):

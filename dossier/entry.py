@@ -83,14 +83,10 @@ class Record:
 
 
 def record_text(record: Record) -> bytes:
-    """A record as JSON, a line for each field."""
+    """A record as JSON, a line for each field and for each entry."""
     lines = [f' "{name}": {json.dumps(value)}' for name, value in vars(record).items() if name != "entries"]
-    entries = ",\n".join(map(entry_text, record.entries))
+    entries = ",\n".join(f"  {json.dumps(vars(entry))}" for entry in record.entries)
     return ("{\n" + ",\n".join([*lines, f' "entries": [\n{entries}\n ]']) + "\n}\n").encode()
-
-
-def entry_text(entry: Entry) -> str:
-    return "  {\n" + ",\n".join(f'   "{name}": {json.dumps(value)}' for name, value in vars(entry).items()) + "\n  }"
 
 
 def read_record(folder: str) -> Record | None:

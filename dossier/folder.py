@@ -63,8 +63,9 @@ def write_beside(folder: str, name: str, data: bytes) -> None:
     part = part_of(folder, name)
     try:
         try:
-            with open(part, "wb") as opened:
-                opened.write(data)
+            with open(part, "wb", buffering=0) as opened:
+                while data:
+                    data = data[opened.write(data) :]
             os.replace(part, f"{folder}/{name}")
         except BaseException:
             remove(part)

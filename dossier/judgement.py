@@ -7,6 +7,8 @@ from __future__ import annotations
 import json
 from collections.abc import Iterator
 from dataclasses import dataclass
+from functools import cached_property
+from operator import sub
 from typing import Any
 
 from .answers import Envelope, Hull, Report, read_envelope, read_nothing, read_report
@@ -34,9 +36,14 @@ class Texts:
     refute: bytes | None = None
     """What `refute` says about it."""
 
+    @cached_property
+    def said(self) -> Report | None:
+        """The report of `check`, if it decided."""
+        return read_report(self.report) if self.decided_by == "check" else None
+
     @property
     def is_yes(self) -> bool:
-        return self.decided_by == "check" and read_report(self.report).is_yes
+        return self.said is not None and self.said.is_yes
 
 
 def at_bound_0(claim: dict[str, Any]) -> bytes:
@@ -50,7 +57,7 @@ def groups_of(claim: dict[str, Any]) -> list[list[int]]:
 
 def judge(part: str, claim: dict[str, Any], recording: Recording, texts: Texts) -> Entry:
     envelope = read_envelope(texts.envelope)
-    report = read_report(texts.report) if texts.decided_by == "check" else None
+    report = texts.said
     failing = count_failing(envelope, bound_ticks(claim["bound_ns"]))
     verdict = NO if not texts.is_yes else NEITHER if failing["empty"] else YES
     return Entry(
@@ -157,7 +164,7 @@ def warnings(
     if recording.fall:
         record, before, after = recording.fall
         yield {"kind": "falls", "count": recording.falls, "record": record, "before": before, "after": after}
-    yield from far_pieces(recording, envelope, last - first)
+    yield from far_pieces(claim, recording, envelope)
     if recording.counts.get("warnings"):
         yield {"kind": "leap", "count": recording.counts["warnings"]}
     if report is not None and report.sources is not None:
@@ -166,14 +173,13 @@ def warnings(
         yield {"kind": "reference", "reference": report.reference}
 
 
-def far_pieces(recording: Recording, envelope: Envelope, span: int) -> Iterator[Alert]:
-    limit, far, worst = span * SECOND // FAR, 0, (-1, 0)
-    if not recording.times:
-        return
-    for k, (begin, end) in enumerate(zip(envelope.begins, envelope.ends)):
-        distance = recording.nearest(begin, end)
-        if distance > limit:
-            far += 1
-            worst = max(worst, (distance, -k))
-    if far:
-        yield {"kind": "far", "count": far, "distance": worst[0], **piece_of(envelope, -worst[1])}
+def far_pieces(claim: dict[str, Any], recording: Recording, envelope: Envelope) -> Iterator[Alert]:
+    first, last = seconds_of(claim["from"]) * SECOND, seconds_of(claim["to"]) * SECOND
+    limit, times = (last - first) // FAR, [first, *recording.times, last]
+    if not recording.times or max(map(sub, times[1:], times)) <= limit:
+        return  # (a piece can't be farther from a sample than the samples are from one another)
+    distances = list(map(recording.nearest, envelope.begins, envelope.ends))
+    farthest = max(distances)
+    if farthest > limit:
+        far = sum(distance > limit for distance in distances)
+        yield {"kind": "far", "count": far, "distance": farthest, **piece_of(envelope, distances.index(farthest))}

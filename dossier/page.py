@@ -102,7 +102,7 @@ def made_by(records: list[tuple[str, Record]]) -> str:
     """Which programs made the audits."""
     made = [record.program for _, record in records if record.program]
     programs = {str(program.get("sha256")): program.get("version") for program in made}
-    which = "; ".join(f"{version or 'ntpaudit'}, SHA-256 {sum_[:16]}\u2026" for sum_, version in programs.items())
+    which = "; ".join(f"{version or 'ntpaudit'}, SHA-256 {sum_[:16]} and on" for sum_, version in programs.items())
     folders = count(len(records), "folder")
     return f"{folders}, put together at {now()}. Audited by {which or 'nothing yet'}. All times are UTC."
 

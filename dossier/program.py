@@ -11,7 +11,10 @@ from dataclasses import dataclass
 from functools import cached_property
 from pathlib import Path
 
-from .call import BLOCK, Call
+from .call import Call
+
+BLOCK = 1 << 20
+"""Bytes of a file that are read at once."""
 
 ROOT = Path(__file__).resolve().parent.parent
 

@@ -80,7 +80,7 @@ class Times:
         self.found.times = array("q", sorted(self.found.times))
 
     def take(self, block: bytes) -> None:
-        """A line of `list` has the record's number, its time, and then the packet."""
+        """A line of `list` has the record's number, its time, and then the packet; the last line has counts."""
         lines = [line.split(b" ", 2) for line in block.splitlines()]
         if lines[-1][0] == b"records":
             lines.pop()
@@ -90,8 +90,9 @@ class Times:
         times = nanoseconds(list(map(itemgetter(1), lines)))
         self.find_falls(numbers, times)
         found, packets = self.found, dict(zip(numbers, times))
-        found.first = min(times) if found.first is None else min(found.first, *times)
-        found.last = max(times) if found.last is None else max(found.last, *times)
+        low, high = min(times), max(times)
+        found.first = low if found.first is None else min(found.first, low)
+        found.last = high if found.last is None else max(found.last, high)
         if self.request in packets:
             found.first_request = packets[self.request]
         next_ones = self.replies[self.taken : self.taken + len(packets)]
@@ -111,5 +112,5 @@ class Times:
 
 def nanoseconds(times: list[bytes]) -> list[int]:
     """Times as `list` prints them: seconds, a dot, and 6 digits or 9, as many in all records of a capture."""
-    unit = 10 ** (9 - len(times[0].partition(b".")[2]))
-    return [unit * int(time) for time in b" ".join(times).replace(b".", b"").split()]
+    zeros = b"0" * (9 - len(times[0].partition(b".")[2]))
+    return list(map(int, ((zeros + b" ").join(times) + zeros).replace(b".", b"").split()))

@@ -77,7 +77,9 @@ def day_of(seconds: int) -> str:
 
 
 def span_of_seconds(seconds: float) -> str:
-    """A length of time in words: `12.5 s`, `3.2 min`, `5.0 h`, `2.1 days`."""
+    """A length of time in words: `20.0 ms`, `12.5 s`, `3.2 min`, `5.0 h`, `2.1 days`."""
+    if seconds < 1:
+        return f"{seconds * 1000:.1f} ms"
     for size, name in ((DAY, "days"), (3600, "h"), (60, "min")):
         if seconds >= 2 * size:
             return f"{seconds / size:.1f} {name}"

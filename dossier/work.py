@@ -1,7 +1,7 @@
 """Audits side by side: workers, each a process of its own that takes one folder after another, and a progress bar.
 
-A worker is forked, so it has all that is loaded. It reads the number of a folder from a pipe and answers by a line, and it
-ends where the pipe does: none outlives a call that was killed.
+A worker is forked, so it has all that is loaded. It reads the number of a folder from a pipe and answers by a line, and
+it ends when the pipe does: none outlives a call that was killed.
 """
 from __future__ import annotations
 

@@ -1,7 +1,7 @@
 -- A run, once its text is made.
-use Rattle.std.proofs.Common.{◌≡◌, ◌+◌, ◌∙◌, ◌⊎◌, ◌++◌, ℕ, List, [], ◌∷◌, Option, Some, None, Result, Ok, Err, refl, sym, subst, inl, inr, append-nil}
+use Rattle.std.proofs.Common.{◌≡◌, ◌∙◌, ◌⊎◌, ◌++◌, ℕ, List, [], ◌∷◌, Option, Some, None, Result, Ok, Err, refl, sym, ap, subst, inl, inr, append-nil}
 use Rattle.std.specs.List.{concat}
-use Rattle.std.specs.Prelude.{IfSome, IfErr}
+use Rattle.std.specs.Prelude.{IfSome, IfErr, IsOk}
 use Rattle.std.specs.Io.KnownBytes.{Appends, Keeps}
 use Rattle.byte_stream.specs.Fault.{CountsFault}
 use Rattle.byte_stream.specs.Intake.{TakesAtMost}
@@ -14,16 +14,22 @@ use Rattle.report.specs.declared.publication.Made.{Made}
 use Rattle.claim_file.specs.declared.claim.Claim.{Claim}
 use Rattle.claim_file.specs.Claim.{ClaimData, data_of as claim_data}
 use Rattle.pairing.specs.Pairing.{Collection, data_of as collection_data}
+use Rattle.report.specs.CertificateInput.{max_certificate}
 use Rattle.report.specs.ClaimInput.{claim_read, max_claim}
+use Rattle.report.specs.Input.{most_read}
+use Rattle.report.specs.RefutationInput.{max_refutation}
 use Rattle.report.specs.Publication.{IsAnswerFor, IsMadeFor, IsUnwritten, Publishes}
 use Rattle.report.specs.Reports.{Report, Reports, GetsText, is_claim, is_second, is_capture, is_device, refused}
 use Rattle.report.specs.Reading.{IsFromOutside, Reads}
 use Rattle.report.specs.Run.{RunState}
-use Rattle.report.specs.Runs.{Runs, HasLawfulHeader, IsBeforeCapture, IsBeforeSecond, IsUnwrittenAt}
+use Rattle.report.specs.Runs.{HasClaim, HasLawfulHeader, IsBeforeCapture, IsBeforeSecond, IsUnwrittenAt}
+use Rattle.report.proofs.InputLemmas.{takes_within}
 use Rattle.audit.specs.declared.question.Task.{Task}
 use Rattle.audit.specs.CaptureInput.{IsOfCapture, capture_read}
-use Rattle.audit.specs.Question.{QuestionData, TaskData, task_data}
-use Rattle.audit.specs.Report.{after_capture, after_claim, after_second, report_of_bytes}
+use Rattle.audit.specs.Question as questions
+use Rattle.audit.specs.Question.{HasSecond, QuestionData, TaskData, most_second, task_data}
+use Rattle.audit.specs.Report.{after_capture, after_claim, after_second, report_of_bytes, run_report}
+use Rattle.audit.specs.Run.{RunsFor}
 
 -- ---- the fault of an answer
 
@@ -77,6 +83,49 @@ unwritten before after (Err fault) answer h p =
     (subst (GetsText (refused fault) before.contents after.contents) p.stays
     (p.text (refused fault) (refusal_for fault h)))
 
+-- ---- how much is taken of the inputs
+
+-- what is taken of a claim
+pub claim_taken : (read : Result Claim RunFault) (made : Result Made RunFault) (before after : Option (List ℕ)) →
+    IfErr read (λ fault. made ≡ Err fault) → TakesAtMost (most_read max_claim read) before after →
+    TakesAtMost (most_read max_claim made) before after
+claim_taken (Ok claim) made before after is h = takes_within max_claim made before after h
+claim_taken (Err fault) made before after is h =
+    subst (λ (m : Result Made RunFault). TakesAtMost (most_read max_claim m) before after) (sym is) h
+
+-- the answer says of an input's length what was known once the text was made
+same_most : (limit : ℕ) (made : Result Made RunFault) (answer : Result Outcome RunFault) → IsAnswerFor made answer →
+    most_read limit made ≡ most_read limit answer
+same_most limit (Ok m) answer (inl same) = sym (ap (most_read limit) same)
+same_most limit (Ok m) answer (inr (sent, is)) = sym (ap (most_read limit) is)
+same_most limit (Err fault) answer same = sym (ap (most_read limit) same)
+
+same_most_second : (question : QuestionData) (made : Result Made RunFault) (answer : Result Outcome RunFault) →
+    IsAnswerFor made answer → most_second question made ≡ most_second question answer
+same_most_second questions.check made answer stays = same_most max_certificate made answer stays
+same_most_second questions.refute made answer stays = same_most max_refutation made answer stays
+same_most_second question made answer stays = refl
+
+-- ---- what was lawful where memory is refused
+
+has_claim : (known : Option (List ℕ)) (claim : Claim) →
+    IfSome known (λ bytes. Reads claim_data (claim_read bytes) (Ok claim)) → HasClaim known
+has_claim None claim reads = tt
+has_claim (Some bytes) claim reads = subst (λ (r : Result ClaimData RunFault). IsOk r) (sym reads) refl
+
+-- no later input was looked at, or the claim was read
+pub claim_was_read : (P : Type 0) (known : Option (List ℕ)) (read : Result Claim RunFault) →
+    IfSome known (λ bytes. Reads claim_data (claim_read bytes) read) → IfErr read (λ fault. P) → P ⊎ HasClaim known
+claim_was_read P known (Ok claim) reads unread = inr (has_claim known claim reads)
+claim_was_read P known (Err fault) reads unread = inl unread
+
+-- the second input was read
+pub second_was_read : (known : Option (Result TaskData RunFault)) (task : Task) →
+    IfSome known (λ expected. Reads task_data expected (Ok task)) → IfSome known IsOk
+second_was_read None task reads = tt
+second_was_read (Some (Ok expected)) task reads = refl
+second_was_read (Some (Err fault)) task reads = cc
+
 -- ---- the whole
 
 -- what was made is published
@@ -87,27 +136,30 @@ published_text None made h p = tt
 published_text (Some r) made h p = p.text r h
 
 -- what is known of a run once its text is made
-pub record HasMade {T F : Type 0} (report : Option Report) (most : ℕ) (before after : RunState)
+pub record HasMade {T F : Type 0} (question : QuestionData) (before after : RunState)
     (second second' : T) (capture capture' : F) (made : Result Made RunFault) : Type 0 where
-  pub is_made : IfSome report (λ r. IsMadeFor r made)
+  pub is_made : IfSome (run_report question before) (λ r. IsMadeFor r made)
   pub unwritten : IsUnwritten made
   pub claim_faults : CountsFault (is_device is_claim made) before.claim.faults after.claim.faults
   pub second_faults : CountsFault (is_device is_second made) before.second.faults after.second.faults
   pub capture_faults : CountsFault (is_device is_capture made) before.capture.faults after.capture.faults
   pub second_untouched : IfErr made (λ fault. IsBeforeSecond fault → second' ≡ second)
   pub capture_untouched : IfErr made (λ fault. IsBeforeCapture fault → capture' ≡ capture)
-  pub claim_at_most : TakesAtMost (max_claim + 1) before.claim.remaining after.claim.remaining
-  pub second_at_most : TakesAtMost most before.second.remaining after.second.remaining
+  pub claim_at_most : TakesAtMost (most_read max_claim made) before.claim.remaining after.claim.remaining
+  pub second_at_most : TakesAtMost (most_second question made) before.second.remaining after.second.remaining
   pub capture_at_most : TakesAtMost most_taken before.capture.remaining after.capture.remaining
-  pub memory : made ≡ Err faults.Memory → (capture' ≡ capture) ⊎ HasLawfulHeader before.capture.remaining
+  pub claim_memory : made ≡ Err faults.Memory →
+      ((second' ≡ second) × (capture' ≡ capture)) ⊎ HasClaim before.claim.remaining
+  pub second_memory : made ≡ Err faults.Memory → (capture' ≡ capture) ⊎ HasSecond question before.second.remaining
+  pub capture_memory : made ≡ Err faults.Memory → (capture' ≡ capture) ⊎ HasLawfulHeader before.capture.remaining
 
-module _ {T F : Type 0} (report : Option Report) (most : ℕ) (before after : RunState)
+module _ {T F : Type 0} (question : QuestionData) (before after : RunState)
     (second second' : T) (capture capture' : F) (made : Result Made RunFault)
     (answer : Result Outcome RunFault) where
-  pub run_reports : HasMade report most before after second second' capture capture' made →
-      Publishes before.sink after.sink made answer → Reports report before after answer
+  pub run_reports : HasMade question before after second second' capture capture' made →
+      Publishes before.sink after.sink made answer → Reports (run_report question before) before after answer
   run_reports h p = record {
-    text = published_text report made h.is_made p;
+    text = published_text (run_report question before) made h.is_made p;
     closed = p.closed;
     sink = p.sink;
     claim = rw (p.device is_claim) h.claim_faults;
@@ -116,9 +168,9 @@ module _ {T F : Type 0} (report : Option Report) (most : ℕ) (before after : Ru
   }
 
   -- what was made is published, and the promise is kept
-  pub made_runs : HasMade report most before after second second' capture capture' made →
+  pub made_runs : HasMade question before after second second' capture capture' made →
       Publishes before.sink after.sink made answer →
-      Runs report most before after second second' capture capture' answer
+      RunsFor question before after second second' capture capture' answer
   made_runs h p = record {
     reports = run_reports h p;
     unwritten = of_fault (λ fault. IsUnwrittenAt fault before.sink.contents after.sink.contents)
@@ -127,10 +179,14 @@ module _ {T F : Type 0} (report : Option Report) (most : ℕ) (before after : Ru
         made answer p.stays h.second_untouched;
     capture_untouched = of_fault (λ fault. IsBeforeCapture fault → capture' ≡ capture) (λ sent no. absurd no)
         made answer p.stays h.capture_untouched;
-    claim_at_most = h.claim_at_most;
-    second_at_most = h.second_at_most;
+    claim_at_most = subst (λ (n : ℕ). TakesAtMost n before.claim.remaining after.claim.remaining)
+        (same_most max_claim made answer p.stays) h.claim_at_most;
+    second_at_most = subst (λ (n : ℕ). TakesAtMost n before.second.remaining after.second.remaining)
+        (same_most_second question made answer p.stays) h.second_at_most;
     capture_at_most = h.capture_at_most;
-    memory = λ is. h.memory (was_memory made answer p.stays is);
+    claim_memory = λ is. h.claim_memory (was_memory made answer p.stays is);
+    second_memory = λ is. h.second_memory (was_memory made answer p.stays is);
+    capture_memory = λ is. h.capture_memory (was_memory made answer p.stays is);
   }
 
 -- ---- a capture that is refused

@@ -1,11 +1,12 @@
 -- Every question: what its second input adds to it, the report that is made, and what the outcome
 -- shows.
-use Rattle.std.specs.Prelude.{◌≡◌, ◌+◌, ◌≤◌, ℕ, List, Bool, Option, Some, Result, Ok, Err, vec_len}
+use Rattle.std.specs.Prelude.{◌≡◌, ◌≤◌, ℕ, List, Bool, Option, IfSome, Some, Result, IsOk, Ok, Err, vec_len}
 use Rattle.std.specs.Option.{option_map}
 use Rattle.byte_stream.specs.State.{FeedState}
 use Rattle.certificate.specs.Certificate.{CertificateData, data_of as certificate_data, max_pieces}
 use Rattle.certificate.specs.Refutation.{RefutationData, data_of as refutation_data}
 use Rattle.report.specs.CertificateInput.{certificate_read, max_certificate}
+use Rattle.report.specs.Input.{most_read}
 use Rattle.report.specs.RefutationInput.{max_refutation, refutation_read}
 use Rattle.report.specs.Reports.{Report}
 use Rattle.report.specs.declared.fault.Input.TheVariants as inputs
@@ -105,11 +106,16 @@ IsTaskOf refute task = (refutation : RefutationData) × (task ≡ refute_by refu
 IsTaskOf (envelope step servers) task = task ≡ show_envelope step servers
 IsTaskOf seek task = task ≡ seek_refutation
 
--- how many bytes are taken of the second input at most
-abbrev pub most_second : QuestionData → ℕ
-most_second check = max_certificate + 1
-most_second refute = max_refutation + 1
-most_second _ = 0
+-- The bytes of the second input, where they are known, say what the question asks for.
+abbrev pub HasSecond : QuestionData → Option (List ℕ) → Type 0
+HasSecond question known = IfSome (task_read question known) IsOk
+
+-- how many bytes are taken of the second input at most in a run that comes to this answer: one
+-- past the limit only where the answer is that it's too big
+abbrev pub most_second : {A : Type 0} → QuestionData → Result A RunFault → ℕ
+most_second check answer = most_read max_certificate answer
+most_second refute answer = most_read max_refutation answer
+most_second _ answer = 0
 
 -- the faults of reading it
 abbrev pub IsOfSecond : RunFault → Type 0

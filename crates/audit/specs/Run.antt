@@ -7,7 +7,7 @@ use Rattle.report.specs.declared.fault.RunFault.{RunFault}
 use Rattle.report.specs.Run.{RunState}
 use Rattle.report.specs.Runs.{Runs}
 use Rattle.report.specs.Telling.{Answers}
-use Rattle.audit.specs.Question.{QuestionData, Shows, most_second}
+use Rattle.audit.specs.Question.{HasSecond, QuestionData, Shows, most_second}
 use Rattle.audit.specs.Report.{run_report}
 
 -- A run may begin: each input may be pulled from, and its sink may be written to.
@@ -22,8 +22,8 @@ pub record MayRun (before : RunState) : Type 0 where
 abbrev pub RunsFor : {T F : Type 0} → QuestionData → RunState → RunState → T → T → F → F →
     Result Outcome RunFault → Type 0
 RunsFor question before after second second' capture capture' answer =
-    Runs (run_report question before) (most_second question) before after second second'
-    capture capture' answer
+    Runs (run_report question before) (most_second question answer) (HasSecond question)
+    before after second second' capture capture' answer
 
 -- the same of a question without a second input
 abbrev pub RunsAlone : {F : Type 0} → QuestionData → RunState → RunState → F → F →

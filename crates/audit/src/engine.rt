@@ -19,7 +19,7 @@ ghost use Rattle.report.specs.Run.{run_state};
 ghost use Rattle.report.specs.Runs.{HasLawfulHeader, IsBeforeCapture, IsBeforeSecond};
 ghost use Rattle.report.specs.declared.fault.RunFault.{RunFault as TheFault};
 ghost use Rattle.audit.specs.Check.{IsTraced};
-ghost use Rattle.audit.specs.Question.{AsksNoSecond, Shows, data_of, most_second};
+ghost use Rattle.audit.specs.Question.{AsksNoSecond, HasSecond, Shows, data_of, most_second};
 ghost use Rattle.audit.specs.Report.{ShowsAfter, after_claim};
 ghost use Rattle.audit.specs.Run.{AnswersFor, MayRun, RunsFor, ShowsAt};
 
@@ -65,6 +65,7 @@ fn make_report<T: Feed, F: Feed, H: BuildHasher + Drop>(
         ShowsAfter (data_of question) (claim_data c)
         (T.state second.old).remaining (F.state capture).remaining made.outcome)) }
     ensures read { IfErr claim (λ fault. result.1 ≡ Err fault) }
+    ensures unread { IfErr claim (λ fault. (second.new ≡ second.old) × (result.0 ≡ capture)) }
     ensures claim_device { is_device is_claim result.1 ≡ is_device is_claim claim }
     ensures second_faults { CountsFault (is_device is_second result.1)
         (T.state second.old).faults (T.state second.new).faults }
@@ -75,11 +76,13 @@ fn make_report<T: Feed, F: Feed, H: BuildHasher + Drop>(
     ensures capture_untouched { IfErr result.1 (λ fault.
         IsBeforeCapture fault → result.0 ≡ capture) }
     ensures unasked { AsksNoSecond (data_of question) → second.new ≡ second.old }
-    ensures second_at_most { TakesAtMost (most_second (data_of question))
+    ensures second_at_most { TakesAtMost (most_second (data_of question) result.1)
         (T.state second.old).remaining (T.state second.new).remaining }
     ensures capture_at_most { TakesAtMost most_taken
         (F.state capture).remaining (F.state result.0).remaining }
-    ensures memory { result.1 ≡ Err RunFault.Memory →
+    ensures second_memory { result.1 ≡ Err RunFault.Memory →
+        (result.0 ≡ capture) ⊎ HasSecond (data_of question) (T.state second.old).remaining }
+    ensures capture_memory { result.1 ≡ Err RunFault.Memory →
         (result.0 ≡ capture) ⊎ HasLawfulHeader (F.state capture).remaining }
 {
     let claim = match claim {

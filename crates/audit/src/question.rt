@@ -102,7 +102,7 @@ pub(crate) fn read_task<T: Feed>(
     ensures fault { IfErr result IsOfSecond }
     ensures counts_fault { CountsFault (is_device is_second result)
         (T.state second.old).faults (T.state second.new).faults }
-    ensures at_most { TakesAtMost (most_second (data_of question))
+    ensures at_most { TakesAtMost (most_second (data_of question) result)
         (T.state second.old).remaining (T.state second.new).remaining }
     ensures unasked { AsksNoSecond (data_of question) → second.new ≡ second.old }
 {

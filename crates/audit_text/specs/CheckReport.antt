@@ -1,5 +1,5 @@
 -- The text of `check`: what is claimed, what the capture has, what is advised, and the verdict.
-use Rattle.std.specs.Prelude.{ℕ, zero, suc, ◌+◌, ◌/◌, ◌^◌, ◌==◌, ℤ, unsigned_abs, nat_lt, if◌then◌else◌}
+use Rattle.std.specs.Prelude.{ℕ, zero, suc, ◌+◌, ◌==◌, nat_lt, if◌then◌else◌}
 use Rattle.std.specs.Prelude.{List, [], ◌∷◌, ◌++◌, length, codes}
 use Rattle.std.specs.Fmt.{decimal}
 use Rattle.std.specs.List.{list_all, list_any}
@@ -13,6 +13,7 @@ use Rattle.checker.specs.declared.verdict.Verdict.{Verdict}
 use Rattle.checker.specs.declared.verdict.Verdict.TheVariants.{Yes, No}
 use Rattle.checker.specs.declared.verdict.Why.{Why}
 use Rattle.checker.specs.declared.verdict.Why.TheVariants.{Cut, BadSample, MixedServers, RepeatedServer, Unbounded, Contradiction, Exceeds, Uncovered}
+use Rattle.audit_text.specs.Second.{second_of}
 use Rattle.audit_text.specs.CountsLine.{counts_line}
 
 -- how many groups there are, where one holds several servers
@@ -27,10 +28,6 @@ client_line claim =
     codes " servers " ++ decimal (length claim.servers) ++
     codes " false_max " ++ decimal claim.false_max ++
     groups_field (group_count claim.groups) (length claim.servers) ++ codes "\n"
-
--- the Unix second of a tick of 2^-32 s since 1970
-abbrev pub second_of : ℤ → ℕ
-second_of tick = unsigned_abs tick / 2 ^ 32
 
 -- the span, and the numbers that are claimed
 unfoldable pub span_line : ClaimData → List ℕ

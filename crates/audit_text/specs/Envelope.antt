@@ -12,7 +12,7 @@ use Rattle.finder.specs.Entry.{parts_named}
 use Rattle.finder.specs.Envelope.{EnvelopeData, PieceHullData}
 use Rattle.finder.specs.declared.least.LeastBound.{LeastBound}
 use Rattle.finder.specs.declared.least.LeastBound.TheVariants.{Holds, NoneHolds}
-use Rattle.audit_text.specs.CheckReport.{second_of}
+use Rattle.audit_text.specs.Second.{second_of}
 use Rattle.audit_text.specs.IntervalLine.{interval_line}
 use Rattle.audit_text.specs.SampleLine.{interval_fields}
 

@@ -1,3 +1,4 @@
+pub mod Second
 pub mod SampleLine
 pub mod CountsLine
 pub mod Samples

@@ -1,6 +1,6 @@
 //! The text of `check`.
 
-ghost use Rattle.std.specs.Prelude.{◌≡◌, ◌+◌, ◌^◌, ◌<◌, ◌≤◌, ◌==◌, ◌++◌, IfOk, length};
+ghost use Rattle.std.specs.Prelude.{◌≡◌, ◌+◌, ◌<◌, ◌≤◌, ◌==◌, ◌++◌, IfOk, length};
 ghost use Rattle.std.specs.List.{list_all, list_any};
 ghost use Rattle.std.specs.Str.{bytes_eq};
 ghost use Rattle.line_writer.specs.declared.line.TheConstants.{CAPACITY};
@@ -11,14 +11,12 @@ ghost use Rattle.audit_text.specs.CheckReport as spec;
 ghost use Rattle.audit_text.specs.CheckReport.{groups_field, source_count, why_word};
 
 use crate::counts_line::add_counts;
+use crate::second::second_of;
 use checker::{Verdict, Why};
 use claim_file::Claim;
 use line_writer::Line;
 use pairing::{Collected, Exchange};
 use std::alloc::{AllocError, Global};
-
-/// Ticks of 2^-32 s in a second.
-const TICKS_PER_SECOND: u128 = 1 << 32;
 
 /// The fewest servers with which one false one can be told from the others.
 const ENOUGH_SOURCES: u8 = 4;
@@ -62,14 +60,6 @@ fn write_client_line(line: &mut Line, claim: &Claim)
     line.put_text(" servers ");
     line.put_address(&claim.client);
     line.put_text("client ");
-}
-
-/// The Unix second of a tick.
-fn second_of(tick: i128) -> u64
-    requires { spec.second_of tick < 2 ^ 32 }
-    ensures { result ≡ spec.second_of tick }
-{
-    (tick.unsigned_abs() / TICKS_PER_SECOND) as u64
 }
 
 /// Writes the line of the span and of the numbers that are claimed in place of what `line` held.

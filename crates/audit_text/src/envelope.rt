@@ -8,11 +8,12 @@ ghost use Rattle.sample_interval.specs.Sample.{IsLawfulSample};
 ghost use Rattle.finder.specs.Entry.{parts_named};
 ghost use Rattle.finder.specs.Envelope.{data_of as envelope_data, piece_data};
 ghost use Rattle.finder.specs.Envelope.{IsBelowLimit, IsLawfulEnvelope, IsLawfulPiece};
-ghost use Rattle.audit_text.specs.CheckReport.{second_of};
+ghost use Rattle.audit_text.specs.Second.{second_of};
 ghost use Rattle.audit_text.specs.Envelope as spec;
 ghost use Rattle.audit_text.specs.Envelope.{hull_fields, lines_from, place_fields, server_lines};
 
 use crate::sample_line::put_interval;
+use crate::second::second_of;
 use claim_file::Claim;
 use finder::{Envelope, LeastBound, PieceHull, parts};
 use intersection::kinds::Hull;
@@ -20,9 +21,6 @@ use line_writer::Line;
 use sample_interval::kinds::Sample;
 use span_cover::{Part, Stretch};
 use std::alloc::{AllocError, Global};
-
-/// Ticks of 2^-32 s in a second.
-const TICKS_PER_SECOND: u128 = 1 << 32;
 
 /// What is known of the error in a piece, and a line feed.
 #[tactic(auto, unfolding(crate::specs::Envelope::hull_fields))]
@@ -48,7 +46,7 @@ fn put_second(line: &mut Line, tick: i128)
     ensures text { line.new ≡ decimal (second_of tick) ++ line.old }
     ensures at_most { length line.new ≤ length line.old + 20 }
 {
-    line.put_number((tick.unsigned_abs() / TICKS_PER_SECOND) as u64);
+    line.put_number(second_of(tick));
 }
 
 /// A piece's number, and the Unix seconds of its begin and its end.

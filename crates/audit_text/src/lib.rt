@@ -18,6 +18,7 @@ mod parts;
 mod refutation;
 mod sample_line;
 mod samples;
+mod second;
 
 pub use check_report::check_text;
 pub use envelope::envelope_text;

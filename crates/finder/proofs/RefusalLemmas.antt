@@ -214,7 +214,7 @@ module _ (laws : Laws) (samples : List Sample) (claim : ClaimData) (step : ℕ) 
         let found = some_and (λ outer. HoldsWhole outer inner) _ has.1 in
         let shown = pass_each samples claim claim.first certificate.pieces
         (λ k piece is. laws.each samples claim certificate accepted k piece
-            (slice_get_within certificate.pieces k piece is) is)
+        (slice_get_within certificate.pieces k piece is) is)
         has.0 found.0 found.1 in
         let given : IsGiven samples claim found.0 inner = record {
           rate = lawful.drift_in_range;
@@ -242,7 +242,7 @@ module _ (laws : Laws) (samples : List Sample) (claim : ClaimData) (step : ℕ) 
         let certificate : CertificateData =
         record { pieces = pieces_from samples claim step 0 k ++ piece_at samples claim step k ∷ [] } in
         let verdict = contradicts_at laws.best samples claim lawful step k failing.others_pass
-            (sym failing.its_hull ∙ empty) in
+        (sym failing.its_hull ∙ empty) in
         let same : 0 + k ≡ k = omega arith in
         let at : slice_get (stretches_of claim certificate) k ≡ Some (stretch_at claim step k) =
         subst (λ (m : ℕ). slice_get (stretches_from claim.first

@@ -1,5 +1,5 @@
 -- The errors for which exchanges leave room.
-use Rattle.std.proofs.Common.{◌≡◌, ◌⊎◌, ◌↔◌, inl, inr, ◌≤◌, ◌^◌, ℤ, pos, ◌+ℤ◌, ◌-ℤ◌, ◌≤ℤ◌, ◌<ℤ◌, int_le, int_lt, unsigned_abs, to_z, of_z, Bool, true, false, not, ◌&&◌, ◌||◌, refl, sym, ap, ◌∙◌, ⊎_elim, arith}
+use Rattle.std.proofs.Common.{◌≡◌, ◌⊎◌, ◌↔◌, inl, inr, ◌≤◌, ◌^◌, ℤ, pos, ◌+ℤ◌, ◌-ℤ◌, ◌≤ℤ◌, ◌<ℤ◌, int_le, int_lt, unsigned_abs, to_z, of_z, Bool, true, false, not, ◌||◌, refl, sym, ap, ◌∙◌, ⊎_elim, arith}
 use Rattle.std.specs.Int.{int_max, int_min}
 use Rattle.std.proofs.lemmas.Int.{ints, clamps}
 use mir.Syntax.{w128}
@@ -12,7 +12,6 @@ use Rattle.sample_interval.specs.Window.{request_start, reply_end}
 use Rattle.checker.specs.Refutation.{Admits}
 use Rattle.checker.specs.RefutationTest.{admits}
 use Rattle.finder.specs.Room.{IsNear}
-use Rattle.finder.proofs.GroupLemmas.{both_true}
 use Rattle.finder.proofs.Kept.{kept}
 use Rattle.finder.proofs.ListLemmas.{by_test}
 

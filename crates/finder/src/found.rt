@@ -20,10 +20,10 @@ use crate::laws::{best_hulls_hold_the_error, last_piece_ends_with_the_span};
 use crate::piece::piece_count;
 use crate::table::tables;
 use certificate::{Certificate, MAX_PIECES, Piece};
+use checker::Verdict;
 use checker::laws::{
     narrower_parts_narrow, parts_are_of_samples, pieces_give_the_verdict, verdicts_are_traceable,
 };
-use checker::Verdict;
 use claim_file::Claim;
 use intersection::kinds::Hull;
 use sample_interval::kinds::Sample;

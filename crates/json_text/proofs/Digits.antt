@@ -1,7 +1,7 @@
 -- What digits alone write as a number of JSON.
-use Rattle.std.proofs.Common.{◌≡◌, ℕ, ◌^◌, ◌<◌, List, [], ◌∷◌, ◌++◌, length, get_or, true, false, Some, refl, sym, ap, ◌∙◌, arith, append-nil, lt-ltb, ne_eqb}
+use Rattle.std.proofs.Common.{◌≡◌, ℕ, ◌^◌, ◌<◌, List, [], ◌∷◌, ◌++◌, length, drop, get_or, true, false, Some, refl, sym, ap, ◌∙◌, arith, append-nil, lt-ltb, ne_eqb}
 use Rattle.std.specs.Char.{digit_value}
-use Rattle.std.specs.Str.Parse.{AllDigits, IsNumeral, digits_value}
+use Rattle.std.specs.Str.Parse.{AllDigits, IsNumeral, digits_value, digits_value_after}
 use Rattle.fast_float.proofs.Writing.{scan-text_of}
 use Rattle.fast_float.specs.Text.{Parts, digits_of, IsWellFormed}
 use Rattle.serde_json.specs.Data.{unsigned}
@@ -43,3 +43,8 @@ number_of-digits ds numeral fits =
     let value : digits_of (whole ds) ≡ digits_value 10 ds = ap (digits_value 10) (append-nil ds) in
     ap number_of (sym (append-nil ds)) ∙ of_parts ds numeral
     ∙ rw (integer, value) (rw (lt-ltb (digits_value 10 ds) (2 ^ 64) fits) refl)
+
+-- the digits before this place write this number, and the others are left
+pub record IsLeft (bytes : List ℕ) (at n : ℕ) : Type 0 where
+  pub digits : AllDigits 10 (drop at bytes) → AllDigits 10 bytes
+  pub value : digits_value_after 10 n (drop at bytes) ≡ digits_value 10 bytes

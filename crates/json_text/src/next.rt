@@ -123,6 +123,7 @@ pub fn open_object(reader: &mut Reader<'_>, depth: usize) -> Result<bool, Invali
 
 /// Passes over the next value. Invalid exactly where there is none.
 #[cycle(pass)]
+#[inline(always)]
 pub fn pass_value(reader: &mut Reader<'_>, depth: usize) -> Result<(), Invalid>
     ensures passed { MatchResult result
         (λ _. rest_after (next_value depth reader.old) ≡ Some reader.new)
@@ -140,6 +141,7 @@ pub fn pass_value(reader: &mut Reader<'_>, depth: usize) -> Result<(), Invalid>
 /// Passes over the elements that are left of an array, and its bracket. Invalid exactly where one
 /// of them is no value, or the array doesn't end.
 #[cycle(pass)]
+#[inline(never)]
 pub fn pass_items(reader: &mut Reader<'_>, depth: usize) -> Result<(), Invalid>
     ensures passed { MatchResult result
         (λ _. rest_after (next_items depth reader.old) ≡ Some reader.new)
@@ -155,6 +157,7 @@ pub fn pass_items(reader: &mut Reader<'_>, depth: usize) -> Result<(), Invalid>
 /// Passes over the members that are left of an object, and its brace. Invalid exactly where one of
 /// them has no name or no value, or the object doesn't end.
 #[cycle(pass)]
+#[inline(never)]
 pub fn pass_members(reader: &mut Reader<'_>, depth: usize) -> Result<(), Invalid>
     ensures passed { MatchResult result
         (λ _. rest_after (next_members depth no_members reader.old) ≡ Some reader.new)

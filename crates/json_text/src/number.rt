@@ -39,10 +39,34 @@ fn digits_in(bytes: &[u8]) -> Option<u64>
     ensures numeral { IfSome result (λ _. IsNumeral 10 bytes.now) }
     ensures value { IfSome result (λ number. number ≡ digits_value 10 bytes.now) }
 {
+    if bytes.len() < 8 {
+        return few_digits_in(bytes);
+    }
     if bytes.first() == Some(&b'+') {
         return None;
     }
     parse_u64(bytes).ok()
+}
+
+/// The same, a digit at a time.
+#[inline(always)]
+fn few_digits_in(bytes: &[u8]) -> Option<u64>
+    ensures numeral { IfSome result (λ _. IsNumeral 10 bytes.now) }
+    ensures value { IfSome result (λ number. number ≡ digits_value 10 bytes.now) }
+{
+    if bytes.is_empty() {
+        return None;
+    }
+    let mut number = 0u64;
+    for byte in bytes {
+        if !byte.is_ascii_digit() {
+            return None;
+        }
+        number = number
+            .checked_mul(10)?
+            .checked_add(u64::from(*byte - b'0'))?;
+    }
+    Some(number)
 }
 
 /// Whether a text begins with a minus sign.

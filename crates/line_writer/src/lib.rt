@@ -5,6 +5,7 @@
 //! one slice to copy.
 #![tactic(auto)]
 
+mod decimal;
 mod endpoint;
 mod hexadecimal;
 mod line;

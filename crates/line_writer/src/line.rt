@@ -1,18 +1,20 @@
 //! The line itself: bytes and text.
 
-ghost use Rattle.std.specs.Prelude.{◌≡◌, ◌+◌, ◌≤◌, [], ◌∷◌, ◌++◌, length};
-ghost use Rattle.std.specs.Fmt.{decimal};
+ghost use Rattle.std.specs.Prelude.{◌≡◌, ◌+◌, ◌-◌, ◌≤◌, [], ◌∷◌, ◌++◌, length, drop};
 
-use itoa::write_digits;
 use std::marker::Model;
 
 /// How many bytes a line may have.
 pub const CAPACITY: usize = 512;
 
+/// How many bytes of the scratch array stand before those of the longest line, so that four bytes
+/// may always be written at once.
+const SLACK: usize = 4;
+
 /// A line of text of at most 512 bytes. Each piece is written before those that stand there.
 #[derive(Debug, Drop)]
 pub struct Line {
-    scratch: [u8; CAPACITY],
+    scratch: [u8; SLACK + CAPACITY],
     start: usize,
 }
 
@@ -24,7 +26,7 @@ impl Model for Line {
 
     ghost view = { λ line. drop line.start line.scratch };
 
-    ghost invariant = { λ line. line.start ≤ 512 };
+    ghost invariant = { λ line. (4 ≤ line.start) × (line.start ≤ 516) };
 }
 
 impl Default for Line {
@@ -42,8 +44,8 @@ impl Line {
         ensures { result ≡ [] }
     {
         Line {
-            scratch: [0; CAPACITY],
-            start: CAPACITY,
+            scratch: [0; SLACK + CAPACITY],
+            start: SLACK + CAPACITY,
         }
     }
 
@@ -52,7 +54,7 @@ impl Line {
     pub fn clear(&mut self)
         ensures { self.new ≡ [] }
     {
-        self.start = CAPACITY;
+        self.start = SLACK + CAPACITY;
     }
 
     /// The text.
@@ -71,13 +73,14 @@ impl Line {
         ensures text { self.new ≡ byte ∷ self.old }
         ensures grows { length self.new ≡ length self.old + 1 }
     {
-        self.start -= 1;
-        self.scratch[self.start] = byte;
+        let start = self.start - 1;
+        self.scratch[start] = byte;
+        self.start = start;
     }
 
     /// Writes two bytes at once.
     #[inline]
-    pub(crate) fn put_pair(&mut self, first: u8, second: u8)
+    pub fn put_pair(&mut self, first: u8, second: u8)
         requires { length self.old + 2 ≤ CAPACITY }
         ensures text { self.new ≡ first ∷ second ∷ self.old }
         ensures grows { length self.new ≡ length self.old + 2 }
@@ -95,26 +98,24 @@ impl Line {
         ensures text { self.new ≡ text.now ++ self.old }
         ensures grows { length self.new ≡ length self.old + length text.now }
     {
-        self.start -= text.len();
-        self.scratch[self.start..self.start + text.len()].copy_from_slice(text.as_bytes());
+        let start = self.start - text.len();
+        self.scratch[start..self.start].copy_from_slice(text.as_bytes());
+        self.start = start;
     }
 
-    /// Writes the digits of a number.
+    /// Writes the last `count` of four bytes. The others are written too, where the next text goes.
     #[inline]
-    pub(crate) fn put_digits(&mut self, n: u64)
-        requires { length self.old + length (decimal n) ≤ CAPACITY }
-        ensures text { self.new ≡ decimal n ++ self.old }
-        ensures grows { length self.new ≡ length self.old + length (decimal n) }
+    pub(crate) fn put_last(&mut self, bytes: [u8; 4], count: usize)
+        requires few { count ≤ 4 }
+        requires room { length self.old + count ≤ CAPACITY }
+        ensures text { self.new ≡ drop (4 - count) bytes ++ self.old }
+        ensures grows { length self.new ≡ length self.old + count }
     {
-        self.start = write_digits(n, &mut self.scratch, self.start);
-    }
-
-    /// How many bytes the text has.
-    #[inline]
-    pub(crate) fn len(&self) -> usize
-        ensures length { result ≡ length self.now }
-        ensures at_most { result ≤ CAPACITY }
-    {
-        CAPACITY - self.start
+        let end = self.start;
+        self.scratch[end - 1] = bytes[3];
+        self.scratch[end - 2] = bytes[2];
+        self.scratch[end - 3] = bytes[1];
+        self.scratch[end - 4] = bytes[0];
+        self.start = end - count;
     }
 }

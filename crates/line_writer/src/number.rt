@@ -1,8 +1,7 @@
 //! Numbers in decimal.
 
-ghost use Rattle.std.specs.Prelude.{◌≡◌, ℕ, ◌+◌, ◌^◌, ◌<◌, ◌≤◌, List, ◌++◌, length, max};
+ghost use Rattle.std.specs.Prelude.{◌≡◌, ℕ, ◌+◌, ◌^◌, ◌<◌, ◌≤◌, List, ◌++◌, length};
 ghost use Rattle.std.specs.Fmt.{decimal, signed_decimal};
-ghost use Rattle.line_writer.specs.Text.{zero_padded};
 
 use crate::line::{CAPACITY, Line};
 
@@ -29,7 +28,7 @@ impl Number for u8 {
 
     #[inline]
     fn put(self, line: &mut Line) {
-        line.put_digits(u64::from(self));
+        line.put_short(u32::from(self));
     }
 }
 
@@ -41,7 +40,7 @@ impl Number for u16 {
 
     #[inline]
     fn put(self, line: &mut Line) {
-        line.put_digits(u64::from(self));
+        line.put_middle(u32::from(self));
     }
 }
 
@@ -77,7 +76,7 @@ impl Number for i8 {
 
     #[inline]
     fn put(self, line: &mut Line) {
-        line.put_digits(u64::from(self.unsigned_abs()));
+        line.put_short(u32::from(self.unsigned_abs()));
         if self < 0 {
             line.put_byte(b'-');
         }
@@ -124,20 +123,5 @@ impl Line {
         ensures at_most { length self.new ≤ length self.old + N.most }
     {
         n.put(self);
-    }
-
-    /// Writes a number in decimal, with zeros before it where it has fewer than `width` digits.
-    #[inline]
-    pub fn put_zero_padded(&mut self, width: usize, n: u32)
-        requires { length self.old + max width 10 ≤ CAPACITY }
-        ensures text { self.new ≡ zero_padded width n ++ self.old }
-        ensures at_most { length self.new ≤ length self.old + max width 10 }
-    {
-        let before = self.len();
-        self.put_number(n);
-        let digits = self.len() - before;
-        for _ in 0..width.saturating_sub(digits) {
-            self.put_byte(b'0');
-        }
     }
 }

@@ -18,15 +18,15 @@ use pcap_reader::RecordHead;
 #[tactic(auto, unfolding(crate::specs::PacketLine::record_fields))]
 #[inline]
 fn put_record(line: &mut Line, head: &RecordHead)
-    requires { length line.old + 32 ≤ CAPACITY }
+    requires room { length line.old + 32 ≤ CAPACITY }
+    requires lawful { head.now.sub < per_second head.now.unit }
     ensures text { line.new ≡ record_fields head.now ++ line.old }
     ensures at_most { length line.new ≤ length line.old + 32 }
 {
-    let digits = match head.unit {
-        Unit::Micro => 6,
-        Unit::Nano => 9,
-    };
-    line.put_zero_padded(digits, head.sub);
+    match head.unit {
+        Unit::Micro => line.put_six_digits(head.sub),
+        Unit::Nano => line.put_nine_digits(head.sub),
+    }
     line.put_byte(b'.');
     line.put_number(head.sec);
     line.put_byte(b' ');
@@ -56,11 +56,11 @@ fn put_mode(line: &mut Line, header: &NtpView<'_>)
     ensures at_most { length line.new ≤ length line.old + 15 }
 {
     line.put_number(header.leap());
-    line.put_text(" l");
+    line.put_pair(b' ', b'l');
     line.put_number(header.mode());
-    line.put_text(" m");
+    line.put_pair(b' ', b'm');
     line.put_number(header.version());
-    line.put_text(" v");
+    line.put_pair(b' ', b'v');
 }
 
 /// Stratum and precision.
@@ -72,9 +72,9 @@ fn put_clock(line: &mut Line, header: &NtpView<'_>)
     ensures at_most { length line.new ≤ length line.old + 11 }
 {
     line.put_number(header.precision());
-    line.put_text(" p");
+    line.put_pair(b' ', b'p');
     line.put_number(header.stratum());
-    line.put_text(" s");
+    line.put_pair(b' ', b's');
 }
 
 /// Root delay, root dispersion and reference identifier.

@@ -97,6 +97,7 @@ impl<F: Feed> Capture<F> {
     }
 
     /// The next record, of a source that hasn't failed.
+    #[inline(always)]
     fn read_record(&mut self) -> Result<Option<RecordHead>, CaptureFault>
         requires unfailed { self.old.failed ≡ false }
         requires faults { IsReadable (F.state self.old.input.feed) }
@@ -139,6 +140,7 @@ impl<F: Feed> RecordSource for Capture<F> {
           held = s.input.end - s.input.start;
         } };
 
+    #[inline(always)]
     fn next_record(&mut self) -> Result<Option<RecordHead>, CaptureFault> {
         if self.failed {
             self.lent = 0;

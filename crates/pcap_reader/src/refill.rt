@@ -17,7 +17,7 @@ const MOST_TAKEN: u64 = 1_048_640_000_025;
 impl<F: Feed> Buffered<F> {
     /// Pulls until at least `wanted` bytes are held or the feed is at its end. Where they are
     /// held already it pulls nothing and moves nothing.
-    #[inline]
+    #[inline(always)]
     pub(crate) fn hold(&mut self, wanted: usize) -> Result<(), FeedFault>
         requires fits { wanted ≤ buffer_size }
         requires limit { self.old.place + wanted ≤ most_taken }
@@ -31,6 +31,9 @@ impl<F: Feed> Buffered<F> {
         }
     }
 
+    /// Pulls until so many are held, of which some lack, or the feed is at its end.
+    #[cold]
+    #[inline(never)]
     fn fill(&mut self, wanted: usize) -> Result<(), FeedFault>
         requires lacking { self.old.end - self.old.start < wanted }
         requires fits { wanted ≤ buffer_size }

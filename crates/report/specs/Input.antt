@@ -1,5 +1,5 @@
 -- What reading a whole input takes of its feed.
-use Rattle.std.specs.Prelude.{◌≡◌, ◌≤◌, ◌<◌, ℕ, List, length, Bool, true, false, Result, Ok, Err}
+use Rattle.std.specs.Prelude.{◌≡◌, ◌+◌, ◌≤◌, ◌<◌, ℕ, List, length, Bool, true, false, Result, Ok, Err}
 use Rattle.report.specs.declared.fault.Input.{Input}
 use Rattle.report.specs.declared.fault.RunFault.{RunFault}
 use Rattle.report.specs.declared.fault.RunFault.TheVariants.{TooBig, Device, Memory}
@@ -10,6 +10,12 @@ abbrev pub ReadsWhole : List ℕ → ℕ → Result (List ℕ) RunFault → Type
 ReadsWhole bytes limit (Ok read) = (read ≡ bytes) × (length bytes ≤ limit)
 ReadsWhole bytes limit (Err (TooBig input)) = limit < length bytes
 ReadsWhole bytes limit (Err fault) = Unit {0}
+
+-- how many bytes are taken at most of an input that may have so many: one more only where the
+-- answer is that it's too big
+abbrev pub most_read : {X : Type 0} → ℕ → Result X RunFault → ℕ
+most_read limit (Err (TooBig input)) = limit + 1
+most_read limit result = limit
 
 -- the faults of reading an input
 abbrev pub IsInputFault : Input → RunFault → Type 0

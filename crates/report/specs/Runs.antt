@@ -1,5 +1,5 @@
 -- What every engine promises that holds a capture against a claim.
-use Rattle.std.specs.Prelude.{◌≡◌, ◌⊎◌, ◌+◌, ℕ, List, Option, Result, Err, IfErr, IfSome, IsOk}
+use Rattle.std.specs.Prelude.{◌≡◌, ◌⊎◌, ℕ, List, Option, Result, Err, IfErr, IfSome, IsOk}
 use Rattle.std.specs.Io.KnownBytes.{Keeps}
 use Rattle.byte_stream.specs.Intake.{TakesAtMost}
 use Rattle.pcap_reader.specs.Limit.{most_taken}
@@ -8,7 +8,8 @@ use Rattle.report.specs.declared.fault.Input.TheVariants as inputs
 use Rattle.report.specs.declared.fault.Outcome.{Outcome}
 use Rattle.report.specs.declared.fault.RunFault.{RunFault}
 use Rattle.report.specs.declared.fault.RunFault.TheVariants.{Claim, Certificate, Refutation, TooBig, Device, Memory}
-use Rattle.report.specs.ClaimInput.{max_claim}
+use Rattle.report.specs.ClaimInput.{claim_read, max_claim}
+use Rattle.report.specs.Input.{most_read}
 use Rattle.report.specs.Output.{IsWrite}
 use Rattle.report.specs.Reports.{Report, Reports}
 use Rattle.report.specs.Run.{RunState}
@@ -35,24 +36,37 @@ IsBeforeCapture _ = ⊥
 abbrev pub IsUnwrittenAt : RunFault → Option (List ℕ) → Option (List ℕ) → Type 0
 IsUnwrittenAt fault before after = IsWrite fault ⊎ Keeps before after
 
+-- The bytes, where they are known, say a claim.
+abbrev pub HasClaim : Option (List ℕ) → Type 0
+HasClaim known = IfSome known (λ bytes. IsOk (claim_read bytes))
+
 -- The bytes, where they are known, begin with a lawful header of a capture.
 abbrev pub HasLawfulHeader : Option (List ℕ) → Type 0
 HasLawfulHeader known = IfSome known (λ bytes. IsOk (capture_of bytes))
 
--- What an engine promises for the report that its inputs' bytes call for, of whose second input at
--- most so many bytes are taken: its text and answer, and each device's failures (`reports`); that
--- nothing is written where it is given up (`unwritten`); that the feeds of later inputs are as they
--- were after an earlier refusal; that no more than the limits is taken of each input; and that a
--- refused header of the capture isn't told as being out of memory (`memory`).
-pub record Runs {T F : Type 0} (report : Option Report) (most : ℕ) (before after : RunState)
-    (second second' : T) (capture capture' : F) (answer : Result Outcome RunFault) : Type 0 where
+-- What an engine promises for the report that its inputs' bytes call for, where at most so many
+-- bytes are taken of the second input, which is lawful if `HasSecond` holds of its bytes: its text
+-- and answer, and each device's failures (`reports`); that nothing is written where it is given up
+-- (`unwritten`); that the feeds of later inputs are as they were after an earlier refusal; and that
+-- no more than the limits is taken of each input, of the claim one byte past its limit only where
+-- the answer is that it's too big. Nor is a refusal told as being out of memory once more was read:
+-- then the claim was lawful (`claim_memory`), the second input too (`second_memory`), and so is the
+-- capture's header (`capture_memory`).
+pub record Runs {T F : Type 0} (report : Option Report) (most : ℕ)
+    (HasSecond : Option (List ℕ) → Type 0) (before after : RunState) (second second' : T)
+    (capture capture' : F) (answer : Result Outcome RunFault) : Type 0 where
   pub reports : Reports report before after answer
   pub unwritten : IfErr answer (λ fault.
       IsUnwrittenAt fault before.sink.contents after.sink.contents)
   pub second_untouched : IfErr answer (λ fault. IsBeforeSecond fault → second' ≡ second)
   pub capture_untouched : IfErr answer (λ fault. IsBeforeCapture fault → capture' ≡ capture)
-  pub claim_at_most : TakesAtMost (max_claim + 1) before.claim.remaining after.claim.remaining
+  pub claim_at_most :
+      TakesAtMost (most_read max_claim answer) before.claim.remaining after.claim.remaining
   pub second_at_most : TakesAtMost most before.second.remaining after.second.remaining
   pub capture_at_most : TakesAtMost most_taken before.capture.remaining after.capture.remaining
-  pub memory : answer ≡ Err Memory →
+  pub claim_memory : answer ≡ Err Memory →
+      ((second' ≡ second) × (capture' ≡ capture)) ⊎ HasClaim before.claim.remaining
+  pub second_memory : answer ≡ Err Memory →
+      (capture' ≡ capture) ⊎ HasSecond before.second.remaining
+  pub capture_memory : answer ≡ Err Memory →
       (capture' ≡ capture) ⊎ HasLawfulHeader before.capture.remaining

@@ -1,11 +1,12 @@
 //! The reading of a certificate.
 
-ghost use Rattle.std.specs.Prelude.{◌+◌, ◌≤◌, IfOk, IfErr, IfSome, vec_len};
+ghost use Rattle.std.specs.Prelude.{◌≤◌, IfOk, IfErr, IfSome, vec_len};
 ghost use Rattle.byte_stream.specs.Fault.{CountsFault};
 ghost use Rattle.byte_stream.specs.Intake.{TakesAtMost};
 ghost use Rattle.byte_stream.specs.State.{IsReadable};
 ghost use Rattle.certificate.specs.Certificate.{data_of, max_pieces};
 ghost use Rattle.report.specs.CertificateInput.{IsOfCertificate, certificate_read, max_certificate};
+ghost use Rattle.report.specs.Input.{most_read};
 ghost use Rattle.report.specs.Reading.{Reads};
 ghost use Rattle.report.specs.Reports.{is_second, is_device};
 
@@ -30,7 +31,7 @@ pub fn read_certificate_from<T: Feed>(alloc: Global, feed: &mut T) -> Result<Cer
     ensures fault { IfErr result IsOfCertificate }
     ensures counts_fault { CountsFault (is_device is_second result)
         (T.state feed.old).faults (T.state feed.new).faults }
-    ensures at_most { TakesAtMost (max_certificate + 1)
+    ensures at_most { TakesAtMost (most_read max_certificate result)
         (T.state feed.old).remaining (T.state feed.new).remaining }
 {
     match read_input(alloc, feed, Input::Certificate, MAX_CERTIFICATE) {

@@ -1,11 +1,12 @@
 //! The reading of a claim.
 
-ghost use Rattle.std.specs.Prelude.{◌+◌, IfOk, IfErr, IfSome};
+ghost use Rattle.std.specs.Prelude.{IfOk, IfErr, IfSome};
 ghost use Rattle.byte_stream.specs.Fault.{CountsFault};
 ghost use Rattle.byte_stream.specs.Intake.{TakesAtMost};
 ghost use Rattle.byte_stream.specs.State.{IsReadable};
 ghost use Rattle.claim_file.specs.Claim.{IsLawful, data_of};
 ghost use Rattle.report.specs.ClaimInput.{IsOfClaim, claim_read, max_claim};
+ghost use Rattle.report.specs.Input.{most_read};
 ghost use Rattle.report.specs.Reading.{Reads};
 ghost use Rattle.report.specs.Reports.{is_claim, is_device};
 
@@ -30,7 +31,7 @@ pub fn read_claim_from<C: Feed>(alloc: Global, feed: &mut C) -> Result<Claim, Ru
     ensures fault { IfErr result IsOfClaim }
     ensures counts_fault { CountsFault (is_device is_claim result)
         (C.state feed.old).faults (C.state feed.new).faults }
-    ensures at_most { TakesAtMost (max_claim + 1)
+    ensures at_most { TakesAtMost (most_read max_claim result)
         (C.state feed.old).remaining (C.state feed.new).remaining }
 {
     match read_input(alloc, feed, Input::Claim, MAX_CLAIM) {

@@ -1,11 +1,10 @@
 //! An input that is read whole.
 
-ghost use Rattle.std.specs.Prelude.{◌≡◌, ◌+◌, Ok, Err, IfOk, IfErr, IfSome, MatchResult, length};
+ghost use Rattle.std.specs.Prelude.{◌≡◌, Ok, Err, IfOk, IfErr, IfSome, MatchResult, length};
 ghost use Rattle.byte_stream.specs.Fault.{CountsFault};
 ghost use Rattle.byte_stream.specs.Intake.{TakesAtMost};
 ghost use Rattle.byte_stream.specs.State.{IsReadable};
-ghost use Rattle.report.specs.declared.fault.RunFault.TheVariants.{Memory};
-ghost use Rattle.report.specs.Input.{ReadsWhole, IsInputFault, read_failed};
+ghost use Rattle.report.specs.Input.{ReadsWhole, IsInputFault, most_read, read_failed};
 
 use crate::fault::{Input, RunFault};
 use byte_stream::Feed;
@@ -17,8 +16,8 @@ const CHUNK: usize = 65536;
 /// All bytes of an input, where they are no more than `limit`.
 ///
 /// `TooBig(which)` comes where there are more, after one byte past the limit; `Device(which)`
-/// exactly where the feed failed, and `Memory` where memory was refused before any byte past the
-/// limit was taken.
+/// exactly where the feed failed, and `Memory` where memory was refused. At these two no byte past
+/// the limit was taken.
 pub fn read_input<F: Feed>(
     alloc: Global,
     feed: &mut F,
@@ -32,10 +31,8 @@ pub fn read_input<F: Feed>(
     ensures fault { IfErr result (IsInputFault which) }
     ensures counts_fault { CountsFault (read_failed result)
         (F.state feed.old).faults (F.state feed.new).faults }
-    ensures at_most { TakesAtMost (limit + 1)
+    ensures at_most { TakesAtMost (most_read limit result)
         (F.state feed.old).remaining (F.state feed.new).remaining }
-    ensures memory { result ≡ Err Memory →
-        TakesAtMost limit (F.state feed.old).remaining (F.state feed.new).remaining }
 {
     let mut chunk = make_chunk(alloc)?;
     let mut read = Vec::new(alloc);

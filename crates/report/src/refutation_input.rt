@@ -1,10 +1,11 @@
 //! The reading of a refutation.
 
-ghost use Rattle.std.specs.Prelude.{◌+◌, IfErr, IfSome};
+ghost use Rattle.std.specs.Prelude.{IfErr, IfSome};
 ghost use Rattle.byte_stream.specs.Fault.{CountsFault};
 ghost use Rattle.byte_stream.specs.Intake.{TakesAtMost};
 ghost use Rattle.byte_stream.specs.State.{IsReadable};
 ghost use Rattle.certificate.specs.Refutation.{data_of};
+ghost use Rattle.report.specs.Input.{most_read};
 ghost use Rattle.report.specs.Reading.{Reads};
 ghost use Rattle.report.specs.RefutationInput.{IsOfRefutation, refutation_read, max_refutation};
 ghost use Rattle.report.specs.Reports.{is_second, is_device};
@@ -29,7 +30,7 @@ pub fn read_refutation_from<T: Feed>(alloc: Global, feed: &mut T) -> Result<Refu
     ensures fault { IfErr result IsOfRefutation }
     ensures counts_fault { CountsFault (is_device is_second result)
         (T.state feed.old).faults (T.state feed.new).faults }
-    ensures at_most { TakesAtMost (max_refutation + 1)
+    ensures at_most { TakesAtMost (most_read max_refutation result)
         (T.state feed.old).remaining (T.state feed.new).remaining }
 {
     match read_input(alloc, feed, Input::Refutation, MAX_REFUTATION) {

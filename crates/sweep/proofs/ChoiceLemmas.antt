@@ -27,7 +27,7 @@ module _ (widens : (ppb distance : ℕ) → ppb < billion → IsWidening ppb dis
   top_here one other early late =
       same_top
       (Either (IsEarlyAtLeast ppb extremes stretch)
-          (IsEarlyAtLeast ppb (map mirrored_extreme extremes) (mirrored_stretch stretch)))
+      (IsEarlyAtLeast ppb (map mirrored_extreme extremes) (mirrored_stretch stretch)))
       (IsAtLeast ppb extremes stretch) (higher_of one other)
       (either_reaches widens ppb slow extremes stretch lawful lawful_stretch)
       (reaches_either widens ppb slow extremes stretch lawful lawful_stretch)
@@ -67,11 +67,11 @@ module _ (ppb : ℕ) (extremes : List Extreme) (stretches : List Stretch) (n : �
 -- ---- what the code reads and chooses at number k
 module _ (widens : (ppb distance : ℕ) → ppb < billion → IsWidening ppb distance (widening ppb distance)) (ppb : ℕ)
     (slow : ppb ≤ 500000000) (extremes : List Extreme) (lawful : All IsLawfulExtreme extremes)
-        (stretches : List Stretch)
+    (stretches : List Stretch)
     (lawful_stretches : All IsLawfulStretch stretches) (early late : List (Option Top))
     (are_early : AreEarlyTops ppb extremes stretches early)
     (are_late : AreLateTops ppb extremes stretches late) (k : ℕ) (within : k < length stretches)
-        (one other : Option Top)
+    (one other : Option Top)
     (one_at : one ≡ get_or early k one) (other_at : other ≡ get_or late (length stretches - 1 - k) other) where
   pub some_stretch : Stretch
   some_stretch = get_or stretches k (record { begin = 0; end = 0 })
@@ -83,18 +83,18 @@ module _ (widens : (ppb distance : ℕ) → ppb < billion → IsWidening ppb dis
   pub top_at : IsTopOf (IsAtLeast ppb extremes some_stretch) (higher_of one other)
   top_at =
       top_here widens ppb slow extremes lawful some_stretch
-          (all_at IsLawfulStretch stretches k some_stretch lawful_stretches here)
+      (all_at IsLawfulStretch stretches k some_stretch lawful_stretches here)
       one other
       (are_early.each k some_stretch one here
       (slice_get_read early (length stretches) k one (sym are_early.as_many) within one_at))
       (are_late.each k some_stretch other here
       (slice_get_read late (length stretches) (length stretches - 1 - k) other (sym are_late.as_many) (omega arith)
-          other_at))
+      other_at))
 
   pub higher_is_some : 0 < length extremes → IsSome (higher_of one other)
   higher_is_some some =
       top_is_some widens ppb slow extremes lawful some_stretch
-          (all_at IsLawfulStretch stretches k some_stretch lawful_stretches here) some
+      (all_at IsLawfulStretch stretches k some_stretch lawful_stretches here) some
       (higher_of one other) top_at
 
   module _ (top : Top) (is : higher_of one other ≡ Some top) where
@@ -106,7 +106,7 @@ module _ (widens : (ppb distance : ℕ) → ppb < billion → IsWidening ppb dis
 
     pub number_more : (extreme : Extreme) → slice_get extremes top.index ≡ Some extreme → (numbers : List ℕ) →
         NumbersSoFar ppb extremes stretches k numbers →
-            NumbersSoFar ppb extremes stretches (k + 1) (numbers ++ extreme.number ∷ [])
+        NumbersSoFar ppb extremes stretches (k + 1) (numbers ++ extreme.number ∷ [])
     number_more extreme stands numbers so_far =
         NumbersSoFar-more ppb extremes stretches k numbers so_far some_stretch extreme.number here
         (record { top = top; is_top = top_is; extreme = extreme; stands = stands; number = refl })

@@ -63,7 +63,7 @@ less x y end wide best_end best_wide level a b reached short = ⊎_elim
 
 module _ (side : Side) (samples : List Sample) (server : ℕ) (extremes : List Extreme)
     (are : AreExtremesOf side samples server extremes) (p q : ℤ) (ppb : ℕ) (stretch : Stretch)
-        (at : IsStretchOf p q stretch)
+    (at : IsStretchOf p q stretch)
     (s : IsLawfulStretch stretch) (number : ℕ) (is : IsTopNumber ppb extremes stretch number) where
   module _ (i : ℕ) (sample : Sample) (stands : slice_get samples i ≡ Some sample) (of : sample.server ≡ server) where
     -- the extreme of a sample, its index and how it is counted
@@ -119,7 +119,7 @@ module _ (side : Side) (samples : List Sample) (server : ℕ) (extremes : List E
           let k = known i t at_i of in
           no_more (merit side t p q ppb) (merit side best.sample p q ppb) k.extreme.end
           (widening ppb (distance k.extreme stretch)) is.extreme.end (widening ppb (distance is.extreme stretch))
-              is.top.level
+          is.top.level
           k.counted best_counted best_reached
           (λ le.
           is.is_top.highest k.index (k.extreme.end - widening ppb (distance k.extreme stretch))
@@ -145,7 +145,7 @@ module _ (side : Side) (samples : List Sample) (server : ℕ) (extremes : List E
           let k = known i t at_i of in
           less (merit side t p q ppb) (merit side best.sample p q ppb) k.extreme.end
           (widening ppb (distance k.extreme stretch)) is.extreme.end (widening ppb (distance is.extreme stretch))
-              is.top.level
+          is.top.level
           k.counted best_counted best_reached
           (λ enough. not_before i k.index k.extreme k.stands_at k.number_is before
           (is.is_top.first k.index (record { extreme = k.extreme; stands = k.stands_at; at_least = enough })))

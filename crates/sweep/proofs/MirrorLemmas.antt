@@ -69,10 +69,10 @@ AreLateTops-mirrored ppb extremes stretches tops early = record {
   each = λ k stretch top at there.
       early.each (length stretches - 1 - k) (mirrored_stretch stretch) top
       (subst (λ (n : ℕ). slice_get (reverse (map mirrored_stretch stretches)) (n - 1 - k)
-          ≡ Some (mirrored_stretch stretch))
+      ≡ Some (mirrored_stretch stretch))
       (length-map stretches mirrored_stretch)
       (reverse_at (map mirrored_stretch stretches) k (mirrored_stretch stretch)
-          (map_at mirrored_stretch stretches k stretch at)))
+      (map_at mirrored_stretch stretches k stretch at)))
       there;
 }
 

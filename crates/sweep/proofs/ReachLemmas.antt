@@ -114,7 +114,7 @@ module _ (widens : (ppb distance : ℕ) → ppb < billion → IsWidening ppb dis
         subst (λ (x : Extreme). height_for ppb (mirrored_stretch stretch).end level ≤ height ppb x) back.2
         is.at_least in
         let reaches = early_reaches (mirrored_extreme extreme) (mirrored_stretch stretch)
-            (lawful-mirrored_extreme extreme b)
+        (lawful-mirrored_extreme extreme b)
         (lawful-mirrored_stretch stretch s) level early high in
         record {
           extreme = extreme;

@@ -67,7 +67,7 @@ module _ (first : ℤ) (ends : List ℤ) (n : ℕ) (begin : ℤ) (stretches : Li
           let same_q : end ≡ q = same_Some end q (sym at.ends_at ∙ ap (slice_get ends) (sym here) ∙ there.ends_at) in
           subst (λ (x : Stretch). IsStretchOf p q x) (sym new.1)
           (subst (λ (x : ℤ). IsStretchOf x q stretch) same_p
-              (subst (λ (x : ℤ). IsStretchOf begin x stretch) same_q is)))
+          (subst (λ (x : ℤ). IsStretchOf begin x stretch) same_q is)))
           (pushed_cases stretches stretch s k stands)
 
   pub StretchesSoFar-all : n ≡ length ends → AreStretchesOf first ends stretches
@@ -113,7 +113,7 @@ module _ (stretches : List Stretch) (lawful : All IsLawfulStretch stretches)
       let inside = slice_get_within stretches (suc steps + k) b at_b in
       let between : Stretch = get_or stretches (steps + k) a in
       let there : slice_get stretches (steps + k) ≡ Some between = slice_get-get_or stretches (steps + k) a
-          (omega arith) in
+      (omega arith) in
       let next : suc steps + k ≡ steps + k + 1 = omega arith in
       let first = later_rises steps k a between at_a there in
       let last = next_rises (steps + k) between b there (ap (slice_get stretches) (sym next) ∙ at_b) in

@@ -12,8 +12,8 @@
 //! for the samples that are late. The better of the two is the best of all.
 #![tactic(auto)]
 
-mod extreme;
 mod choice;
+mod extreme;
 mod passage;
 mod pieces;
 mod queue;

@@ -4,8 +4,8 @@ ghost use Rattle.sample_interval.specs.Sample.{IsLawfulSample};
 ghost use Rattle.span_cover.specs.Best.{HasNoSample};
 ghost use Rattle.sweep.specs.Pieces.{ArePieces, AreBestOfPieces, ArePairsOf};
 
-use crate::extreme::extremes_of;
 use crate::choice::top_numbers;
+use crate::extreme::extremes_of;
 use crate::stretch::stretches_of;
 use sample_interval::kinds::Sample;
 use span_cover::laws::first_best_of_both_ends_are_the_best;

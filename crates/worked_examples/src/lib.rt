@@ -1,5 +1,5 @@
-//! The worked examples as tables over the public calls of the readers, from frames to exchanges. It
-//! has tests alone.
+//! The worked examples as tables over the public calls of the readers, from frames to exchanges,
+//! as tests, and in `uses` a proved caller.
 #![tactic(auto)]
 
 #[cfg(test)]
@@ -14,3 +14,4 @@ mod frames;
 mod headers;
 #[cfg(test)]
 mod ticks;
+pub mod uses;

@@ -3,7 +3,7 @@ use Rattle.report.specs.declared.fault.Outcome.TheVariants.{Yes}
 use Rattle.audit.specs.declared.question.Question.{Question}
 use Rattle.audit.specs.Question.{Shows, data_of}
 use Rattle.audit.proofs.StatusLemmas.{shown_by_status}
-use Rattle.audit.proofs.RunLemmas.{made_of_bytes, run_reports}
+use Rattle.audit.proofs.RunLemmas.{claim_taken, claim_was_read, made_of_bytes, run_reports}
 use Rattle.audit.proofs.ShowsLemmas.{run_shows}
 use Rattle.audit.proofs.engine.answer.Goals as goal
 
@@ -13,7 +13,7 @@ returns-clause-answers g c =
     let made = c.make_report-capture.ensures in
     record {
       answer = c.publish-answer.result;
-      reports = run_reports _ _ _ _ _ _ _ _ c.make_report-capture.result.1 _ (record {
+      reports = run_reports (data_of c.args.question) _ _ _ _ _ _ c.make_report-capture.result.1 _ (record {
         is_made = made_of_bytes _ _ _ _ c.read_claim_from-claim.result _ read.known made.made;
         unwritten = made.unwritten;
         claim_faults = rw made.claim_device read.counts_fault;
@@ -21,10 +21,13 @@ returns-clause-answers g c =
         capture_faults = made.capture_faults;
         second_untouched = made.second_untouched;
         capture_untouched = made.capture_untouched;
-        claim_at_most = read.at_most;
+        claim_at_most = claim_taken c.read_claim_from-claim.result c.make_report-capture.result.1 _ _
+            made.read read.at_most;
         second_at_most = made.second_at_most;
         capture_at_most = made.capture_at_most;
-        memory = made.memory;
+        claim_memory = λ is. claim_was_read _ _ c.read_claim_from-claim.result read.known made.unread;
+        second_memory = made.second_memory;
+        capture_memory = made.capture_memory;
       }) c.publish-answer.ensures;
       tells = c.tell.ensures.tells;
       status_is = c.tell.ensures.status;

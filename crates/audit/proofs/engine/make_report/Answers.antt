@@ -6,14 +6,19 @@ use Rattle.report.specs.Publication.{IsMadeFor}
 use Rattle.audit.specs.Question.{data_of, task_read}
 use Rattle.audit.specs.Report.{after_claim}
 use Rattle.audit.proofs.CaptureLemmas.{header_was_read}
-use Rattle.audit.proofs.RunLemmas.{capture_refusal}
+use Rattle.audit.proofs.RunLemmas.{capture_refusal, second_was_read}
 use Rattle.audit.proofs.engine.make_report.Goals as goal
 
 -- memory that is refused after the capture was read
-pub returns-in-Ok-collected-clause-memory : goal.returns-in-Ok-collected-clause-memory
-returns-in-Ok-collected-clause-memory g c = λ is.
+pub returns-in-Ok-collected-clause-capture_memory : goal.returns-in-Ok-collected-clause-capture_memory
+returns-in-Ok-collected-clause-capture_memory g c = λ is.
     inr (header_was_read (claim_data c.in-Ok.claim) _ c.in-Ok-collected.collected
     (rw c.in-Ok-collected.is at c.read_capture_from-capture.ensures.known))
+
+pub returns-in-Ok-collected-clause-second_memory : goal.returns-in-Ok-collected-clause-second_memory
+returns-in-Ok-collected-clause-second_memory g c = λ is.
+    inr (second_was_read (task_read (data_of c.args.question) (g.T.Feed.state c.args.second.now).remaining)
+    c.in-Ok-read_task.task (rw c.in-Ok-read_task.is at c.read_task.ensures.known))
 
 -- the capture is refused
 pub returns-in-Err-collected-clause-made : goal.returns-in-Err-collected-clause-made
@@ -28,3 +33,8 @@ returns-in-Err-collected-clause-made g c = λ expected reads.
     (capture_refusal claim fault (rw c.in-Err-collected.is at c.read_capture_from-capture.ensures.fault)
     c.in-Ok-read_task.task second capture (rw c.in-Ok-read_task.is at c.read_task.ensures.known)
     (rw c.in-Err-collected.is at c.read_capture_from-capture.ensures.known))
+
+pub returns-in-Err-collected-clause-second_memory : goal.returns-in-Err-collected-clause-second_memory
+returns-in-Err-collected-clause-second_memory g c = λ is.
+    inr (second_was_read (task_read (data_of c.args.question) (g.T.Feed.state c.args.second.now).remaining)
+    c.in-Ok-read_task.task (rw c.in-Ok-read_task.is at c.read_task.ensures.known))

@@ -1,7 +1,8 @@
 use Rattle.std.proofs.Common.{◌≡◌, ◌∙◌, ◌^◌, ◌<◌, ap, append_assoc, arith, unsigned_abs}
 use Rattle.std.proofs.lemmas.Int.{ints, to_z-of_z, fits_signed_from_abs}
 use mir.Syntax.{w128}
-use Rattle.audit_text.specs.CheckReport.{span_line, second_of}
+use Rattle.audit_text.specs.CheckReport.{span_line}
+use Rattle.audit_text.specs.Second.{second_of}
 use Rattle.audit_text.proofs.check_report.write_span_line.Goals as goal
 
 pub returns : goal.returns

@@ -71,7 +71,7 @@ returns-clause-lawful c =
     let all : All (IsLawfulPiece (length c.args.samples.now)) (map piece_data c.loop-number.pieces.items) =
     rw c.loop-number.invariant.pieces
     (lawful_pieces c.args.samples.now claim c.args.step_s c.best_samples_are_the_first_best.ensures c.requires.claim
-        c.loop-number.number) in
+    c.loop-number.number) in
     record {
       pieces = All-from_map (IsLawfulPiece (length c.args.samples.now)) piece_data c.loop-number.pieces.items all;
       least = c.loop-number.invariant.below;

@@ -28,7 +28,7 @@ returns-in_err-error-clause-none c none =
     let xs = c.args.exchanges.now in
     let are = rw (reading_kept claim c.requires.claim) at c.rooms_of-rooms.ensures.rooms in
     says_none c.test_is_passed_where_room_is_left.ensures claim c.requires.claim xs c.requires.exchanges
-        (sym (c.in_err-error.ensures.exact xs are))
+    (sym (c.in_err-error.ensures.exact xs are))
 
 pub returns-clause-exact : goal.returns-clause-exact
 returns-clause-exact c =
@@ -48,7 +48,7 @@ returns-clause-exact c =
     let reading = ap unsigned_abs (first_kept claim lawful) in
     rw (wide, to_z-of_z w64 found fits)
     (ap Some (refutation_is c.test_is_passed_where_room_is_left.ensures claim lawful xs c.requires.exchanges
-        c.rooms_of-rooms.result are found in_range _ _ liars
+    c.rooms_of-rooms.result are found in_range _ _ liars
     reading) ∙ ap (option_map (refutation_at claim xs)) exact)
 
 pub returns-clause-found : goal.returns-clause-found
@@ -70,6 +70,6 @@ returns-clause-found c =
     rw (wide, to_z-of_z w64 found fits)
     (subst (IsSought claim xs)
     (sym (refutation_is c.test_is_passed_where_room_is_left.ensures claim lawful xs c.requires.exchanges
-        c.rooms_of-rooms.result are found in_range _ _ liars
+    c.rooms_of-rooms.result are found in_range _ _ liars
     reading))
     (says_some c.test_is_passed_where_room_is_left.ensures claim lawful xs c.requires.exchanges found (sym exact)))

@@ -63,7 +63,7 @@ loop-server-preserved c =
             long = rw w.tables-is c.loop-server.invariant.long;
             best = λ k below. rw w.tables-is (without (over k) server _ (c.loop-server.invariant.best k below)
                 (c.first_best_of_both_ends_are_the_best.ensures.none c.args.samples.now server _ _ claim.drift_ppb
-                    none));
+                none));
           }
     ]
 

@@ -31,7 +31,8 @@ returns-in_err-format-clause-refusal g c =
     h.enough less
     in
     let value = ap header_of (sym c.held.ensures.value) ∙ sym c.in_err-format.ensures.value in
-    rw (p.1, p.2) (header_refused (state s.feed).remaining (state i.feed).remaining (held_bytes i) c.in_err-format.field-0.0 keeps end value)
+    rw (p.1, p.2) (header_refused (state s.feed).remaining (state i.feed).remaining (held_bytes i)
+    c.in_err-format.field-0.0 keeps end value)
 
 pub returns-in_err-format-clause-not_memory : goal.returns-in_err-format-clause-not_memory
 returns-in_err-format-clause-not_memory g c =
@@ -65,5 +66,5 @@ returns-clause-known g c =
     let long : 24 ≤ length (held_bytes i) = omega (arith, c.in_ok-format.ensures.long, ap length c.held.ensures.value)
     in
     let value = ap header_of (sym c.held.ensures.value) ∙ sym c.in_ok-format.ensures.value in
-    header_begun (state s.feed).remaining (state k.feed).remaining (held_bytes i) (held_bytes k) c.in_ok-format.format keeps' long value
-    c.consume.ensures.rest
+    header_begun (state s.feed).remaining (state k.feed).remaining (held_bytes i) (held_bytes k)
+    c.in_ok-format.format keeps' long value c.consume.ensures.rest

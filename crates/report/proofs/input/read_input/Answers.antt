@@ -1,6 +1,7 @@
 use Rattle.std.proofs.Common.{◌+◌, ◌-◌, ◌++◌, ◌≤◌, ℕ, List, length, take, arith, length-append}
 use Rattle.std.proofs.lemmas.List.{length-take}
 use Rattle.std.proofs.KnownBytes.{Consumes-trans}
+use Rattle.report.proofs.InputLemmas.{takes_within}
 use Rattle.report.proofs.input.read_input.Goals as goal
 
 -- what was read before, and what the last pull gave
@@ -27,19 +28,8 @@ returns-in_err-extend_from_slice-clause-at_most g c =
     let n = c.in-Ok.n in
     let read = c.pulls.read.items in
     let all : length read + n ≤ c.args.limit =
-    omega (arith, c.len.ensures, c.pulls.read.ok.0, c.pulls.invariant.within) in (
-      read ++ take n c.pull.new.into,
-      Consumes-trans _ _ _ _ _ c.pulls.invariant.taken c.in-Ok.ensures.known.0,
-      within read c.pull.new.into n (c.args.limit + 1) (omega arith),
-    )
-
-pub returns-in_err-extend_from_slice-clause-memory :
-    goal.returns-in_err-extend_from_slice-clause-memory
-returns-in_err-extend_from_slice-clause-memory g c _ =
-    let n = c.in-Ok.n in
-    let read = c.pulls.read.items in
-    let all : length read + n ≤ c.args.limit =
-    omega (arith, c.len.ensures, c.pulls.read.ok.0, c.pulls.invariant.within) in (
+    omega (arith, c.len.ensures, c.pulls.read.ok.0, c.pulls.invariant.within) in
+    takes_within c.args.limit c.from_residual-in_err-extend_from_slice.result _ _ (
       read ++ take n c.pull.new.into,
       Consumes-trans _ _ _ _ _ c.pulls.invariant.taken c.in-Ok.ensures.known.0,
       within read c.pull.new.into n c.args.limit all,

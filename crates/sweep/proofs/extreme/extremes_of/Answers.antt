@@ -36,7 +36,7 @@ loop-number-preserved c =
                 (sym (ap (λ (v : Vec Extreme Global). v.items) w.highs-is ∙ w.in_ok-push-2.ensures.items))
                 (ExtremesSoFar-more High samples c.args.server number c.loop-number.highs.items highs _
                 w.extreme_of-then-of-server.result here own lawful w.extreme_of-then-of-server.ensures.number
-                    w.extreme_of-then-of-server.ensures.is);
+                w.extreme_of-then-of-server.ensures.is);
           }
       | else-of-server w ↦
           record {

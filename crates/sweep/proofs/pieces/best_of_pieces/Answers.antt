@@ -27,7 +27,7 @@ pub top_numbers-requires-clause-in_order : goal.top_numbers-requires-clause-in_o
 top_numbers-requires-clause-in_order c =
     subst MiddlesRise (sym c.as_slice-2.ensures.value)
     (MiddlesRise-adjoin c.in_ok-stretches.stretches.items c.in_ok-stretches.ensures.lawful
-        c.in_ok-stretches.ensures.adjoin)
+    c.in_ok-stretches.ensures.adjoin)
 
 pub top_numbers-requires-2-clause-extremes : goal.top_numbers-requires-2-clause-extremes
 top_numbers-requires-2-clause-extremes c =
@@ -46,7 +46,7 @@ pub top_numbers-requires-2-clause-in_order : goal.top_numbers-requires-2-clause-
 top_numbers-requires-2-clause-in_order c =
     subst MiddlesRise (sym c.as_slice-4.ensures.value)
     (MiddlesRise-adjoin c.in_ok-stretches.stretches.items c.in_ok-stretches.ensures.lawful
-        c.in_ok-stretches.ensures.adjoin)
+    c.in_ok-stretches.ensures.adjoin)
 
 pub returns-clause-none : goal.returns-clause-none
 returns-clause-none c = (

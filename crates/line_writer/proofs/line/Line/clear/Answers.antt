@@ -3,4 +3,4 @@ use Rattle.std.proofs.lemmas.List.{drop_all}
 use Rattle.line_writer.proofs.line.Line.clear.Goals as goal
 
 pub returns : goal.returns
-returns c = drop_all 512 c.self.inside.scratch (omega arith)
+returns c = drop_all 516 c.self.inside.scratch (omega arith)

@@ -33,7 +33,8 @@ returns-in_default g c =
       lends = last-none c.hold.new.self;
       next_is = says_nothing _;
       may_answer = tt;
-      in_time = in_time_head s.format s.given s.input.place (still_has state s.input) (state i.feed).remaining (held_bytes i) _
+      in_time = in_time_head s.format s.given s.input.place (still_has state s.input)
+          (state i.feed).remaining (held_bytes i) _
           (sym (length-held i)) kept few last;
       counts_fault = h.counts_fault;
       failed_iff = unfailed_iff _ s.failed c.requires.unfailed (λ same. cc);
@@ -56,7 +57,8 @@ returns-then-is_empty g c =
       lawful = tt;
       numbers = refl;
       lends = last-none i;
-      next_is = next_end s.format s.given s.input.place (still_has state s.input) (state i.feed).remaining i.place (held_bytes i)
+      next_is = next_end s.format s.given s.input.place (still_has state s.input)
+          (state i.feed).remaining i.place (held_bytes i)
           (last_bytes i 0)
           kept none (h.enough short);
       may_answer = tt;
@@ -90,7 +92,8 @@ returns-in_err-head g c =
       lawful = tt;
       numbers = refl;
       lends = last-none i;
-      next_is = next_fault s.format s.given s.input.place (still_has state s.input) (state i.feed).remaining _ (held_bytes i)
+      next_is = next_fault s.format s.given s.input.place (still_has state s.input)
+          (state i.feed).remaining _ (held_bytes i)
           (last_bytes i 0) e
           kept some end shows;
       may_answer = record_fault_may e fault.record_fault;
@@ -160,7 +163,8 @@ returns-in_err-check_whole g c =
       lawful = tt;
       numbers = refl;
       lends = last-none j;
-      next_is = next_torn s.format s.given s.input.place (still_has state s.input) (state j.feed).remaining after (held_bytes j)
+      next_is = next_torn s.format s.given s.input.place (still_has state s.input)
+          (state j.feed).remaining after (held_bytes j)
           (last_bytes j 0) head
           kept found.few front.0 front.1 short (k.enough less);
       may_answer = tt;

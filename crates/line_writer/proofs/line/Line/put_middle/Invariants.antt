@@ -1,0 +1,13 @@
+use Rattle.std.proofs.Common.{◌≡◌, ◌+◌, ◌^◌, ◌<◌, ◌++◌, length}
+use Rattle.std.specs.Fmt.{decimal}
+use Rattle.line_writer.proofs.line.Line.put_middle.Given as goal
+
+abbrev pub invariant-loop-left : goal.invariant-loop-left
+invariant-loop-left l = record {
+  small : l.left < 10 ^ 9;
+  text : decimal l.left ++ l.self ≡ decimal l.n ++ l.initial.self;
+  grown : length (decimal l.left) + length l.self ≡ length (decimal l.n) + length l.initial.self;
+}
+
+abbrev pub decreases-loop-left : goal.decreases-loop-left
+decreases-loop-left l = l.left
