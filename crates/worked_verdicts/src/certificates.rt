@@ -41,8 +41,6 @@ shape 1 | {"pieces":[{"entries":[],"upto":0},{"upto":0,"entries":[[0,0,0]]}]}
 shape 1 | {"pieces":[{"entries":[],"upto":0},{"upto":0,"entries":[0]}]}
 read | {"pieces":[{"entries":[],"upto":0},{"upto":0,"entries":[[0,0],[0,1],[1,0]]}]}
 shape 1 | {"pieces":[{"entries":[],"upto":0},{"upto":0,"entries":[[0,0],[0,1],[1]]}]}
-read | {"pieces":[{"upto":0,"entries":[[0,0],[0,0],[0,0],[0,0],[0,0],[0,0],[0,0],[0,0],[0,0],[0,0],[0,0],[0,0],[0,0],[0,0],[0,0],[0,0],[0,0],[0,0],[0,0],[0,0],[0,0],[0,0],[0,0],[0,0],[0,0],[0,0],[0,0],[0,0],[0,0],[0,0],[0,0],[0,0]]}]}
-shape 0 | {"pieces":[{"upto":0,"entries":[[0,0],[0,0],[0,0],[0,0],[0,0],[0,0],[0,0],[0,0],[0,0],[0,0],[0,0],[0,0],[0,0],[0,0],[0,0],[0,0],[0,0],[0,0],[0,0],[0,0],[0,0],[0,0],[0,0],[0,0],[0,0],[0,0],[0,0],[0,0],[0,0],[0,0],[0,0],[0]]}]}
 fault 1 | {"pieces":[{"entries":[[00,0]],"upto":0}]}
 fault 1 | {"pieces":[{"entries":[[0,0]],"upto":00}]}
 fault 1 | {"pieces":[{"entries":[[,0]],"upto":0}]}
@@ -58,12 +56,24 @@ read | {"pieces":[{"entries":[[0,4294967295]],"upto":18446744073709551615}]}
 shape 0 | {"pieces":[{"entries":[[0,0]],"upto":18446744073709551616}]}
 shape 0 | {"pieces":[{"entries":[[0,0]],"upto":99999999999999999999}]}
 shape 1 | {"pieces":[{"entries":[[0,0]],"upto":0},{"entries":[[0,0]],"upto":-1}]}
-read | {"pieces":[{"entries":[[0,0]],"upto":0,"upto":1}]}
 shape 0 | {"pieces":[{"entries":[[0,0]],"upto":0,"uptp":1}]}
-read | {"pieces":[{"entries":[[0,0],[0,0],[0,0],[0,0],[0,0],[0,0],[0,0],[0,0],[0,0],[0,0],[0,0],[0,0],[0,0],[0,0],[0,0],[0,0],[0,0],[0,0],[0,0],[0,0],[0,0],[0,0],[0,0],[0,0],[0,0],[0,0],[0,0],[0,0],[0,0],[0,0],[0,0],[0,0]],"upto":0}]}
-entries 0 | {"pieces":[{"entries":[[0,0],[0,0],[0,0],[0,0],[0,0],[0,0],[0,0],[0,0],[0,0],[0,0],[0,0],[0,0],[0,0],[0,0],[0,0],[0,0],[0,0],[0,0],[0,0],[0,0],[0,0],[0,0],[0,0],[0,0],[0,0],[0,0],[0,0],[0,0],[0,0],[0,0],[0,0],[0,0],[0,0]],"upto":0}]}
-entries 0 | {"pieces":[{"upto":0,"entries":[[0,0],[0,0],[0,0],[0,0],[0,0],[0,0],[0,0],[0,0],[0,0],[0,0],[0,0],[0,0],[0,0],[0,0],[0,0],[0,0],[0,0],[0,0],[0,0],[0,0],[0,0],[0,0],[0,0],[0,0],[0,0],[0,0],[0,0],[0,0],[0,0],[0,0],[0,0],[0,0],[0,0]]}]}
-entries 0 | {"pieces":[{"upto":0,"entries":[[0,0],[0,0],[0,0],[0,0],[0,0],[0,0],[0,0],[0,0],[0,0],[0,0],[0,0],[0,0],[0,0],[0,0],[0,0],[0,0],[0,0],[0,0],[0,0],[0,0],[0,0],[0,0],[0,0],[0,0],[0,0],[0,0],[0,0],[0,0],[0,0],[0,0],[0,0],[0,0],[0]]}]}"#;
+fault 1 | {"pieces":[{"entries":[[1 2,0]],"upto":0}]}
+fault 1 | {"pieces":[{"entries":[[0,0]],"upto":1 2}]}
+read | {"pieces":[{"entries":[[1 ,0]],"upto": 2 }]}
+read | {"pieces":[{"entries":[[0,0]],"upto":0,"upto":1}]}
+read | {"pieces":[{"entries":[[0,0]],"upto":-1,"upto":0}]}
+shape 0 | {"pieces":[{"entries":[[0,0]],"upto":0,"upto":-1}]}
+read | {"pieces":[{"entries":0,"upto":0,"entries":[]}]}
+read | {"pieces":[{}],"pieces":[]}
+shape 0 | {"pieces":[],"pieces":[{}]}
+fault 2 | {"pieces":[],"pieces":0}
+read | {"pieces":[{"entries":[[0,0]],"\u0075pto":0}]}
+shape 0 | {"pieces":[{"entries":[[0,0]],"\u0055pto":0}]}
+shape 0 | {"pieces":[{"entries":[[0,0]],"upto":0,"\u0075pto":-1}]}
+read | {"\u0070ieces":[]}
+fault 1 | [1e999]
+fault 2 | [1e308]
+fault 1 | {"pieces":[1e999],"pieces":[]}"#;
 
 fn answer(alloc: Global, text: &str) -> Result<String, AllocError> {
     match read_certificate(alloc, text.as_bytes()) {
@@ -87,23 +97,71 @@ fn texts(rt: HostRuntime) -> Result<(), Fail> {
     Ok(())
 }
 
+/// A text: how it begins, a part of it that is repeated, how often, and its end.
+fn repeated(
+    alloc: Global,
+    begin: &str,
+    part: &str,
+    times: u32,
+    end: &str,
+) -> Result<String, AllocError> {
+    let mut text = String::from_str(alloc, begin)?;
+    for _ in 0..times {
+        text.push_str(part)?;
+    }
+    text.push_str(end)?;
+    Ok(text)
+}
+
 #[test]
-fn counts_of_pieces(rt: HostRuntime) -> Result<(), Fail> {
-    let alloc = rt.alloc();
-    for (count, piece, expected) in [
-        (100_000, "{\"entries\":[],\"upto\":0}", "read"),
-        (100_000, "{}", "shape 0"),
-        (100_001, "{}", "fault 5"),
-        (100_001, "{\"entries\":[],\"upto\":0}", "fault 5"),
+fn counts(rt: HostRuntime) -> Result<(), Fail> {
+    let pieces = "{\"pieces\":[";
+    let piece = "{\"entries\":[],\"upto\":0},";
+    let entries = "{\"pieces\":[{\"entries\":[";
+    let later = "{\"pieces\":[{\"upto\":0,\"entries\":[";
+    for (begin, part, times, end, expected) in [
+        (
+            pieces,
+            piece,
+            99_999,
+            "{\"entries\":[],\"upto\":0}]}",
+            "read",
+        ),
+        (pieces, "{},", 99_999, "{}]}", "shape 0"),
+        (pieces, "{},", 100_000, "{}]}", "fault 5"),
+        (
+            pieces,
+            piece,
+            100_000,
+            "{\"entries\":[],\"upto\":0}]}",
+            "fault 5",
+        ),
+        (pieces, "{},", 100_000, "{}],\"pieces\":[]}", "read"),
+        (entries, "[0,0],", 31, "[0,0]],\"upto\":0}]}", "read"),
+        (entries, "[0,0],", 31, "[0]],\"upto\":0}]}", "shape 0"),
+        (entries, "[0,0],", 32, "[0,0]],\"upto\":0}]}", "entries 0"),
+        (later, "[0,0],", 31, "[0,0]]}]}", "read"),
+        (later, "[0,0],", 31, "[0]]}]}", "shape 0"),
+        (later, "[0,0],", 32, "[0,0]]}]}", "entries 0"),
+        (later, "[0,0],", 32, "[0]]}]}", "entries 0"),
     ] {
-        let mut text = String::from_str(alloc, "{\"pieces\":[")?;
-        for _ in 1..count {
-            text.push_str(piece)?;
-            text.push_str(",")?;
-        }
-        text.push_str(piece)?;
-        text.push_str("]}")?;
-        assert_eq!(rt; answer(alloc, text.as_str())?.as_str(), expected);
+        let text = repeated(rt.alloc(), begin, part, times, end)?;
+        assert_eq!(rt;
+            answer(rt.alloc(), text.as_str())?.as_str(),
+            expected,
+            "{end}"
+        );
+    }
+    Ok(())
+}
+
+// Arrays may nest 127 deep.
+#[test]
+fn depths(rt: HostRuntime) -> Result<(), Fail> {
+    for (depth, expected) in [(127, "fault 2"), (128, "fault 1")] {
+        let open = repeated(rt.alloc(), "", "[", depth, "")?;
+        let text = repeated(rt.alloc(), open.as_str(), "]", depth, "")?;
+        assert_eq!(rt; answer(rt.alloc(), text.as_str())?.as_str(), expected);
     }
     Ok(())
 }
