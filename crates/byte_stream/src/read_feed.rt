@@ -8,8 +8,8 @@ use std::io::{ErrorKind, Read};
 
 /// The bytes of a reader. It takes no memory of its own.
 ///
-/// A read that was interrupted is tried again, up to a thousand times in all. Any other failed read, also one that would block,
-/// is a fault at once, and isn't repeated.
+/// A read that was interrupted is tried again, up to a thousand times in all. Any other failed
+/// read, also one that would block, is a fault at once, and isn't repeated.
 #[derive(Debug, Drop)]
 pub struct ReadFeed<R> {
     reader: R,

@@ -5,6 +5,9 @@
 //! microseconds or nanoseconds. Any other bytes have one fault: the header's, or the first that
 //! applies where the longest list of records at their beginning ends, with the place of that
 //! record in the file.
+//!
+//! A caller goes over a source by one loop, whatever holds the bytes: `count_records` in
+//! `worked_examples/src/uses.rt` is a small one, with its proof.
 #![tactic(auto)]
 
 mod buffered;
