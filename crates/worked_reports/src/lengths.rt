@@ -22,7 +22,7 @@ impl Read for Padded<'_> {
         if self.text.is_empty() {
             let count = self.blanks.min(buf.len() as u64) as usize;
             buf[..count].fill(b' ');
-            self.blanks -= count as u64;
+            self.blanks = self.blanks.saturating_sub(count as u64);
             return Ok(count);
         }
         let count = self.text.len().min(buf.len());
@@ -43,7 +43,7 @@ fn certificates(rt: HostRuntime) -> Result<(), Fail> {
         let mut claim = TestFeed::new(C1.as_bytes(), Cut::Growing, None);
         let mut certificate = ReadFeed::new(Padded {
             text: K1.as_bytes(),
-            blanks: length - K1.len() as u64,
+            blanks: length.saturating_sub(K1.len() as u64),
         });
         let capture = TestFeed::new(&V1, Cut::Growing, None);
         let mut out = TestSink::new(rt.alloc(), 1000, 1000, None, false)?;
