@@ -3,6 +3,19 @@
 use std::alloc::{AllocError, Global};
 use vectors::{C1, V1};
 
+/// A refutation of `C1` with a bound one tick smaller.
+pub(crate) const REFUTATION: &str =
+    "{\"error\":42953968,\"false\":[],\"reading\":4294967296000000000}";
+
+/// What makes of `C1` a claim with a span of 64 seconds and a drift.
+pub(crate) const LONG: [(&str, &str); 2] = [
+    (
+        "\"to\":\"2001-09-09T01:46:40Z\"",
+        "\"to\":\"2001-09-09T01:47:44Z\"",
+    ),
+    ("\"drift_ppb\":0", "\"drift_ppb\":20000"),
+];
+
 /// The text of `C1` with parts of it replaced.
 pub(crate) fn claim_of(alloc: Global, edits: &[(&str, &str)]) -> Result<String, AllocError> {
     let mut text = String::from_str(alloc, C1)?;

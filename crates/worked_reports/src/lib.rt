@@ -3,13 +3,23 @@
 #![tactic(auto)]
 
 #[cfg(test)]
-mod engines;
+mod certificates;
+#[cfg(test)]
+mod envelopes;
 #[cfg(test)]
 mod failures;
 #[cfg(test)]
 mod inputs;
 #[cfg(test)]
+mod lengths;
+#[cfg(test)]
 mod listings;
+#[cfg(test)]
+mod moments;
+#[cfg(test)]
+mod refusals;
+#[cfg(test)]
+mod refutations;
 #[cfg(test)]
 mod reports;
 #[cfg(test)]

@@ -2,6 +2,7 @@
 
 ghost use Rattle.std.specs.Prelude.{◌≡◌, [], Some, IfOk, true};
 
+use crate::inputs::{edited, first_of};
 use crate::trial::lines_of;
 use byte_stream::{Cut, Sink, TestFeed, TestSink};
 use listing::{list_from, run_list};
@@ -68,6 +69,47 @@ fn listing_of(length: usize) -> (&'static [&'static str], Result<Outcome, RunFau
         131..=235 => (&[LINE_0], torn(130)),
         _ => (&[LINE_0, LINE_1, CLOSING], Ok(Outcome::Yes)),
     }
+}
+
+/// A capture in nanoseconds, one whose sub-second field is a millisecond there, and one in the
+/// other byte order.
+#[test]
+fn lists_other_writers(rt: HostRuntime) -> Result<(), Fail> {
+    let nano = edited(&[(0, b"\x4d\x3c\xb2\xa1")]);
+    let later = edited(&[(0, b"\x4d\x3c\xb2\xa1"), (28, b"\x40\x42\x0f\x00")]);
+    let big_endian = edited(&[
+        (0, b"\xa1\xb2\xc3\xd4\x00\x02\x00\x04"),
+        (16, b"\x00\x04\x00\x00\x00\x00\x00\x01"),
+        (24, b"\x3b\x9a\xca\x00\x00\x00\x00\x00"),
+        (32, b"\x00\x00\x00\x5a\x00\x00\x00\x5a"),
+        (130, b"\x3b\x9a\xca\x00\x00\x00\x4e\x20"),
+        (138, b"\x00\x00\x00\x5a\x00\x00\x00\x5a"),
+    ]);
+    let rows: [(&[u8], &[&str]); 3] = [
+        (
+            first_of(&nano, 130),
+            &[
+                "0 1000000000.000000000 192.0.2.10:49152 192.0.2.1:123 v4 m3 l0 s0 p0 0 0 00000000 \
+                    0000000000000000 0000000000000000 0000000000000000 1122334455667788 \
+                    4294967296000000000 4294967296000000005 - 10193815036915775368\n",
+                "records 1 packets 1\n",
+            ],
+        ),
+        (
+            first_of(&later, 130),
+            &[
+                "0 1000000000.001000000 192.0.2.10:49152 192.0.2.1:123 v4 m3 l0 s0 p0 0 0 00000000 \
+                    0000000000000000 0000000000000000 0000000000000000 1122334455667788 \
+                    4294967296004294967 4294967296004294972 - 10193815036915775368\n",
+                "records 1 packets 1\n",
+            ],
+        ),
+        (&big_endian, &[LINE_0, LINE_1, CLOSING]),
+    ];
+    for (capture, lines) in rows {
+        lists(&rt, rt.alloc(), capture, lines, Ok(Outcome::Yes))?;
+    }
+    Ok(())
 }
 
 #[test]

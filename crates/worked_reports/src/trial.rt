@@ -2,14 +2,16 @@
 
 ghost use Rattle.byte_stream.specs.State.{IsWritable};
 
-use audit::{run_at, run_check, run_find, run_samples};
+use audit::{run_at, run_check, run_envelope, run_find, run_refute, run_samples, run_seek};
 use byte_stream::{Cut, Feed, Sink, TestFeed, TestSink};
 use listing::run_list;
 use report::{Outcome, RunFault};
 use std::alloc::Global;
 use std::process::Abort;
+use std::test::Fail;
 
-/// A command, with what it's asked for: a moment in Unix seconds, or the length of pieces.
+/// A command, with what it's asked for: a moment in Unix seconds, or the length of pieces and
+/// whether to show the servers.
 #[derive(Clone, Copy, Debug)]
 pub(crate) enum Command {
     List,
@@ -17,13 +19,17 @@ pub(crate) enum Command {
     At(u32),
     Check,
     Find(u32),
+    Refute,
+    Seek,
+    Envelope(u32, bool),
 }
 
-/// What the inputs of a run hold. A command reads those that it has.
+/// What the inputs of a run hold: the claim, the certificate or refutation, and the capture. A
+/// command reads those that it has.
 #[derive(Clone, Copy, Debug)]
 pub(crate) struct Inputs<'a> {
     pub(crate) claim: &'a [u8],
-    pub(crate) certificate: &'a [u8],
+    pub(crate) second: &'a [u8],
     pub(crate) capture: &'a [u8],
 }
 
@@ -31,13 +37,13 @@ pub(crate) struct Inputs<'a> {
 #[derive(Clone, Copy, Debug)]
 pub(crate) struct Failing {
     pub(crate) claim: Option<u64>,
-    pub(crate) certificate: Option<u64>,
+    pub(crate) second: Option<u64>,
     pub(crate) capture: Option<u64>,
 }
 
 pub(crate) const NONE: Failing = Failing {
     claim: None,
-    certificate: None,
+    second: None,
     capture: None,
 };
 
@@ -46,17 +52,14 @@ pub(crate) const NONE: Failing = Failing {
 pub(crate) struct Ran<'a> {
     pub(crate) answer: Result<Outcome, RunFault>,
     pub(crate) claim: TestFeed<'a>,
-    pub(crate) certificate: TestFeed<'a>,
+    pub(crate) second: TestFeed<'a>,
     pub(crate) capture: TestFeed<'a>,
 }
 
 impl Ran<'_> {
     /// How often its feeds have failed.
     pub(crate) fn faults(&self) -> u64 {
-        let first = self
-            .claim
-            .faults()
-            .saturating_add(self.certificate.faults());
+        let first = self.claim.faults().saturating_add(self.second.faults());
         first.saturating_add(self.capture.faults())
     }
 }
@@ -73,24 +76,62 @@ pub(crate) fn run<'a>(
     requires { IsWritable (⟦<TestSink as Sink>⟧.state out.old) }
 {
     let mut claim = TestFeed::new(inputs.claim, cut, failing.claim);
-    let mut certificate = TestFeed::new(inputs.certificate, cut, failing.certificate);
+    let mut second = TestFeed::new(inputs.second, cut, failing.second);
     let capture = TestFeed::new(inputs.capture, cut, failing.capture);
     let (capture, answer) = match command {
         Command::List => run_list(alloc, capture, out),
         Command::Samples => run_samples(alloc, &mut claim, capture, out),
-        Command::At(second) => run_at(alloc, &mut claim, capture, second, out),
-        Command::Check => run_check(alloc, &mut claim, capture, &mut certificate, out),
+        Command::At(moment) => run_at(alloc, &mut claim, capture, moment, out),
+        Command::Check => run_check(alloc, &mut claim, capture, &mut second, out),
         Command::Find(step_s) => {
             let step_s = step_s.max(1).min(86_400);
             run_find(alloc, &mut claim, capture, step_s, out)
+        }
+        Command::Refute => run_refute(alloc, &mut claim, capture, &mut second, out),
+        Command::Seek => run_seek(alloc, &mut claim, capture, out),
+        Command::Envelope(step_s, servers) => {
+            let step_s = step_s.max(1).min(86_400);
+            run_envelope(alloc, &mut claim, capture, step_s, servers, out)
         }
     };
     Ran {
         answer,
         claim,
-        certificate,
+        second,
         capture,
     }
+}
+
+/// A run gives this answer and these lines, from feeds that give one byte with each pull, and one,
+/// two and so on. Over a sink whose `finish` alone fails a refusal stays, and an outcome becomes
+/// `Write`.
+pub(crate) fn gives(
+    rt: &impl Abort,
+    alloc: Global,
+    command: Command,
+    inputs: Inputs<'_>,
+    wanted: Result<Outcome, RunFault>,
+    lines: &[&str],
+) -> Result<(), Fail> {
+    for cut in [Cut::Fixed(1), Cut::Growing] {
+        for finish_fails in [false, true] {
+            let mut out = TestSink::new(alloc, 2000, 2000, None, finish_fails)?;
+            let ran = run(alloc, command, inputs, cut, NONE, &mut out);
+            assert_eq!(rt;
+                lines_of(rt, out.bytes(), lines),
+                lines.len(),
+                "{command:?} {cut:?}"
+            );
+            let answer = match wanted {
+                Ok(_) if finish_fails => Err(RunFault::Write(out.bytes().len() as u64)),
+                answer => answer,
+            };
+            assert_eq!(rt; ran.answer, answer, "{command:?} {cut:?} {finish_fails}");
+            assert_eq!(rt; out.faults(), u64::from(finish_fails));
+            assert_eq!(rt; ran.faults(), 0);
+        }
+    }
+    Ok(())
 }
 
 /// Nothing was taken of these bytes: the next one is their first.

@@ -1,0 +1,127 @@
+//! The worked rows on `check` and `find`.
+
+use crate::inputs::{LONG, claim_of, edited};
+use crate::trial::{Command, Inputs, gives};
+use Command::{Check, Find};
+use report::Outcome;
+use std::test::Fail;
+use vectors::{K1, V1};
+
+const CLIENT: &str = "client 192.0.2.10 servers 1 false_max 0\n";
+
+const COUNTS: &str = "records 2 requests 1 replies 1 samples 1 version 0 leap 0 stratum 0 \
+    precision 0 zero 0 norequest 0 ambiguous 0 warnings 0\n";
+
+const SOURCES: &str = "advice sources 1\n";
+
+const REFERENCE: &str = "advice reference 47505300\n";
+
+const PIECES: &str = "pieces 1\n";
+
+const YES: &str = "verdict yes\n";
+
+const EXCEEDS: &str = "verdict no piece 0 exceeds\n";
+
+/// The rows on `K1` and claims like `C1` with another bound.
+#[test]
+fn checks(rt: HostRuntime) -> Result<(), Fail> {
+    let alloc = rt.alloc();
+    let nano = edited(&[(0, b"\x4d\x3c\xb2\xa1"), (134, b"\x00\x2d\x31\x01")]);
+    let rows: [(&str, &[u8], Outcome, &str); 4] = [
+        ("10001001", &V1, Outcome::Yes, YES),
+        ("10001000", &V1, Outcome::No, EXCEEDS),
+        ("10000002", &nano, Outcome::Yes, YES),
+        ("10000001", &nano, Outcome::No, EXCEEDS),
+    ];
+    for (bound, capture, outcome, verdict) in rows {
+        let claim = claim_of(alloc, &[("10001001", bound)])?;
+        let span = format!(in alloc;
+            "span 1000000000 1000000000 bound_ns {bound} drift_ppb 0 reading_ns 0\n"
+        )?;
+        let inputs = Inputs {
+            claim: claim.as_bytes(),
+            second: K1.as_bytes(),
+            capture,
+        };
+        let lines = [
+            CLIENT,
+            span.as_str(),
+            COUNTS,
+            SOURCES,
+            REFERENCE,
+            PIECES,
+            verdict,
+        ];
+        gives(&rt, alloc, Check, inputs, Ok(outcome), &lines)?;
+    }
+    Ok(())
+}
+
+/// A certificate that names a sample which the capture hasn't.
+#[test]
+fn bad_sample(rt: HostRuntime) -> Result<(), Fail> {
+    let alloc = rt.alloc();
+    let claim = claim_of(alloc, &[])?;
+    let inputs = Inputs {
+        claim: claim.as_bytes(),
+        second: K1.as_bytes(),
+        capture: &V1[..130],
+    };
+    let lines = [
+        CLIENT,
+        "span 1000000000 1000000000 bound_ns 10001001 drift_ppb 0 reading_ns 0\n",
+        "records 1 requests 1 replies 0 samples 0 version 0 leap 0 stratum 0 precision 0 zero 0 \
+            norequest 0 ambiguous 0 warnings 0\n",
+        "advice sources 0\n",
+        PIECES,
+        "verdict no piece 0 bad-sample\n",
+    ];
+    gives(&rt, alloc, Check, inputs, Ok(Outcome::No), &lines)
+}
+
+/// The rows on a moment, and on a span of 64 seconds with a drift, in one piece and in two.
+#[test]
+fn findings(rt: HostRuntime) -> Result<(), Fail> {
+    let alloc = rt.alloc();
+    let one = "{\"pieces\":[{\"entries\":[[0,0]],\"upto\":4294967570877906944}]}\n";
+    let two = "{\"pieces\":[{\"entries\":[[0,0]],\"upto\":4294967433438953472},\
+        {\"entries\":[[0,0]],\"upto\":4294967570877906944}]}\n";
+    let k1 = format!(in alloc; "{K1}\n")?;
+    let rows: [(u32, &[(&str, &str)], &str, Outcome, &str); 6] = [
+        (64, &[], "10001001", Outcome::Yes, k1.as_str()),
+        (
+            64,
+            &[],
+            "10001000",
+            Outcome::No,
+            "nothing piece 0 hull -42949674 42953969\n",
+        ),
+        (64, &LONG, "11280627", Outcome::Yes, one),
+        (
+            64,
+            &LONG,
+            "11280626",
+            Outcome::No,
+            "nothing piece 0 hull -48447343 48449920\n",
+        ),
+        (32, &LONG, "11280627", Outcome::Yes, two),
+        (
+            32,
+            &LONG,
+            "11280626",
+            Outcome::No,
+            "nothing piece 1 hull -48447343 48449920\n",
+        ),
+    ];
+    for (step_s, edits, bound, outcome, text) in rows {
+        let wide = claim_of(alloc, edits)?;
+        let claim = wide.as_str().replace(alloc, "10001001", bound)?;
+        let inputs = Inputs {
+            claim: claim.as_bytes(),
+            second: b"",
+            capture: &V1,
+        };
+        gives(&rt, alloc, Find(step_s), inputs, Ok(outcome), &[text])?;
+    }
+    Ok(())
+}
