@@ -88,4 +88,4 @@ def remedy(line: str) -> tuple[str, str]:
     for known in REMEDIES:
         if re.search(rf"ntpaudit(-dossier)?: .*?({known.pattern})", line):
             return known.why, known.what
-    return "", "See docs/GUIDE.md, `What may be refused`."
+    return "", "See docs/REFUSALS.md."
