@@ -8,6 +8,15 @@
 //!
 //! [`check_refutation`] settles whether there is evidence against the claim: an error beyond the
 //! bound for which such a course fits. It and a yes never meet.
+//!
+//! Whether a certificate shows its claim, proved in worked_verdicts, `uses.rt`:
+//!
+//! ```text
+//! match check(samples, claim, certificate) {
+//!     Verdict::Yes => true,
+//!     Verdict::No { .. } => false,
+//! }
+//! ```
 #![tactic(auto)]
 
 mod entry;

@@ -5,6 +5,16 @@
 //! [`hull`] is the least range that holds every admissible point. [`hull_walk`] says also how many
 //! ends of intervals were looked at, and [`meet`] narrows two intervals to one. Nothing here
 //! allocates.
+//!
+//! What three sources agree on if one of them may be wrong, proved in worked_verdicts, `uses.rt`:
+//!
+//! ```text
+//! let mut intervals = ArrayVec::new();
+//! intervals.push(a);
+//! intervals.push(b);
+//! intervals.push(c);
+//! hull(&intervals, 1)
+//! ```
 #![tactic(auto)]
 
 mod ends;

@@ -1,5 +1,5 @@
-//! The worked examples as tables over the public calls from samples to verdicts. It has tests
-//! alone.
+//! The worked examples as tables over the public calls from samples to verdicts, as tests; and in
+//! `uses.rt` a small proved caller of `intersection` and one of `checker`.
 #![tactic(auto)]
 
 #[cfg(test)]
@@ -16,5 +16,8 @@ mod pieces;
 mod refutation_texts;
 #[cfg(test)]
 mod samples;
+mod uses;
 #[cfg(test)]
 mod verdicts;
+
+pub use uses::{agreed_by_two, is_shown};

@@ -1,0 +1,42 @@
+//! A small caller of `intersection` and one of `checker`, as a program of one's own would have
+//! them.
+ghost use Rattle.std.specs.Prelude.{ℤ, [], ◌∷◌, ◌≤◌, ◌<◌, IsTrue, length, All, vec_len};
+ghost use Rattle.certificate.specs.Certificate.{max_pieces};
+ghost use Rattle.checker.specs.Traceability.{IsTraceable};
+ghost use Rattle.claim_file.specs.Claim.{IsLawful, data_of};
+ghost use Rattle.intersection.specs.Hull.{IsAdmissible, HullHolds};
+ghost use Rattle.sample_interval.specs.Sample.{IsLawfulSample};
+
+use arrayvec::ArrayVec;
+use certificate::Certificate;
+use checker::{Verdict, check};
+use claim_file::Claim;
+use intersection::hull;
+use intersection::kinds::{Hull, Interval};
+use sample_interval::kinds::Sample;
+
+/// What three sources agree on if one of them may be wrong: every point that two of them hold.
+pub fn agreed_by_two(a: Interval, b: Interval, c: Interval) -> Hull
+    ensures { (point : ℤ) → IsAdmissible (a ∷ b ∷ c ∷ []) 1 point → HullHolds result point }
+{
+    let mut intervals = ArrayVec::new();
+    intervals.push(a);
+    intervals.push(b);
+    intervals.push(c);
+    hull(&intervals, 1)
+}
+
+/// Whether a certificate shows its claim: then the clock's error is within the claimed bound over
+/// the claimed span, in every course of events that fits exchanges with these samples.
+pub fn is_shown(samples: &[Sample], claim: &Claim, certificate: &Certificate) -> bool
+    requires claim { IsLawful (data_of claim.now) }
+    requires samples { All IsLawfulSample samples.now }
+    requires listed { All (λ sample. sample.server < length claim.now.servers.items) samples.now }
+    requires pieces { vec_len certificate.now.pieces ≤ max_pieces }
+    ensures { IsTrue result → IsTraceable (data_of claim.now) samples.now }
+{
+    match check(samples, claim, certificate) {
+        Verdict::Yes => true,
+        Verdict::No { .. } => false,
+    }
+}
