@@ -4,6 +4,8 @@ use crate::inputs::{LONG, claim_of, edited};
 use crate::trial::{Command, Inputs, gives};
 use Command::{Check, Find};
 use report::Outcome;
+use std::alloc::Global;
+use std::process::Abort;
 use std::test::Fail;
 use vectors::{K1, V1};
 
@@ -34,27 +36,39 @@ fn checks(rt: HostRuntime) -> Result<(), Fail> {
         ("10000001", &nano, Outcome::No, EXCEEDS),
     ];
     for (bound, capture, outcome, verdict) in rows {
-        let claim = claim_of(alloc, &[("10001001", bound)])?;
-        let span = format!(in alloc;
-            "span 1000000000 1000000000 bound_ns {bound} drift_ppb 0 reading_ns 0\n"
-        )?;
-        let inputs = Inputs {
-            claim: claim.as_bytes(),
-            second: K1.as_bytes(),
-            capture,
-        };
-        let lines = [
-            CLIENT,
-            span.as_str(),
-            COUNTS,
-            SOURCES,
-            REFERENCE,
-            PIECES,
-            verdict,
-        ];
-        gives(&rt, alloc, Check, inputs, Ok(outcome), &lines)?;
+        checks_bound(&rt, alloc, bound, capture, outcome, verdict)?;
     }
     Ok(())
+}
+
+/// `check` answers this of a capture, `K1` and a claim like `C1` with this bound.
+fn checks_bound(
+    rt: &impl Abort,
+    alloc: Global,
+    bound: &str,
+    capture: &[u8],
+    outcome: Outcome,
+    verdict: &str,
+) -> Result<(), Fail> {
+    let claim = claim_of(alloc, &[("10001001", bound)])?;
+    let span = format!(in alloc;
+        "span 1000000000 1000000000 bound_ns {bound} drift_ppb 0 reading_ns 0\n"
+    )?;
+    let inputs = Inputs {
+        claim: claim.as_bytes(),
+        second: K1.as_bytes(),
+        capture,
+    };
+    let lines = [
+        CLIENT,
+        span.as_str(),
+        COUNTS,
+        SOURCES,
+        REFERENCE,
+        PIECES,
+        verdict,
+    ];
+    gives(rt, alloc, Check, inputs, Ok(outcome), &lines)
 }
 
 /// A certificate that names a sample which the capture hasn't.
