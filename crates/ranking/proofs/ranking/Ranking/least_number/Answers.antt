@@ -18,7 +18,7 @@ returns-then-root-at_least-clause-none c =
     let is = c.root.ensures ∙ ap (λ nodes. value_of nodes 0) c.deref.ensures.value in
     rw (← c.self.view_is)
     (all_below c.self.inside.nodes.items c.self.inside.leaves c.self.invariant.tree c.args.at_least
-        c.max-at_least.result
+    c.max-at_least.result
     (λ value something enough. omega (arith, ints, clamps)) (rw (← is) less))
 
 pub returns-then-self-at_least-clause-least : goal.returns-then-self-at_least-clause-least
