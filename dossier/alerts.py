@@ -55,7 +55,7 @@ def leap(found: Alert) -> str:
 
 def sources(found: Alert) -> str:
     return (f"Only {count(found['count'], 'server has', 'servers have')} a sample. "
-            "With fewer than four, one that is wrong can't be told by the others.")
+            "With fewer than four there is none to spare: it takes three to outvote one that is wrong.")
 
 
 def reference(found: Alert) -> str:

@@ -37,9 +37,10 @@ def premises(claim: dict[str, Any]) -> list[Premise]:
         Premise("answers", "A reply with a request's transmit timestamp is the answer to that request.",
                 "The servers speak NTP version 4 in client and server mode; the timestamps of requests differ."),
         Premise("drift", f"The clock gained or lost at most {claim['drift_ppb']:,} parts in 10^9 (drift_ppb), and wasn't "
-                "stepped in the span.",
+                "stepped, in the span and between it and the exchanges that are used.",
                 "The oscillator's data sheet; the configuration and the log of the NTP client."),
-        Premise("leap", "There is no leap second in the span, and no server smears one without being counted as wrong.",
+        Premise("leap", "There is no leap second in the span or between it and the exchanges that are used, and no server "
+                "smears one without being counted as wrong.",
                 "The bulletins of the IERS."),
     ]
 
