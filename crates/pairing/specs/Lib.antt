@@ -4,6 +4,7 @@ pub mod Exchange
 pub mod Fault
 pub mod Gathering
 pub mod Hashing
+pub mod Held
 pub mod Index
 pub mod Message
 pub mod Pair
