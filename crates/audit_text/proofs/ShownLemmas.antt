@@ -18,11 +18,13 @@ module _ (held : List HeldExchange) (i : ℕ) (d : HeldExchange) (within : i < l
   pub stands_at : (e : Exchange) → x ≡ get_or (map exchange_shown held) i e
   stands_at e = is ∙ sym (get_or-map exchange_shown held i d e within)
 
+  -- which is one of them
+  pub is_inside : i < length (map exchange_shown held)
+  is_inside = rw (length-map held exchange_shown) within
+
   -- and keeps the limits that all keep
   pub keeps_limits : (servers : ℕ) → All (IsLawful servers) (map exchange_shown held) → IsLawful servers x
-  keeps_limits servers each =
-      let inside : i < length (map exchange_shown held) = rw (length-map held exchange_shown) within in
-      subst (IsLawful servers) (sym (stands_at x)) (each i x inside)
+  keeps_limits servers each = subst (IsLawful servers) (sym (stands_at x)) (each i x is_inside)
 
 -- the advice on the reference of the first, where all others are compared with it
 pub first_advice : (held : List HeldExchange) (d : HeldExchange) (x : Exchange) → 1 ≤ length held →
