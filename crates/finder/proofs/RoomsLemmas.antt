@@ -1,13 +1,14 @@
 -- The intervals of all servers, exchange by exchange.
 use Rattle.std.proofs.Common.{◌≡◌, ◌≢◌, ℕ, ◌+◌, ◌<◌, ◌≤◌, ◌^◌, ℤ, pos, neg_ℤ, ◌-ℤ◌, int_lt, unsigned_abs, Bool, true, false, not, ◌&&◌, ◌||◌, List, [], ◌∷◌, ◌++◌, length, take, set, replicate, get_or, refl, sym, ap, ◌∙◌, subst, ⊎_elim, arith}
-use Rattle.std.specs.Prelude.{◌==◌}
+use Rattle.std.specs.Prelude.{◌==◌, map, All}
 use Rattle.std.proofs.lemmas.Bool.{cases_lt}
 use Rattle.std.proofs.lemmas.Bool.Decides.{nat_tests}
 use Rattle.std.proofs.lemmas.Int.{ints}
-use Rattle.std.proofs.lemmas.List.{get_or-replicate, get_or-set_same, get_or-set_other, take_more}
+use Rattle.std.proofs.lemmas.List.{get_or-map, get_or-replicate, get_or-set_same, get_or-set_other, length-map, take_more}
 use Rattle.std.proofs.lemmas.List.Folds.{list_any-append}
 use Rattle.intersection.specs.Interval.{leaves_out}
 use Rattle.intersection.specs.declared.kinds.Interval.{Interval}
+use Rattle.pairing.specs.Exchange.{IsLawful}
 use Rattle.pairing.specs.declared.exchange.Exchange.{Exchange}
 use Rattle.checker.specs.RefutationTest.{admits}
 use Rattle.finder.specs.Room.{AreRooms, IsNear, IsRoom, refuses, room_at}
@@ -138,6 +139,19 @@ negative_kept a small =
     let turned : pos 0 -ℤ a ≡ neg_ℤ a = omega (arith, ints) in
     rw (kept a (omega (arith, small))) (kept (pos 0 -ℤ a) (omega (arith, ints, small)) ∙ turned)
 
+-- ---- the exchange at a place of the list that says them
+
+module _ {X : Type 0} (shown : X → Exchange) (held : List X) (index : ℕ) (item : X) (x : Exchange)
+    (below : index < length held) (is : item ≡ get_or held index item) (says : x ≡ shown item) where
+  pub within_shown : index < length (map shown held)
+  within_shown = rw (length-map held shown) below
+
+  pub shown_here : get_or (map shown held) index x ≡ x
+  shown_here = get_or-map shown held index item x below ∙ ap shown (sym is) ∙ sym says
+
+  pub lawful_here : All (IsLawful 32) (map shown held) → IsLawful 32 x
+  lawful_here all = subst (IsLawful 32) shown_here (all index x within_shown)
+
 -- ---- the step of the code
 
 -- what the code computes for the exchange at a place
@@ -149,18 +163,22 @@ pub record IsStep (allowance : ℤ) (rooms : List Interval) (x : Exchange) (numb
   pub low : unsigned_abs new.lo ≤ 2 ^ 80
   pub high : unsigned_abs new.hi ≤ 2 ^ 80
 
-module _ (allowance : ℤ) (xs : List Exchange) (index : ℕ) (d : Exchange) (within : index < length xs)
-    (rooms : List Interval) (count : length rooms ≡ 32) (are : AreRooms allowance (take index xs) rooms) where
-  step_of_server : (number : ℕ) (new : Interval) → IsStep allowance rooms (get_or xs index d) number new
-      → AreRooms allowance (take index xs ++ get_or xs index d ∷ []) (set rooms (get_or xs index d).server new)
+module _ (allowance : ℤ) (xs : List Exchange) (index : ℕ) (within : index < length xs) (x : Exchange)
+    (here : get_or xs index x ≡ x) (rooms : List Interval) (count : length rooms ≡ 32)
+    (are : AreRooms allowance (take index xs) rooms) where
+  step_of_server : (number : ℕ) (new : Interval) → IsStep allowance rooms x number new
+      → AreRooms allowance (take index xs ++ x ∷ []) (set rooms x.server new)
   step_of_server number new step =
-      rooms_more allowance (take index xs) (get_or xs index d) rooms count are step.listed new
+      rooms_more allowance (take index xs) x rooms count are step.listed new
       (subst (λ (k : ℕ). (error : ℤ) → IsNear error → leaves_out new error
-      ≡ (leaves_out (room_at rooms k) error || not (admits allowance error (get_or xs index d))))
+      ≡ (leaves_out (room_at rooms k) error || not (admits allowance error x)))
       step.number_is step.narrows) step.low step.high
 
-  pub rooms_step : (number : ℕ) (new : Interval) → IsStep allowance rooms (get_or xs index d) number new
+  one_more : take (index + 1) xs ≡ take index xs ++ x ∷ []
+  one_more = take_more xs index x within ∙ ap (λ y. take index xs ++ y ∷ []) here
+
+  pub rooms_step : (number : ℕ) (new : Interval) → IsStep allowance rooms x number new
       → AreRooms allowance (take (index + 1) xs) (set rooms number new)
   rooms_step number new step =
       let all = step_of_server number new step in
-      rw (take_more xs index d within, step.number_is) all
+      rw (one_more, step.number_is) all

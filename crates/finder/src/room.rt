@@ -1,6 +1,6 @@
 //! The errors for which exchanges leave room.
 
-ghost use Rattle.std.specs.Prelude.{◌≡◌, ◌^◌, ◌<◌, ◌≤◌, ◌≤ℤ◌, ◌+ℤ◌, ◌-ℤ◌, ℤ, ℕ, pos, neg_ℤ, not, unsigned_abs, filter, All};
+ghost use Rattle.std.specs.Prelude.{◌≡◌, ◌^◌, ◌<◌, ◌≤◌, ◌≤ℤ◌, ◌+ℤ◌, ◌-ℤ◌, ℤ, ℕ, pos, neg_ℤ, not, unsigned_abs, filter, map, All};
 ghost use Rattle.claim_file.specs.Claim.{IsLawful, data_of as claim_data};
 ghost use Rattle.intersection.specs.Interval.{leaves_out};
 ghost use Rattle.pairing.specs.Exchange.{IsLawful as IsLawfulExchange};
@@ -15,7 +15,7 @@ use checker::laws::test_is_passed_where_room_is_left;
 use claim_file::Claim;
 use intersection::kinds::Interval;
 use intersection::meet;
-use pairing::Exchange;
+use pairing::{Exchange, ToExchange};
 
 /// More ticks than an error that leaves room for an exchange, or that a refutation can have.
 const FAR: i128 = 1 << 80;
@@ -27,21 +27,23 @@ const EVERY_ERROR: Interval = Interval { lo: -FAR, hi: FAR };
 const NO_ERROR: Interval = Interval { lo: FAR, hi: -FAR };
 
 /// The errors for which each server leaves room over all its exchanges, by the server's number.
-pub(crate) fn rooms_of(exchanges: &[Exchange], allowance: i128) -> [Interval; 32]
-    requires exchanges { All (IsLawfulExchange 32) exchanges.now }
+pub(crate) fn rooms_of<X: ToExchange>(exchanges: &[X], allowance: i128) -> [Interval; 32]
+    requires exchanges { All (IsLawfulExchange 32) (map X.shown exchanges.now) }
     requires from_zero { pos 0 ≤ℤ allowance }
     requires at_most_a_second { allowance ≤ℤ pos (2 ^ 32) }
-    ensures rooms { AreRooms allowance exchanges.now result }
+    ensures rooms { AreRooms allowance (map X.shown exchanges.now) result }
 {
     let mut rooms = [EVERY_ERROR; 32];
-    for exchange in exchanges {
+    for held in exchanges {
+        let exchange = held.to_exchange();
         let server = usize::from(exchange.server);
-        rooms[server] = meet(rooms[server], room_of(exchange, allowance));
+        rooms[server] = meet(rooms[server], room_of(&exchange, allowance));
     }
     rooms
 }
 
 /// The errors for which an exchange leaves room.
+#[inline(always)]
 fn room_of(exchange: &Exchange, allowance: i128) -> Interval
     requires exchange { IsOfSomeClaim exchange.now }
     requires from_zero { pos 0 ≤ℤ allowance }

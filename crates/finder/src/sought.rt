@@ -1,6 +1,6 @@
 //! Refutations that are found.
 
-ghost use Rattle.std.specs.Prelude.{◌≡◌, ◌^◌, ◌<◌, ◌≤◌, ℤ, ℕ, pos, ◌≤ℤ◌, ◌<ℤ◌, unsigned_abs, List, length, All, IsNone, IfSome, option_map};
+ghost use Rattle.std.specs.Prelude.{◌≡◌, ◌^◌, ◌<◌, ◌≤◌, ℤ, ℕ, pos, ◌≤ℤ◌, ◌<ℤ◌, unsigned_abs, List, length, map, All, IsNone, IfSome, option_map};
 ghost use Rattle.pairing.specs.declared.exchange.Exchange.{Exchange};
 ghost use Rattle.certificate.specs.Refutation.{data_of as refutation_data};
 ghost use Rattle.claim_file.specs.Claim.{IsLawful, data_of as claim_data};
@@ -14,7 +14,7 @@ use certificate::Refutation;
 use checker::laws::test_is_passed_where_room_is_left;
 use claim_file::Claim;
 use intersection::kinds::Interval;
-use pairing::Exchange;
+use pairing::ToExchange;
 
 /// The greatest error of a refutation, in ticks.
 const GREATEST_ERROR: i128 = (1 << 63) - 1;
@@ -26,16 +26,18 @@ const LEAST_ERROR_BELOW: i128 = 1 << 63;
 /// is none with the greatest error below it on the other side. It names just the servers that have
 /// an exchange with no room for that error, in their order, and the first reading of the span. It
 /// takes no memory, and looks once at each exchange.
-pub fn find_refutation(exchanges: &[Exchange], claim: &Claim) -> Option<Refutation>
+pub fn find_refutation<X: ToExchange>(exchanges: &[X], claim: &Claim) -> Option<Refutation>
     requires claim { IsLawful (claim_data claim.now) }
-    requires exchanges { All (IsLawfulExchange (length claim.now.servers.items)) exchanges.now }
+    requires exchanges { All (IsLawfulExchange (length claim.now.servers.items))
+        (map X.shown exchanges.now) }
     ensures exact { option_map refutation_data result
-        ≡ sought_of (claim_data claim.now) exchanges.now }
+        ≡ sought_of (claim_data claim.now) (map X.shown exchanges.now) }
     ensures found { IfSome result (λ found.
-        IsSought (claim_data claim.now) exchanges.now (refutation_data found)) }
+        IsSought (claim_data claim.now) (map X.shown exchanges.now) (refutation_data found)) }
 
     // With no other error, servers or reading is a refutation accepted.
-    ensures none { IsNone result → NoneIsRefuted (claim_data claim.now) exchanges.now }
+    ensures none { IsNone result
+        → NoneIsRefuted (claim_data claim.now) (map X.shown exchanges.now) }
 {
     test_is_passed_where_room_is_left();
     let rooms = rooms_of(exchanges, claim.reading);

@@ -1,27 +1,54 @@
 use Rattle.std.proofs.Common.{◌∙◌, ◌||◌, refl, ap, take, arith}
+use Rattle.std.specs.Prelude.{map}
 use Rattle.std.proofs.lemmas.Int.{ints, clamps, to_z-of_z}
 use Rattle.std.proofs.lemmas.List.{length-set}
 use mir.Syntax.{w128}
 use Rattle.intersection.specs.Interval.{leaves_out}
 use Rattle.finder.specs.Room.{AreRooms, room_at}
 use Rattle.finder.proofs.RoomLemmas.{left_out_of_either}
-use Rattle.finder.proofs.RoomsLemmas.{rooms_of_none, rooms_step}
+use Rattle.finder.proofs.RoomsLemmas.{lawful_here, shown_here, within_shown, rooms_of_none, rooms_step}
 use Rattle.finder.proofs.room.rooms_of.Goals as goal
 
-pub loop-exchange-init : goal.loop-exchange-init
-loop-exchange-init c = record { count = refl; rooms = rooms_of_none _ _ refl }
+pub loop-held-init : goal.loop-held-init
+loop-held-init g c = record { count = refl; rooms = rooms_of_none _ _ refl }
 
-pub loop-exchange-preserved : goal.loop-exchange-preserved
-loop-exchange-preserved c =
+pub bounds-rooms-server : goal.bounds-rooms-server
+bounds-rooms-server g c =
+    let lawful = lawful_here g.X.ToExchange.shown c.args.exchanges.now c.loop-held.held-index _ _ c.loop-held-test.true
+    c.held-item.is c.to_exchange-exchange.ensures c.requires.exchanges in
+    omega (arith, lawful.listed, c.from-server.ensures)
+
+pub room_of-requires-clause-exchange : goal.room_of-requires-clause-exchange
+room_of-requires-clause-exchange g c =
+    let lawful = lawful_here g.X.ToExchange.shown c.args.exchanges.now c.loop-held.held-index _ _ c.loop-held-test.true
+    c.held-item.is c.to_exchange-exchange.ensures c.requires.exchanges in
+    record { servers = 32; lawful = lawful }
+
+pub bounds-rooms-server-in-loop-held : goal.bounds-rooms-server-in-loop-held
+bounds-rooms-server-in-loop-held g c =
+    let lawful = lawful_here g.X.ToExchange.shown c.args.exchanges.now c.loop-held.held-index _ _ c.loop-held-test.true
+    c.held-item.is c.to_exchange-exchange.ensures c.requires.exchanges in
+    omega (arith, lawful.listed, c.from-server.ensures)
+
+pub loop-held-preserved : goal.loop-held-preserved
+loop-held-preserved g c =
     let allowance = to_z-of_z w128 c.args.allowance c.ranges.allowance in
-    let rooms = c.loop-exchange.rooms in
-    let xs = c.args.exchanges.now in
-    let index = c.loop-exchange.exchange-index in
-    let within = c.loop-exchange-test.true in
-    let are : AreRooms c.args.allowance (take index xs) rooms = rw allowance at c.loop-exchange.invariant.rooms in
+    let rooms = c.loop-held.rooms in
+    let shown = g.X.ToExchange.shown in
+    let held = c.args.exchanges.now in
+    let xs = map shown held in
+    let index = c.loop-held.held-index in
+    let below = c.loop-held-test.true in
+    let is = c.held-item.is in
+    let x = c.to_exchange-exchange.result in
+    let says = c.to_exchange-exchange.ensures in
+    let within = within_shown shown held index _ x below is says in
+    let here = shown_here shown held index _ x below is says in
+    let are : AreRooms c.args.allowance (take index xs) rooms = rw allowance at c.loop-held.invariant.rooms in
     let room = rw allowance at c.room_of.ensures.room in
     let number = c.from-server.result in
-    let listed = (c.requires.exchanges index _ within).listed in
+    let lawful = lawful_here shown held index _ x below is says c.requires.exchanges in
+    let listed = lawful.listed in
     let same = c.from-server.ensures in
     let before = are number (omega (arith, listed, same)) in
     let old = room_at rooms number in
@@ -29,8 +56,8 @@ loop-exchange-preserved c =
     let lo = c.meet.ensures.lo in
     let hi = c.meet.ensures.hi in
     record {
-      count = length-set rooms number c.meet.result ∙ c.loop-exchange.invariant.count;
-      rooms = rw allowance (rooms_step c.args.allowance xs index _ within rooms c.loop-exchange.invariant.count are
+      count = length-set rooms number c.meet.result ∙ c.loop-held.invariant.count;
+      rooms = rw allowance (rooms_step c.args.allowance xs index within x here rooms c.loop-held.invariant.count are
           number c.meet.result (record {
             number_is = same;
             listed = listed;

@@ -1,9 +1,10 @@
 use Rattle.std.proofs.Common.{◌≡◌, length, take}
+use Rattle.std.specs.Prelude.{map}
 use Rattle.finder.specs.Room.{AreRooms}
 use Rattle.finder.proofs.room.rooms_of.Given as goal
 
-abbrev pub invariant-loop-exchange : goal.invariant-loop-exchange
-invariant-loop-exchange l = record {
+abbrev pub invariant-loop-held : goal.invariant-loop-held
+invariant-loop-held g l = record {
   count : length l.rooms ≡ 32;
-  rooms : AreRooms l.allowance (take l.exchange-index l.exchanges) l.rooms;
+  rooms : AreRooms l.allowance (take l.held-index (map g.X.ToExchange.shown l.exchanges)) l.rooms;
 }

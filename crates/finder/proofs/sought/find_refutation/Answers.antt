@@ -1,5 +1,5 @@
 use Rattle.std.proofs.Common.{rules, subst, ◌≡◌, ◌∙◌, Some, length, sym, ap, arith, unsigned_abs, to_z, of_z, w64}
-use Rattle.std.specs.Prelude.{option_map}
+use Rattle.std.specs.Prelude.{map, option_map}
 use Rattle.std.proofs.lemmas.Int.{ints, to_z-of_z}
 use mir.Syntax.{w128}
 use mir.Val.{SFits}
@@ -23,18 +23,18 @@ first_kept claim lawful =
     kept claim.first (omega (arith, ints))
 
 pub returns-in_err-error-clause-none : goal.returns-in_err-error-clause-none
-returns-in_err-error-clause-none c none =
+returns-in_err-error-clause-none g c none =
     let claim = claim_data c.args.claim.now in
-    let xs = c.args.exchanges.now in
+    let xs = map g.X.ToExchange.shown c.args.exchanges.now in
     let are = rw (reading_kept claim c.requires.claim) at c.rooms_of-rooms.ensures.rooms in
     says_none c.test_is_passed_where_room_is_left.ensures claim c.requires.claim xs c.requires.exchanges
     (sym (c.in_err-error.ensures.exact xs are))
 
 pub returns-clause-exact : goal.returns-clause-exact
-returns-clause-exact c =
+returns-clause-exact g c =
     let claim = claim_data c.args.claim.now in
     let lawful = c.requires.claim in
-    let xs = c.args.exchanges.now in
+    let xs = map g.X.ToExchange.shown c.args.exchanges.now in
     let found = c.in_ok-error.error in
     let in_range = c.in_ok-error.ensures.in_range in
     let bottom = in_range.not_below in
@@ -52,10 +52,10 @@ returns-clause-exact c =
     reading) ∙ ap (option_map (refutation_at claim xs)) exact)
 
 pub returns-clause-found : goal.returns-clause-found
-returns-clause-found c =
+returns-clause-found g c =
     let claim = claim_data c.args.claim.now in
     let lawful = c.requires.claim in
-    let xs = c.args.exchanges.now in
+    let xs = map g.X.ToExchange.shown c.args.exchanges.now in
     let found = c.in_ok-error.error in
     let in_range = c.in_ok-error.ensures.in_range in
     let bottom = in_range.not_below in
