@@ -161,9 +161,9 @@ module _ (laws : Laws) (samples : List Sample) (claim : ClaimData) (outer inner 
       given.listed said.low_is in
       let forward = given.piece.in_order in
       let low_in = laws.low ppb low outer.begin outer.end inner.begin inner.end (omega arith)
-      low_sample.low_place_in_order given.whole.0 forward given.whole.1 in
+      low_sample.low_window_in_order given.whole.0 forward given.whole.1 in
       let high_in = laws.high ppb high outer.begin outer.end inner.begin inner.end (omega arith)
-      high_sample.high_place_in_order given.whole.0 forward given.whole.1 in
+      high_sample.high_window_in_order given.whole.0 forward given.whole.1 in
       let most = best.0.greatest said.low_number low said.low_is refl in
       let least = best.1.greatest said.high_number high said.high_is (sym said.one_server) in
       let other = part_of best.0.sample best.1.sample inner ppb in
