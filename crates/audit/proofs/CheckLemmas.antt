@@ -1,13 +1,9 @@
 -- What a verdict shows.
-use Rattle.std.proofs.Common.{◌≡◌, ℕ, refl, sym, ap, subst}
-use Rattle.std.specs.Prelude.{slice_get, IsSomeAnd}
+use Rattle.std.proofs.Common.{◌≡◌, refl, sym, ap, subst}
 use Rattle.certificate.specs.Certificate.{CertificateData}
-use Rattle.checker.specs.Stretch.{stretches_of}
 use Rattle.checker.specs.Traceability.{IsVerdictOn}
 use Rattle.checker.specs.declared.verdict.Verdict.{Verdict}
 use Rattle.checker.specs.declared.verdict.Verdict.TheVariants as verdicts
-use Rattle.checker.specs.declared.verdict.Why.{Why}
-use Rattle.checker.specs.declared.verdict.Why.TheVariants.{Contradiction}
 use Rattle.report.specs.declared.fault.Outcome.{Outcome}
 use Rattle.audit.specs.Check.{outcome_of}
 use Rattle.audit.specs.Evidence.{EvidenceData, samples_in}
