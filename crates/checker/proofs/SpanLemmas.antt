@@ -70,9 +70,9 @@ module _ (laws : PieceLaws) (hulls : EveryHull) (samples : List Sample) (claim :
     narrower_part low high is_low is_high = record {
       server = refl;
       low = laws.low claim.drift_ppb low outer.begin outer.end inner.begin inner.end rate
-          is_low.low_place_in_order begin forward end;
+          is_low.low_window_in_order begin forward end;
       high = laws.high claim.drift_ppb high outer.begin outer.end inner.begin inner.end rate
-          is_high.high_place_in_order begin forward end;
+          is_high.high_window_in_order begin forward end;
     }
 
     -- what an entry says of the shorter piece, after parts of the same servers

@@ -5,7 +5,6 @@ pub mod Verdict
 pub mod Acceptance
 pub mod Stretch
 pub mod Traceability
-pub mod Source
 pub mod WorkedCourse
 pub mod WorkedCapture
 pub mod Comparison
@@ -13,4 +12,5 @@ pub mod BestParts
 pub mod Span
 pub mod Refutation
 pub mod RefutationTest
+pub mod Settlement
 pub mod WorkedRefutation

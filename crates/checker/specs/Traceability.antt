@@ -1,5 +1,5 @@
 -- What a verdict says of every course of events.
-use Rattle.std.specs.Prelude.{◌≡◌, ℕ, ◌*◌, ◌≤◌, ℤ, pos, ◌*ℤ◌, ◌≤ℤ◌, ◌⊎◌, unsigned_abs, List, [], map, Some, Ok, slice_get}
+use Rattle.std.specs.Prelude.{◌≡◌, ℕ, ◌*◌, ◌≤◌, ℤ, pos, ◌*ℤ◌, ◌≤ℤ◌, ◌⊎◌, unsigned_abs, List, [], map, Some, Ok, slice_get, IsSomeAnd}
 use Rattle.era_unfold.specs.Nanoseconds.{nanoseconds_per_second}
 use Rattle.era_unfold.specs.Window.{ticks_per_second}
 use Rattle.certificate.specs.Certificate.{PieceData, CertificateData}
@@ -13,10 +13,12 @@ use Rattle.sample_interval.specs.declared.kinds.Sample.{Sample}
 use Rattle.checker.specs.Course.{Course, Fits}
 use Rattle.span_cover.specs.Group.{piece_hull}
 use Rattle.checker.specs.PieceFit.{FitsPiece}
-use Rattle.checker.specs.Stretch.{stretch_of}
-use Rattle.checker.specs.Verdict.{parts_after, hull_fault}
+use Rattle.checker.specs.Stretch.{stretch_of, stretches_of}
+use Rattle.checker.specs.Verdict.{parts_after, hull_fault, verdict_of}
 use Rattle.span_cover.specs.declared.part.Part.{Part}
 use Rattle.span_cover.specs.declared.stretch.Stretch.{Stretch}
+use Rattle.checker.specs.declared.verdict.Verdict.{Verdict}
+use Rattle.checker.specs.declared.verdict.Verdict.TheVariants.{Yes, No}
 use Rattle.checker.specs.declared.verdict.Why.{Why}
 use Rattle.checker.specs.declared.verdict.Why.TheVariants.{Contradiction, Exceeds}
 
@@ -101,3 +103,20 @@ abbrev pub IsRefusedByHull : ClaimData → List Sample → CertificateData → �
 IsRefusedByHull claim samples certificate k why =
     (hull : Hull) × (hull_fault claim.bound hull ≡ Some why)
     × HasHull claim samples certificate k hull
+
+-- the verdict on a certificate, and what it says of every course
+pub record IsVerdictOn (claim : ClaimData) (samples : List Sample) (certificate : CertificateData)
+    (verdict : Verdict) : Type 0 where
+  pub exact : verdict ≡ verdict_of samples claim certificate
+  -- in every course of events that fits exchanges with these samples, the error is within the bound
+  -- over the span
+  pub yes : verdict ≡ Yes → IsTraceable claim samples
+  -- the same of each piece by itself, in every course that fits what its entries name
+  pub by_pieces : verdict ≡ Yes → IsTraceableByPieces claim samples certificate
+  -- in no course that fits exchanges with these samples does the clock show a reading of the piece
+  pub contradiction : (k : ℕ) → verdict ≡ No k Contradiction →
+      IsSomeAnd (slice_get (stretches_of claim certificate) k) (IsContradicted claim samples)
+  -- if a hull is refused, the error lies in it, in every course that fits what the entries of its
+  -- piece name
+  pub held : (k : ℕ) (why : Why) → verdict ≡ No k why → IsOfHull why →
+      IsRefusedByHull claim samples certificate k why

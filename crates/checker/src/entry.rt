@@ -3,31 +3,30 @@
 ghost use Rattle.std.specs.Prelude.{◌≡◌, ◌≤◌, ◌==◌, [], Ok, Err, MatchResult, slice_get};
 ghost use Rattle.std.specs.List.{list_any};
 ghost use Rattle.span_cover.specs.Piece.{IsPiece};
-ghost use Rattle.checker.specs.Source.{samples_in, IsLawfulSource};
 ghost use Rattle.checker.specs.Verdict.{part_from, parts_after};
 
-use crate::source::{SampleSource, sample_at};
+use crate::source::SampleSource;
 use crate::verdict::Why;
 use arrayvec::ArrayVec;
 use span_cover::{Part, Stretch, part_of};
 
 /// Puts what the entries of a piece say into `parts`, in their order, or answers the first reason
 /// to refuse one. (As a value it would be copied for each piece.)
-pub(crate) fn add_parts(
+pub(crate) fn add_parts<S: SampleSource>(
     parts: &mut ArrayVec<Part, 32>,
-    source: &SampleSource,
+    source: &S,
     stretch: Stretch,
     drift_ppb: u32,
     entries: &ArrayVec<(u32, u32), 32>,
 ) -> Result<(), Why>
     requires empty { parts.old.items ≡ [] }
-    requires source { IsLawfulSource source.now }
+    requires source { S.IsLawfulSource source.now }
     requires stretch { IsPiece stretch.begin stretch.end }
     requires rate { drift_ppb ≤ 500_000_000 }
     ensures { MatchResult result
-        (λ _. parts_after (samples_in source.now) stretch drift_ppb [] entries.now.items
+        (λ _. parts_after (S.samples source.now) stretch drift_ppb [] entries.now.items
         ≡ Ok parts.new.items)
-        (λ why. parts_after (samples_in source.now) stretch drift_ppb [] entries.now.items
+        (λ why. parts_after (S.samples source.now) stretch drift_ppb [] entries.now.items
         ≡ Err why) }
 {
     for entry in entries.as_slice() {
@@ -38,25 +37,25 @@ pub(crate) fn add_parts(
 }
 
 /// What one entry says, after others of its piece.
-fn part(
-    source: &SampleSource,
+fn part<S: SampleSource>(
+    source: &S,
     stretch: Stretch,
     drift_ppb: u32,
     entry: (u32, u32),
     earlier: &[Part],
 ) -> Result<Part, Why>
-    requires source { IsLawfulSource source.now }
+    requires source { S.IsLawfulSource source.now }
     requires stretch { IsPiece stretch.begin stretch.end }
     requires rate { drift_ppb ≤ 500_000_000 }
     ensures { result ≡
         part_from stretch drift_ppb earlier.now
-        (slice_get (samples_in source.now) entry.0)
-        (slice_get (samples_in source.now) entry.1) }
+        (slice_get (S.samples source.now) entry.0)
+        (slice_get (S.samples source.now) entry.1) }
 {
-    let Some(low) = sample_at(source, entry.0) else {
+    let Some(low) = source.sample_at(entry.0) else {
         return Err(Why::BadSample);
     };
-    let Some(high) = sample_at(source, entry.1) else {
+    let Some(high) = source.sample_at(entry.1) else {
         return Err(Why::BadSample);
     };
     let server = low.server;

@@ -6,7 +6,7 @@
 //! (here), the hull of whole points that holds it (`intersection`), the pieces that hold every
 //! reading of the span (here).
 ghost use Rattle.std.specs.Prelude.{true, ◌≡◌, ℕ, ◌+◌, ◌<◌, ◌≤◌, ℤ, pos, neg_ℤ, ◌≤ℤ◌, ◌⊎◌, ◌↔◌, Bool, false};
-ghost use Rattle.std.specs.Prelude.{List, [], ◌∷◌, length, All, slice_get, IsSomeAnd, None, Some, Ok};
+ghost use Rattle.std.specs.Prelude.{List, [], ◌∷◌, length, All, slice_get, None, Some, Ok};
 ghost use Rattle.certificate.specs.Certificate.{PieceData, CertificateData};
 ghost use Rattle.claim_file.specs.Claim.{ClaimData, IsLawful};
 ghost use Rattle.era_unfold.specs.Nanoseconds.{ticks_down};
@@ -29,11 +29,10 @@ ghost use Rattle.checker.specs.Groups.{false_group_count};
 ghost use Rattle.span_cover.specs.Group.{group_intervals, piece_hull};
 ghost use Rattle.checker.specs.PieceFit.{FitsPiece, HasFewFalse, OfEachEntry};
 ghost use Rattle.checker.specs.Span.{IsSpanWithin, claim_within, certificate_within};
-ghost use Rattle.checker.specs.Stretch.{begin_of, stretches_from, stretches_of, last_end};
+ghost use Rattle.checker.specs.Stretch.{begin_of, stretches_from, last_end};
 ghost use Rattle.checker.specs.Stretch.{SomeHoldsReading};
-ghost use Rattle.checker.specs.Traceability.{IsTraceable, IsTraceableByPieces, IsContradicted};
 ghost use Rattle.checker.specs.Traceability.{samples_of, HoldsError, HoldsErrorOfPiece};
-ghost use Rattle.checker.specs.Traceability.{IsOfHull, IsRefusedByHull, IsWithin};
+ghost use Rattle.checker.specs.Traceability.{IsVerdictOn, IsWithin};
 ghost use Rattle.checker.specs.Traceability.{IsWithinNanoseconds};
 ghost use Rattle.checker.specs.Verdict.{parts_after, hull_fault, piece_fault, verdict_of};
 ghost use Rattle.checker.specs.Verdict.{PassBelow};
@@ -46,7 +45,6 @@ ghost use Rattle.span_cover.specs.declared.part.Part.{Part};
 ghost use Rattle.span_cover.specs.declared.stretch.Stretch.{Stretch};
 ghost use Rattle.checker.specs.declared.verdict.Verdict.TheVariants.{Yes, No};
 ghost use Rattle.checker.specs.declared.verdict.Why.{Why};
-ghost use Rattle.checker.specs.declared.verdict.Why.TheVariants.{Contradiction};
 
 pub use crate::refutation_laws::{
     accepted_refutations_have_a_course, bound_plays_no_part_in_fitting,
@@ -136,24 +134,9 @@ pub fn hulls_hold_the_error()
 /// Piece by piece a course has to fit no more than what the entries of a piece name, so that other
 /// servers may be false in each.
 pub fn verdicts_are_traceable()
-    ensures by_pieces { (claim : ClaimData) (samples : List Sample)
-        (certificate : CertificateData) → IsLawful claim →
-        All (λ sample. sample.server < length claim.servers) samples →
-        verdict_of samples claim certificate ≡ Yes →
-        IsTraceableByPieces claim samples certificate }
-    ensures yes { (claim : ClaimData) (samples : List Sample) (certificate : CertificateData) →
+    ensures { (claim : ClaimData) (samples : List Sample) (certificate : CertificateData) →
         IsLawful claim → All (λ sample. sample.server < length claim.servers) samples →
-        verdict_of samples claim certificate ≡ Yes → IsTraceable claim samples }
-    ensures contradiction { (claim : ClaimData) (samples : List Sample)
-        (certificate : CertificateData) → IsLawful claim →
-        All (λ sample. sample.server < length claim.servers) samples →
-        (k : ℕ) → verdict_of samples claim certificate ≡ No k Contradiction →
-        IsSomeAnd (slice_get (stretches_of claim certificate) k)
-        (IsContradicted claim samples) }
-    ensures held { (claim : ClaimData) (samples : List Sample) (certificate : CertificateData) →
-        IsLawful claim → All (λ sample. sample.server < length claim.servers) samples →
-        (k : ℕ) (why : Why) → verdict_of samples claim certificate ≡ No k why → IsOfHull why →
-        IsRefusedByHull claim samples certificate k why }
+        IsVerdictOn claim samples certificate (verdict_of samples claim certificate) }
 {
     capture_fits_each_piece();
     hulls_hold_the_error();

@@ -3,7 +3,6 @@
 ghost use Rattle.std.specs.Prelude.{◌≡◌, ◌≤◌, ◌<◌, ◌^◌, pos, ◌≤ℤ◌, ◌<ℤ◌, length, All};
 ghost use Rattle.claim_file.specs.Claim.{IsLawful, data_of};
 ghost use Rattle.certificate.specs.Certificate.{piece_data};
-ghost use Rattle.checker.specs.Source.{samples_in, IsLawfulSource};
 ghost use Rattle.checker.specs.Verdict.{hull_fault, piece_fault};
 
 use crate::entry::add_parts;
@@ -16,15 +15,20 @@ use intersection::kinds::Hull;
 use span_cover::{Stretch, is_inside, piece_hull};
 
 /// The first test that fails in a piece that begins at `begin`.
-pub fn piece_fault(source: &SampleSource, claim: &Claim, begin: i128, piece: &Piece) -> Option<Why>
+pub fn piece_fault<S: SampleSource>(
+    source: &S,
+    claim: &Claim,
+    begin: i128,
+    piece: &Piece,
+) -> Option<Why>
     requires claim { IsLawful (data_of claim.now) }
-    requires source { IsLawfulSource source.now }
+    requires source { S.IsLawfulSource source.now }
     requires listed { All (λ sample. sample.server < length claim.now.servers.items)
-        (samples_in source.now) }
+        (S.samples source.now) }
     requires from_1970 { pos 0 ≤ℤ begin }
     requires in_range { begin <ℤ pos (2 ^ 64) }
     ensures { result ≡
-        piece_fault (samples_in source.now) (data_of claim.now) begin (piece_data piece.now) }
+        piece_fault (S.samples source.now) (data_of claim.now) begin (piece_data piece.now) }
 {
     let stretch = Stretch {
         begin,

@@ -1,25 +1,22 @@
 //! Whether a refutation stands.
 
-ghost use Rattle.std.specs.Prelude.{◌≡◌, ◌↔◌, ◌≤◌, ◌+ℤ◌, ◌-ℤ◌};
-ghost use Rattle.std.specs.Prelude.{nat_lt, IsTrue, length, All, AllPairs};
+ghost use Rattle.std.specs.Prelude.{◌≡◌, ◌≤◌, ◌+ℤ◌, ◌-ℤ◌};
+ghost use Rattle.std.specs.Prelude.{nat_lt, length, map, All};
 ghost use Rattle.std.specs.List.{list_all};
-ghost use Rattle.certificate.specs.Certificate.{CertificateData};
 ghost use Rattle.certificate.specs.Refutation.{data_of as refutation_data};
 ghost use Rattle.claim_file.specs.Claim.{IsLawful, data_of as claim_data};
-ghost use Rattle.pairing.specs.Exchange.{IsLawful as IsLawfulExchange, SameRequest};
+ghost use Rattle.pairing.specs.Exchange.{IsLawful as IsLawfulExchange};
 ghost use Rattle.sample_interval.specs.Exchange.{IsOfSomeClaim};
 ghost use Rattle.sample_interval.specs.Window.{request_start, reply_end};
 ghost use Rattle.checker.specs.Groups.{holds_false, false_group_count};
-ghost use Rattle.checker.specs.Refutation.{IsRefuted, HasCourse, is_liar};
+ghost use Rattle.checker.specs.Refutation.{is_liar};
 ghost use Rattle.checker.specs.RefutationTest as spec;
-ghost use Rattle.checker.specs.Traceability.{samples_of};
-ghost use Rattle.checker.specs.Verdict.{verdict_of};
+ghost use Rattle.checker.specs.Settlement.{Settles};
 
 use crate::refutation_laws::{accepted_refutations_have_a_course, yes_and_refutation_never_meet};
-use crate::verdict::Verdict;
 use certificate::Refutation;
 use claim_file::Claim;
-use pairing::Exchange;
+use pairing::{Exchange, ToExchange};
 
 /// Whether the exchanges and the refutation refute the claim. It takes no memory.
 ///
@@ -27,23 +24,18 @@ use pairing::Exchange;
 /// the other; its reading lies in the span; the servers that it names as false are different
 /// numbers of listed servers, of at most `false_max` groups; and each exchange of another server
 /// leaves room for the error, so that its four moments (RFC 5905, section 8) can come one after
-/// another with the clock off by that much at the request and the reply.
-pub fn check_refutation(exchanges: &[Exchange], claim: &Claim, refutation: &Refutation) -> bool
+/// another with the clock off by that much at the request and the reply. If it is true, a course of
+/// events fits in which the error is beyond the bound in the span, and no certificate gets a yes.
+pub fn check_refutation<X: ToExchange>(
+    exchanges: &[X],
+    claim: &Claim,
+    refutation: &Refutation,
+) -> bool
     requires claim { IsLawful (claim_data claim.now) }
-    requires exchanges { All (IsLawfulExchange (length claim.now.servers.items)) exchanges.now }
-    ensures exact { IsTrue result ↔
-        IsRefuted (claim_data claim.now) exchanges.now (refutation_data refutation.now) }
-    ensures tested { result ≡
-        spec.is_refuted (claim_data claim.now) exchanges.now (refutation_data refutation.now) }
-
-    // If it is true, a course of events fits in which the error is beyond the bound in the span.
-    ensures course { IsTrue result → AllPairs SameRequest exchanges.now →
-        HasCourse (claim_data claim.now) exchanges.now (refutation_data refutation.now) }
-
-    // And no certificate gets a yes.
-    ensures no_yes { IsTrue result → (certificate : CertificateData) →
-        ¬ (verdict_of (samples_of exchanges.now (claim_data claim.now)) (claim_data claim.now)
-        certificate ≡ Verdict.Yes) }
+    requires exchanges { All (IsLawfulExchange (length claim.now.servers.items))
+        (map X.shown exchanges.now) }
+    ensures { Settles (claim_data claim.now) (map X.shown exchanges.now)
+        (refutation_data refutation.now) result }
 {
     accepted_refutations_have_a_course();
     yes_and_refutation_never_meet();
@@ -51,11 +43,12 @@ pub fn check_refutation(exchanges: &[Exchange], claim: &Claim, refutation: &Refu
 }
 
 /// The same as a test.
-fn is_refuted(exchanges: &[Exchange], claim: &Claim, refutation: &Refutation) -> bool
+fn is_refuted<X: ToExchange>(exchanges: &[X], claim: &Claim, refutation: &Refutation) -> bool
     requires claim { IsLawful (claim_data claim.now) }
-    requires exchanges { All (IsLawfulExchange (length claim.now.servers.items)) exchanges.now }
+    requires exchanges { All (IsLawfulExchange (length claim.now.servers.items))
+        (map X.shown exchanges.now) }
     ensures { result ≡ spec.is_refuted
-        (claim_data claim.now) exchanges.now (refutation_data refutation.now) }
+        (claim_data claim.now) (map X.shown exchanges.now) (refutation_data refutation.now) }
 {
     is_against(claim, refutation) && all_admit(exchanges, claim, refutation)
 }
@@ -135,14 +128,16 @@ fn holds_liar(groups: &[u8], liars: &[u8], group: usize) -> bool
 }
 
 /// Whether each exchange of a server that isn't named leaves room for the error.
-fn all_admit(exchanges: &[Exchange], claim: &Claim, refutation: &Refutation) -> bool
+fn all_admit<X: ToExchange>(exchanges: &[X], claim: &Claim, refutation: &Refutation) -> bool
     requires claim { IsLawful (claim_data claim.now) }
-    requires exchanges { All (IsLawfulExchange (length claim.now.servers.items)) exchanges.now }
+    requires exchanges { All (IsLawfulExchange (length claim.now.servers.items))
+        (map X.shown exchanges.now) }
     ensures { result ≡ list_all
-        (spec.allows claim.now.reading (refutation_data refutation.now)) exchanges.now }
+        (spec.allows claim.now.reading (refutation_data refutation.now))
+        (map X.shown exchanges.now) }
 {
     for exchange in exchanges {
-        if !allows(exchange, claim, refutation) {
+        if !allows(&exchange.to_exchange(), claim, refutation) {
             return false;
         }
     }

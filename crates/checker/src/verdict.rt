@@ -1,22 +1,19 @@
 //! The verdict on a certificate, and why it is no.
 
-ghost use Rattle.std.specs.Prelude.{◌≡◌, ℕ, ◌≤◌, ◌<◌, length, All, vec_len, slice_get, IsSomeAnd};
+ghost use Rattle.std.specs.Prelude.{◌≡◌, ◌≤◌, ◌<◌, length, map, All, vec_len};
 ghost use Rattle.claim_file.specs.Claim.{IsLawful, data_of as claim_data};
 ghost use Rattle.certificate.specs.Certificate.{data_of as certificate_data, max_pieces};
 ghost use Rattle.pairing.specs.Exchange.{IsLawful as IsLawfulExchange};
 ghost use Rattle.sample_interval.specs.Sample.{IsLawfulSample};
-ghost use Rattle.checker.specs.Source.{samples_in, IsLawfulSource};
-ghost use Rattle.checker.specs.Stretch.{stretches_of};
-ghost use Rattle.checker.specs.Traceability.{samples_of, IsTraceable, IsTraceableByPieces};
-ghost use Rattle.checker.specs.Traceability.{IsContradicted, IsOfHull, IsRefusedByHull};
+ghost use Rattle.checker.specs.Traceability.{samples_of, IsVerdictOn};
 ghost use Rattle.checker.specs.Verdict.{verdict_of};
 
 use crate::laws::verdicts_are_traceable;
 use crate::piece::piece_fault;
-use crate::source::SampleSource;
+use crate::source::{Listed, Made, SampleSource};
 use certificate::Certificate;
 use claim_file::Claim;
-use pairing::Exchange;
+use pairing::ToExchange;
 use sample_interval::kinds::Sample;
 
 /// Why a certificate isn't accepted: the first test that fails in its piece.
@@ -86,76 +83,40 @@ pub fn check(samples: &[Sample], claim: &Claim, certificate: &Certificate) -> Ve
     requires samples { All IsLawfulSample samples.now }
     requires listed { All (λ sample. sample.server < length claim.now.servers.items) samples.now }
     requires pieces { vec_len certificate.now.pieces ≤ max_pieces }
-    ensures exact { result ≡
-        verdict_of samples.now (claim_data claim.now) (certificate_data certificate.now) }
-
-    // In every course of events that fits exchanges with these samples, the error is within the
-    // bound over the span.
-    ensures yes { result ≡ Verdict.Yes → IsTraceable (claim_data claim.now) samples.now }
-
-    // The same of each piece by itself, in every course that fits what its entries name.
-    ensures by_pieces { result ≡ Verdict.Yes → IsTraceableByPieces
-        (claim_data claim.now) samples.now (certificate_data certificate.now) }
-
-    // In no such course does the clock show a reading of the piece.
-    ensures contradiction { (k : ℕ) → result ≡ Verdict.No k Why.Contradiction →
-        IsSomeAnd (slice_get
-        (stretches_of (claim_data claim.now) (certificate_data certificate.now)) k)
-        (IsContradicted (claim_data claim.now) samples.now) }
-
-    // Where a hull is refused, the error lies in it, in every course that fits what the entries of
-    // its piece name.
-    ensures held { (k : ℕ) (why : Why) → result ≡ Verdict.No k why → IsOfHull why →
-        IsRefusedByHull (claim_data claim.now) samples.now (certificate_data certificate.now)
-        k why }
+    ensures { IsVerdictOn (claim_data claim.now) samples.now (certificate_data certificate.now)
+        result }
 {
     verdicts_are_traceable();
-    first_fault(&SampleSource::Listed(samples), claim, certificate)
+    first_fault(&Listed(samples), claim, certificate)
 }
 
 /// Whether the certificate shows that of exchanges: `check` of their samples with the claim's
 /// allowance, each made where it is asked for, so that no list of them is kept.
-pub fn check_exchanges(exchanges: &[Exchange], claim: &Claim, certificate: &Certificate) -> Verdict
+pub fn check_exchanges<X: ToExchange>(
+    exchanges: &[X],
+    claim: &Claim,
+    certificate: &Certificate,
+) -> Verdict
     requires claim { IsLawful (claim_data claim.now) }
-    requires exchanges { All (IsLawfulExchange (length claim.now.servers.items)) exchanges.now }
+    requires exchanges { All (IsLawfulExchange (length claim.now.servers.items))
+        (map X.shown exchanges.now) }
     requires pieces { vec_len certificate.now.pieces ≤ max_pieces }
-    ensures exact { result ≡ verdict_of (samples_of exchanges.now (claim_data claim.now))
-        (claim_data claim.now) (certificate_data certificate.now) }
-
-    // In every course of events that fits exchanges with these samples, the error is within the
-    // bound over the span.
-    ensures yes { result ≡ Verdict.Yes → IsTraceable (claim_data claim.now)
-        (samples_of exchanges.now (claim_data claim.now)) }
-
-    // The same of each piece by itself, in every course that fits what its entries name.
-    ensures by_pieces { result ≡ Verdict.Yes → IsTraceableByPieces (claim_data claim.now)
-        (samples_of exchanges.now (claim_data claim.now)) (certificate_data certificate.now) }
-
-    // In no such course does the clock show a reading of the piece.
-    ensures contradiction { (k : ℕ) → result ≡ Verdict.No k Why.Contradiction →
-        IsSomeAnd (slice_get
-        (stretches_of (claim_data claim.now) (certificate_data certificate.now)) k)
-        (IsContradicted (claim_data claim.now) (samples_of exchanges.now (claim_data claim.now))) }
-
-    // Where a hull is refused, the error lies in it, in every course that fits what the entries of
-    // its piece name.
-    ensures held { (k : ℕ) (why : Why) → result ≡ Verdict.No k why → IsOfHull why →
-        IsRefusedByHull (claim_data claim.now)
-        (samples_of exchanges.now (claim_data claim.now)) (certificate_data certificate.now)
-        k why }
+    ensures { IsVerdictOn (claim_data claim.now)
+        (samples_of (map X.shown exchanges.now) (claim_data claim.now))
+        (certificate_data certificate.now) result }
 {
     verdicts_are_traceable();
-    first_fault(&SampleSource::Made(exchanges, claim), claim, certificate)
+    first_fault(&Made { exchanges, claim }, claim, certificate)
 }
 
 // The verdict, piece by piece.
-fn first_fault(source: &SampleSource, claim: &Claim, certificate: &Certificate) -> Verdict
+fn first_fault<S: SampleSource>(source: &S, claim: &Claim, certificate: &Certificate) -> Verdict
     requires claim { IsLawful (claim_data claim.now) }
-    requires source { IsLawfulSource source.now }
+    requires source { S.IsLawfulSource source.now }
     requires listed { All (λ sample. sample.server < length claim.now.servers.items)
-        (samples_in source.now) }
+        (S.samples source.now) }
     requires pieces { vec_len certificate.now.pieces ≤ max_pieces }
-    ensures { result ≡ verdict_of (samples_in source.now)
+    ensures { result ≡ verdict_of (S.samples source.now)
         (claim_data claim.now) (certificate_data certificate.now) }
 {
     let mut begin = claim.first;

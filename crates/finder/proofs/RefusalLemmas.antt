@@ -16,14 +16,14 @@ use Rattle.span_cover.specs.Piece.{IsPiece, moved_low, moved_high}
 use Rattle.checker.specs.Comparison.{IsNarrower, AreNarrower, IsOfSamples}
 use Rattle.span_cover.specs.Group.{piece_hull}
 use Rattle.checker.specs.Stretch.{begin_of, stretches_from, stretches_of}
-use Rattle.checker.specs.Traceability.{IsContradicted}
+use Rattle.checker.specs.Traceability.{IsContradicted, IsVerdictOn}
 use Rattle.span_cover.specs.Part.{part_of}
 use Rattle.checker.specs.Verdict.{parts_after, hull_fault, parts_fault, piece_fault, verdict_of, PassBelow}
 use Rattle.span_cover.specs.declared.part.Part.{Part}
 use Rattle.span_cover.specs.declared.stretch.Stretch.{Stretch}
-use Rattle.checker.specs.declared.verdict.Verdict.TheVariants.{Yes, No}
+use Rattle.checker.specs.declared.verdict.Verdict.TheVariants.{Yes}
 use Rattle.checker.specs.declared.verdict.Why.{Why}
-use Rattle.checker.specs.declared.verdict.Why.TheVariants.{Cut, Contradiction}
+use Rattle.checker.specs.declared.verdict.Why.TheVariants.{Cut}
 use Rattle.span_cover.specs.Group.{is_inside}
 use Rattle.finder.specs.Entry.{best_over, best_entries, best_hull, part_named, parts_named}
 use Rattle.finder.specs.Found.{piece_at, pieces_from, IsFirstFailing}
@@ -161,9 +161,9 @@ module _ (laws : Laws) (samples : List Sample) (claim : ClaimData) (outer inner 
       given.listed said.low_is in
       let forward = given.piece.in_order in
       let low_in = laws.low ppb low outer.begin outer.end inner.begin inner.end (omega arith)
-      low_sample.low_place_in_order given.whole.0 forward given.whole.1 in
+      low_sample.low_window_in_order given.whole.0 forward given.whole.1 in
       let high_in = laws.high ppb high outer.begin outer.end inner.begin inner.end (omega arith)
-      high_sample.high_place_in_order given.whole.0 forward given.whole.1 in
+      high_sample.high_window_in_order given.whole.0 forward given.whole.1 in
       let most = best.0.greatest said.low_number low said.low_is refl in
       let least = best.1.greatest said.high_number high said.high_is (sym said.one_server) in
       let other = part_of best.0.sample best.1.sample inner ppb in
@@ -229,16 +229,15 @@ module _ (laws : Laws) (samples : List Sample) (claim : ClaimData) (step : ℕ) 
         let both : true ≡ false = sym inside ∙ outside in
         cc
 
-    -- the law on contradictions
-    abbrev pub Contradictions : Type 0
-    Contradictions = (claim : ClaimData) (samples : List Sample) (certificate : CertificateData) → IsLawful claim
-        → All (λ sample. sample.server < length claim.servers) samples → (k : ℕ)
-        → verdict_of samples claim certificate ≡ No k Contradiction
-        → IsSomeAnd (slice_get (stretches_of claim certificate) k) (IsContradicted claim samples)
+    -- the law on what verdicts say
+    abbrev pub Verdicts : Type 0
+    Verdicts = (claim : ClaimData) (samples : List Sample) (certificate : CertificateData) → IsLawful claim
+        → All (λ sample. sample.server < length claim.servers) samples
+        → IsVerdictOn claim samples certificate (verdict_of samples claim certificate)
 
-    pub contradicted : Contradictions → (k : ℕ) (hull : Hull) → IsFirstFailing samples claim step k hull → hull ≡ Empty
+    pub contradicted : Verdicts → (k : ℕ) (hull : Hull) → IsFirstFailing samples claim step k hull → hull ≡ Empty
         → IsContradicted claim samples (stretch_at claim step k)
-    contradicted contradictions k hull failing empty =
+    contradicted verdicts k hull failing empty =
         let certificate : CertificateData =
         record { pieces = pieces_from samples claim step 0 k ++ piece_at samples claim step k ∷ [] } in
         let verdict = contradicts_at laws.best samples claim lawful step k failing.others_pass
@@ -249,4 +248,4 @@ module _ (laws : Laws) (samples : List Sample) (claim : ClaimData) (step : ℕ) 
         (pieces_from samples claim step 0 k ++ piece_at samples claim step m ∷ [])) k ≡ Some (stretch_at claim step m))
         same (stretch_is_at laws.best samples claim lawful step k 0 claim.first refl) in
         subst (λ (o : Option Stretch). IsSomeAnd o (IsContradicted claim samples)) at
-        (contradictions claim samples certificate lawful listed k verdict)
+        ((verdicts claim samples certificate lawful listed).contradiction k verdict)

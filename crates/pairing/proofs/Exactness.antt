@@ -1,31 +1,32 @@
 -- What is collected is what the definition says.
-use Rattle.std.proofs.Common.{◌≡◌, ◌∙◌, ℕ, ◌+◌, List, [], ◌∷◌, Bool, true, false, Option, Some, None, Result, Ok, Err, refl, sym, ap, length, arith, ◌<◌, ◌≤◌, inl, inr, zero-add, map, vec_len}
-use Rattle.ntp_packet.specs.Header.{precision_of, precision_ticks_of, root_delay_of, root_dispersion_of, root_distance_of}
-use Rattle.std.specs.Prelude.{◌*◌, pos, unsigned_abs, unwrap_or, int_lt, filter, count_by, is_none, nat_lt, MatchResult, ◌⊎◌, if◌then◌else◌}
+use Rattle.std.proofs.Common.{◌≡◌, ◌∙◌, ℕ, ◌+◌, List, [], ◌∷◌, Bool, true, false, Option, Some, None, Result, Ok, Err, refl, sym, ap, length, arith, ◌<◌, ◌≤◌, zero-add, map}
+use Rattle.ntp_packet.specs.Header.{origin_of, precision_of, precision_ticks_of, root_delay_of, root_dispersion_of, root_distance_of}
+use Rattle.std.specs.Prelude.{◌*◌, pos, unsigned_abs, unwrap_or, int_lt, filter, count_by, is_none, nat_lt, if◌then◌else◌}
 use Rattle.std.specs.List.{cons_option, filter_map}
 use Rattle.std.specs.Result.{result_ok}
 use Rattle.std.proofs.lemmas.Bool.Decides.{nat_tests}
 use Rattle.std.proofs.lemmas.List.Sums.{sum_by-append}
 use Rattle.pcap_reader.specs.Capture.{Record}
 use Rattle.claim_file.specs.Claim.{ClaimData}
-use Rattle.pairing.specs.declared.collected.Collected.{Collected}
 use Rattle.pairing.specs.declared.counts.Counts.{Counts}
 use Rattle.pairing.specs.declared.exchange.Exchange.{Exchange}
 use Rattle.pairing.specs.declared.fault.PairFault.{PairFault}
-use Rattle.pairing.specs.declared.fault.PairFault.TheVariants.{TooManyExchanges, Memory}
+use Rattle.pairing.specs.declared.fault.PairFault.TheVariants.{TooManyExchanges}
+use Rattle.pairing.specs.declared.held.HeldExchange.{HeldExchange}
 use Rattle.pairing.specs.declared.index.Key.{Key}
 use Rattle.pairing.specs.declared.index.Place.{Place}
 use Rattle.pairing.specs.declared.refusal.Refusal.{Refusal}
 use Rattle.pairing.specs.declared.refusal.Refusal.TheVariants.{Version, Leap, Stratum, Precision, ZeroStamp, NoRequest, Ambiguous}
-use Rattle.pairing.specs.declared.waiting.Waiting.{Waiting}
 use Rattle.pairing.specs.Counts.{count_for, IsJoined}
 use Rattle.pairing.specs.Exchange.{most_exchanges}
 use Rattle.pairing.specs.Gathering.{IsGatheredFrom, is_accepted, is_early, is_for}
+use Rattle.pairing.specs.Held.{held_of}
 use Rattle.pairing.specs.Index.{Indexes, place_of}
+use Rattle.pairing.specs.Join.{exchange_by, outcome_by, outcomes_by, request_at}
 use Rattle.pairing.specs.Message.{Request, Reply}
-use Rattle.pairing.specs.Pairing.{Collection, collection_of, data_of, requests_of, replies_of, requests_for, outcome_of, outcomes_of, paired, unless_refused, distance_of, exchange_of, is_refused, refused_for, is_warning, exchanges_of, counts_of}
+use Rattle.pairing.specs.Pairing.{Collection, collection_of, requests_of, replies_of, requests_for, outcome_of, outcomes_of, paired, unless_refused, distance_of, exchange_of, is_refused, refused_for, is_warning, exchanges_of, counts_of}
 use Rattle.pairing.specs.Refusal.{refusal_of}
-use Rattle.pairing.specs.Waiting.{exchange_at, outcomes_at, waiting_of}
+use Rattle.pairing.proofs.WindowLemmas.{last_tick}
 
 -- the first counts apart
 pub count_by-cons : {X : Type 0} (p : X → Bool) (x : X) (xs : List X) →
@@ -48,67 +49,75 @@ distance-kept header =
 
 -- the place of the requests that a reply may be one to says what becomes of it
 by_place : (reply : Reply) (requests : List Request) →
-    exchange_at (place_of requests) (waiting_of reply) ≡ paired reply requests
+    exchange_by (held_of reply) (request_at (place_of requests)) ≡ paired reply requests
 by_place reply [] = refl
-by_place reply (q ∷ []) = ap (λ d. Ok (record (exchange_of q reply) { distance = d })) (distance-kept reply.header)
+by_place reply (q ∷ []) = λ i. Ok (record (exchange_of q reply) {
+  t1_high = last_tick q.head i;
+  t4_high = last_tick reply.head i;
+  distance = distance-kept reply.header i;
+})
 by_place reply (q ∷ other ∷ others) = refl
 
 module _ (requests : List Request) (look_up : Key → Option Place) (indexed : Indexes look_up requests) where
-  -- what becomes of a waiting reply
-  abbrev found : Waiting → Result Exchange Refusal
-  found w = exchange_at (look_up w.key) w
+  -- what becomes of a reply that is held
+  abbrev found : HeldExchange → Result Exchange Refusal
+  found = outcome_by look_up
 
-  found-waiting_of : (reply : Reply) → found (waiting_of reply) ≡ paired reply (requests_for reply requests)
-  found-waiting_of reply =
-      ap (λ (p : Option Place). exchange_at p (waiting_of reply)) (indexed (waiting_of reply).key)
+  found-held_of : (reply : Reply) → found (held_of reply) ≡ paired reply (requests_for reply requests)
+  found-held_of reply =
+      ap (λ (p : Option Place). exchange_by (held_of reply) (request_at p)) (indexed (record {
+        server = reply.server;
+        port = reply.port;
+        stamp = origin_of reply.header;
+      }))
       ∙ by_place reply (requests_for reply requests)
 
   exchanges-head : (reply : Reply) (accepted : List Reply) (o : Option Refusal) (xs : List Exchange) →
-      xs ≡ filter_map result_ok (map found (map waiting_of accepted)) →
+      xs ≡ filter_map result_ok (map found (map held_of accepted)) →
       cons_option (result_ok (unless_refused o (paired reply (requests_for reply requests)))) xs
-      ≡ filter_map result_ok (map found (map waiting_of (if is_none o then reply ∷ accepted else accepted)))
+      ≡ filter_map result_ok (map found (map held_of (if is_none o then reply ∷ accepted else accepted)))
   exchanges-head reply accepted None xs is =
-      ap (λ (p : Result Exchange Refusal). cons_option (result_ok p) xs) (sym (found-waiting_of reply))
-      ∙ ap (cons_option (result_ok (found (waiting_of reply)))) is
+      ap (λ (p : Result Exchange Refusal). cons_option (result_ok p) xs) (sym (found-held_of reply))
+      ∙ ap (cons_option (result_ok (found (held_of reply)))) is
   exchanges-head reply accepted (Some refusal) xs is = is
 
-  -- the exchanges of the replies are those of the waiting ones
-  pub exchanges-waiting : (replies : List Reply) →
+  -- the exchanges of the replies are those of the replies that are held
+  pub exchanges-held : (replies : List Reply) →
       filter_map result_ok (map (outcome_of requests) replies)
-      ≡ filter_map result_ok (map found (map waiting_of (filter is_accepted replies)))
-  exchanges-waiting [] = refl
-  exchanges-waiting (reply ∷ replies) =
+      ≡ filter_map result_ok (map found (map held_of (filter is_accepted replies)))
+  exchanges-held [] = refl
+  exchanges-held (reply ∷ replies) =
       exchanges-head reply (filter is_accepted replies) (refusal_of reply.header) (filter_map result_ok (map
-      (outcome_of requests) replies)) (exchanges-waiting replies)
+      (outcome_of requests) replies)) (exchanges-held replies)
 
   refused-head : (reason : Refusal) (reply : Reply) (accepted : List Reply) (o : Option Refusal) (others early : ℕ) →
-      others ≡ early + count_by (is_refused reason) (map found (map waiting_of accepted)) →
+      others ≡ early + count_by (is_refused reason) (map found (map held_of accepted)) →
       (if is_refused reason (unless_refused o (paired reply (requests_for reply requests))) then 1 else 0) + others
       ≡ ((if is_for reason o then 1 else 0) + early)
-      + count_by (is_refused reason) (map found (map waiting_of (if is_none o then reply ∷ accepted else accepted)))
+      + count_by (is_refused reason) (map found (map held_of (if is_none o then reply ∷ accepted else accepted)))
   refused-head reason reply accepted None others early is =
-      let one : ◌≡◌ {A = ℕ} (if is_refused reason (found (waiting_of reply)) then 1 else 0) (if is_refused reason
+      let one : ◌≡◌ {A = ℕ} (if is_refused reason (found (held_of reply)) then 1 else 0) (if is_refused reason
       (paired reply (requests_for reply requests)) then 1 else 0) =
-      ap (λ (p : Result Exchange Refusal). if is_refused reason p then 1 else 0) (found-waiting_of reply) in
+      ap (λ (p : Result Exchange Refusal). if is_refused reason p then 1 else 0) (found-held_of reply) in
       omega (
         arith,
         one,
         is,
-        count_by-cons (is_refused reason) (found (waiting_of reply)) (map found
-            (map waiting_of accepted)),
+        count_by-cons (is_refused reason) (found (held_of reply)) (map found
+            (map held_of accepted)),
       )
   refused-head reason reply accepted (Some refusal) others early is = omega (arith, is)
 
-  -- the refused replies are those that their own headers refuse, and those among the waiting ones
-  pub refused-waiting : (reason : Refusal) (replies : List Reply) →
+  -- the refused replies are those that their own headers refuse, and those among the replies that are held
+  pub refused-held : (reason : Refusal) (replies : List Reply) →
       refused_for reason (map (outcome_of requests) replies)
-      ≡ count_by (is_early reason) replies + refused_for reason (map found (map waiting_of
+      ≡ count_by (is_early reason) replies + refused_for reason (map found (map held_of
       (filter is_accepted replies)))
-  refused-waiting reason [] = refl
-  refused-waiting reason (reply ∷ replies) =
+  refused-held reason [] = refl
+  refused-held reason (reply ∷ replies) =
       let head = refused-head reason reply (filter is_accepted replies) (refusal_of reply.header) (refused_for reason
       (map (outcome_of requests) replies)) (count_by (is_early reason) replies)
-      (refused-waiting reason replies) in
+      (refused-held reason replies) in
       omega (
         arith,
         head,
@@ -151,34 +160,34 @@ count_for-counts_of claim records ZeroStamp = refl
 count_for-counts_of claim records NoRequest = refl
 count_for-counts_of claim records Ambiguous = refl
 
-pub waiting-exchanges : (claim : ClaimData) (records : List Record) {look_up : Key →
-    Option Place} {waiting : List Waiting} {counts : Counts} →
-    IsGatheredFrom claim records look_up waiting counts →
-    filter_map result_ok (outcomes_at look_up waiting) ≡ exchanges_of claim records
+pub held-exchanges : (claim : ClaimData) (records : List Record) {look_up : Key →
+    Option Place} {held : List HeldExchange} {counts : Counts} →
+    IsGatheredFrom claim records look_up held counts →
+    filter_map result_ok (outcomes_by look_up held) ≡ exchanges_of claim records
 unfolding exchanges_of
-waiting-exchanges claim records {look_up} {waiting} {counts} g =
-    ap (λ (ws : List Waiting). filter_map result_ok (outcomes_at look_up ws)) g.waits
-    ∙ sym (exchanges-waiting (requests_of claim records) look_up g.indexed (replies_of claim records))
+held-exchanges claim records {look_up} {held} {counts} g =
+    ap (λ (hs : List HeldExchange). filter_map result_ok (outcomes_by look_up hs)) g.holds
+    ∙ sym (exchanges-held (requests_of claim records) look_up g.indexed (replies_of claim records))
 
 module _ (claim : ClaimData) (records : List Record) {look_up : Key →
-    Option Place} {waiting : List Waiting} {counts joined : Counts} {exchanges : List Exchange}
-    (g : IsGatheredFrom claim records look_up waiting counts) (j : IsJoined counts
-    (outcomes_at look_up waiting) exchanges joined) where
+    Option Place} {held : List HeldExchange} {counts joined : Counts} {exchanges : List Exchange}
+    (g : IsGatheredFrom claim records look_up held counts) (j : IsJoined counts
+    (outcomes_by look_up held) exchanges joined) where
   pub collected-exchanges : exchanges ≡ exchanges_of claim records
-  collected-exchanges = j.exchanges_are ∙ waiting-exchanges claim records g
+  collected-exchanges = j.exchanges_are ∙ held-exchanges claim records g
 
   collected-refused : (reason : Refusal) → count_for reason joined ≡ refused_for reason (outcomes_of claim records)
   collected-refused reason =
-      let waits : refused_for reason (outcomes_at look_up waiting)
-      ≡ refused_for reason (outcomes_at look_up (map waiting_of (filter is_accepted
+      let waits : refused_for reason (outcomes_by look_up held)
+      ≡ refused_for reason (outcomes_by look_up (map held_of (filter is_accepted
       (replies_of claim records)))) =
-      ap (λ (ws : List Waiting). refused_for reason (outcomes_at look_up ws)) g.waits in
+      ap (λ (hs : List HeldExchange). refused_for reason (outcomes_by look_up hs)) g.holds in
       omega (
         arith,
         j.refused reason,
         g.refused reason,
         waits,
-        refused-waiting (requests_of claim records) look_up g.indexed reason (replies_of claim records),
+        refused-held (requests_of claim records) look_up g.indexed reason (replies_of claim records),
       )
 
   collected-warnings : joined.warnings ≡ count_by is_warning (exchanges_of claim records)
@@ -232,22 +241,20 @@ too_large xs counts more =
     })) (below most_exchanges (length xs) more)
 
 -- what is joined of all that was gathered
-pub collected : (claim : ClaimData) (records : List Record) (look_up : Key →
-    Option Place) (waiting : List Waiting) (counts : Counts) (r : Result Collected PairFault) →
-    IsGatheredFrom claim records look_up waiting counts →
-    MatchResult r
-    (λ c. IsJoined counts (outcomes_at look_up waiting) c.exchanges.items c.counts
-    × (vec_len c.exchanges ≤ most_exchanges))
-    (λ fault. (fault ≡ Memory) ⊎ ((fault ≡ TooManyExchanges)
-    × (most_exchanges < length (filter_map result_ok (outcomes_at look_up waiting))))) →
-    MatchResult r (λ c. collection_of claim records ≡ Ok (data_of c)) (λ fault. (fault ≡ Memory)
-    ⊎ (collection_of claim records ≡ Err fault))
-unfolding collection_of
-collected claim records look_up waiting counts (Ok c) g (j, few) =
-    rw (← collected-exchanges claim records g j, ← collected-counts claim records g j)
-    (few_enough c.exchanges.items c.counts (rw c.exchanges.ok.0 at few))
-collected claim records look_up waiting counts (Err fault) g (inl memory) = inl memory
-collected claim records look_up waiting counts (Err fault) g (inr (many, more)) =
-    let waits : filter_map result_ok (outcomes_at look_up waiting) ≡ exchanges_of claim records =
-    waiting-exchanges claim records g in
-    inr (too_large (exchanges_of claim records) (counts_of claim records) (rw waits at more) ∙ ap Err (sym many))
+module _ (claim : ClaimData) (records : List Record) {look_up : Key → Option Place} {held : List HeldExchange}
+    {counts : Counts} (g : IsGatheredFrom claim records look_up held counts) where
+  pub collection-few : {joined : Counts} {exchanges : List Exchange} →
+      IsJoined counts (outcomes_by look_up held) exchanges joined → length exchanges ≤ most_exchanges →
+      collection_of claim records ≡ Ok (record { exchanges = exchanges; counts = joined })
+  unfolding collection_of
+  collection-few {joined} {exchanges} j few =
+      rw (← collected-exchanges claim records g j, ← collected-counts claim records g j)
+      (few_enough exchanges joined few)
+
+  pub collection-many : most_exchanges < length (filter_map result_ok (outcomes_by look_up held)) →
+      collection_of claim records ≡ Err TooManyExchanges
+  unfolding collection_of
+  collection-many more =
+      let held : filter_map result_ok (outcomes_by look_up held) ≡ exchanges_of claim records =
+      held-exchanges claim records g in
+      too_large (exchanges_of claim records) (counts_of claim records) (rw held at more)

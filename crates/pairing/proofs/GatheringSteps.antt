@@ -13,20 +13,21 @@ use Rattle.ntp_packet.specs.Header.{mode_of, version_of}
 use Rattle.ntp_packet.specs.Packet.{Packet, packet_of, ntp_port}
 use Rattle.claim_file.specs.Claim.{ClaimData}
 use Rattle.pairing.specs.declared.counts.Counts.{Counts}
+use Rattle.pairing.specs.declared.held.HeldExchange.{HeldExchange}
 use Rattle.pairing.specs.declared.index.Key.{Key}
 use Rattle.pairing.specs.declared.index.Place.{Place}
 use Rattle.pairing.specs.declared.message.Message.{Message}
 use Rattle.pairing.specs.declared.message.Message.TheVariants.{Request as Asks, Refused, Reply as Waits}
 use Rattle.pairing.specs.declared.refusal.Refusal.{Refusal}
 use Rattle.pairing.specs.declared.refusal.Refusal.TheVariants.{Version, Leap, Stratum, Precision, ZeroStamp, NoRequest, Ambiguous}
-use Rattle.pairing.specs.declared.waiting.Waiting.{Waiting}
 use Rattle.pairing.specs.Counts.{zero_counts, count_for}
-use Rattle.pairing.specs.Gathering.{IsGathered, IsGatheredFrom, counts_with, is_accepted, is_early, is_for, requests_in, waiting_in}
+use Rattle.pairing.specs.Gathering.{IsGathered, IsGatheredFrom, counts_with, is_accepted, is_early, is_for, requests_in, held_in}
+use Rattle.pairing.specs.Held.{held_of}
 use Rattle.pairing.specs.Index.{Indexes, key_of, request_at}
 use Rattle.pairing.specs.Message.{Request, Reply, is_request, is_reply, server_at, requested_server, replying_server, request_to, reply_from, request_in, reply_in, request_of, reply_of}
 use Rattle.pairing.specs.Pairing.{requests_of, replies_of}
 use Rattle.pairing.specs.Refusal.{refusal_of}
-use Rattle.pairing.specs.Waiting.{judged, message_in, message_of, waiting_of}
+use Rattle.pairing.specs.Statement.{judged, message_in, message_of}
 use Rattle.pairing.proofs.JoinSteps.{keeps_others, count_by-push, count_for-with_refusal}
 
 -- nothing is counted yet
@@ -44,7 +45,7 @@ pub gathered_start : (claim : ClaimData) (look_up : Key → Option Place) → In
 unfolding requests_of replies_of
 gathered_start claim look_up indexed = record {
   indexed = indexed;
-  waits = refl;
+  holds = refl;
   all_records = refl;
   all_requests = refl;
   all_replies = refl;
@@ -59,7 +60,7 @@ pub data Says (head : RecordHead) : Option Message → List Request → List Rep
   refused : (reply : Reply) (refusal : Refusal) → refusal_of reply.header ≡ Some refusal →
       Says head (Some (Refused refusal)) [] (reply ∷ [])
   accepted : (reply : Reply) → refusal_of reply.header ≡ None →
-      Says head (Some (Waits (waiting_of reply))) [] (reply ∷ [])
+      Says head (Some (Waits (held_of reply))) [] (reply ∷ [])
 
 says_judged : (head : RecordHead) (reply : Reply) (o : Option Refusal) → refusal_of reply.header ≡ o →
     Says head (Some (judged reply)) [] (reply ∷ [])
@@ -129,23 +130,23 @@ count_for-renumbered NoRequest records requests replies counts = refl
 count_for-renumbered Ambiguous records requests replies counts = refl
 
 -- one more reply that its own header accepts, or refuses
-waits-accepted : (replies : List Reply) (reply : Reply) → refusal_of reply.header ≡ None →
-    map waiting_of (filter is_accepted (replies ++ reply ∷ []))
-    ≡ map waiting_of (filter is_accepted replies) ++ waiting_of reply ∷ []
-waits-accepted replies reply is =
-    ap (map waiting_of) (filter-append is_accepted replies (reply ∷ []))
-    ∙ map-append waiting_of (filter is_accepted replies) (filter is_accepted (reply ∷ []))
-    ∙ ap (λ (o : Option Refusal). map waiting_of (filter is_accepted replies) ++ map waiting_of
+holds-accepted : (replies : List Reply) (reply : Reply) → refusal_of reply.header ≡ None →
+    map held_of (filter is_accepted (replies ++ reply ∷ []))
+    ≡ map held_of (filter is_accepted replies) ++ held_of reply ∷ []
+holds-accepted replies reply is =
+    ap (map held_of) (filter-append is_accepted replies (reply ∷ []))
+    ∙ map-append held_of (filter is_accepted replies) (filter is_accepted (reply ∷ []))
+    ∙ ap (λ (o : Option Refusal). map held_of (filter is_accepted replies) ++ map held_of
     (if is_none o then reply ∷ [] else [])) is
 
-waits-refused : (replies : List Reply) (reply : Reply) (refusal : Refusal) → refusal_of reply.header ≡ Some refusal →
-    map waiting_of (filter is_accepted (replies ++ reply ∷ [])) ≡ map waiting_of (filter is_accepted replies)
-waits-refused replies reply refusal is =
-    ap (map waiting_of) (filter-append is_accepted replies (reply ∷ []))
-    ∙ map-append waiting_of (filter is_accepted replies) (filter is_accepted (reply ∷ []))
-    ∙ ap (λ (o : Option Refusal). map waiting_of (filter is_accepted replies) ++ map waiting_of
+holds-refused : (replies : List Reply) (reply : Reply) (refusal : Refusal) → refusal_of reply.header ≡ Some refusal →
+    map held_of (filter is_accepted (replies ++ reply ∷ [])) ≡ map held_of (filter is_accepted replies)
+holds-refused replies reply refusal is =
+    ap (map held_of) (filter-append is_accepted replies (reply ∷ []))
+    ∙ map-append held_of (filter is_accepted replies) (filter is_accepted (reply ∷ []))
+    ∙ ap (λ (o : Option Refusal). map held_of (filter is_accepted replies) ++ map held_of
     (if is_none o then reply ∷ [] else [])) is
-    ∙ append-nil (map waiting_of (filter is_accepted replies))
+    ∙ append-nil (map held_of (filter is_accepted replies))
 
 early-push : (reason : Refusal) (replies : List Reply) (reply : Reply) (o : Option Refusal) →
     refusal_of reply.header ≡ o →
@@ -156,16 +157,16 @@ early-push reason replies reply o is =
     ∙ ap (λ (o : Option Refusal). count_by (is_early reason) replies + (if is_for reason o then 1 else 0)) is
 
 module _ {n : ℕ} {requests : List Request} {replies : List Reply} {old : Key →
-    Option Place} {waiting : List Waiting} {counts : Counts}
-    (g : IsGathered n requests replies old waiting counts) (new : Key → Option Place) where
+    Option Place} {held : List HeldExchange} {counts : Counts}
+    (g : IsGathered n requests replies old held counts) (new : Key → Option Place) where
   pub step : (head : RecordHead) (m : Option Message) (asked : List Request) (answered : List Reply) →
       Says head m asked answered →
       Indexes new (requests ++ requests_in m head) →
-      IsGathered (n + 1) (requests ++ asked) (replies ++ answered) new (waiting ++ waiting_in m)
+      IsGathered (n + 1) (requests ++ asked) (replies ++ answered) new (held ++ held_in m)
       (counts_with m counts)
   step head m asked answered silent indexed = record {
     indexed = indexed;
-    waits = rw (append-nil waiting, append-nil replies) g.waits;
+    holds = rw (append-nil held, append-nil replies) g.holds;
     all_records = ap (λ k. k + 1) g.all_records;
     all_requests = rw (append-nil requests) g.all_requests;
     all_replies = rw (append-nil replies) g.all_replies;
@@ -175,7 +176,7 @@ module _ {n : ℕ} {requests : List Request} {replies : List Reply} {old : Key �
   }
   step head m asked answered (asks key) indexed = record {
     indexed = indexed;
-    waits = rw (append-nil waiting, append-nil replies) g.waits;
+    holds = rw (append-nil held, append-nil replies) g.holds;
     all_records = ap (λ k. k + 1) g.all_records;
     all_requests = omega (arith, g.all_requests, length-append requests (request_at key head ∷ []));
     all_replies = rw (append-nil replies) g.all_replies;
@@ -188,7 +189,7 @@ module _ {n : ℕ} {requests : List Request} {replies : List Reply} {old : Key �
       let others = keeps_others refusal counted in
       record {
         indexed = indexed;
-        waits = rw (append-nil waiting) (g.waits ∙ sym (waits-refused replies reply refusal is));
+        holds = rw (append-nil held) (g.holds ∙ sym (holds-refused replies reply refusal is));
         all_records = others.same_records ∙ ap (λ k. k + 1) g.all_records;
         all_requests = rw (append-nil requests) (others.same_requests ∙ g.all_requests);
         all_replies = others.same_replies ∙ omega (arith, g.all_replies, length-append replies (reply ∷ []));
@@ -203,7 +204,7 @@ module _ {n : ℕ} {requests : List Request} {replies : List Reply} {old : Key �
       }
   step head m asked answered (accepted reply is) indexed = record {
     indexed = indexed;
-    waits = ap (λ ws. ws ++ waiting_of reply ∷ []) g.waits ∙ sym (waits-accepted replies reply is);
+    holds = ap (λ hs. hs ++ held_of reply ∷ []) g.holds ∙ sym (holds-accepted replies reply is);
     all_records = ap (λ k. k + 1) g.all_records;
     all_requests = rw (append-nil requests) g.all_requests;
     all_replies = omega (arith, g.all_replies, length-append replies (reply ∷ []));
@@ -218,14 +219,14 @@ module _ {n : ℕ} {requests : List Request} {replies : List Reply} {old : Key �
 
 -- one more record
 pub gathered-push : (claim : ClaimData) (done : List Record) (r : Record) (old new : Key →
-    Option Place) (waiting : List Waiting) (counts : Counts) →
-    IsGatheredFrom claim done old waiting counts →
+    Option Place) (held : List HeldExchange) (counts : Counts) →
+    IsGatheredFrom claim done old held counts →
     ((requests : List Request) → Indexes old requests →
     Indexes new (requests ++ requests_in (message_of claim r) r.head)) →
-    IsGatheredFrom claim (done ++ r ∷ []) new (waiting ++ waiting_in (message_of claim r)) (counts_with
+    IsGatheredFrom claim (done ++ r ∷ []) new (held ++ held_in (message_of claim r)) (counts_with
     (message_of claim r) counts)
 unfolding requests_of replies_of
-gathered-push claim done r old new waiting counts g indexed =
+gathered-push claim done r old new held counts g indexed =
     rw (
       length-append done (r ∷ []),
       filter_map-append (request_of claim) done (r ∷ []),

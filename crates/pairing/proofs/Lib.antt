@@ -1,4 +1,5 @@
 pub mod JoinSteps
+pub mod JoinInPlace
 pub mod GatheringSteps
 pub mod Exactness
 pub mod ReadingSteps
@@ -8,4 +9,5 @@ pub mod Tallies
 pub mod Order
 pub mod Pairs
 pub mod Servers
+pub mod WindowLemmas
 pub mod Words

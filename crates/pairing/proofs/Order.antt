@@ -12,7 +12,7 @@ use Rattle.pairing.specs.declared.refusal.Refusal.TheVariants.{Ambiguous}
 use Rattle.pairing.specs.Message.{Request, Reply, request_of, reply_of}
 use Rattle.pairing.specs.Pairing.{requests_of, replies_of, answers, requests_for, outcome_of, paired, unless_refused, collection_of, counts_of, exchanges_of}
 use Rattle.pairing.specs.Refusal.{refusal_of}
-use Rattle.pairing.specs.Waiting.{message_of}
+use Rattle.pairing.specs.Statement.{message_of}
 use Rattle.pairing.proofs.GatheringSteps.{Says, silent, asks, refused, accepted, says}
 
 -- neighbours of which one gives nothing may change places

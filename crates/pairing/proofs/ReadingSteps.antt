@@ -16,9 +16,9 @@ use Rattle.claim_file.specs.Claim.{ClaimData}
 use Rattle.pairing.specs.declared.counts.Counts.{Counts}
 use Rattle.pairing.specs.declared.fault.PairFault.{PairFault}
 use Rattle.pairing.specs.declared.fault.PairFault.TheVariants.{Capture}
+use Rattle.pairing.specs.declared.held.HeldExchange.{HeldExchange}
 use Rattle.pairing.specs.declared.index.Key.{Key}
 use Rattle.pairing.specs.declared.index.Place.{Place}
-use Rattle.pairing.specs.declared.waiting.Waiting.{Waiting}
 use Rattle.pairing.specs.Answer.{AreGiven, IsFromOutside, IsGiven, LeavesSource, MayAnswer, answer_of, capture_failed, device_failed}
 use Rattle.pairing.specs.Counts.{HasRoom}
 use Rattle.pairing.specs.Gathering.{IsGatheredFrom, is_early}
@@ -174,10 +174,10 @@ refused-exact claim start before now done fault read step =
 
 -- the counts of so many records leave room
 pub gathered-room : (claim : ClaimData) (done : List Record) (look_up : Key →
-    Option Place) (waiting : List Waiting) (counts : Counts) →
-    IsGatheredFrom claim done look_up waiting counts → length done ≤ most_records → HasRoom counts most_records
+    Option Place) (held : List HeldExchange) (counts : Counts) →
+    IsGatheredFrom claim done look_up held counts → length done ≤ most_records → HasRoom counts most_records
 unfolding requests_of replies_of
-gathered-room claim done look_up waiting counts g few =
+gathered-room claim done look_up held counts g few =
     let asked = length-filter_map (request_of claim) done in
     let answered = length-filter_map (reply_of claim) done in
     record {

@@ -9,11 +9,10 @@ use Rattle.pcap_reader.specs.Remaining.{Coming}
 use Rattle.pcap_reader.specs.Source.{SourceState, TakesFrom}
 use Rattle.byte_stream.specs.Bytes.{IsBytes}
 use Rattle.claim_file.specs.Claim.{ClaimData}
-use Rattle.pairing.specs.declared.collected.Collected.{Collected}
 use Rattle.pairing.specs.declared.fault.PairFault.{PairFault}
 use Rattle.pairing.specs.declared.fault.PairFault.TheVariants.{Capture, TooManyExchanges, Memory}
 use Rattle.pairing.specs.Exchange.{AreLawful}
-use Rattle.pairing.specs.Pairing.{Collection, collection_of, data_of}
+use Rattle.pairing.specs.Pairing.{Collection, collection_of}
 
 -- a fault at the end of the records comes before what is collected of them
 abbrev pub unless_broken : Option CaptureFault → Result Collection PairFault →
@@ -68,17 +67,19 @@ pub record AreGiven (records : List Record) : Type 0 where
   pub each : All IsGiven records
   pub numbered : All (λ r. slice_get records r.head.number ≡ Some r) records
 
--- Where the records are known, the answer is theirs, but for a fault from outside.
-abbrev pub IsAnswerTo : ClaimData → Result Collected PairFault → Coming → Type 0
-IsAnswerTo claim result coming =
+-- Where the records are known, the answer is theirs, but for a fault from outside. `shown` is what a
+-- value of the program says.
+abbrev pub IsAnswerTo : {X : Type 0} → (X → Collection) → ClaimData → Result X PairFault → Coming →
+    Type 0
+IsAnswerTo shown claim result coming =
     MatchResult result
-    (λ c. answer_of claim coming ≡ Ok (data_of c))
+    (λ c. answer_of claim coming ≡ Ok (shown c))
     (λ fault. IsFromOutside fault ⊎ (answer_of claim coming ≡ Err fault))
 
 -- What collecting a source answers and how it leaves the source. What is given keeps every limit,
 -- also where the records aren't known.
-pub record Collects (claim : ClaimData) (old : SourceState) (result : Result Collected PairFault)
-    (new : SourceState) : Type 0 where
-  pub exact : IfSome old.remaining (IsAnswerTo claim result)
-  pub lawful : IfOk result (λ c. AreLawful (length claim.servers) c.exchanges.items)
+pub record Collects {X : Type 0} (shown : X → Collection) (claim : ClaimData) (old : SourceState)
+    (result : Result X PairFault) (new : SourceState) : Type 0 where
+  pub exact : IfSome old.remaining (IsAnswerTo shown claim result)
+  pub lawful : IfOk result (λ c. AreLawful (length claim.servers) (shown c).exchanges)
   pub leaves : LeavesSource old result new

@@ -1,5 +1,5 @@
 -- How the counts grow.
-use Rattle.std.specs.Prelude.{◌≡◌, ℕ, ◌+◌, ◌^◌, ◌<◌, List, count_by, Result, Ok, Err, if◌then◌else◌}
+use Rattle.std.specs.Prelude.{◌≡◌, ℕ, ◌+◌, ◌^◌, ◌<◌, ◌==◌, ◌||◌, List, count_by, Result, Ok, Err, if◌then◌else◌}
 use Rattle.std.specs.List.{filter_map}
 use Rattle.std.specs.Result.{result_ok}
 use Rattle.pairing.specs.declared.counts.Counts.{Counts}
@@ -44,10 +44,14 @@ with_refusal ZeroStamp counts = record counts { zero_stamp = counts.zero_stamp +
 with_refusal NoRequest counts = record counts { no_request = counts.no_request + 1 }
 with_refusal Ambiguous counts = record counts { ambiguous = counts.ambiguous + 1 }
 
+-- the counts with one more exchange whose reply has this leap indicator
+abbrev pub with_leap : ℕ → Counts → Counts
+with_leap leap counts =
+    record counts { warnings = counts.warnings + (if leap == 1 || leap == 2 then 1 else 0) }
+
 -- the counts with one more reply of this outcome
 abbrev pub with_outcome : Result Exchange Refusal → Counts → Counts
-with_outcome (Ok x) counts =
-    record counts { warnings = counts.warnings + (if is_warning x then 1 else 0) }
+with_outcome (Ok x) counts = with_leap x.leap counts
 with_outcome (Err refusal) counts = with_refusal refusal counts
 
 -- What is collected of these outcomes, from these counts on.

@@ -1,12 +1,31 @@
--- What an exchange that is held says.
-use Rattle.std.specs.Prelude.{ℕ, ◌+◌, pos, map}
+-- What is held of a reply, and the exchange that it says.
+use Rattle.std.specs.Prelude.{ℕ, ◌+◌, pos, unsigned_abs, map}
 use Rattle.era_unfold.specs.Stamp.{unfolded}
+use Rattle.ntp_packet.specs.Header.{leap_of, stratum_of, reference_id_of, origin_of, receive_of, transmit_of}
 use Rattle.pairing.specs.declared.exchange.Exchange.{Exchange}
 use Rattle.pairing.specs.declared.held.Held.{Held}
 use Rattle.pairing.specs.declared.held.HeldExchange.{HeldExchange}
 use Rattle.pairing.specs.declared.held.HeldRequest.{HeldRequest}
 use Rattle.pairing.specs.declared.held.HeldRequest.TheVariants.{Named, Found}
-use Rattle.pairing.specs.Pairing.{Collection}
+use Rattle.pairing.specs.Message.{Reply}
+use Rattle.pairing.specs.Pairing.{Collection, distance_of}
+use Rattle.pairing.specs.Window.{tick_of, width_of}
+
+-- what is held of a reply when it comes
+abbrev pub held_of : Reply → HeldExchange
+held_of reply = record {
+  server = reply.server;
+  leap = leap_of reply.header;
+  stratum = stratum_of reply.header;
+  reference = reference_id_of reply.header;
+  reply = reply.head.number;
+  width = width_of reply.head;
+  low = tick_of reply.head;
+  receive = receive_of reply.header;
+  transmit = transmit_of reply.header;
+  distance = unsigned_abs (distance_of reply.header);
+  request = Named reply.port (origin_of reply.header);
+}
 
 -- with a request of this record, whose window begins at this tick and is so many ticks long
 abbrev pub exchange_with : ℕ → ℕ → ℕ → HeldExchange → Exchange

@@ -6,10 +6,12 @@ pub mod Gathering
 pub mod Hashing
 pub mod Held
 pub mod Index
+pub mod Join
 pub mod Message
 pub mod Pair
 pub mod Pairing
 pub mod Provenance
 pub mod Reading
 pub mod Refusal
-pub mod Waiting
+pub mod Statement
+pub mod Window

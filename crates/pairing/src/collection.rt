@@ -6,13 +6,16 @@ ghost use Rattle.pcap_reader.specs.Source.{IsFresh};
 ghost use Rattle.claim_file.specs.Claim.{IsLawful, data_of};
 ghost use Rattle.pairing.specs.Answer.{Collects, IsFromOutside, LeavesSource, answer_of};
 ghost use Rattle.pairing.specs.Gathering.{IsGatheredFrom};
+ghost use Rattle.pairing.specs.Held.{held_data};
 ghost use Rattle.pairing.specs.Index.{same_key};
+ghost use Rattle.pairing.specs.Pairing.{data_of as collection_data};
 ghost use Rattle.pairing.specs.Reading.{GathersAll};
 
 use crate::collected::Collected;
 use crate::fault::PairFault;
 use crate::gathering::Gathering;
 use crate::hashing::KeyHasher;
+use crate::held::Held;
 use crate::laws::exchanges_keep_their_limits;
 use crate::message::read_message;
 use claim_file::Claim;
@@ -30,9 +33,9 @@ fn gather<S: RecordSource>(
     requires fresh { IsFresh (S.state source.old) }
     requires room { (S.state source.old).fault_count < 2 ^ 64 - 1 }
     requires empty { IsGatheredFrom (data_of claim.now) []
-        (get same_key gathering.old.index.places) gathering.old.waiting.items gathering.old.counts }
+        (get same_key gathering.old.index.places) gathering.old.exchanges.items gathering.old.counts }
     ensures whole { OnOk result (GathersAll (data_of claim.now) (S.state source.old).remaining
-        (get same_key gathering.new.index.places) gathering.new.waiting.items
+        (get same_key gathering.new.index.places) gathering.new.exchanges.items
         gathering.new.counts) }
     ensures fault { IfErr result (λ fault. IfSome (S.state source.old).remaining (λ coming.
         IsFromOutside fault ⊎ (answer_of (data_of claim.now) coming ≡ Err fault))) }
@@ -60,27 +63,28 @@ fn gather<S: RecordSource>(
 /// comes where the source ends with a fault, `TooManyExchanges` where it ends whole with over
 /// 1,000,000 exchanges, and `Memory` where no memory was left. After a fault the source is used no
 /// further.
-pub fn collect_with<S: RecordSource, H: BuildHasher + Drop>(
+pub fn collect_held<S: RecordSource, H: BuildHasher + Drop>(
     alloc: Global,
     source: &mut S,
     claim: &Claim,
     hasher: H,
-) -> Result<Collected, PairFault>
+) -> Result<Held, PairFault>
     requires claim { IsLawful (data_of claim.now) }
     requires fresh { IsFresh (S.state source.old) }
     requires room { (S.state source.old).fault_count < 2 ^ 64 - 1 }
-    ensures { Collects (data_of claim.now) (S.state source.old) result (S.state source.new) }
+    ensures { Collects held_data (data_of claim.now) (S.state source.old) result
+        (S.state source.new) }
 {
     exchanges_keep_their_limits();
     let mut gathering = Gathering::new(alloc, KeyHasher::keyed_by(&hasher));
     match gather(source, claim, &mut gathering) {
-        Ok(()) => gathering.finish(alloc),
+        Ok(()) => gathering.finish(),
         Err(fault) => Err(fault),
     }
 }
 
-/// Collects the exchanges and counts of a whole capture, as `collect_with` does, with std's hasher
-/// of a fixed key.
+/// Collects the exchanges and counts of a whole capture, as `collect_held` does, with std's hasher
+/// of a fixed key, and gives the exchanges with all their fields, in 128 bytes each.
 pub fn collect<S: RecordSource>(
     alloc: Global,
     source: &mut S,
@@ -89,12 +93,13 @@ pub fn collect<S: RecordSource>(
     requires claim { IsLawful (data_of claim.now) }
     requires fresh { IsFresh (S.state source.old) }
     requires room { (S.state source.old).fault_count < 2 ^ 64 - 1 }
-    ensures { Collects (data_of claim.now) (S.state source.old) result (S.state source.new) }
+    ensures { Collects collection_data (data_of claim.now) (S.state source.old) result
+        (S.state source.new) }
 {
-    collect_with(
-        alloc,
-        source,
-        claim,
-        BuildHasherDefault::<FoldHasher>::new(),
-    )
+    let hasher = BuildHasherDefault::<FoldHasher>::new();
+    let held = collect_held(alloc, source, claim, hasher)?;
+    let Ok(collected) = Collected::new(alloc, &held) else {
+        return Err(PairFault::Memory);
+    };
+    Ok(collected)
 }

@@ -34,7 +34,7 @@ pub struct Counts {
 }
 
 impl Counts {
-    ghost use Rattle.pairing.specs.Counts.{count_for, with_refusal, zero_counts};
+    ghost use Rattle.pairing.specs.Counts.{count_for, with_leap, with_refusal, zero_counts};
 
     /// Nothing is counted yet.
     pub(crate) fn zero() -> Counts
@@ -53,6 +53,15 @@ impl Counts {
             ambiguous: 0,
             warnings: 0,
         }
+    }
+
+    /// Counts an exchange whose reply has this leap indicator.
+    #[inline(always)]
+    pub(crate) fn accept(&mut self, leap: u8)
+        requires { self.old.warnings < 2 ^ 32 - 1 }
+        ensures { self.new ≡ with_leap leap self.old }
+    {
+        self.warnings += u32::from(leap == 1 || leap == 2);
     }
 
     /// Counts a reply that is refused for this reason.

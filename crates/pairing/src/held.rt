@@ -1,12 +1,19 @@
 //! Exchanges as they are held, in 64 bytes each.
 
-ghost use Rattle.std.specs.Prelude.{◌≡◌};
-ghost use Rattle.pairing.specs.Held.{exchange_shown, exchange_with};
+ghost use Rattle.std.specs.Prelude.{◌≡◌, ◌<◌, pos};
+ghost use Rattle.era_unfold.specs.Window.{per_second};
+ghost use Rattle.ntp_packet.specs.Packet.{packet_shown};
+ghost use Rattle.pairing.specs.Held.{exchange_shown, exchange_with, held_of};
+ghost use Rattle.pairing.specs.Message.{reply_from};
+ghost use Rattle.pairing.specs.Pairing.{distance_of};
 
 use crate::counts::Counts;
 use crate::exchange::Exchange;
 use crate::to_exchange::ToExchange;
+use crate::window::Window;
 use era_unfold::unfold;
+use ntp_packet::kinds::Packet;
+use pcap_reader::RecordHead;
 
 /// The request of a reply.
 #[derive(Clone, Copy, Debug, PartialEq, Eq)]
@@ -61,6 +68,39 @@ pub struct HeldExchange {
 }
 
 impl HeldExchange {
+    /// A reply of this server, with the root distance that it announces. What names its request is
+    /// known.
+    #[inline(always)]
+    pub(crate) fn new(
+        server: u8,
+        head: &RecordHead,
+        packet: &Packet<'_>,
+        distance: u64,
+    ) -> HeldExchange
+        requires distance { pos distance ≡ distance_of packet.now.header }
+        requires part_of_a_second { head.now.sub < per_second head.now.unit }
+        ensures { result ≡ held_of (reply_from head.now (packet_shown packet.now) server) }
+    {
+        let header = &packet.header;
+        let Window { low, width } = Window::new(head);
+        HeldExchange {
+            server,
+            leap: header.leap(),
+            stratum: header.stratum(),
+            reference: header.reference_id(),
+            reply: head.number,
+            width,
+            low,
+            receive: header.receive(),
+            transmit: header.transmit(),
+            distance,
+            request: HeldRequest::Named {
+                port: packet.datagram.destination_port,
+                stamp: header.origin(),
+            },
+        }
+    }
+
     /// The exchange with the request of this record and this window.
     #[inline(always)]
     fn exchange_with(&self, width: u16, number: u32, low: u64) -> Exchange

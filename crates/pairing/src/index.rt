@@ -1,13 +1,14 @@
 //! The index of requests.
 
-ghost use Rattle.std.specs.Prelude.{◌≡◌, [], ◌∷◌, ◌++◌, List, OnOk};
+ghost use Rattle.std.specs.Prelude.{◌≡◌, ◌<◌, [], ◌∷◌, ◌++◌, List, OnOk};
 ghost use Rattle.indexmap.specs.IndexMap.{get};
+ghost use Rattle.era_unfold.specs.Window.{per_second};
 ghost use Rattle.pcap_reader.specs.declared.format.RecordHead.{RecordHead as Head};
-ghost use Rattle.pairing.specs.Index.{Indexes, moment_of, request_at, same_key};
+ghost use Rattle.pairing.specs.Index.{Indexes, request_at, same_key};
 ghost use Rattle.pairing.specs.Message.{Request};
 
 use crate::hashing::KeyHasher;
-use era_unfold::Unit;
+use crate::window::Window;
 use indexmap::IndexMap;
 use pcap_reader::RecordHead;
 use std::alloc::{AllocError, Global};
@@ -23,38 +24,18 @@ pub(crate) struct Key {
     pub stamp: u64,
 }
 
-/// Which record, and when it was captured.
-#[derive(Clone, Copy, Debug, PartialEq, Eq)]
-pub(crate) struct Moment {
-    /// The record's number.
-    pub number: u32,
-    /// Seconds since 1970-01-01T00:00:00Z.
-    pub sec: u32,
-    /// The part of the second, in units.
-    pub sub: u32,
-    /// The unit of `sub`.
-    pub unit: Unit,
-}
-
-impl Moment {
-    /// The moment of a record.
-    pub(crate) fn new(head: &RecordHead) -> Moment
-        ensures { result ≡ moment_of head.now }
-    {
-        Moment {
-            number: head.number,
-            sec: head.sec,
-            sub: head.sub,
-            unit: head.unit,
-        }
-    }
-}
-
-/// The requests with one key.
+/// The requests with one key, in 16 bytes.
 #[derive(Clone, Copy, Debug, PartialEq, Eq)]
 pub(crate) enum Place {
-    /// The one and only.
-    One(Moment),
+    /// The one and only: its record.
+    One {
+        /// How many ticks after the first one the record's window ends.
+        width: u16,
+        /// The record's number.
+        number: u32,
+        /// The first tick of the record's window.
+        low: u64,
+    },
     /// Two or more.
     Several,
 }
@@ -77,11 +58,14 @@ impl Index {
 
     /// Notes the request that a record holds.
     pub(crate) fn note(&mut self, key: Key, head: &RecordHead) -> Result<(), AllocError>
+        requires { head.now.sub < per_second head.now.unit }
         ensures { (requests : List Request) → Indexes (get same_key self.old.places) requests →
             OnOk result (Indexes (get same_key self.new.places)
             (requests ++ request_at key head.now ∷ [])) }
     {
-        let before = self.places.insert(key, Place::One(Moment::new(head)))?;
+        let Window { low, width } = Window::new(head);
+        let number = head.number;
+        let before = self.places.insert(key, Place::One { width, number, low })?;
         if before.is_some() {
             self.places.insert(key, Place::Several)?;
         }

@@ -1,47 +1,86 @@
 //! The joining of replies with their requests.
 
-ghost use Rattle.std.specs.Prelude.{◌≡◌, ◌<◌, ◌≤◌, ◌⊎◌, All, length, vec_len, MatchResult};
+ghost use Rattle.std.specs.Prelude.{◌≡◌, ◌<◌, ◌≤◌, length, map, take, IfErr, IfOk};
 ghost use Rattle.std.specs.List.{filter_map};
 ghost use Rattle.std.specs.Result.{result_ok};
 ghost use Rattle.indexmap.specs.IndexMap.{get};
-ghost use Rattle.pairing.specs.declared.index.Key.{Key as AnyKey};
 ghost use Rattle.pairing.specs.Counts.{HasRoom, IsJoined};
 ghost use Rattle.pairing.specs.Exchange.{most_exchanges};
-ghost use Rattle.pairing.specs.Index.{IsMoment, same_key};
-ghost use Rattle.pairing.specs.Waiting.{IsPlace, outcomes_at};
+ghost use Rattle.pairing.specs.Held.{exchange_shown};
+ghost use Rattle.pairing.specs.Index.{same_key};
+ghost use Rattle.pairing.specs.Join.{outcomes_by, request_by};
 
-use crate::collected::Collected;
 use crate::counts::Counts;
 use crate::fault::PairFault;
-use crate::index::Index;
-use crate::waiting::Waiting;
-use std::alloc::Global;
+use crate::held::{HeldExchange, HeldRequest};
+use crate::index::{Index, Key, Place};
+use crate::refusal::Refusal;
 
-/// Joins each waiting reply with its request, from these counts on.
-pub(crate) fn join(
-    alloc: Global,
+/// The greatest number of exchanges of a capture.
+const MOST_EXCHANGES: usize = 1_000_000;
+
+/// The one and only request of a reply to this server, or why there is none. `guess` is where it is
+/// looked for first, as in `Index::find_near`.
+#[inline(always)]
+fn find_request(
     index: &Index,
-    waiting: &[Waiting],
-    counts: Counts,
-) -> Result<Collected, PairFault>
-    requires replies { All (λ w. IsMoment w.moment) waiting.now }
-    requires requests { (k : AnyKey) → IsPlace (get same_key index.now.places k) }
-    requires room { HasRoom counts (length waiting.now) }
-    ensures { MatchResult result
-        (λ c. IsJoined counts (outcomes_at (get same_key index.now.places) waiting.now)
-        c.exchanges.items c.counts × (vec_len c.exchanges ≤ most_exchanges))
-        (λ fault. (fault ≡ PairFault.Memory) ⊎ ((fault ≡ PairFault.TooManyExchanges)
-        × (most_exchanges < length (filter_map result_ok
-        (outcomes_at (get same_key index.now.places) waiting.now))))) }
+    server: u8,
+    request: HeldRequest,
+    guess: &mut usize,
+) -> Result<HeldRequest, Refusal>
+    ensures { result ≡ request_by (get same_key index.now.places) server request }
 {
-    let mut collected = Collected {
-        exchanges: Vec::new(alloc),
-        counts,
+    let HeldRequest::Named { port, stamp } = request else {
+        return Ok(request);
     };
-    let mut guess = 0;
-    for reply in waiting {
-        let found = index.find_near(reply.key, &mut guess);
-        collected.take(reply.outcome(found))?;
+    match index.find_near(
+        Key {
+            server,
+            port,
+            stamp,
+        },
+        guess,
+    ) {
+        None => Err(Refusal::NoRequest),
+        Some(Place::One { width, number, low }) => Ok(HeldRequest::Found { width, number, low }),
+        Some(Place::Several) => Err(Refusal::Ambiguous),
     }
-    Ok(collected)
+}
+
+/// Joins each reply with its request, in place: those with a request come first, in their order,
+/// and the answer is how many they are. The counts grow by what becomes of the replies.
+///
+/// `TooManyExchanges` comes where over 1,000,000 have a request.
+pub(crate) fn join(
+    index: &Index,
+    exchanges: &mut [HeldExchange],
+    counts: &mut Counts,
+) -> Result<usize, PairFault>
+    requires { HasRoom counts.old (length exchanges.old) }
+    ensures joined { IfOk result (λ kept. IsJoined counts.old
+        (outcomes_by (get same_key index.now.places) exchanges.old)
+        (map exchange_shown (take kept exchanges.new)) counts.new) }
+    ensures within { IfOk result (λ kept. kept ≤ length exchanges.new) }
+    ensures few { IfOk result (λ kept. kept ≤ most_exchanges) }
+    ensures fault { IfErr result (λ fault. (fault ≡ PairFault.TooManyExchanges)
+        × (most_exchanges < length (filter_map result_ok
+        (outcomes_by (get same_key index.now.places) exchanges.old)))) }
+{
+    let mut guess = 0;
+    let mut kept = 0;
+    for number in 0..exchanges.len() {
+        let reply = exchanges[number];
+        match find_request(index, reply.server, reply.request, &mut guess) {
+            Ok(request) => {
+                if kept == MOST_EXCHANGES {
+                    return Err(PairFault::TooManyExchanges);
+                }
+                exchanges[kept] = HeldExchange { request, ..reply };
+                kept += 1;
+                counts.accept(reply.leap);
+            }
+            Err(refusal) => counts.refuse(refusal),
+        }
+    }
+    Ok(kept)
 }

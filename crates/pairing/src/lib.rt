@@ -20,10 +20,10 @@ pub mod laws;
 mod message;
 mod refusal;
 mod to_exchange;
-mod waiting;
+mod window;
 
 pub use collected::Collected;
-pub use collection::{collect, collect_with};
+pub use collection::{collect, collect_held};
 pub use counts::Counts;
 pub use exchange::Exchange;
 pub use fault::PairFault;

@@ -3,14 +3,15 @@
 ghost use Rattle.std.specs.Prelude.{◌≡◌, ◌<◌, length, position, IfSome};
 ghost use Rattle.std.specs.Str.{bytes_eq};
 ghost use Rattle.byte_stream.specs.Bytes.{IsBytes};
+ghost use Rattle.era_unfold.specs.Window.{per_second};
 ghost use Rattle.ntp_packet.specs.Packet.{packet_shown};
 ghost use Rattle.claim_file.specs.Claim.{IsLawful, data_of};
-ghost use Rattle.pairing.specs.Waiting.{judged, message_in, message_of};
+ghost use Rattle.pairing.specs.Statement.{judged, message_in, message_of};
 ghost use Rattle.pairing.specs.Message.{reply_from, server_at, requested_server, replying_server};
 
+use crate::held::HeldExchange;
 use crate::index::Key;
 use crate::refusal::{Refusal, accepted_distance};
-use crate::waiting::Waiting;
 use claim_file::Claim;
 use ntp_packet::kinds::Packet;
 use ntp_packet::{NTP_PORT, packet};
@@ -29,8 +30,8 @@ pub(crate) enum Message {
     Request(Key),
     /// A reply that its own header refuses.
     Refused(Refusal),
-    /// A reply that waits for its request.
-    Reply(Waiting),
+    /// A reply that its own header accepts. Its request may still come.
+    Reply(HeldExchange),
 }
 
 /// Whether two addresses are the same, each compared as one number.
@@ -99,10 +100,11 @@ pub(crate) fn replying_server(claim: &Claim, packet: &Packet<'_>) -> Option<u8>
 /// What a reply of this server says.
 #[inline(always)]
 fn judge(server: u8, head: &RecordHead, packet: &Packet<'_>) -> Message
+    requires { head.now.sub < per_second head.now.unit }
     ensures { result ≡ judged (reply_from head.now (packet_shown packet.now) server) }
 {
     match accepted_distance(&packet.header) {
-        Ok(distance) => Message::Reply(Waiting::new(server, head, packet, distance)),
+        Ok(distance) => Message::Reply(HeldExchange::new(server, head, packet, distance)),
         Err(refusal) => Message::Refused(refusal),
     }
 }
@@ -110,7 +112,8 @@ fn judge(server: u8, head: &RecordHead, packet: &Packet<'_>) -> Message
 /// What a packet says.
 #[inline(always)]
 fn message_in(claim: &Claim, head: &RecordHead, packet: &Packet<'_>) -> Option<Message>
-    requires { IsLawful (data_of claim.now) }
+    requires claim { IsLawful (data_of claim.now) }
+    requires part_of_a_second { head.now.sub < per_second head.now.unit }
     ensures { result ≡ message_in (data_of claim.now) head.now (packet_shown packet.now) }
 {
     if let Some(server) = requested_server(claim, packet) {
@@ -126,9 +129,10 @@ fn message_in(claim: &Claim, head: &RecordHead, packet: &Packet<'_>) -> Option<M
 
 /// What a record says: a request, a reply, or nothing.
 #[inline(always)]
-#[tactic(auto, unfolding(crate::specs::Waiting::message_of))]
+#[tactic(auto, unfolding(crate::specs::Statement::message_of))]
 pub(crate) fn read_message(claim: &Claim, head: &RecordHead, bytes: &[u8]) -> Option<Message>
-    requires { IsLawful (data_of claim.now) }
+    requires claim { IsLawful (data_of claim.now) }
+    requires part_of_a_second { head.now.sub < per_second head.now.unit }
     ensures message { result
         ≡ message_of (data_of claim.now) (record { head = head.now; bytes = bytes.now }) }
 

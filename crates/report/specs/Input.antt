@@ -1,6 +1,7 @@
 -- What reading a whole input takes of its feed.
 use Rattle.std.specs.Prelude.{◌≡◌, ◌+◌, ◌≤◌, ◌<◌, ℕ, List, length, Bool, true, false, Result, Ok, Err}
 use Rattle.report.specs.declared.fault.Input.{Input}
+use Rattle.report.specs.declared.fault.Input.TheVariants as inputs
 use Rattle.report.specs.declared.fault.RunFault.{RunFault}
 use Rattle.report.specs.declared.fault.RunFault.TheVariants.{TooBig, Device, Memory}
 
@@ -11,11 +12,20 @@ ReadsWhole bytes limit (Ok read) = (read ≡ bytes) × (length bytes ≤ limit)
 ReadsWhole bytes limit (Err (TooBig input)) = limit < length bytes
 ReadsWhole bytes limit (Err fault) = Unit {0}
 
+-- how many bytes past its limit are taken of the first input where the second one is too big: one
+-- where they are the same
+abbrev pub bytes_past : Input → Input → ℕ
+bytes_past inputs.Claim inputs.Claim = 1
+bytes_past inputs.Capture inputs.Capture = 1
+bytes_past inputs.Certificate inputs.Certificate = 1
+bytes_past inputs.Refutation inputs.Refutation = 1
+bytes_past which input = 0
+
 -- how many bytes are taken at most of an input that may have so many: one more only where the
--- answer is that it's too big
-abbrev pub most_read : {X : Type 0} → ℕ → Result X RunFault → ℕ
-most_read limit (Err (TooBig input)) = limit + 1
-most_read limit result = limit
+-- answer is that this input is too big
+abbrev pub most_read : {X : Type 0} → Input → ℕ → Result X RunFault → ℕ
+most_read which limit (Err (TooBig input)) = limit + bytes_past which input
+most_read which limit result = limit
 
 -- the faults of reading an input
 abbrev pub IsInputFault : Input → RunFault → Type 0

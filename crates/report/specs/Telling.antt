@@ -19,11 +19,16 @@ told_text (Err fault) = fault_text fault ++ codes "\n"
 abbrev pub Tells : Result Outcome RunFault → SinkState → SinkState → Type 0
 Tells answer before after = IsDelivered (told_text answer) before after
 
--- What a caller of a whole command sees: there is one answer, of which the report stands in the
--- output's sink, the fault's line in the sink for errors, and the status in the result.
-pub record Answers (report : Option Report) (before after : RunState) (err err' : SinkState)
+-- What a caller of a whole command sees: there is one answer, of which a promise holds, the fault's
+-- line stands in the sink for errors, and the status in the result.
+pub record IsTold (Promise : Result Outcome RunFault → Type 0) (err err' : SinkState)
     (status : ℕ) : Type 0 where
   pub answer : Result Outcome RunFault
-  pub reports : Reports report before after answer
+  pub promise : Promise answer
   pub tells : Tells answer err err'
   pub status_is : status ≡ status_of answer
+
+-- the same of a command of which this report is promised in the output's sink
+abbrev pub Answers :
+    Option Report → RunState → RunState → SinkState → SinkState → ℕ → Type 0
+Answers report before after err err' status = IsTold (Reports report before after) err err' status

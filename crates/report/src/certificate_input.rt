@@ -5,6 +5,8 @@ ghost use Rattle.byte_stream.specs.Fault.{CountsFault};
 ghost use Rattle.byte_stream.specs.Intake.{TakesAtMost};
 ghost use Rattle.byte_stream.specs.State.{IsReadable};
 ghost use Rattle.certificate.specs.Certificate.{data_of, max_pieces};
+ghost use Rattle.certificate.specs.Fault.{Answers};
+ghost use Rattle.certificate.specs.Reading.{certificate_of};
 ghost use Rattle.report.specs.CertificateInput.{IsOfCertificate, certificate_read, max_certificate};
 ghost use Rattle.report.specs.Input.{most_read};
 ghost use Rattle.report.specs.Reading.{Reads};
@@ -13,7 +15,7 @@ ghost use Rattle.report.specs.Reports.{is_second, is_device};
 use crate::fault::{Input, RunFault};
 use crate::input::read_input;
 use byte_stream::Feed;
-use certificate::{Certificate, read_certificate};
+use certificate::{Certificate, CertificateFault, read_certificate};
 use std::alloc::Global;
 
 /// The greatest length of a certificate, in bytes.
@@ -31,14 +33,29 @@ pub fn read_certificate_from<T: Feed>(alloc: Global, feed: &mut T) -> Result<Cer
     ensures fault { IfErr result IsOfCertificate }
     ensures counts_fault { CountsFault (is_device is_second result)
         (T.state feed.old).faults (T.state feed.new).faults }
-    ensures at_most { TakesAtMost (most_read max_certificate result)
+    ensures at_most { TakesAtMost (most_read Input.Certificate max_certificate result)
         (T.state feed.old).remaining (T.state feed.new).remaining }
 {
     match read_input(alloc, feed, Input::Certificate, MAX_CERTIFICATE) {
-        Ok(bytes) => match read_certificate(alloc, bytes.as_slice()) {
+        Ok(bytes) => match read_certificate_in(alloc, bytes) {
             Ok(certificate) => Ok(certificate),
             Err(fault) => Err(RunFault::from(fault)),
         },
         Err(fault) => Err(fault),
     }
+}
+
+/// The certificate that a text says.
+///
+/// The text is cut to a byte before it goes. If a large block is freed as it is, the C library puts
+/// every later block up to that size on its heap, and there the lists that grow side by side while a
+/// capture is read leave their earlier room behind.
+fn read_certificate_in(alloc: Global, mut text: Vec<u8>) -> Result<Certificate, CertificateFault>
+    ensures exact { Answers result data_of (certificate_of text.items) }
+    ensures few { IfOk result (λ certificate. vec_len certificate.pieces ≤ max_pieces) }
+{
+    let read = read_certificate(alloc, text.as_slice());
+    text.truncate(1);
+    text.shrink_to_fit();
+    read
 }

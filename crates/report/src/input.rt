@@ -31,7 +31,7 @@ pub fn read_input<F: Feed>(
     ensures fault { IfErr result (IsInputFault which) }
     ensures counts_fault { CountsFault (read_failed result)
         (F.state feed.old).faults (F.state feed.new).faults }
-    ensures at_most { TakesAtMost (most_read limit result)
+    ensures at_most { TakesAtMost (most_read which limit result)
         (F.state feed.old).remaining (F.state feed.new).remaining }
 {
     let mut chunk = make_chunk(alloc)?;

@@ -30,7 +30,7 @@ pub fn read_refutation_from<T: Feed>(alloc: Global, feed: &mut T) -> Result<Refu
     ensures fault { IfErr result IsOfRefutation }
     ensures counts_fault { CountsFault (is_device is_second result)
         (T.state feed.old).faults (T.state feed.new).faults }
-    ensures at_most { TakesAtMost (most_read max_refutation result)
+    ensures at_most { TakesAtMost (most_read Input.Refutation max_refutation result)
         (T.state feed.old).remaining (T.state feed.new).remaining }
 {
     match read_input(alloc, feed, Input::Refutation, MAX_REFUTATION) {

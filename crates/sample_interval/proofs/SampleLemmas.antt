@@ -20,9 +20,9 @@ lawful x reading h from to = record {
   low = omega (arith, ints);
   low_from = omega (arith, ints);
   low_to = omega (arith, ints);
-  low_place_in_order = omega (arith, ints);
+  low_window_in_order = omega (arith, ints);
   high = omega (arith, ints);
   high_from = omega (arith, ints);
   high_to = omega (arith, ints);
-  high_place_in_order = omega (arith, ints);
+  high_window_in_order = omega (arith, ints);
 }

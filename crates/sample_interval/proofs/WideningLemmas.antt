@@ -6,7 +6,7 @@ use Rattle.std.proofs.lemmas.Grind.{div_ceil_times}
 use Rattle.std.proofs.Math.Nat.{lt_of_mul-lt-mul_right, mul-le-mul_left, mul-le-mul_right}
 use Rattle.std.specs.Int.{div_ceil}
 use Rattle.era_unfold.specs.Ratio.{IsCeiling}
-use Rattle.sample_interval.specs.Widening.{IsWidening, widening, billion}
+use Rattle.sample_interval.specs.Widening.{IsRate, IsWidening, widening, billion}
 use Rattle.sample_interval.specs.Moment.{Moment, error_change, DriftsWithin, DriftsWithinByReading}
 
 -- where 10^9 is g + ppb: the change of the error by the change of the readings
@@ -50,7 +50,7 @@ IsWidening-one_number ppb distance v w h k =
     omega arith
 
 -- at rates up to a half
-pub IsWidening-le_distance : (ppb distance w : ℕ) → ppb ≤ 500000000 → IsWidening ppb distance w → w ≤ distance
+pub IsWidening-le_distance : (ppb distance w : ℕ) → IsRate ppb → IsWidening ppb distance w → w ≤ distance
 IsWidening-le_distance ppb distance w h is =
     let rate : ppb * distance ≤ (billion - ppb) * distance = mul-le-mul_right distance (omega arith) in
     is.least distance (omega arith)

@@ -18,7 +18,7 @@ least_error x allowance = request_start x allowance -ℤ x.t2 -ℤ x.distance
 abbrev pub greatest_error : Exchange → ℤ → ℤ
 greatest_error x allowance = reply_end x allowance -ℤ x.t3 +ℤ x.distance
 
--- both ends, each with its place: the window of the moment that it speaks of
+-- both ends, each with its window: the readings of the clock at the moment that it speaks of
 abbrev pub sample_of : Exchange → ℤ → Sample
 sample_of x allowance = record {
   server = x.server;
@@ -30,13 +30,13 @@ sample_of x allowance = record {
   high_to = reply_end x allowance;
 }
 
--- each number of ticks lies from -2^72 to 2^72, and no place ends before it begins
+-- each number of ticks lies from -2^72 to 2^72, and no window ends before it begins
 pub record IsLawfulSample (sample : Sample) : Type 0 where
   pub low : unsigned_abs sample.low ≤ 2 ^ 72
   pub low_from : unsigned_abs sample.low_from ≤ 2 ^ 72
   pub low_to : unsigned_abs sample.low_to ≤ 2 ^ 72
-  pub low_place_in_order : sample.low_from ≤ℤ sample.low_to
+  pub low_window_in_order : sample.low_from ≤ℤ sample.low_to
   pub high : unsigned_abs sample.high ≤ 2 ^ 72
   pub high_from : unsigned_abs sample.high_from ≤ 2 ^ 72
   pub high_to : unsigned_abs sample.high_to ≤ 2 ^ 72
-  pub high_place_in_order : sample.high_from ≤ℤ sample.high_to
+  pub high_window_in_order : sample.high_from ≤ℤ sample.high_to

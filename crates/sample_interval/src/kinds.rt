@@ -3,7 +3,7 @@
 /// What one exchange says of the client's error, in ticks of 2^-32 s. Error is the clock's reading
 /// less true time.
 ///
-/// Each number lies from -2^72 to 2^72, and no place's end is before its begin.
+/// Each number lies from -2^72 to 2^72, and no window ends before it begins.
 #[derive(Clone, Copy, Debug, PartialEq, Eq)]
 pub struct Sample {
     /// The server's number in the claim.

@@ -50,7 +50,7 @@ pub fn error_at_the_reply_is_no_more()
         error_of reply ≤ℤ (greatest_error x allowance *ℤ pos n) }
 {}
 
-/// A wider allowance widens a sample at both ends and in both places alike, and never moves it.
+/// A wider allowance widens a sample at both ends and both its windows alike, and moves nothing.
 pub fn wider_allowance_widens()
     ensures { (x : Exchange) (allowance more : ℤ) → let narrow = sample_of x allowance in
         sample_of x (allowance +ℤ more) ≡ record narrow {
@@ -63,7 +63,7 @@ pub fn wider_allowance_widens()
         } }
 {}
 
-/// A larger root distance widens a sample at both ends alike, and leaves its places where they are.
+/// A larger root distance widens a sample at both ends alike, and leaves its windows as they are.
 pub fn larger_distance_widens()
     ensures { (x : Exchange) (allowance more : ℤ) → let narrow = sample_of x allowance in
         sample_of (record x { distance = x.distance +ℤ more }) allowance ≡ record narrow {

@@ -1,6 +1,6 @@
 //! How far the error drifts.
-ghost use Rattle.std.specs.Prelude.{◌≡◌, ◌≤◌, ◌^◌, pos, ◌≤ℤ◌, unsigned_abs};
-ghost use Rattle.sample_interval.specs.Widening.{IsWidening, widening};
+ghost use Rattle.std.specs.Prelude.{◌≡◌, ◌^◌, pos, ◌≤ℤ◌, unsigned_abs};
+ghost use Rattle.sample_interval.specs.Widening.{IsRate, IsWidening, widening};
 
 use crate::laws::widening_is_one_number;
 
@@ -12,7 +12,7 @@ pub const PARTS: u128 = 1_000_000_000;
 ///
 /// The rate is up to 500,000,000 parts in 10^9 of true time, the distance from 0 to 2^80.
 pub fn widen(drift_ppb: u32, distance: i128) -> i128
-    requires rate { drift_ppb ≤ 500_000_000 }
+    requires rate { IsRate drift_ppb }
     requires from_zero { pos 0 ≤ℤ distance }
     requires in_range { distance ≤ℤ pos (2 ^ 80) }
     ensures exact { result ≡ pos (widening drift_ppb (unsigned_abs distance)) }

@@ -29,10 +29,10 @@ lawful_extreme : (side : Side) (sample : Sample) (extreme : Extreme) → IsLawfu
     IsExtremeOf side sample extreme →
     IsLawfulExtreme extreme
 lawful_extreme Low sample extreme s is =
-    lawful_end sample.low sample.low_from sample.low_to extreme s.low s.low_from s.low_place_in_order s.low_to is
+    lawful_end sample.low sample.low_from sample.low_to extreme s.low s.low_from s.low_window_in_order s.low_to is
 lawful_extreme High sample extreme s is =
     lawful_end (neg_ℤ sample.high) sample.high_from sample.high_to extreme (omega (arith, ints, s.high)) s.high_from
-    s.high_place_in_order s.high_to is
+    s.high_window_in_order s.high_to is
 
 -- ---- the server of each sample, in a list of its own
 module _ (samples : List Sample) (servers : List ℕ) (are : servers ≡ map (λ sample. sample.server) samples) where

@@ -26,7 +26,8 @@ returns c claim_bytes capture_bytes claim collection certificate all claim_read'
     let yes = subst (λ (ys : List Exchange). verdict_of (samples_of ys claim) claim certificate ≡ Yes) collected.2
     yes' in
     let accepted = (c.yes_is_acceptance.ensures (samples_of xs claim) claim certificate).0 yes in
-    let pieces = c.verdicts_are_traceable.ensures.by_pieces claim (samples_of xs claim) certificate lawful listed yes in
+    let shown = c.verdicts_are_traceable.ensures claim (samples_of xs claim) certificate lawful listed in
+    let pieces = shown.by_pieces yes in
     record {
       claim = claim;
       order = found.0.order;

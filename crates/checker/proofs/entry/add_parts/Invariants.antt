@@ -1,11 +1,11 @@
 use Rattle.std.proofs.Common.{◌≡◌, ◌≤◌, [], length, drop}
-use Rattle.checker.specs.Source.{samples_in}
 use Rattle.checker.specs.Verdict.{parts_after}
 use Rattle.checker.proofs.entry.add_parts.Given as goal
 
 abbrev pub invariant-loop-entry : goal.invariant-loop-entry
-invariant-loop-entry l = record {
-  rest : parts_after (samples_in l.source) l.stretch l.drift_ppb [] l.entries.items
-      ≡ parts_after (samples_in l.source) l.stretch l.drift_ppb l.parts.items (drop l.entry-index l.entries.items);
+invariant-loop-entry g l = record {
+  rest : parts_after (g.S.SampleSource.samples l.source) l.stretch l.drift_ppb [] l.entries.items
+      ≡ parts_after (g.S.SampleSource.samples l.source) l.stretch l.drift_ppb l.parts.items
+      (drop l.entry-index l.entries.items);
   fits : length l.parts.items ≤ l.entry-index;
 }

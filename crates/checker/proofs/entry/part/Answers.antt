@@ -3,7 +3,7 @@ use Rattle.checker.proofs.PartLemmas.{accepted}
 use Rattle.checker.proofs.entry.part.Goals as goal
 
 pub returns : goal.returns
-returns c =
+returns g c =
     ap Ok c.part_of.ensures
     ∙ sym (accepted c.args.stretch c.args.drift_ppb c.args.earlier.now c.in-Some.low c.in-Some-sample_at.high _ _
     (sym c.in-Some.ensures.exact) (sym c.in-Some-sample_at.ensures.exact) c.if-server-high.false

@@ -1,10 +1,11 @@
-use Rattle.std.proofs.Common.{◌≡◌, drop}
+use Rattle.std.proofs.Common.{◌≡◌, drop, map}
 use Rattle.std.specs.List.{list_all}
 use Rattle.certificate.specs.Refutation.{data_of}
 use Rattle.checker.specs.RefutationTest.{allows}
 use Rattle.checker.proofs.refutation.all_admit.Given as goal
 
 abbrev pub invariant-loop-exchange : goal.invariant-loop-exchange
-invariant-loop-exchange l =
-    list_all (allows l.claim.reading (data_of l.refutation)) l.exchanges
-    ≡ list_all (allows l.claim.reading (data_of l.refutation)) (drop l.exchange-index l.exchanges)
+invariant-loop-exchange g l =
+    list_all (allows l.claim.reading (data_of l.refutation)) (map g.X.ToExchange.shown l.exchanges)
+    ≡ list_all (allows l.claim.reading (data_of l.refutation))
+    (map g.X.ToExchange.shown (drop l.exchange-index l.exchanges))

@@ -1,27 +1,25 @@
-use Rattle.std.proofs.Common.{sym, ◌∙◌}
+use Rattle.std.proofs.Common.{map, sym, ◌∙◌}
+use Rattle.std.specs.Prelude.{IsTrue}
 use Rattle.certificate.specs.Refutation.{data_of as refutation_data}
 use Rattle.claim_file.specs.Claim.{data_of as claim_data}
+use Rattle.checker.specs.Refutation.{IsRefuted}
 use Rattle.checker.proofs.RefutationLemmas.{refuted_from, refuted_to}
 use Rattle.checker.proofs.refutation.check_refutation.Goals as goal
 
-pub returns-clause-exact : goal.returns-clause-exact
-returns-clause-exact c = (
-  λ accepted. refuted_from (claim_data c.args.claim.now) c.args.exchanges.now (refutation_data c.args.refutation.now)
-      (sym c.is_refuted.ensures ∙ accepted),
-  λ holds. c.is_refuted.ensures
-      ∙ refuted_to (claim_data c.args.claim.now) c.args.exchanges.now (refutation_data c.args.refutation.now) holds,
-)
-
-pub returns-clause-course : goal.returns-clause-course
-returns-clause-course c accepted agree =
-    c.accepted_refutations_have_a_course.ensures (claim_data c.args.claim.now) c.args.exchanges.now
-    (refutation_data c.args.refutation.now) c.requires.claim c.requires.exchanges agree
-    (refuted_from (claim_data c.args.claim.now) c.args.exchanges.now (refutation_data c.args.refutation.now)
-    (sym c.is_refuted.ensures ∙ accepted))
-
-pub returns-clause-no_yes : goal.returns-clause-no_yes
-returns-clause-no_yes c accepted certificate yes' =
-    c.yes_and_refutation_never_meet.ensures (claim_data c.args.claim.now) c.args.exchanges.now certificate
-    (refutation_data c.args.refutation.now) c.requires.claim c.requires.exchanges yes'
-    (refuted_from (claim_data c.args.claim.now) c.args.exchanges.now (refutation_data c.args.refutation.now)
-    (sym c.is_refuted.ensures ∙ accepted))
+pub returns : goal.returns
+returns g c =
+    let claim = claim_data c.args.claim.now in
+    let xs = map g.X.ToExchange.shown c.args.exchanges.now in
+    let refutation = refutation_data c.args.refutation.now in
+    let refuted : IsTrue c.is_refuted.result → IsRefuted claim xs refutation =
+    λ accepted. refuted_from claim xs refutation (sym c.is_refuted.ensures ∙ accepted) in
+    record {
+      exact = (refuted, λ holds. c.is_refuted.ensures ∙ refuted_to claim xs refutation holds);
+      tested = c.is_refuted.ensures;
+      course = λ accepted agree.
+          c.accepted_refutations_have_a_course.ensures claim xs refutation c.requires.claim c.requires.exchanges agree
+          (refuted accepted);
+      no_yes = λ accepted certificate yes'.
+          c.yes_and_refutation_never_meet.ensures claim xs certificate refutation c.requires.claim
+          c.requires.exchanges yes' (refuted accepted);
+    }

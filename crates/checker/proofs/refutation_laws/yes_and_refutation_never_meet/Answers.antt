@@ -7,5 +7,5 @@ use Rattle.checker.proofs.refutation_laws.yes_and_refutation_never_meet.Goals as
 pub returns : goal.returns
 returns c claim xs certificate refutation lawful each accepted refuted =
     not_traceable claim xs refutation lawful.reading_not_negative (length claim.servers) each refuted
-    (c.verdicts_are_traceable.ensures.yes claim (samples_of xs claim) certificate lawful
-    (listed_samples xs claim (length claim.servers) each) accepted)
+    ((c.verdicts_are_traceable.ensures claim (samples_of xs claim) certificate lawful
+    (listed_samples xs claim (length claim.servers) each)).yes accepted)

@@ -90,7 +90,7 @@ returns-clause-contradiction c =
     if_nothing samples claim step (IsFirstFailing samples claim step)
     (λ k hull. hull ≡ Empty → IsContradicted claim samples (stretch_at claim step k)) c.in_ok-found.found
     (contradicted laws samples claim step c.requires.claim c.requires.samples c.requires.listed
-    c.verdicts_are_traceable.ensures.contradiction)
+    c.verdicts_are_traceable.ensures)
     (returns-clause-failing c)
 
 pub returns-clause-held : goal.returns-clause-held

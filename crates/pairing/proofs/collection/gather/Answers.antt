@@ -9,18 +9,18 @@ use Rattle.pairing.specs.declared.message.Message.{Message}
 use Rattle.pairing.specs.Gathering.{requests_in}
 use Rattle.pairing.specs.Index.{Indexes, same_key}
 use Rattle.pairing.specs.Message.{Request}
-use Rattle.pairing.specs.Waiting.{message_of}
+use Rattle.pairing.specs.Statement.{message_of}
 use Rattle.pairing.proofs.ReadingSteps.{read-push, leaves-unfailed, leaves-failed, refused-exact, gathered-room, HasRoom-weaker}
 use Rattle.pairing.proofs.GatheringSteps.{gathered-push}
 use Rattle.pairing.proofs.collection.gather.Goals as goal
 
-pub take-requires : goal.take-requires
-take-requires g c =
+pub take-requires-clause-room : goal.take-requires-clause-room
+take-requires-clause-room g c =
     let few = c.records.invariant.read.given.few in
     HasRoom-weaker c.records.gathering.counts most_records 1 (omega arith)
     (gathered-room (data_of c.args.claim.now) c.records.invariant.records
     (get same_key c.records.gathering.index.places)
-    c.records.gathering.waiting.items c.records.gathering.counts c.records.invariant.gathered few)
+    c.records.gathering.exchanges.items c.records.gathering.counts c.records.invariant.gathered few)
 
 pub records-preserved : goal.records-preserved
 records-preserved g c =
@@ -46,13 +46,13 @@ records-preserved g c =
       records = done ++ record { head = head; bytes = now.lent } ∷ [];
       read = read-push (g.S.RecordSource.state c.args.source.now) before now done head c.records.invariant.read step
           bytes;
-      gathered = rw (c.in-Ok.ensures.waits, c.in-Ok.ensures.counted, said)
+      gathered = rw (c.in-Ok.ensures.holds, c.in-Ok.ensures.counted, said)
           (gathered-push claim done (record {
             head = head;
             bytes =
                 now.lent;
           }) (get same_key c.records.gathering.index.places) new
-          c.records.gathering.waiting.items c.records.gathering.counts c.records.invariant.gathered indexed);
+          c.records.gathering.exchanges.items c.records.gathering.counts c.records.invariant.gathered indexed);
     }
 
 pub returns-in_default-clause-leaves : goal.returns-in_default-clause-leaves

@@ -21,23 +21,22 @@ refusal text certificates.Memory exact = inl tt
 refusal text fault (inl memory) = cc
 refusal text fault (inr exact) = inr (ap certificate_or_fault exact)
 
-pub returns-clause-known : goal.returns-clause-known
-returns-clause-known g c =
+pub returns-in-Err-clause-known : goal.returns-in-Err-clause-known
+returns-in-Err-clause-known g c =
     input_unread data_of 134217728 inputs.Certificate (λ b. certificate_or_fault (certificate_of b)) _ c.in-Err.fault
     c.in-Err.ensures.fault c.in-Err.ensures.whole
 
-pub returns-in-Ok-read_certificate-clause-known : goal.returns-in-Ok-read_certificate-clause-known
-returns-in-Ok-read_certificate-clause-known g c =
+pub returns-in-Ok-read_certificate_in-clause-known : goal.returns-in-Ok-read_certificate_in-clause-known
+returns-in-Ok-read_certificate_in-clause-known g c =
     input_is_read data_of 134217728 inputs.Certificate (λ b. certificate_or_fault (certificate_of b)) _ _
-    c.in-Ok-read_certificate.certificate c.in-Ok.ensures.whole
-    (ap certificate_or_fault (rw c.as_slice.ensures.value at c.in-Ok-read_certificate.ensures.exact))
+    c.in-Ok-read_certificate_in.certificate c.in-Ok.ensures.whole
+    (ap certificate_or_fault c.in-Ok-read_certificate_in.ensures.exact)
 
-pub returns-in-Ok-clause-known : goal.returns-in-Ok-clause-known
-returns-in-Ok-clause-known g c =
+pub returns-in-Err-read_certificate_in-clause-known : goal.returns-in-Err-read_certificate_in-clause-known
+returns-in-Err-read_certificate_in-clause-known g c =
     let known = (g.T.Feed.state c.args.feed.now).remaining in
     subst (λ (f : RunFault). IfSome known (λ (bytes : List ℕ). Reads data_of (certificate_read bytes) (Err f)))
     (sym c.from.ensures)
     (input_refused data_of 134217728 inputs.Certificate (λ b. certificate_or_fault (certificate_of b)) _ _ _
     c.in-Ok.ensures.whole
-    (refusal _ c.in-Err-read_certificate.fault
-    (rw c.as_slice.ensures.value at c.in-Err-read_certificate.ensures.exact)))
+    (refusal _ c.in-Err-read_certificate_in.fault c.in-Err-read_certificate_in.ensures.exact))

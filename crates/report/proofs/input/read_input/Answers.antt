@@ -1,7 +1,7 @@
 use Rattle.std.proofs.Common.{◌+◌, ◌-◌, ◌++◌, ◌≤◌, ℕ, List, length, take, arith, length-append}
 use Rattle.std.proofs.lemmas.List.{length-take}
 use Rattle.std.proofs.KnownBytes.{Consumes-trans}
-use Rattle.report.proofs.InputLemmas.{takes_within}
+use Rattle.report.proofs.InputLemmas.{own_byte, takes_within}
 use Rattle.report.proofs.input.read_input.Goals as goal
 
 -- what was read before, and what the last pull gave
@@ -16,10 +16,11 @@ returns-then-n-room-clause-at_most g c =
     omega (arith, c.in-Ok.ensures.within, c.pull.auto.into, c.split_at_mut-front.ensures.front_len) in
     let asked : c.min.result ≤ c.args.limit - length read =
     omega (arith, c.min.ensures, c.len.ensures, c.pulls.read.ok.0) in
-    let all : length read + n ≤ c.args.limit + 1 = omega (arith, c.pulls.invariant.within) in (
+    let all : length read + n ≤ c.args.limit + 1 = omega (arith, c.pulls.invariant.within) in
+    let one = own_byte c.args.which in (
       read ++ take n c.pull.new.into,
       Consumes-trans _ _ _ _ _ c.pulls.invariant.taken c.in-Ok.ensures.known.0,
-      within read c.pull.new.into n (c.args.limit + 1) all,
+      (rw one (within read c.pull.new.into n (c.args.limit + 1) all)),
     )
 
 pub returns-in_err-extend_from_slice-clause-at_most :
@@ -29,7 +30,7 @@ returns-in_err-extend_from_slice-clause-at_most g c =
     let read = c.pulls.read.items in
     let all : length read + n ≤ c.args.limit =
     omega (arith, c.len.ensures, c.pulls.read.ok.0, c.pulls.invariant.within) in
-    takes_within c.args.limit c.from_residual-in_err-extend_from_slice.result _ _ (
+    takes_within c.args.which c.args.limit c.from_residual-in_err-extend_from_slice.result _ _ (
       read ++ take n c.pull.new.into,
       Consumes-trans _ _ _ _ _ c.pulls.invariant.taken c.in-Ok.ensures.known.0,
       within read c.pull.new.into n c.args.limit all,

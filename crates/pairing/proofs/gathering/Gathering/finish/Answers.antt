@@ -1,15 +1,40 @@
-use Rattle.std.proofs.Common.{List, subst, sym}
+use Rattle.std.proofs.Common.{◌≡◌, ◌∙◌, ◌++◌, ℕ, List, ap, arith, length, length-take, subst, sym, take}
+use Rattle.std.proofs.Math.Seq.{take-append_seam}
+use Rattle.std.proofs.lemmas.List.{length-map}
+use Rattle.std.proofs.lemmas.Result.{err_from_is_err_and}
 use Rattle.indexmap.specs.IndexMap.{get}
-use Rattle.pairing.specs.declared.waiting.Waiting.{Waiting}
+use Rattle.pairing.specs.declared.held.HeldExchange.{HeldExchange}
 use Rattle.pairing.specs.Gathering.{IsGatheredFrom}
+use Rattle.pairing.specs.Held.{exchange_shown}
 use Rattle.pairing.specs.Index.{same_key}
-use Rattle.pairing.proofs.Exactness.{collected}
+use Rattle.pairing.proofs.Exactness.{collection-few, collection-many}
 use Rattle.pairing.proofs.gathering.Gathering.finish.Goals as goal
+
+-- what stands at the front of what was written
+take-written : {X : Type 0} (k n : ℕ) (ys zs : List X) → length ys ≡ n → take k (take n (ys ++ zs)) ≡ take k ys
+take-written k n ys zs is = rw (← is) (ap (take k) (take-append_seam ys zs))
+
+pub returns-in_err-kept : goal.returns-in_err-kept
+returns-in_err-kept c claim records gathered =
+    let look_up = get same_key c.args.self.index.places in
+    let same = subst (λ (hs : List HeldExchange). IsGatheredFrom claim records look_up hs c.args.self.counts)
+    (sym c.deref_mut.ensures.value) gathered in
+    let fault = c.in_err-kept.ensures.fault in
+    let p = err_from_is_err_and c.from_residual.result c.from_residual.ensures.1 in
+    rw (p.1, p.2, fault.0) (collection-many claim records same fault.1)
 
 pub returns : goal.returns
 returns c claim records gathered =
-    let look_up = get same_key c.args.self.now.index.places in
-    collected claim records look_up c.deref.result.now c.args.self.now.counts c.join.result
-    (subst (λ (ws : List Waiting). IsGatheredFrom claim records look_up ws c.args.self.now.counts)
-    (sym c.deref.ensures.value) gathered)
-    c.join.ensures
+    let look_up = get same_key c.args.self.index.places in
+    let same = subst (λ (hs : List HeldExchange). IsGatheredFrom claim records look_up hs c.args.self.counts)
+    (sym c.deref_mut.ensures.value) gathered in
+    let joined = c.in_ok-kept.ensures in
+    let items : c.truncate.new.self.items ≡ take c.in_ok-kept.kept c.join.new.exchanges =
+    c.truncate.ensures.items ∙ take-written c.in_ok-kept.kept c.args.self.exchanges.len c.join.new.exchanges _
+    (c.join.auto.exchanges ∙ c.deref_mut.ensures.len) in
+    rw items (collection-few claim records same joined.joined (omega (
+      arith,
+      length-map (take c.in_ok-kept.kept c.join.new.exchanges) exchange_shown,
+      length-take c.in_ok-kept.kept c.join.new.exchanges,
+      joined.few,
+    )))

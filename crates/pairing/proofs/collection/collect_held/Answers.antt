@@ -1,15 +1,15 @@
 use Rattle.indexmap.specs.IndexMap.{get}
 use Rattle.claim_file.specs.Claim.{data_of}
 use Rattle.pairing.specs.Index.{same_key}
-use Rattle.pairing.proofs.Completion.{answer-whole, lawful-whole, leaves-whole, ready}
-use Rattle.pairing.proofs.collection.collect_with.Goals as goal
+use Rattle.pairing.proofs.Completion.{answer-whole, joining-room, lawful-whole, leaves-whole}
+use Rattle.pairing.proofs.collection.collect_held.Goals as goal
 
 pub finish-requires : goal.finish-requires
 finish-requires g c =
     let whole = c.in-Ok.ensures.whole in
-    ready (data_of c.args.claim.now) whole.records
-    (get same_key c.gather.new.gathering.index.places) c.gather.new.gathering.waiting.items
-    c.gather.new.gathering.counts whole.given whole.gathered
+    let gathering = c.gather.new.gathering in
+    rw gathering.exchanges.ok.0 (joining-room (data_of c.args.claim.now) whole.records
+    (get same_key gathering.index.places) gathering.exchanges.items gathering.counts whole.given.few whole.gathered)
 
 pub returns-in-Ok : goal.returns-in-Ok
 returns-in-Ok g c =

@@ -1,0 +1,12 @@
+use Rattle.std.proofs.Common.{length, sym, ap, ◌∙◌, subst, Some}
+use Rattle.std.proofs.lemmas.Option.{slice_get-get_or}
+use Rattle.pairing.specs.Exchange.{IsLawful as IsLawfulExchange}
+use Rattle.checker.proofs.SourceLemmas.{lawful_at}
+use Rattle.checker.proofs.refutation.all_admit.Goals as goal
+
+pub allows-requires-clause-exchange : goal.allows-requires-clause-exchange
+allows-requires-clause-exchange g c =
+    let at = slice_get-get_or c.args.exchanges.now _ c.exchange-item.result c.loop-exchange-test.true in
+    subst (IsLawfulExchange (length c.args.claim.now.servers.items)) (sym c.to_exchange.ensures)
+    (lawful_at g.X.ToExchange.shown c.args.exchanges.now _ c.loop-exchange.exchange-index c.exchange-item.result
+    (at ∙ ap Some (sym c.exchange-item.is)) c.requires.exchanges)

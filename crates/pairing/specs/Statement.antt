@@ -1,0 +1,35 @@
+-- What a record states: a request with this key, a reply that its own header refuses, or one that
+-- is held until its request is found.
+use Rattle.std.specs.Prelude.{Option, Some, None}
+use Rattle.std.specs.Option.{option_and_then, option_map}
+use Rattle.claim_file.specs.Claim.{ClaimData}
+use Rattle.ntp_packet.specs.Packet.{Packet, packet_of}
+use Rattle.pcap_reader.specs.declared.format.RecordHead.{RecordHead}
+use Rattle.pcap_reader.specs.Capture.{Record}
+use Rattle.pairing.specs.declared.message.Message.{Message}
+use Rattle.pairing.specs.declared.message.Message.TheVariants.{Request as Asks, Refused, Reply as Waits}
+use Rattle.pairing.specs.declared.refusal.Refusal.{Refusal}
+use Rattle.pairing.specs.Held.{held_of}
+use Rattle.pairing.specs.Index.{key_of}
+use Rattle.pairing.specs.Message.{Reply, request_in, reply_in}
+use Rattle.pairing.specs.Refusal.{refusal_of}
+
+-- a reply, where its header gives this reason to refuse it
+abbrev pub judged_by : Option Refusal → Reply → Message
+judged_by None reply = Waits (held_of reply)
+judged_by (Some refusal) reply = Refused refusal
+
+abbrev pub judged : Reply → Message
+judged reply = judged_by (refusal_of reply.header) reply
+
+-- a packet
+abbrev pub message_in : ClaimData → RecordHead → Packet → Option Message
+message_in claim head p =
+    elim (request_in claim head p) [
+      | Some q ↦ Some (Asks (key_of q))
+      | None ↦ option_map judged (reply_in claim head p)
+    ]
+
+-- a record
+unfoldable pub message_of : ClaimData → Record → Option Message
+message_of claim r = option_and_then (message_in claim r.head) (packet_of r.bytes)
