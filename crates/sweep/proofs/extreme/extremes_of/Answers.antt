@@ -1,7 +1,7 @@
 use Rattle.std.proofs.Common.{◌<◌, length, arith, subst, sym, ap, ◌∙◌, Vec, Global}
 use Rattle.std.proofs.lemmas.Option.{slice_get-get_or}
 use Rattle.sweep.specs.declared.extreme.Extreme.{Extreme}
-use Rattle.span_cover.specs.declared.choice.Side.TheVariants.{Low, High}
+use Rattle.intersection.specs.declared.ends.Side.TheVariants.{Low, High}
 use Rattle.sweep.proofs.ExtremeLemmas.{as_many_servers, server_at}
 use Rattle.sweep.proofs.ExtremeLemmas.{ExtremesSoFar, ExtremesSoFar-more, ExtremesSoFar-other, ExtremesSoFar-all}
 use Rattle.sweep.proofs.extreme.extremes_of.Goals as goal
