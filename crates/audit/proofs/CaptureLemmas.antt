@@ -9,11 +9,12 @@ use Rattle.pcap_reader.specs.Remaining.{Coming, capture_of}
 use Rattle.pcap_reader.specs.Refusal.{IsRefusal}
 use Rattle.pcap_reader.specs.Source.{AllRemains, Supply, TakesFrom}
 use Rattle.claim_file.specs.Claim.{ClaimData}
-use Rattle.pairing.specs.declared.collected.Collected.{Collected}
+use Rattle.pairing.specs.declared.held.Held.{Held}
 use Rattle.pairing.specs.declared.fault.PairFault.{PairFault}
 use Rattle.pairing.specs.declared.fault.PairFault.TheVariants as pairs
 use Rattle.pairing.specs.Answer.{IsAnswerTo, IsFromOutside as is_pair_from_outside}
-use Rattle.pairing.specs.Pairing.{Collection, data_of as collection_data}
+use Rattle.pairing.specs.Held.{held_data}
+use Rattle.pairing.specs.Pairing.{Collection}
 use Rattle.report.specs.Fault.{run_fault_of}
 use Rattle.report.specs.Reading.{IsFromOutside, Reads}
 use Rattle.report.specs.Runs.{HasLawfulHeader}
@@ -34,12 +35,12 @@ module _ (claim : ClaimData) where
   of_capture bytes c is = ap (collection_read claim) is
 
   -- the exchanges were collected
-  pub capture_is_read : (known : Option (List ℕ)) (remaining : Option Coming) (collected : Collected) →
-      IfSome known (λ bytes. AllRemains bytes remaining) → IfSome remaining (IsAnswerTo claim (Ok collected)) →
-      IfSome known (λ bytes. Reads collection_data (capture_read claim bytes) (Ok collected))
-  capture_is_read None remaining collected all exact = tt
-  capture_is_read (Some bytes) None collected (coming, is, same) exact = cc
-  capture_is_read (Some bytes) (Some now) collected (coming, is, same) exact =
+  pub capture_is_read : (known : Option (List ℕ)) (remaining : Option Coming) (held : Held) →
+      IfSome known (λ bytes. AllRemains bytes remaining) → IfSome remaining (IsAnswerTo held_data claim (Ok held)) →
+      IfSome known (λ bytes. Reads held_data (capture_read claim bytes) (Ok held))
+  capture_is_read None remaining held all exact = tt
+  capture_is_read (Some bytes) None held (coming, is, same) exact = cc
+  capture_is_read (Some bytes) (Some now) held (coming, is, same) exact =
       let here : coming ≡ now = cc in
       of_capture bytes (Ok coming) is ∙
       ap (λ c. collection_read claim (Ok c)) here ∙ rw exact refl
@@ -51,8 +52,8 @@ module _ (claim : ClaimData) where
 
   -- they couldn't be
   pub capture_unread : (known : Option (List ℕ)) (remaining : Option Coming) (fault : PairFault) →
-      IfSome known (λ bytes. AllRemains bytes remaining) → IfSome remaining (IsAnswerTo claim (Err fault)) →
-      IfSome known (λ bytes. Reads collection_data (capture_read claim bytes) (Err (pair_run_fault_of fault)))
+      IfSome known (λ bytes. AllRemains bytes remaining) → IfSome remaining (IsAnswerTo held_data claim (Err fault)) →
+      IfSome known (λ bytes. Reads held_data (capture_read claim bytes) (Err (pair_run_fault_of fault)))
   capture_unread None remaining fault all exact = tt
   capture_unread (Some bytes) None fault (coming, is, same) exact = cc
   capture_unread (Some bytes) (Some now) fault (coming, is, same) (inl h) = inl (outside fault h)
@@ -62,7 +63,7 @@ module _ (claim : ClaimData) where
 
   -- the capture's header is refused
   pub capture_refused : (known : Option (List ℕ)) (fault : CaptureFault) → IsRefusal known fault →
-      IfSome known (λ bytes. Reads collection_data (capture_read claim bytes) (Err (run_fault_of fault)))
+      IfSome known (λ bytes. Reads held_data (capture_read claim bytes) (Err (run_fault_of fault)))
   capture_refused None fault refusal = tt
   capture_refused (Some bytes) captures.Read refusal = inl tt
   capture_refused (Some bytes) captures.Memory refusal = inl tt
@@ -76,9 +77,9 @@ lawful_header claim (Ok coming) collection is = refl
 lawful_header claim (Err fault) collection is = cc
 
 -- a capture that was read has a lawful header
-pub header_was_read : (claim : ClaimData) (known : Option (List ℕ)) (collected : Collected) →
-    IfSome known (λ bytes. Reads collection_data (capture_read claim bytes) (Ok collected)) → HasLawfulHeader known
-header_was_read claim None collected reads = tt
-header_was_read claim (Some bytes) collected reads =
-    lawful_header claim (capture_of bytes) (collection_data collected)
+pub header_was_read : (claim : ClaimData) (known : Option (List ℕ)) (held : Held) →
+    IfSome known (λ bytes. Reads held_data (capture_read claim bytes) (Ok held)) → HasLawfulHeader known
+header_was_read claim None held reads = tt
+header_was_read claim (Some bytes) held reads =
+    lawful_header claim (capture_of bytes) (held_data held)
     (sym (of_capture claim bytes (capture_of bytes) refl) ∙ reads)

@@ -1,30 +1,16 @@
 -- What a verdict shows.
-use Rattle.std.proofs.Common.{◌≡◌, ℕ, refl, sym, ap, subst}
-use Rattle.std.specs.Prelude.{slice_get, IsSomeAnd}
+use Rattle.std.proofs.Common.{◌≡◌, refl, sym, ap, subst}
 use Rattle.certificate.specs.Certificate.{CertificateData}
-use Rattle.checker.specs.Stretch.{stretches_of}
-use Rattle.checker.specs.Traceability.{IsContradicted, IsOfHull, IsRefusedByHull, IsTraceable, IsTraceableByPieces}
+use Rattle.checker.specs.Traceability.{IsVerdictOn}
 use Rattle.checker.specs.declared.verdict.Verdict.{Verdict}
 use Rattle.checker.specs.declared.verdict.Verdict.TheVariants as verdicts
-use Rattle.checker.specs.declared.verdict.Why.{Why}
-use Rattle.checker.specs.declared.verdict.Why.TheVariants.{Contradiction}
 use Rattle.report.specs.declared.fault.Outcome.{Outcome}
-use Rattle.audit.specs.Check.{outcome_of, verdict_on}
+use Rattle.audit.specs.Check.{outcome_of}
 use Rattle.audit.specs.Evidence.{EvidenceData, samples_in}
 use Rattle.audit.specs.Question.{ShowsOf, check_of}
 
--- what the checker says of its verdict
-pub record Settled (certificate : CertificateData) (e : EvidenceData) (verdict : Verdict) : Type 0 where
-  pub exact : verdict ≡ verdict_on certificate e
-  pub yes : verdict ≡ verdicts.Yes → IsTraceable e.claim (samples_in e)
-  pub by_pieces : verdict ≡ verdicts.Yes → IsTraceableByPieces e.claim (samples_in e) certificate
-  pub contradiction : (k : ℕ) → verdict ≡ verdicts.No k Contradiction →
-      IsSomeAnd (slice_get (stretches_of e.claim certificate) k) (IsContradicted e.claim (samples_in e))
-  pub held : (k : ℕ) (why : Why) → verdict ≡ verdicts.No k why → IsOfHull why →
-      IsRefusedByHull e.claim (samples_in e) certificate k why
-
 module _ (certificate : CertificateData) (e : EvidenceData) where
-  shown : (verdict : Verdict) → Settled certificate e verdict → ShowsOf (check_of certificate) e (outcome_of verdict)
+  shown : (verdict : Verdict) → IsVerdictOn e.claim (samples_in e) certificate verdict → ShowsOf (check_of certificate) e (outcome_of verdict)
   shown verdicts.Yes settled = record {
     verdict_is = sym settled.exact;
     whole = settled.yes refl;
@@ -40,5 +26,5 @@ module _ (certificate : CertificateData) (e : EvidenceData) where
 
   -- the outcome that is told of a verdict
   pub verdict_shows : (verdict : Verdict) (outcome : Outcome) → outcome ≡ outcome_of verdict →
-      Settled certificate e verdict → ShowsOf (check_of certificate) e outcome
+      IsVerdictOn e.claim (samples_in e) certificate verdict → ShowsOf (check_of certificate) e outcome
   verdict_shows verdict outcome is settled = subst (ShowsOf (check_of certificate) e) (sym is) (shown verdict settled)

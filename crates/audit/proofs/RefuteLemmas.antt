@@ -1,26 +1,16 @@
 -- What it shows whether a refutation stands.
 use Rattle.std.proofs.Common.{◌≡◌, Bool, true, false, refl, sym, subst, true≢false}
-use Rattle.std.specs.Prelude.{◌↔◌, IsTrue, AllPairs}
-use Rattle.certificate.specs.Certificate.{CertificateData}
+use Rattle.std.specs.Prelude.{AllPairs}
 use Rattle.certificate.specs.Refutation.{RefutationData}
 use Rattle.pairing.specs.Exchange.{SameRequest}
-use Rattle.checker.specs.Refutation.{HasCourse, IsRefuted}
-use Rattle.checker.specs.declared.verdict.Verdict.TheVariants as verdicts
+use Rattle.checker.specs.Settlement.{Settles}
 use Rattle.report.specs.declared.fault.Outcome.{Outcome}
-use Rattle.audit.specs.Check.{verdict_on}
 use Rattle.audit.specs.Evidence.{EvidenceData}
 use Rattle.audit.specs.Question.{ShowsOf, refute_by}
 use Rattle.audit.specs.Refute.{refuted_outcome}
 
--- what the checker says of a refutation
-pub record Judged (refutation : RefutationData) (e : EvidenceData) (stands : Bool) : Type 0 where
-  pub exact : IsTrue stands ↔ IsRefuted e.claim e.collection.exchanges refutation
-  pub course : IsTrue stands → AllPairs SameRequest e.collection.exchanges →
-      HasCourse e.claim e.collection.exchanges refutation
-  pub no_yes : IsTrue stands → (certificate : CertificateData) → ¬ (verdict_on certificate e ≡ verdicts.Yes)
-
 module _ (refutation : RefutationData) (e : EvidenceData) (agree : AllPairs SameRequest e.collection.exchanges) where
-  shown : (stands : Bool) → Judged refutation e stands → ShowsOf (refute_by refutation) e (refuted_outcome stands)
+  shown : (stands : Bool) → Settles e.claim e.collection.exchanges refutation stands → ShowsOf (refute_by refutation) e (refuted_outcome stands)
   shown true judged = record {
     accepted = judged.exact.0 refl;
     course = judged.course refl agree;
@@ -30,5 +20,5 @@ module _ (refutation : RefutationData) (e : EvidenceData) (agree : AllPairs Same
 
   -- the outcome that is told of it
   pub judgement_shows : (stands : Bool) (outcome : Outcome) → outcome ≡ refuted_outcome stands →
-      Judged refutation e stands → ShowsOf (refute_by refutation) e outcome
+      Settles e.claim e.collection.exchanges refutation stands → ShowsOf (refute_by refutation) e outcome
   judgement_shows stands outcome is judged = subst (ShowsOf (refute_by refutation) e) (sym is) (shown stands judged)

@@ -7,13 +7,16 @@ use Rattle.byte_stream.specs.Fault.{CountsFault}
 use Rattle.byte_stream.specs.Intake.{TakesAtMost}
 use Rattle.byte_stream.specs.State.{SinkState}
 use Rattle.pcap_reader.specs.Limit.{most_taken}
+use Rattle.report.specs.declared.fault.Input.{Input}
+use Rattle.report.specs.declared.fault.Input.TheVariants as inputs
 use Rattle.report.specs.declared.fault.Outcome.{Outcome}
 use Rattle.report.specs.declared.fault.RunFault.{RunFault}
 use Rattle.report.specs.declared.fault.RunFault.TheVariants as faults
 use Rattle.report.specs.declared.publication.Made.{Made}
 use Rattle.claim_file.specs.declared.claim.Claim.{Claim}
 use Rattle.claim_file.specs.Claim.{ClaimData, data_of as claim_data}
-use Rattle.pairing.specs.Pairing.{Collection, data_of as collection_data}
+use Rattle.pairing.specs.Held.{held_data}
+use Rattle.pairing.specs.Pairing.{Collection}
 use Rattle.report.specs.CertificateInput.{max_certificate}
 use Rattle.report.specs.ClaimInput.{claim_read, max_claim}
 use Rattle.report.specs.Input.{most_read}
@@ -87,23 +90,23 @@ unwritten before after (Err fault) answer h p =
 
 -- what is taken of a claim
 pub claim_taken : (read : Result Claim RunFault) (made : Result Made RunFault) (before after : Option (List ℕ)) →
-    IfErr read (λ fault. made ≡ Err fault) → TakesAtMost (most_read max_claim read) before after →
-    TakesAtMost (most_read max_claim made) before after
-claim_taken (Ok claim) made before after is h = takes_within max_claim made before after h
+    IfErr read (λ fault. made ≡ Err fault) → TakesAtMost (most_read inputs.Claim max_claim read) before after →
+    TakesAtMost (most_read inputs.Claim max_claim made) before after
+claim_taken (Ok claim) made before after is h = takes_within inputs.Claim max_claim made before after h
 claim_taken (Err fault) made before after is h =
-    subst (λ (m : Result Made RunFault). TakesAtMost (most_read max_claim m) before after) (sym is) h
+    subst (λ (m : Result Made RunFault). TakesAtMost (most_read inputs.Claim max_claim m) before after) (sym is) h
 
 -- the answer says of an input's length what was known once the text was made
-same_most : (limit : ℕ) (made : Result Made RunFault) (answer : Result Outcome RunFault) → IsAnswerFor made answer →
-    most_read limit made ≡ most_read limit answer
-same_most limit (Ok m) answer (inl same) = sym (ap (most_read limit) same)
-same_most limit (Ok m) answer (inr (sent, is)) = sym (ap (most_read limit) is)
-same_most limit (Err fault) answer same = sym (ap (most_read limit) same)
+same_most : (which : Input) (limit : ℕ) (made : Result Made RunFault) (answer : Result Outcome RunFault) →
+    IsAnswerFor made answer → most_read which limit made ≡ most_read which limit answer
+same_most which limit (Ok m) answer (inl same) = sym (ap (most_read which limit) same)
+same_most which limit (Ok m) answer (inr (sent, is)) = sym (ap (most_read which limit) is)
+same_most which limit (Err fault) answer same = sym (ap (most_read which limit) same)
 
 same_most_second : (question : QuestionData) (made : Result Made RunFault) (answer : Result Outcome RunFault) →
     IsAnswerFor made answer → most_second question made ≡ most_second question answer
-same_most_second questions.check made answer stays = same_most max_certificate made answer stays
-same_most_second questions.refute made answer stays = same_most max_refutation made answer stays
+same_most_second questions.check made answer stays = same_most inputs.Certificate max_certificate made answer stays
+same_most_second questions.refute made answer stays = same_most inputs.Refutation max_refutation made answer stays
 same_most_second question made answer stays = refl
 
 -- ---- what was lawful where memory is refused
@@ -145,7 +148,7 @@ pub record HasMade {T F : Type 0} (question : QuestionData) (before after : RunS
   pub capture_faults : CountsFault (is_device is_capture made) before.capture.faults after.capture.faults
   pub second_untouched : IfErr made (λ fault. IsBeforeSecond fault → second' ≡ second)
   pub capture_untouched : IfErr made (λ fault. IsBeforeCapture fault → capture' ≡ capture)
-  pub claim_at_most : TakesAtMost (most_read max_claim made) before.claim.remaining after.claim.remaining
+  pub claim_at_most : TakesAtMost (most_read inputs.Claim max_claim made) before.claim.remaining after.claim.remaining
   pub second_at_most : TakesAtMost (most_second question made) before.second.remaining after.second.remaining
   pub capture_at_most : TakesAtMost most_taken before.capture.remaining after.capture.remaining
   pub claim_memory : made ≡ Err faults.Memory →
@@ -180,7 +183,7 @@ module _ {T F : Type 0} (question : QuestionData) (before after : RunState)
     capture_untouched = of_fault (λ fault. IsBeforeCapture fault → capture' ≡ capture) (λ sent no. absurd no)
         made answer p.stays h.capture_untouched;
     claim_at_most = subst (λ (n : ℕ). TakesAtMost n before.claim.remaining after.claim.remaining)
-        (same_most max_claim made answer p.stays) h.claim_at_most;
+        (same_most inputs.Claim max_claim made answer p.stays) h.claim_at_most;
     second_at_most = subst (λ (n : ℕ). TakesAtMost n before.second.remaining after.second.remaining)
         (same_most_second question made answer p.stays) h.second_at_most;
     capture_at_most = h.capture_at_most;
@@ -201,7 +204,7 @@ not_written (faults.Write sent) h = absurd h
 not_written fault h = tt
 
 module _ (claim : ClaimData) (fault : RunFault) (of : IsOfCapture fault) where
-  refused_after : (task : TaskData) (read : Result Collection RunFault) → Reads collection_data read (Err fault) →
+  refused_after : (task : TaskData) (read : Result Collection RunFault) → Reads held_data read (Err fault) →
       IsMadeFor (after_capture task claim read) (Err fault)
   refused_after task read (inl outside) = made_outside (after_capture task claim read) fault outside
   refused_after task read (inr is) =
@@ -211,7 +214,7 @@ module _ (claim : ClaimData) (fault : RunFault) (of : IsOfCapture fault) where
   -- its refusal is what the bytes of the inputs call for
   pub capture_refusal : (task : Task) (second : Option (Result TaskData RunFault)) (capture : Option (List ℕ)) →
       IfSome second (λ expected. Reads task_data expected (Ok task)) →
-      IfSome capture (λ bytes. Reads collection_data (capture_read claim bytes) (Err fault)) →
+      IfSome capture (λ bytes. Reads held_data (capture_read claim bytes) (Err fault)) →
       IfSome (after_second claim second capture) (λ report. IsMadeFor report (Err fault))
   capture_refusal task None capture read refused = tt
   capture_refusal task (Some (Err other)) capture read refused = absurd cc

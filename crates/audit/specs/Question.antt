@@ -111,10 +111,10 @@ abbrev pub HasSecond : QuestionData → Option (List ℕ) → Type 0
 HasSecond question known = IfSome (task_read question known) IsOk
 
 -- how many bytes are taken of the second input at most in a run that comes to this answer: one
--- past the limit only where the answer is that it's too big
+-- past the limit only where the answer is that this input is too big
 abbrev pub most_second : {A : Type 0} → QuestionData → Result A RunFault → ℕ
-most_second check answer = most_read max_certificate answer
-most_second refute answer = most_read max_refutation answer
+most_second check answer = most_read inputs.Certificate max_certificate answer
+most_second refute answer = most_read inputs.Refutation max_refutation answer
 most_second _ answer = 0
 
 -- the faults of reading it

@@ -6,7 +6,7 @@ use Rattle.report.specs.declared.fault.Outcome.{Outcome}
 use Rattle.report.specs.declared.fault.RunFault.{RunFault}
 use Rattle.report.specs.Run.{RunState}
 use Rattle.report.specs.Runs.{Runs}
-use Rattle.report.specs.Telling.{Answers}
+use Rattle.report.specs.Telling.{IsTold}
 use Rattle.audit.specs.Question.{HasSecond, QuestionData, Shows, most_second}
 use Rattle.audit.specs.Report.{run_report}
 
@@ -31,12 +31,12 @@ abbrev pub RunsAlone : {F : Type 0} → QuestionData → RunState → RunState �
 RunsAlone question before after capture capture' answer =
     RunsFor {T = Unit {0}} question before after (tt {0}) (tt {0}) capture capture' answer
 
--- What a caller of a whole command sees: the same report, and its answer, told by a line and a
--- status.
-abbrev pub AnswersFor :
-    QuestionData → RunState → RunState → SinkState → SinkState → ℕ → Type 0
-AnswersFor question before after err err' status =
-    Answers (run_report question before) before after err err' status
+-- What a caller of a whole command sees: all that a run promises, and its answer, told by a line and
+-- a status.
+abbrev pub AnswersFor : {T F : Type 0} → QuestionData → RunState → RunState → T → T → F → F →
+    SinkState → SinkState → ℕ → Type 0
+AnswersFor question before after second second' capture capture' err err' status =
+    IsTold (RunsFor question before after second second' capture capture') err err' status
 
 -- what the exit status of a run shows, by the outcome that it tells
 abbrev pub ShowsAt : ℕ → QuestionData → FeedState → FeedState → FeedState → Type 0

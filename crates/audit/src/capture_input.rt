@@ -7,7 +7,7 @@ ghost use Rattle.byte_stream.specs.State.{IsReadable};
 ghost use Rattle.pcap_reader.specs.Limit.{most_taken};
 ghost use Rattle.claim_file.specs.Claim.{IsLawful, data_of};
 ghost use Rattle.pairing.specs.Exchange.{AreLawful};
-ghost use Rattle.pairing.specs.Pairing.{data_of as collection_data};
+ghost use Rattle.pairing.specs.Held.{held_data};
 ghost use Rattle.report.specs.Reading.{Reads};
 ghost use Rattle.report.specs.Reports.{is_capture, is_device};
 ghost use Rattle.report.specs.Runs.{HasLawfulHeader};
@@ -15,7 +15,7 @@ ghost use Rattle.audit.specs.CaptureInput.{IsOfCapture, capture_read, pair_run_f
 
 use byte_stream::Feed;
 use claim_file::Claim;
-use pairing::{Collected, PairFault, collect_with};
+use pairing::{Held, PairFault, collect_held};
 use pcap_reader::Capture;
 use report::RunFault;
 use std::alloc::Global;
@@ -36,20 +36,21 @@ fn run_fault_of(fault: PairFault) -> RunFault
 ///
 /// `Capture` comes where it isn't a capture or ends too early, `Exchanges` where it has over
 /// 1,000,000 of them, `Device` where the feed failed. `Memory` comes before the first byte is
-/// taken, or where the capture begins with a lawful header. The index of requests hashes by
-/// `hasher`: who doesn't trust the capture's writer passes one with a random key.
+/// taken, or where the capture begins with a lawful header. The hash of the index of requests is
+/// keyed by two numbers of `hasher`: who doesn't trust the capture's writer passes one with a random
+/// key.
 pub(crate) fn read_capture_from<F: Feed, H: BuildHasher + Drop>(
     alloc: Global,
     feed: F,
     claim: &Claim,
     hasher: H,
-) -> (F, Result<Collected, RunFault>)
+) -> (F, Result<Held, RunFault>)
     requires claim { IsLawful (data_of claim.now) }
     requires feed { IsReadable (F.state feed) }
     ensures known { IfSome (F.state feed).remaining (λ bytes.
-        Reads collection_data (capture_read (data_of claim.now) bytes) result.1) }
-    ensures lawful { IfOk result.1 (λ collected.
-        AreLawful (length claim.now.servers.items) collected.exchanges.items) }
+        Reads held_data (capture_read (data_of claim.now) bytes) result.1) }
+    ensures lawful { IfOk result.1 (λ held.
+        AreLawful (length claim.now.servers.items) (held_data held).exchanges) }
     ensures fault { IfErr result.1 IsOfCapture }
     ensures counts_fault { CountsFault (is_device is_capture result.1)
         (F.state feed).faults (F.state result.0).faults }
@@ -60,10 +61,10 @@ pub(crate) fn read_capture_from<F: Feed, H: BuildHasher + Drop>(
 {
     match Capture::begin(alloc, feed) {
         Ok(mut source) => {
-            let collected = collect_with(alloc, &mut source, claim, hasher);
+            let collected = collect_held(alloc, &mut source, claim, hasher);
             let feed = source.into_feed();
             match collected {
-                Ok(collected) => (feed, Ok(collected)),
+                Ok(held) => (feed, Ok(held)),
                 Err(fault) => (feed, Err(run_fault_of(fault))),
             }
         }

@@ -95,8 +95,8 @@ fn make_report<T: Feed, F: Feed, H: BuildHasher + Drop>(
     };
     let (capture, collected) = read_capture_from(alloc, capture, &claim, hasher);
     match collected {
-        Ok(collected) => {
-            let evidence = Evidence { claim, collected };
+        Ok(held) => {
+            let evidence = Evidence { claim, held };
             (capture, make(alloc, &task, &evidence))
         }
         Err(fault) => (capture, Err(fault)),
@@ -109,9 +109,9 @@ fn make_report<T: Feed, F: Feed, H: BuildHasher + Drop>(
 ///
 /// The claim is read first, then the second input, then the capture; what stands later isn't read
 /// after a refusal. Nothing is written before all of it is made. `Device` comes where a feed
-/// failed, and `Write(n)` where the sink failed after exactly n bytes of the text. The index of
-/// requests hashes by `hasher`: who doesn't trust the capture's writer passes one with a random
-/// key.
+/// failed, and `Write(n)` where the sink failed after exactly n bytes of the text. The hash of the
+/// index of requests is keyed by two numbers of `hasher`: who doesn't trust the capture's writer
+/// passes one with a random key.
 pub fn run<C: Feed, T: Feed, F: Feed, S: Sink, H: BuildHasher + Drop>(
     alloc: Global,
     question: Question,
@@ -160,8 +160,9 @@ pub fn answer<C: Feed, T: Feed, F: Feed, S: Sink, E: Sink, H: BuildHasher + Drop
     requires err { IsWritable (E.state to.old.err) }
     ensures answers { AnswersFor (data_of question)
         (run_state (C.state claim.old) (T.state second.old) (F.state capture) (S.state to.old.out))
-        (run_state (C.state claim.new) (T.state second.new) (F.state result.0)
-        (S.state to.new.out)) (E.state to.old.err) (E.state to.new.err) result.1 }
+        (run_state (C.state claim.new) (T.state second.new) (F.state result.0) (S.state to.new.out))
+        second.old second.new capture result.0 (E.state to.old.err) (E.state to.new.err) result.1 }
+    ensures unasked { AsksNoSecond (data_of question) → second.new ≡ second.old }
     ensures traceable { question ≡ Question.Check → result.1 ≡ 0 →
         IsTraced (C.state claim.old) (T.state second.old) (F.state capture) }
     ensures shows { ShowsAt result.1 (data_of question)

@@ -1,13 +1,13 @@
 //! What a claim and a capture give together.
 
 use claim_file::Claim;
-use pairing::Collected;
+use pairing::Held;
 
 /// A claim, and the exchanges and counts of a capture that is held against it.
 #[derive(Debug, Drop)]
 pub(crate) struct Evidence {
     /// The claim.
     pub(crate) claim: Claim,
-    /// The exchanges of its client and its servers.
-    pub(crate) collected: Collected,
+    /// The exchanges of its client and its servers, and the counts.
+    pub(crate) held: Held,
 }

@@ -1,8 +1,9 @@
 //! What exchanges say of the clock's error at one moment.
 
-ghost use Rattle.std.specs.Prelude.{◌≡◌, ◌<◌, ℕ, ℤ, List, IfSome, length, All};
+ghost use Rattle.std.specs.Prelude.{◌≡◌, ◌<◌, ℕ, ℤ, List, IfSome, length, map, All};
 ghost use Rattle.claim_file.specs.Claim.{IsLawful, data_of};
 ghost use Rattle.pairing.specs.Exchange.{IsLawful as IsLawfulExchange};
+ghost use Rattle.pairing.specs.Held.{exchange_shown};
 ghost use Rattle.sample_interval.specs.declared.kinds.Sample.{Sample as TheSample};
 ghost use Rattle.span_cover.specs.Gathering.{Gathered};
 ghost use Rattle.span_cover.specs.Piece.{IsPiece};
@@ -11,32 +12,31 @@ ghost use Rattle.audit.specs.Moment as spec;
 
 use arrayvec::ArrayVec;
 use claim_file::Claim;
-use pairing::Exchange;
+use era_unfold::TICKS_PER_SECOND;
+use pairing::{HeldExchange, ToExchange};
 use sample_interval::sample;
 use span_cover::{BestSamples, Part};
-
-/// Ticks of 2^-32 s in a second.
-const TICKS_PER_SECOND: i128 = 1 << 32;
 
 /// The tick at which a Unix second begins.
 pub(crate) fn tick_of(second: u32) -> i128
     ensures value { result ≡ spec.tick_of second }
     ensures piece { IsPiece result result }
 {
-    i128::from(second) * TICKS_PER_SECOND
+    i128::from(second) * TICKS_PER_SECOND as i128
 }
 
 /// The best samples of each server at a tick, by one pass over the exchanges.
-fn best_at(claim: &Claim, exchanges: &[Exchange], tick: i128) -> BestSamples
+fn best_at(claim: &Claim, exchanges: &[HeldExchange], tick: i128) -> BestSamples
     requires lawful { IsLawful (data_of claim.now) }
-    requires exchanges { All (IsLawfulExchange (length claim.now.servers.items)) exchanges.now }
+    requires exchanges { All (IsLawfulExchange (length claim.now.servers.items))
+        (map exchange_shown exchanges.now) }
     requires piece { IsPiece tick tick }
-    ensures { Gathered (samples_of exchanges.now (data_of claim.now))
+    ensures { Gathered (samples_of (map exchange_shown exchanges.now) (data_of claim.now))
         tick tick claim.now.drift_ppb result }
 {
     let mut best = BestSamples::new(tick, tick, claim.drift_ppb);
-    for exchange in exchanges {
-        best.take(&sample(exchange, claim.reading));
+    for held in exchanges {
+        best.take(&sample(&held.to_exchange(), claim.reading));
     }
     best
 }
@@ -53,12 +53,13 @@ fn part_of(best: &BestSamples, server: u8) -> Option<Part>
 }
 
 /// What each server says at a tick that has a sample, in the order of the servers.
-pub(crate) fn parts_at(claim: &Claim, exchanges: &[Exchange], tick: i128) -> ArrayVec<Part, 32>
+pub(crate) fn parts_at(claim: &Claim, exchanges: &[HeldExchange], tick: i128) -> ArrayVec<Part, 32>
     requires lawful { IsLawful (data_of claim.now) }
-    requires exchanges { All (IsLawfulExchange (length claim.now.servers.items)) exchanges.now }
+    requires exchanges { All (IsLawfulExchange (length claim.now.servers.items))
+        (map exchange_shown exchanges.now) }
     requires piece { IsPiece tick tick }
     ensures exact { result.items ≡
-        spec.parts_at (data_of claim.now) (samples_of exchanges.now (data_of claim.now)) tick }
+        spec.parts_at (data_of claim.now) (samples_of (map exchange_shown exchanges.now) (data_of claim.now)) tick }
     ensures listed { All (λ part. part.server < length claim.now.servers.items) result.items }
 {
     let best = best_at(claim, exchanges, tick);

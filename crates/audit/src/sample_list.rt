@@ -1,13 +1,14 @@
 //! The samples of exchanges.
 
-ghost use Rattle.std.specs.Prelude.{◌≡◌, ◌<◌, IfOk, length, All};
+ghost use Rattle.std.specs.Prelude.{◌≡◌, ◌<◌, IfOk, length, map, All};
 ghost use Rattle.claim_file.specs.Claim.{IsLawful, data_of};
 ghost use Rattle.pairing.specs.Exchange.{IsLawful as IsLawfulExchange};
+ghost use Rattle.pairing.specs.Held.{exchange_shown};
 ghost use Rattle.sample_interval.specs.Sample.{IsLawfulSample};
 ghost use Rattle.checker.specs.Traceability as spec;
 
 use claim_file::Claim;
-use pairing::Exchange;
+use pairing::{HeldExchange, ToExchange};
 use sample_interval::kinds::Sample;
 use sample_interval::sample;
 use std::alloc::{AllocError, Global};
@@ -16,19 +17,20 @@ use std::alloc::{AllocError, Global};
 pub(crate) fn samples_of(
     alloc: Global,
     claim: &Claim,
-    exchanges: &[Exchange],
+    exchanges: &[HeldExchange],
 ) -> Result<Vec<Sample>, AllocError>
     requires lawful { IsLawful (data_of claim.now) }
-    requires exchanges { All (IsLawfulExchange (length claim.now.servers.items)) exchanges.now }
+    requires exchanges { All (IsLawfulExchange (length claim.now.servers.items))
+        (map exchange_shown exchanges.now) }
     ensures exact { IfOk result (λ samples.
-        samples.items ≡ spec.samples_of exchanges.now (data_of claim.now)) }
+        samples.items ≡ spec.samples_of (map exchange_shown exchanges.now) (data_of claim.now)) }
     ensures lawful { IfOk result (λ samples. All IsLawfulSample samples.items) }
     ensures listed { IfOk result (λ samples.
         All (λ s. s.server < length claim.now.servers.items) samples.items) }
 {
     let mut samples = Vec::with_capacity(alloc, exchanges.len())?;
-    for exchange in exchanges {
-        samples.push(sample(exchange, claim.reading))?;
+    for held in exchanges {
+        samples.push(sample(&held.to_exchange(), claim.reading))?;
     }
     Ok(samples)
 }

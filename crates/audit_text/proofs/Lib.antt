@@ -1,2 +1,3 @@
 pub mod SourceLemmas
 pub mod SampleLemmas
+pub mod ShownLemmas

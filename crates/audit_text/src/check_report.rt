@@ -1,12 +1,12 @@
 //! The text of `check`.
 
-ghost use Rattle.std.specs.Prelude.{◌≡◌, ◌+◌, ◌<◌, ◌≤◌, ◌==◌, ◌++◌, IfOk, length};
+ghost use Rattle.std.specs.Prelude.{◌≡◌, ◌+◌, ◌<◌, ◌≤◌, ◌==◌, ◌++◌, IfOk, length, map};
 ghost use Rattle.std.specs.List.{list_all, list_any};
 ghost use Rattle.std.specs.Str.{bytes_eq};
 ghost use Rattle.line_writer.specs.declared.line.TheConstants.{CAPACITY};
 ghost use Rattle.claim_file.specs.Claim.{IsLawful, data_of, group_count};
 ghost use Rattle.pairing.specs.Exchange.{most_exchanges};
-ghost use Rattle.pairing.specs.Pairing.{data_of as collection_data};
+ghost use Rattle.pairing.specs.Held.{exchange_shown, held_data};
 ghost use Rattle.audit_text.specs.CheckReport as spec;
 ghost use Rattle.audit_text.specs.CheckReport.{groups_field, source_count, why_word};
 
@@ -15,7 +15,7 @@ use crate::second::second_of;
 use checker::{Verdict, Why};
 use claim_file::Claim;
 use line_writer::Line;
-use pairing::{Collected, Exchange};
+use pairing::{Held, HeldExchange, ToExchange};
 use std::alloc::{AllocError, Global};
 
 /// The fewest servers with which one false one can be told from the others.
@@ -82,16 +82,18 @@ fn write_span_line(line: &mut Line, claim: &Claim)
 }
 
 /// Whether an exchange is with this server.
-fn is_source(exchanges: &[Exchange], server: u8) -> bool
-    ensures { result ≡ list_any (λ x. x.server == server) exchanges.now }
+fn is_source(exchanges: &[HeldExchange], server: u8) -> bool
+    ensures { result ≡ list_any (λ x. (exchange_shown x).server == server) exchanges.now }
 {
-    exchanges.iter().any(|x| x.server == server)
+    exchanges
+        .iter()
+        .any(|held| held.to_exchange().server == server)
 }
 
 /// How many of the servers with a number below `servers` have an exchange.
 #[tactic(auto, using(crate::proofs::SourceLemmas::source_step))]
-fn source_count(exchanges: &[Exchange], servers: u8) -> u8
-    ensures { result ≡ source_count exchanges.now servers }
+fn source_count(exchanges: &[HeldExchange], servers: u8) -> u8
+    ensures { result ≡ source_count (map exchange_shown exchanges.now) servers }
 {
     let mut count = 0;
     for server in 0..servers {
@@ -116,22 +118,26 @@ fn write_sources_advice(line: &mut Line, count: u8)
 }
 
 /// Whether all these exchanges have one reference identifier.
-fn have_reference(exchanges: &[Exchange], reference: [u8; 4]) -> bool
-    ensures { result ≡ list_all (λ x. bytes_eq x.reference reference) exchanges.now }
+fn have_reference(exchanges: &[HeldExchange], reference: [u8; 4]) -> bool
+    ensures { result ≡
+        list_all (λ x. bytes_eq (exchange_shown x).reference reference) exchanges.now }
 {
-    exchanges.iter().all(|x| x.reference == reference)
+    exchanges
+        .iter()
+        .all(|held| held.to_exchange().reference == reference)
 }
 
 /// Writes the advice on servers that name one reference in place of what `line` held, or no text.
 #[tactic(auto, unfolding(crate::specs::CheckReport::reference_advice))]
-fn write_reference_advice(line: &mut Line, exchanges: &[Exchange])
-    ensures { line.new ≡ spec.reference_advice exchanges.now }
+fn write_reference_advice(line: &mut Line, exchanges: &[HeldExchange])
+    ensures { line.new ≡ spec.reference_advice (map exchange_shown exchanges.now) }
 {
     line.clear();
     if let [first, rest @ ..] = exchanges {
-        if have_reference(rest, first.reference) {
+        let reference = first.to_exchange().reference;
+        if have_reference(rest, reference) {
             line.put_byte(b'\n');
-            line.put_hexadecimal(&first.reference);
+            line.put_hexadecimal(&reference);
             line.put_text("advice reference ");
         }
     }
@@ -189,11 +195,11 @@ fn add_advice(
     text: &mut Vec<u8>,
     line: &mut Line,
     claim: &Claim,
-    exchanges: &[Exchange],
+    exchanges: &[HeldExchange],
 ) -> Result<(), AllocError>
     requires { IsLawful (data_of claim.now) }
     ensures { IfOk result (λ _. text.new.items ≡
-        text.old.items ++ spec.advice (data_of claim.now) exchanges.now) }
+        text.old.items ++ spec.advice (data_of claim.now) (map exchange_shown exchanges.now)) }
 {
     write_sources_advice(line, source_count(exchanges, claim.servers.len() as u8));
     text.extend_from_slice(line.as_bytes())?;
@@ -237,20 +243,20 @@ fn add_verdict(
 pub fn check_text(
     alloc: Global,
     claim: &Claim,
-    collected: &Collected,
+    held: &Held,
     pieces: u32,
     verdict: &Verdict,
 ) -> Result<Vec<u8>, AllocError>
     requires lawful { IsLawful (data_of claim.now) }
-    requires few { length collected.now.exchanges.items ≤ most_exchanges }
+    requires few { length held.now.exchanges.items ≤ most_exchanges }
     ensures { IfOk result (λ text. text.items ≡
-        spec.check_text (data_of claim.now) (collection_data collected.now) pieces verdict.now) }
+        spec.check_text (data_of claim.now) (held_data held.now) pieces verdict.now) }
 {
     let mut text = Vec::new(alloc);
     let mut line = Line::new();
     add_claim(&mut text, &mut line, claim)?;
-    add_counts(&mut text, &mut line, collected)?;
-    add_advice(&mut text, &mut line, claim, &collected.exchanges)?;
+    add_counts(&mut text, &mut line, held)?;
+    add_advice(&mut text, &mut line, claim, &held.exchanges)?;
     add_verdict(&mut text, &mut line, pieces, verdict)?;
     Ok(text)
 }

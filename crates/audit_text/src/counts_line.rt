@@ -7,7 +7,7 @@ ghost use Rattle.audit_text.specs.CountsLine as spec;
 ghost use Rattle.audit_text.specs.CountsLine.{named_number, packet_counts, header_counts, pairing_counts};
 
 use line_writer::Line;
-use pairing::{Collected, Counts};
+use pairing::{Counts, Held};
 use std::alloc::AllocError;
 
 /// A number after its name, of at most 12 bytes.
@@ -74,15 +74,11 @@ fn write_counts_line(line: &mut Line, counts: &Counts, samples: u32)
 }
 
 /// Adds the line of counts.
-pub(crate) fn add_counts(
-    text: &mut Vec<u8>,
-    line: &mut Line,
-    collected: &Collected,
-) -> Result<(), AllocError>
-    requires { length collected.now.exchanges.items ≤ most_exchanges }
+pub(crate) fn add_counts(text: &mut Vec<u8>, line: &mut Line, held: &Held) -> Result<(), AllocError>
+    requires { length held.now.exchanges.items ≤ most_exchanges }
     ensures { IfOk result (λ _. text.new.items ≡ text.old.items ++
-        spec.counts_line collected.now.counts (length collected.now.exchanges.items)) }
+        spec.counts_line held.now.counts (length held.now.exchanges.items)) }
 {
-    write_counts_line(line, &collected.counts, collected.exchanges.len() as u32);
+    write_counts_line(line, &held.counts, held.exchanges.len() as u32);
     text.extend_from_slice(line.as_bytes())
 }

@@ -1,9 +1,9 @@
 //! The text of `samples`.
 
-ghost use Rattle.std.specs.Prelude.{◌≡◌, ◌++◌, IfOk, length};
+ghost use Rattle.std.specs.Prelude.{◌≡◌, ◌++◌, IfOk, length, map};
 ghost use Rattle.claim_file.specs.Claim.{IsLawful, data_of};
 ghost use Rattle.pairing.specs.Exchange.{AreLawful};
-ghost use Rattle.pairing.specs.Pairing.{data_of as collection_data};
+ghost use Rattle.pairing.specs.Held.{exchange_shown, held_data};
 ghost use Rattle.audit_text.specs.Samples as spec;
 ghost use Rattle.audit_text.specs.Samples.{sample_lines};
 
@@ -11,7 +11,7 @@ use crate::counts_line::add_counts;
 use crate::sample_line::write_sample_line;
 use claim_file::Claim;
 use line_writer::Line;
-use pairing::{Collected, Exchange};
+use pairing::{Held, HeldExchange, ToExchange};
 use std::alloc::{AllocError, Global};
 
 /// The line of each sample, in the order of the exchanges.
@@ -19,15 +19,16 @@ fn add_samples(
     text: &mut Vec<u8>,
     line: &mut Line,
     claim: &Claim,
-    exchanges: &[Exchange],
+    exchanges: &[HeldExchange],
 ) -> Result<(), AllocError>
     requires lawful { IsLawful (data_of claim.now) }
-    requires exchanges { AreLawful (length claim.now.servers.items) exchanges.now }
+    requires exchanges { AreLawful (length claim.now.servers.items)
+        (map exchange_shown exchanges.now) }
     ensures { IfOk result (λ _. text.new.items ≡
-        text.old.items ++ sample_lines (data_of claim.now) 0 exchanges.now) }
+        text.old.items ++ sample_lines (data_of claim.now) 0 (map exchange_shown exchanges.now)) }
 {
-    for (number, exchange) in exchanges.iter().enumerate() {
-        write_sample_line(line, claim, number as u32, exchange);
+    for (number, held) in exchanges.iter().enumerate() {
+        write_sample_line(line, claim, number as u32, &held.to_exchange());
         text.extend_from_slice(line.as_bytes())?;
     }
     Ok(())
@@ -36,19 +37,15 @@ fn add_samples(
 /// The text of `samples`: a line for each exchange, numbered from 0 in their order, with what it
 /// says of the clock, and the counts.
 #[tactic(auto, unfolding(crate::specs::Samples::samples_text))]
-pub fn samples_text(
-    alloc: Global,
-    claim: &Claim,
-    collected: &Collected,
-) -> Result<Vec<u8>, AllocError>
+pub fn samples_text(alloc: Global, claim: &Claim, held: &Held) -> Result<Vec<u8>, AllocError>
     requires lawful { IsLawful (data_of claim.now) }
-    requires exchanges { AreLawful (length claim.now.servers.items) collected.now.exchanges.items }
+    requires exchanges { AreLawful (length claim.now.servers.items) (held_data held.now).exchanges }
     ensures { IfOk result (λ text.
-        text.items ≡ spec.samples_text (data_of claim.now) (collection_data collected.now)) }
+        text.items ≡ spec.samples_text (data_of claim.now) (held_data held.now)) }
 {
     let mut text = Vec::new(alloc);
     let mut line = Line::new();
-    add_samples(&mut text, &mut line, claim, &collected.exchanges)?;
-    add_counts(&mut text, &mut line, collected)?;
+    add_samples(&mut text, &mut line, claim, &held.exchanges)?;
+    add_counts(&mut text, &mut line, held)?;
     Ok(text)
 }

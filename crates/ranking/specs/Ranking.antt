@@ -25,6 +25,12 @@ pub record HasAtLeast (held : List (Option ℤ)) (least : ℤ) (number : ℕ) : 
   pub is_held : IsHeld held number value
   pub at_least : least ≤ℤ value
 
+-- a number before this one has a value of at least so much
+pub record HasBefore (held : List (Option ℤ)) (least : ℤ) (number : ℕ) : Type 0 where
+  pub other : ℕ
+  pub earlier : other < number
+  pub has : HasAtLeast held least other
+
 -- no number has a value of at least so much
 abbrev pub AllBelow : List (Option ℤ) → ℤ → Type 0
 AllBelow held least = (number : ℕ) → ¬ HasAtLeast held least number

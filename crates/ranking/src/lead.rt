@@ -15,32 +15,23 @@ pub(crate) struct Lead {
 }
 
 impl Lead {
-    /// The lead once a value was put at a number that had none, where `greatest` was the greatest
+    /// Takes in a value that is put at a number that had none, where `greatest` was the greatest
     /// value before.
-    pub(crate) fn after(self, number: u32, value: i128, greatest: i128) -> Lead
+    #[inline(always)]
+    pub(crate) fn take_in(&mut self, number: u32, value: i128, greatest: i128)
         requires { NOTHING <ℤ value }
         ensures { (held : List (Option ℤ)) → IsFree held number → IsBoundOf held greatest →
-            IsLead held self → IsLead (slice_set held number (Some value)) result }
+            IsLead held self.old → IsLead (slice_set held number (Some value)) self.new }
     {
         if number < self.number {
             if value < greatest {
-                Lead {
-                    number: self.number,
-                    rival: self.rival.max(value),
-                }
+                self.rival = self.rival.max(value);
             } else {
-                Lead {
-                    number,
-                    rival: self.rival,
-                }
+                self.number = number;
             }
         } else if greatest < value {
-            Lead {
-                number,
-                rival: greatest,
-            }
-        } else {
-            self
+            self.number = number;
+            self.rival = greatest;
         }
     }
 }

@@ -1,7 +1,7 @@
 //! The set of values that only grows.
 
-ghost use Rattle.std.specs.Prelude.{◌≡◌, ◌<ℤ◌, replicate, slice_set, Some, None, IfOk, IfNone, IfSome};
-ghost use Rattle.ranking.specs.Ranking.{IsFree, HoldsNothing, IsGreatest, AllBelow, IsLeastNumber};
+ghost use Rattle.std.specs.Prelude.{◌≡◌, ◌⊎◌, ◌<ℤ◌, replicate, slice_set, Some, None, IfOk, IfNone, IfSome};
+ghost use Rattle.ranking.specs.Ranking.{IsFree, HoldsNothing, IsGreatest, HasBefore, AllBelow, IsLeastNumber};
 
 use crate::lead::Lead;
 use crate::tree;
@@ -53,14 +53,31 @@ impl Ranking {
     }
 
     /// Puts a value at a number that has none. It takes no memory.
+    #[inline(always)]
     pub fn put(&mut self, number: u32, value: i128)
         requires free { IsFree self.old number }
         requires above_least { i128.MIN <ℤ value }
         ensures { self.new ≡ slice_set self.old number (Some value) }
     {
         let greatest = tree::root(&self.nodes);
-        self.lead = self.lead.after(number, value, greatest);
+        self.lead.take_in(number, value, greatest);
         tree::put(&mut self.nodes, self.leaves, number as usize, value);
+    }
+
+    /// Puts a value at a number that has none, or leaves it out if a number before it has at least
+    /// as much. It takes no memory.
+    #[inline(always)]
+    pub fn offer(&mut self, number: u32, value: i128)
+        requires free { IsFree self.old number }
+        requires above_least { i128.MIN <ℤ value }
+        ensures { (self.new ≡ slice_set self.old number (Some value))
+            ⊎ ((self.new ≡ self.old) × HasBefore self.old value number) }
+    {
+        // Mostly the lead comes before it and has as much.
+        if self.lead.number < number && value <= tree::root(&self.nodes) {
+            return;
+        }
+        self.put(number, value);
     }
 
     /// The greatest value, or none where there is no value.

@@ -16,7 +16,7 @@ use Rattle.sweep.specs.declared.queue.Arrival.{Arrival}
 use Rattle.sweep.specs.declared.stretch.Stretch.{Stretch}
 use Rattle.sweep.specs.declared.top.Top.{Top}
 use Rattle.sweep.proofs.ListLemmas.{pushed_cases, slice_get-replicate}
-use Rattle.sweep.proofs.TopLemmas.{same_top}
+use Rattle.sweep.proofs.TopLemmas.{covering_top}
 
 -- the first arrivals are early for every stretch from number k on
 abbrev pub AreEarlyFrom : List Arrival → List Stretch → ℕ → ℕ → Type 0
@@ -89,7 +89,7 @@ module _ (ppb : ℕ) (extremes : List Extreme) (stretches : List Stretch) (queue
         (cases_lt i next)
 
     from_extreme : (index level : ℕ) → IsEarlyAtLeast ppb extremes stretch index level →
-        HasHeight ppb held stretch.end index level
+        (other : ℕ) × (other ≤ index) × HasHeight ppb held stretch.end other level
     from_extreme index level reaches =
         let there = is_queue.all index reaches.extreme reaches.stands in
         let a : Arrival = there.1 in
@@ -100,15 +100,17 @@ module _ (ppb : ℕ) (extremes : List Extreme) (stretches : List Stretch) (queue
         of.at ∙ ap (λ (b : Extreme). b.from + b.to) one in
         let height_is : a.height ≡ height ppb reaches.extreme = of.height ∙ ap (height ppb) one in
         let come = has_come there.0 a there.2 (let e = reaches.early in omega arith) in
-        record {
-          value = pos a.height;
-          is_held = subst (λ (k : ℕ). IsHeld held k (pos a.height)) there.3 (holds.put there.0 a come there.2);
-          at_least = let enough = reaches.at_least in omega (arith, ints);
-        }
+        let cover = holds.put there.0 a come there.2 in
+        let upto = cover.upto in
+        (cover.other, omega (arith, there.3), record {
+          value = cover.has.value;
+          is_held = cover.has.is_held;
+          at_least = let high = cover.has.at_least in let enough = reaches.at_least in omega (arith, ints);
+        })
 
     early_top : (top : Option Top) → IsTopOf (HasHeight ppb held stretch.end) top →
         IsTopOf (IsEarlyAtLeast ppb extremes stretch) top
-    early_top top = same_top (HasHeight ppb held stretch.end) (IsEarlyAtLeast ppb extremes stretch) top to_extreme
+    early_top top = covering_top (HasHeight ppb held stretch.end) (IsEarlyAtLeast ppb extremes stretch) top to_extreme
         from_extreme
 
   module _ (rise : MiddlesRise stretches) (n next : ℕ) (before : List (Option ℤ)) (tops : List (Option Top))

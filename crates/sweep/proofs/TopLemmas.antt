@@ -24,6 +24,24 @@ same_top first second (Some top) there back is = record {
   first = λ index reaches. is.first index (back index top.level reaches);
 }
 
+-- the same where what the second reaches, an index up to that one reaches in the first
+pub covering_top : (first second : ℕ → ℕ → Type 0) (top : Option Top) →
+    ((index level : ℕ) → first index level → second index level) →
+    ((index level : ℕ) → second index level → (other : ℕ) × (other ≤ index) × first other level) →
+    IsTopOf first top → IsTopOf second top
+covering_top first second None there back none = λ index level reaches.
+    let cover = back index level reaches in
+    none cover.0 level cover.2
+covering_top first second (Some top) there back is = record {
+  reached = there top.index top.level is.reached;
+  highest = λ index level reaches. let cover = back index level reaches in is.highest cover.0 level cover.2;
+  first = λ index reaches.
+      let cover = back index top.level reaches in
+      let upto = cover.1 in
+      let least = is.first cover.0 cover.2 in
+      omega arith;
+}
+
 -- ---- of a ranking
 module _ (held : List (Option ℤ)) (ppb end : ℕ) where
   pub top-below_zero : (greatest : ℤ) → IsGreatest held greatest → greatest <ℤ pos 0 →

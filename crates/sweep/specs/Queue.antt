@@ -1,7 +1,7 @@
 -- The extremes in the order in which they become early while the stretches go by.
 use Rattle.std.specs.Prelude.{◌≡◌, ℕ, ◌+◌, ◌<◌, ◌≤◌, ◌^◌, ℤ, pos}
 use Rattle.std.specs.Prelude.{List, Option, Some, slice_get, length}
-use Rattle.ranking.specs.Ranking.{IsHeld, IsFree}
+use Rattle.ranking.specs.Ranking.{IsHeld, IsFree, HasAtLeast}
 use Rattle.sweep.specs.Top.{height}
 use Rattle.sweep.specs.declared.extreme.Extreme.{Extreme}
 use Rattle.sweep.specs.declared.queue.Arrival.{Arrival}
@@ -48,9 +48,16 @@ pub record IsOneOfFirst (queue : List Arrival) (next at_index : ℕ) (height : �
   pub index : arrival.index ≡ at_index
   pub value : height ≡ pos arrival.height
 
--- the ranking holds the heights of the first arrivals, each at its index, and nothing else
+-- some index up to this one has a height of at least so much
+pub record IsCovered (held : List (Option ℤ)) (height : ℤ) (index : ℕ) : Type 0 where
+  pub other : ℕ
+  pub upto : other ≤ index
+  pub has : HasAtLeast held height other
+
+-- the ranking holds the heights of first arrivals, each at its index, and nothing else. It may leave
+-- one out that is covered: whatever that one reaches, an index before it reaches too.
 pub record HoldsFirst (queue : List Arrival) (next : ℕ) (held : List (Option ℤ)) : Type 0 where
   pub put : (i : ℕ) (a : Arrival) → i < next → slice_get queue i ≡ Some a →
-      IsHeld held a.index (pos a.height)
+      IsCovered held (pos a.height) a.index
   pub free : (i : ℕ) (a : Arrival) → next ≤ i → slice_get queue i ≡ Some a → IsFree held a.index
   pub only : (index : ℕ) (value : ℤ) → IsHeld held index value → IsOneOfFirst queue next index value

@@ -49,8 +49,9 @@ pub fn extremes_of(
     ensures highs { IfOk result (λ extremes.
         AreExtremesOf Side.High samples.now server extremes.1.items) }
 {
-    let mut lows = Vec::new(alloc);
-    let mut highs = Vec::new(alloc);
+    let count = servers.iter().filter(|of| **of == server).count();
+    let mut lows = Vec::with_capacity(alloc, count)?;
+    let mut highs = Vec::with_capacity(alloc, count)?;
     for (number, of) in servers.iter().enumerate() {
         if *of == server {
             let sample = &samples[number];

@@ -52,7 +52,7 @@ fn admit(ranking: &mut Ranking, queue: &[Arrival], next: usize, limit: u128) -> 
 {
     let mut next = next;
     while next < queue.len() && queue[next].at <= limit {
-        ranking.put(queue[next].index, queue[next].height as i128);
+        ranking.offer(queue[next].index, queue[next].height as i128);
         next += 1;
     }
     next

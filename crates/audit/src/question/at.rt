@@ -35,7 +35,7 @@ fn at_text(alloc: Global, second: u32, evidence: &Evidence) -> Result<Vec<u8>, A
         text.items ≡ spec.at_text second (evidence_data evidence.now)) }
 {
     let claim = &evidence.claim;
-    let parts = parts_at(claim, &evidence.collected.exchanges, tick_of(second));
+    let parts = parts_at(claim, &evidence.held.exchanges, tick_of(second));
     hull_text(alloc, claim, parts.as_slice())
 }
 

@@ -41,9 +41,9 @@ pub(crate) fn make_check(
         (evidence_data evidence.now) made.outcome) }
 {
     let claim = &evidence.claim;
-    let verdict = check_exchanges(&evidence.collected.exchanges, claim, certificate);
+    let verdict = check_exchanges(&evidence.held.exchanges, claim, certificate);
     let pieces = certificate.pieces.len() as u32;
-    match check_text(alloc, claim, &evidence.collected, pieces, &verdict) {
+    match check_text(alloc, claim, &evidence.held, pieces, &verdict) {
         Ok(text) => Ok(Made {
             text,
             outcome: outcome_of(&verdict),

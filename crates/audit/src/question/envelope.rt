@@ -47,7 +47,7 @@ pub(crate) fn make_envelope(
     parts_are_of_samples();
     hulls_hold_the_error();
     let claim = &evidence.claim;
-    let Ok(samples) = samples_of(alloc, claim, &evidence.collected.exchanges) else {
+    let Ok(samples) = samples_of(alloc, claim, &evidence.held.exchanges) else {
         return Err(RunFault::Memory);
     };
     match find_envelope(alloc, samples.as_slice(), claim, step.seconds) {

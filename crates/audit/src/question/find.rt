@@ -71,7 +71,7 @@ pub(crate) fn make_find(alloc: Global, step: Step, evidence: &Evidence) -> Resul
         (evidence_data evidence.now) made.outcome) }
 {
     let claim = &evidence.claim;
-    let Ok(samples) = samples_of(alloc, claim, &evidence.collected.exchanges) else {
+    let Ok(samples) = samples_of(alloc, claim, &evidence.held.exchanges) else {
         return Err(RunFault::Memory);
     };
     match find(alloc, samples.as_slice(), claim, step.seconds) {

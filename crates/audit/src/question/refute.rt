@@ -36,7 +36,7 @@ pub(crate) fn make_refute(
     ensures shows { IfOk result (λ made. ShowsOf (refute_by (refutation_data refutation.now))
         (evidence_data evidence.now) made.outcome) }
 {
-    let stands = check_refutation(&evidence.collected.exchanges, &evidence.claim, refutation);
+    let stands = check_refutation(&evidence.held.exchanges, &evidence.claim, refutation);
     match refuted_text(alloc, stands) {
         Ok(text) => Ok(Made {
             text,

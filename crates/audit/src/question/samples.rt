@@ -17,7 +17,7 @@ pub(crate) fn make_samples(alloc: Global, evidence: &Evidence) -> Result<Made, R
     ensures made { IsMadeFor (samples_report (evidence_data evidence.now)) result }
     ensures fault { IfErr result IsOfMaking }
 {
-    match samples_text(alloc, &evidence.claim, &evidence.collected) {
+    match samples_text(alloc, &evidence.claim, &evidence.held) {
         Ok(text) => Ok(Made {
             text,
             outcome: Outcome::Yes,

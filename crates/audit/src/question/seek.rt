@@ -60,7 +60,7 @@ pub(crate) fn make_seek(alloc: Global, evidence: &Evidence) -> Result<Made, RunF
 {
     accepted_refutations_have_a_course();
     yes_and_refutation_never_meet();
-    let found = find_refutation(&evidence.collected.exchanges, &evidence.claim);
+    let found = find_refutation(&evidence.held.exchanges, &evidence.claim);
     match sought_text(alloc, &found) {
         Ok(text) => Ok(Made {
             text,

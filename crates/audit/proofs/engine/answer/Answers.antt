@@ -3,7 +3,7 @@ use Rattle.report.specs.declared.fault.Outcome.TheVariants.{Yes}
 use Rattle.audit.specs.declared.question.Question.{Question}
 use Rattle.audit.specs.Question.{Shows, data_of}
 use Rattle.audit.proofs.StatusLemmas.{shown_by_status}
-use Rattle.audit.proofs.RunLemmas.{claim_taken, claim_was_read, made_of_bytes, run_reports}
+use Rattle.audit.proofs.RunLemmas.{claim_taken, claim_was_read, made_of_bytes, made_runs}
 use Rattle.audit.proofs.ShowsLemmas.{run_shows}
 use Rattle.audit.proofs.engine.answer.Goals as goal
 
@@ -13,7 +13,7 @@ returns-clause-answers g c =
     let made = c.make_report-capture.ensures in
     record {
       answer = c.publish-answer.result;
-      reports = run_reports (data_of c.args.question) _ _ _ _ _ _ c.make_report-capture.result.1 _ (record {
+      promise = made_runs (data_of c.args.question) _ _ _ _ _ _ c.make_report-capture.result.1 _ (record {
         is_made = made_of_bytes _ _ _ _ c.read_claim_from-claim.result _ read.known made.made;
         unwritten = made.unwritten;
         claim_faults = rw made.claim_device read.counts_fault;

@@ -12,7 +12,7 @@ use Rattle.audit.proofs.engine.make_report.Goals as goal
 -- memory that is refused after the capture was read
 pub returns-in-Ok-collected-clause-capture_memory : goal.returns-in-Ok-collected-clause-capture_memory
 returns-in-Ok-collected-clause-capture_memory g c = λ is.
-    inr (header_was_read (claim_data c.in-Ok.claim) _ c.in-Ok-collected.collected
+    inr (header_was_read (claim_data c.in-Ok.claim) _ c.in-Ok-collected.held
     (rw c.in-Ok-collected.is at c.read_capture_from-capture.ensures.known))
 
 pub returns-in-Ok-collected-clause-second_memory : goal.returns-in-Ok-collected-clause-second_memory

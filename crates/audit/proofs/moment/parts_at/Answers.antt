@@ -1,6 +1,7 @@
-use Rattle.std.proofs.Common.{◌≡◌, ◌∙◌, ◌<◌, length, sym, ap, arith, to_z, of_z}
+use Rattle.std.proofs.Common.{◌≡◌, ◌∙◌, ◌<◌, length, map, sym, ap, arith, to_z, of_z}
 use mir.Syntax.{w128}
 use Rattle.claim_file.specs.Claim.{data_of}
+use Rattle.pairing.specs.Held.{exchange_shown}
 use Rattle.checker.specs.Traceability.{samples_of}
 use Rattle.audit.specs.Moment.{part_at}
 use Rattle.audit.proofs.MomentLemmas.{one_stands, none_stands}
@@ -10,7 +11,7 @@ use Rattle.audit.proofs.moment.parts_at.Goals.{in-Some, in_default}
 pub loop-server-preserved : goal.loop-server-preserved
 loop-server-preserved c =
     let claim = c.args.claim.now in
-    let samples = samples_of c.args.exchanges.now (data_of claim) in
+    let samples = samples_of (map exchange_shown c.args.exchanges.now) (data_of claim) in
     let says = part_at samples claim.drift_ppb (to_z w128 (of_z w128 c.args.tick)) in
     let server = c.loop-server.server in
     let within : server < length claim.servers.items =

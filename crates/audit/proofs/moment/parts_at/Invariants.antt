@@ -1,5 +1,6 @@
-use Rattle.std.proofs.Common.{length}
+use Rattle.std.proofs.Common.{length, map}
 use Rattle.claim_file.specs.Claim.{data_of}
+use Rattle.pairing.specs.Held.{exchange_shown}
 use Rattle.checker.specs.Traceability.{samples_of}
 use Rattle.audit.specs.Moment.{part_at}
 use Rattle.audit.proofs.MomentLemmas.{StandsFor}
@@ -7,5 +8,5 @@ use Rattle.audit.proofs.moment.parts_at.Given as goal
 
 abbrev pub invariant-loop-server : goal.invariant-loop-server
 invariant-loop-server l =
-    StandsFor (part_at (samples_of l.exchanges (data_of l.claim)) l.claim.drift_ppb l.tick)
+    StandsFor (part_at (samples_of (map exchange_shown l.exchanges) (data_of l.claim)) l.claim.drift_ppb l.tick)
     (length l.claim.servers.items) l.server l.parts.items

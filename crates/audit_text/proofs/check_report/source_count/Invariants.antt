@@ -1,9 +1,10 @@
-use Rattle.std.proofs.Common.{◌≡◌, ◌≤◌}
+use Rattle.std.proofs.Common.{◌≡◌, ◌≤◌, map}
+use Rattle.pairing.specs.Held.{exchange_shown}
 use Rattle.audit_text.specs.CheckReport.{source_count}
 use Rattle.audit_text.proofs.check_report.source_count.Given as goal
 
 abbrev pub invariant-loop-server : goal.invariant-loop-server
 invariant-loop-server l = record {
-  so_far : l.count ≡ source_count l.exchanges l.server;
+  so_far : l.count ≡ source_count (map exchange_shown l.exchanges) l.server;
   fits : l.count ≤ l.server;
 }

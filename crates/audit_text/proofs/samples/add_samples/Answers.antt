@@ -1,17 +1,42 @@
-use Rattle.std.proofs.Common.{◌∙◌, ◌++◌, ap}
+use Rattle.std.proofs.Common.{◌∙◌, ◌<◌, ◌≤◌, ◌++◌, length, map, ap}
+use Rattle.std.proofs.lemmas.List.{length-map}
 use Rattle.claim_file.specs.Claim.{data_of}
+use Rattle.pairing.specs.Held.{exchange_shown}
+use Rattle.audit_text.specs.SampleLine.{sample_line}
 use Rattle.audit_text.proofs.SampleLemmas.{line_added, lines_done}
+use Rattle.audit_text.proofs.ShownLemmas.{keeps_limits, stands_at}
 use Rattle.audit_text.proofs.samples.add_samples.Goals as goal
+
+pub write_sample_line-requires-clause-exchange : goal.write_sample_line-requires-clause-exchange
+write_sample_line-requires-clause-exchange c = record {
+  servers = length c.args.claim.now.servers.items;
+  lawful = keeps_limits c.args.exchanges.now c.loop-number.number _ c.loop-number-test.true
+      c.to_exchange.result c.to_exchange.ensures _ c.requires.exchanges.each;
+}
+
+pub write_sample_line-requires-clause-listed : goal.write_sample_line-requires-clause-listed
+write_sample_line-requires-clause-listed c =
+    (keeps_limits c.args.exchanges.now c.loop-number.number _ c.loop-number-test.true
+    c.to_exchange.result c.to_exchange.ensures _ c.requires.exchanges.each).listed
 
 pub loop-number-preserved : goal.loop-number-preserved
 loop-number-preserved c =
-    line_added (data_of c.args.claim.now) c.args.exchanges.now c.loop-number.number _
-    c.loop-number-test.true c.loop-number.text.items _ _
+    let claim = data_of c.args.claim.now in
+    let held = c.args.exchanges.now in
+    let i = c.loop-number.number in
+    let x = c.to_exchange.result in
+    let stands = stands_at held i _ c.loop-number-test.true x c.to_exchange.ensures x in
+    let within : i < length (map exchange_shown held) = rw (length-map held exchange_shown) c.loop-number-test.true in
+    line_added claim (map exchange_shown held) i x within c.loop-number.text.items _ _
     (c.in_ok-extend_from_slice.ensures.items
-    ∙ ap (λ l. c.loop-number.text.items ++ l) (c.as_bytes.ensures.text ∙ c.write_sample_line.ensures))
+    ∙ ap (λ l. c.loop-number.text.items ++ l)
+    (c.as_bytes.ensures.text ∙ (c.write_sample_line.ensures ∙ ap (sample_line claim i) stands)))
     c.loop-number.invariant
 
 pub returns : goal.returns
 returns c =
-    lines_done (data_of c.args.claim.now) c.args.exchanges.now c.loop-number.number c.loop-number-test.false
+    let held = c.args.exchanges.now in
+    let past : length (map exchange_shown held) ≤ c.loop-number.number =
+    rw (length-map held exchange_shown) c.loop-number-test.false in
+    lines_done (data_of c.args.claim.now) (map exchange_shown held) c.loop-number.number past
     _ _ c.loop-number.invariant

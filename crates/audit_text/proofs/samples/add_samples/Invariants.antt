@@ -1,4 +1,5 @@
-use Rattle.std.proofs.Common.{◌≡◌, ◌++◌, drop}
+use Rattle.std.proofs.Common.{◌≡◌, ◌++◌, drop, map}
+use Rattle.pairing.specs.Held.{exchange_shown}
 use Rattle.claim_file.specs.Claim.{data_of}
 use Rattle.audit_text.specs.Samples.{sample_lines}
 use Rattle.audit_text.proofs.samples.add_samples.Given as goal
@@ -6,5 +7,6 @@ use Rattle.audit_text.proofs.samples.add_samples.Given as goal
 abbrev pub invariant-loop-number : goal.invariant-loop-number
 invariant-loop-number l =
     let claim = data_of l.claim in
-    l.text.items ++ sample_lines claim l.number (drop l.number l.exchanges)
-    ≡ l.initial.text.items ++ sample_lines claim 0 l.exchanges
+    let exchanges = map exchange_shown l.exchanges in
+    l.text.items ++ sample_lines claim l.number (drop l.number exchanges)
+    ≡ l.initial.text.items ++ sample_lines claim 0 exchanges

@@ -1,12 +1,12 @@
-use Rattle.std.proofs.Common.{arith, subst, sym, ◌∙◌, ap, ℤ, set, Some, ⊎_elim, get_or, ◌≡◌, ◌≤◌, ◌<◌}
+use Rattle.std.proofs.Common.{arith, subst, sym, ◌∙◌, ap, ℤ, set, Some, ◌⊎◌, ⊎_elim, get_or, ◌≡◌, ◌≤◌, ◌<◌}
 use Rattle.std.specs.List.{slice_get}
 use Rattle.std.proofs.lemmas.Bool.{cases_lt}
 use Rattle.std.proofs.lemmas.Int.{to_z_pos}
 use Rattle.std.proofs.lemmas.Option.{slice_get-get_or, slice_get_within, same_Some, get_or_from_slice_get}
 use mir.Syntax.{w128}
-use Rattle.sweep.specs.Queue.{HoldsFirst}
+use Rattle.ranking.specs.Ranking.{HasBefore}
 use Rattle.sweep.specs.declared.queue.Arrival.{Arrival}
-use Rattle.sweep.proofs.RankingLemmas.{HoldsFirst-more}
+use Rattle.sweep.proofs.RankingLemmas.{HoldsFirst-offered}
 use Rattle.sweep.proofs.passage.admit.Goals as goal
 
 pub loop-next-preserved : goal.loop-next-preserved
@@ -19,11 +19,11 @@ loop-next-preserved c =
     record {
       from = let from = c.loop-next.invariant.from in omega arith;
       within = omega arith;
-      holds = subst (HoldsFirst c.args.queue.now _)
-          (sym (c.put.ensures ∙ ap (λ (z : ℤ). set c.loop-next.ranking a.index (Some z))
-          (to_z_pos w128 a.height (omega arith))))
-          (HoldsFirst-more c.args.queue.now c.loop-next.next c.loop-next.ranking c.loop-next.invariant.holds
-          c.requires.once a here);
+      holds = HoldsFirst-offered c.args.queue.now c.loop-next.next c.loop-next.ranking c.loop-next.invariant.holds
+          c.requires.once a here c.offer.new.self
+          (subst (λ (z : ℤ). (c.offer.new.self ≡ set c.loop-next.ranking a.index (Some z))
+          ⊎ ((c.offer.new.self ≡ c.loop-next.ranking) × HasBefore c.loop-next.ranking z a.index))
+          (to_z_pos w128 a.height (omega arith)) c.offer.ensures);
       admitted = λ i x le less at. ⊎_elim
           (λ old. c.loop-next.invariant.admitted i x le old at)
           (λ new.

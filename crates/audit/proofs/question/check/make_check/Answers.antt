@@ -7,10 +7,4 @@ pub returns-in-Ok-clause-shows : goal.returns-in-Ok-clause-shows
 returns-in-Ok-clause-shows c =
     let verdict = c.check_exchanges-verdict in
     verdict_shows (certificate_data c.args.certificate.now) (evidence_data c.args.evidence.now) verdict.result
-    c.outcome_of.result c.outcome_of.ensures (record {
-      exact = rw c.deref.ensures.value at verdict.ensures.exact;
-      yes = rw c.deref.ensures.value at verdict.ensures.yes;
-      contradiction = rw c.deref.ensures.value at verdict.ensures.contradiction;
-      by_pieces = rw c.deref.ensures.value at verdict.ensures.by_pieces;
-      held = rw c.deref.ensures.value at verdict.ensures.held;
-    })
+    c.outcome_of.result c.outcome_of.ensures (rw c.deref.ensures.value at verdict.ensures)

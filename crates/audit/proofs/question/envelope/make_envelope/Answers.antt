@@ -1,5 +1,6 @@
-use Rattle.std.proofs.Common.{◌∙◌, ap}
+use Rattle.std.proofs.Common.{◌∙◌, ap, map}
 use Rattle.claim_file.specs.Claim.{data_of}
+use Rattle.pairing.specs.Held.{exchange_shown}
 use Rattle.checker.specs.Traceability.{samples_of}
 use Rattle.finder.specs.Envelope.{data_of as envelope_data}
 use Rattle.audit.specs.Evidence.{evidence_data}
@@ -9,7 +10,7 @@ use Rattle.audit.proofs.question.envelope.make_envelope.Goals as goal
 pub returns-in-Ok-envelope_text-clause-shows : goal.returns-in-Ok-envelope_text-clause-shows
 returns-in-Ok-envelope_text-clause-shows c =
     let found = c.in-Ok-find_envelope in
-    let exchanges = ap (λ xs. samples_of xs (data_of c.args.evidence.now.claim)) c.deref.ensures.value in
+    let exchanges = ap (λ xs. samples_of (map exchange_shown xs) (data_of c.args.evidence.now.claim)) c.deref.ensures.value in
     envelope_shows (record {
       accepted = c.best_entries_are_accepted.ensures.parts;
       of_samples = c.parts_are_of_samples.ensures;

@@ -7,8 +7,5 @@ pub returns-in-Ok-clause-shows : goal.returns-in-Ok-clause-shows
 returns-in-Ok-clause-shows c =
     let stands = c.check_refutation-stands in
     judgement_shows (refutation_data c.args.refutation.now) (evidence_data c.args.evidence.now)
-    c.requires.exchanges.agree stands.result c.refuted_outcome.result c.refuted_outcome.ensures (record {
-      exact = rw c.deref.ensures.value at stands.ensures.exact;
-      course = rw c.deref.ensures.value at stands.ensures.course;
-      no_yes = rw c.deref.ensures.value at stands.ensures.no_yes;
-    })
+    c.requires.exchanges.agree stands.result c.refuted_outcome.result c.refuted_outcome.ensures
+    (rw c.deref.ensures.value at stands.ensures)

@@ -34,7 +34,7 @@ invariant_of-self c =
     let entries = entries_set nodes c.put.new.nodes leaves c.args.number c.args.value c.requires.above_least leaf in
     let fits : SFits w128 c.root-greatest.result = search rules in
     let is = c.root-greatest.ensures ∙ ap (λ nodes. value_of nodes 0) c.deref.ensures.value in
-    let leads = rw (to_z-of_z w128 c.args.value c.ranges.value) at c.after-self-inside.ensures in
+    let leads = rw (to_z-of_z w128 c.args.value c.ranges.value) at c.take_in.ensures in
     rw items (record {
       tree = c.put.ensures.is_tree;
       leads = rw entries (leads (entries_of nodes leaves) (rw c.self.view_is c.requires.free)
