@@ -9,8 +9,10 @@ use arrayvec::ArrayVec;
 /// both its ends.
 #[derive(Clone, Copy, Debug, Default, PartialEq, Eq, PartialOrd, Ord)]
 pub enum Side {
+    /// The end that bounds the interval from below.
     #[default]
     Low,
+    /// The end that bounds it from above.
     High,
 }
 

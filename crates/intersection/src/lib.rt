@@ -23,5 +23,6 @@ pub mod kinds;
 pub mod laws;
 mod marzullo;
 
+pub use ends::Side;
 pub use interval::meet;
 pub use marzullo::{hull, hull_walk};

@@ -7,8 +7,8 @@ use Rattle.std.specs.Prelude.{List, [], ◌∷◌, Option, None, Some, slice_get
 use Rattle.std.specs.Option.{option_map}
 use Rattle.sample_interval.specs.declared.kinds.Sample.{Sample}
 use Rattle.span_cover.specs.Piece.{moved_low, moved_high}
-use Rattle.span_cover.specs.declared.choice.Side.{Side}
-use Rattle.span_cover.specs.declared.choice.Side.TheVariants.{Low, High}
+use Rattle.intersection.specs.declared.ends.Side.{Side}
+use Rattle.intersection.specs.declared.ends.Side.TheVariants.{Low, High}
 
 -- none of the samples is of this server
 abbrev pub HasNoSample : List Sample → ℕ → Type 0

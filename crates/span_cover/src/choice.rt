@@ -7,17 +7,8 @@ ghost use Rattle.span_cover.specs.Best.{best_of, first_best_of, merit, better};
 ghost use Rattle.span_cover.specs.Best.{IsBestLow, IsBestHigh, HasNoSample};
 
 use crate::piece::{lowered, raised};
+use intersection::Side;
 use sample_interval::kinds::Sample;
-
-/// Which side of the error is asked for: the low end of a sample bounds it from below, the high
-/// end from above.
-#[derive(Clone, Copy)]
-pub enum Side {
-    /// The low end.
-    Low,
-    /// The high end.
-    High,
-}
 
 /// The numbers of the samples of a server that make its interval over the piece `p` to `q`
 /// narrowest: the one with the greatest moved low and the one with the least moved high, the least

@@ -22,7 +22,7 @@ mod piece;
 mod steps;
 mod stretch;
 
-pub use choice::{Side, best};
+pub use choice::best;
 pub use gathering::BestSamples;
 pub use group::{is_inside, piece_hull};
 pub use part::{Part, part_of};

@@ -11,8 +11,8 @@ use Rattle.sample_interval.specs.declared.kinds.Sample.{Sample}
 use Rattle.span_cover.specs.Best.{HasNoSample}
 use Rattle.sweep.specs.Extreme.{IsEndAt, IsExtremeOf, IsOfServer, IsLawfulExtreme, AreExtremesOf}
 use Rattle.sweep.specs.declared.extreme.Extreme.{Extreme}
-use Rattle.span_cover.specs.declared.choice.Side.{Side}
-use Rattle.span_cover.specs.declared.choice.Side.TheVariants.{Low, High}
+use Rattle.intersection.specs.declared.ends.Side.{Side}
+use Rattle.intersection.specs.declared.ends.Side.TheVariants.{Low, High}
 use Rattle.sweep.proofs.ListLemmas.{pushed_cases, slice_get-front, slice_get-last}
 
 lawful_end : (value start stop : ℤ) (extreme : Extreme) → unsigned_abs value ≤ 2 ^ 72 → unsigned_abs start ≤ 2 ^ 72 →

@@ -13,8 +13,8 @@ use Rattle.sweep.specs.Extreme.{IsFromOrigin, IsExtremeOf, IsLawfulExtreme, IsOf
 use Rattle.sweep.specs.Stretch.{IsStretchOf, IsLawfulStretch}
 use Rattle.sweep.specs.Top.{IsTopNumber, distance}
 use Rattle.sweep.specs.declared.extreme.Extreme.{Extreme}
-use Rattle.span_cover.specs.declared.choice.Side.{Side}
-use Rattle.span_cover.specs.declared.choice.Side.TheVariants.{Low, High}
+use Rattle.intersection.specs.declared.ends.Side.{Side}
+use Rattle.intersection.specs.declared.ends.Side.TheVariants.{Low, High}
 use Rattle.sweep.specs.declared.stretch.Stretch.{Stretch}
 
 distance_is : (start stop p q : ℤ) (extreme : Extreme) (stretch : Stretch) → IsFromOrigin start extreme.from →

@@ -9,7 +9,7 @@ use Rattle.sweep.specs.Pieces.{AreBestOfPieces, ArePairsOf}
 use Rattle.sweep.specs.Stretch.{AreStretchesOf, IsLawfulStretch}
 use Rattle.sweep.specs.Top.{AreTopNumbers}
 use Rattle.sweep.specs.declared.extreme.Extreme.{Extreme}
-use Rattle.span_cover.specs.declared.choice.Side.TheVariants.{Low, High}
+use Rattle.intersection.specs.declared.ends.Side.TheVariants.{Low, High}
 use Rattle.sweep.specs.declared.stretch.Stretch.{Stretch}
 use Rattle.sweep.proofs.ListLemmas.{all_at}
 use Rattle.sweep.proofs.MeritLemmas.{IsFirstBest-top}

@@ -5,8 +5,8 @@
 use Rattle.std.specs.Prelude.{◌≡◌, ℕ, ◌+◌, ◌-◌, ◌^◌, ◌<◌, ◌≤◌, ℤ, pos, ◌+ℤ◌, neg_ℤ}
 use Rattle.std.specs.Prelude.{List, Some, slice_get, length}
 use Rattle.sample_interval.specs.declared.kinds.Sample.{Sample}
-use Rattle.span_cover.specs.declared.choice.Side.{Side}
-use Rattle.span_cover.specs.declared.choice.Side.TheVariants.{Low, High}
+use Rattle.intersection.specs.declared.ends.Side.{Side}
+use Rattle.intersection.specs.declared.ends.Side.TheVariants.{Low, High}
 use Rattle.sweep.specs.declared.extreme.Extreme.{Extreme}
 
 -- the extreme's number of ticks is this one, counted from the origin

@@ -5,8 +5,8 @@ ghost use Rattle.sweep.specs.Extreme.{AreExtremesOf, IsExtremeOf, IsLawfulExtrem
 
 use crate::source::SampleSource;
 use crate::tick::{from_origin, mirrored_tick};
+use intersection::Side;
 use sample_interval::kinds::Sample;
-use span_cover::Side;
 use std::alloc::{AllocError, Global};
 
 /// An end of a sample. Time and error are counted from the origin. A high end has its sign turned,

@@ -1,4 +1,4 @@
-use Rattle.span_cover.specs.declared.choice.Side.TheVariants.{Low, High}
+use Rattle.intersection.specs.declared.ends.Side.TheVariants.{Low, High}
 use Rattle.sweep.proofs.ExtremeLemmas.{ExtremesSoFar}
 use Rattle.sweep.proofs.extreme.extremes_of.Given as goal
 

@@ -6,7 +6,7 @@ use Rattle.sweep.specs.Extreme.{IsLawfulExtreme}
 use Rattle.sweep.specs.Pieces.{ArePieces}
 use Rattle.sweep.specs.Stretch.{AreStretchesOf, MiddlesRise}
 use Rattle.sweep.specs.declared.extreme.Extreme.{Extreme}
-use Rattle.span_cover.specs.declared.choice.Side.TheVariants.{Low, High}
+use Rattle.intersection.specs.declared.ends.Side.TheVariants.{Low, High}
 use Rattle.sweep.proofs.ExtremeLemmas.{lawful_extremes, some_sample, some_extreme}
 use Rattle.sweep.proofs.PieceLemmas.{AreBestOfPieces-tops, AreTopNumbers-lent, ArePairsOf-lent}
 use Rattle.sweep.proofs.StretchLemmas.{MiddlesRise-adjoin}
