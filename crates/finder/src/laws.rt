@@ -2,8 +2,11 @@
 //! for every number.
 ghost use Rattle.std.specs.Prelude.{◌≡◌, ℕ, ◌<◌, ◌≤◌, ◌*◌, ℤ, ◌≤ℤ◌, List, [], Ok, All, length};
 ghost use Rattle.claim_file.specs.Claim.{ClaimData, IsLawful};
+ghost use Rattle.pairing.specs.Exchange.{IsLawful as IsLawfulExchange};
+ghost use Rattle.pairing.specs.declared.exchange.Exchange.{Exchange};
+ghost use Rattle.sample_interval.specs.Sample.{IsLawfulSample};
 ghost use Rattle.sample_interval.specs.declared.kinds.Sample.{Sample};
-ghost use Rattle.checker.specs.Traceability.{HoldsError};
+ghost use Rattle.checker.specs.Traceability.{HoldsError, samples_of};
 ghost use Rattle.checker.specs.Verdict.{parts_after, parts_fault, hull_fault};
 ghost use Rattle.span_cover.specs.declared.stretch.Stretch.{Stretch};
 ghost use Rattle.finder.specs.Entry.{best_entries, best_hull, parts_named};
@@ -20,6 +23,19 @@ use era_unfold::laws::{
 };
 use intersection::kinds::Hull;
 use span_cover::laws::{best_samples_are_the_first_best, piece_inside_another_is_narrower};
+
+/// The samples of exchanges keep their limits if the exchanges do, are of servers of the claim, and
+/// are as many.
+pub fn samples_of_exchanges_keep_limits()
+    ensures lawful { (claim : ClaimData) (xs : List Exchange) → IsLawful claim →
+        All (IsLawfulExchange (length claim.servers)) xs →
+        All IsLawfulSample (samples_of xs claim) }
+    ensures listed { (claim : ClaimData) (xs : List Exchange) →
+        All (IsLawfulExchange (length claim.servers)) xs →
+        All (λ sample. sample.server < length claim.servers) (samples_of xs claim) }
+    ensures as_many { (claim : ClaimData) (xs : List Exchange) →
+        length (samples_of xs claim) ≡ length xs }
+{}
 
 /// The last of the pieces is the first that ends with the span.
 pub fn last_piece_ends_with_the_span()

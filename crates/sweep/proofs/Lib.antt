@@ -1,4 +1,5 @@
 mod ListLemmas
+mod SourceLemmas
 mod ExtremeLemmas
 mod PieceLemmas
 mod StretchLemmas

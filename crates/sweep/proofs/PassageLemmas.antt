@@ -1,5 +1,5 @@
 -- The tops of the early extremes, over the stretches so far.
-use Rattle.std.proofs.Common.{◌≡◌, ℕ, ◌+◌, ◌<◌, ◌≤◌, ℤ, pos, List, [], ◌∷◌, ◌++◌, length, replicate}
+use Rattle.std.proofs.Common.{◌≡◌, ℕ, ◌+◌, ◌<◌, ◌≤◌, ℤ, List, [], ◌∷◌, ◌++◌, length, replicate}
 use Rattle.std.proofs.Common.{Option, None, Some, refl}
 use Rattle.std.proofs.Common.{arith, subst, get_or, ⊎_elim, sym, ◌∙◌, ap}
 use Rattle.std.specs.List.{slice_get}
@@ -101,12 +101,15 @@ module _ (ppb : ℕ) (extremes : List Extreme) (stretches : List Stretch) (queue
         let height_is : a.height ≡ height ppb reaches.extreme = of.height ∙ ap (height ppb) one in
         let come = has_come there.0 a there.2 (let e = reaches.early in omega arith) in
         let cover = holds.put there.0 a come there.2 in
-        let upto = cover.upto in
-        (cover.other, omega (arith, there.3), record {
-          value = cover.has.value;
-          is_held = cover.has.is_held;
-          at_least = let high = cover.has.at_least in let enough = reaches.at_least in omega (arith, ints);
-        })
+        let upto = cover.upto in (
+          cover.other,
+          omega (arith, there.3),
+          record {
+            value = cover.has.value;
+            is_held = cover.has.is_held;
+            at_least = let high = cover.has.at_least in let enough = reaches.at_least in omega (arith, ints);
+          },
+        )
 
     early_top : (top : Option Top) → IsTopOf (HasHeight ppb held stretch.end) top →
         IsTopOf (IsEarlyAtLeast ppb extremes stretch) top

@@ -13,6 +13,7 @@
 #![tactic(auto)]
 
 mod choice;
+mod exchange_samples;
 mod extreme;
 mod passage;
 mod pieces;
@@ -22,6 +23,7 @@ mod stretch;
 mod tick;
 mod top;
 
+pub use exchange_samples::ExchangeSamples;
 pub use extreme::servers_of;
 pub use pieces::best_of_pieces;
 pub use source::SampleSource;

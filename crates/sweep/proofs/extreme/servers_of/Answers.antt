@@ -1,7 +1,3 @@
-use Rattle.std.proofs.Common.{◌<◌, ◌∙◌, length, sym, ap, get_or, ◌++◌, [], ◌∷◌, ◌≡◌, map, take, arith}
-use Rattle.std.proofs.lemmas.List.{map_more}
-use Rattle.std.proofs.lemmas.Option.{get_or_from_slice_get, slice_get_within}
-use Rattle.sample_interval.specs.declared.kinds.Sample.{Sample}
 use Rattle.sweep.proofs.ExtremeLemmas.{servers_more}
 use Rattle.sweep.proofs.extreme.servers_of.Goals as goal
 

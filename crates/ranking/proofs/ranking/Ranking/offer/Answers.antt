@@ -1,5 +1,5 @@
 use Rattle.std.proofs.Common.{◌≤ℤ◌, ◌<ℤ◌, ◌∙◌, inr, refl, ap, arith, rules}
-use Rattle.std.proofs.lemmas.Int.{ints, to_z-of_z}
+use Rattle.std.proofs.lemmas.Int.{ints}
 use mir.Syntax.{w128}
 use mir.Val.{SFits}
 use Rattle.ranking.specs.Tree.{value_of}
@@ -20,12 +20,15 @@ returns-then-value-root c =
     let top = greatest_is nodes leaves c.self.invariant.tree (rw (← is) something) in
     let has = c.self.invariant.leads.most top.reached.0 (value_of nodes 0) top.reached.1 in
     rw (← c.self.view_is)
-    (inr (refl, record {
-      other = lead.number;
-      earlier = omega (arith, c.if-self-number.true);
-      has = record {
-        value = has.value;
-        is_held = has.is_held;
-        at_least = let reaches = has.at_least in omega (arith, ints, is);
-      };
-    }))
+    (inr (
+      refl,
+      record {
+        other = lead.number;
+        earlier = omega (arith, c.if-self-number.true);
+        has = record {
+          value = has.value;
+          is_held = has.is_held;
+          at_least = let reaches = has.at_least in omega (arith, ints, is);
+        };
+      },
+    ))

@@ -1,0 +1,24 @@
+use Rattle.std.proofs.Common.{rules}
+use Rattle.std.proofs.lemmas.Int.{to_z-of_z}
+use Rattle.std.proofs.lemmas.List.{length-map}
+use mir.Syntax.{w128}
+use mir.Val.{SFits}
+use Rattle.sweep.proofs.SourceLemmas.{of_some_claim, sample_made}
+use Rattle.sweep.proofs.exchange_samples.ExchangeSamplesSampleSource.sample_at.Goals as goal
+
+pub sample-requires-clause-exchange : goal.sample-requires-clause-exchange
+sample-requires-clause-exchange g c =
+    let made = c.args.self in
+    let below = rw (length-map, length-map) at c.requires in
+    of_some_claim g.X.ToExchange.shown made.exchanges.now c.args.number c.index-self-number.result
+    c.to_exchange.result below c.to_exchange.ensures made.lawful
+
+pub returns : goal.returns
+returns g c =
+    let made = c.args.self in
+    let below = rw (length-map, length-map) at c.requires in
+    let fits : SFits w128 made.reading = search rules in
+    let exact = rw (to_z-of_z w128 made.reading fits) at c.sample.ensures.exact in
+    sample_made g.X.ToExchange.shown made.exchanges.now c.args.number c.index-self-number.result
+    c.to_exchange.result below c.to_exchange.ensures made.reading c.sample.result
+    exact
