@@ -39,22 +39,21 @@ pub(crate) enum HeldRequest {
 /// An exchange as it is held: a reply, its record's window, its timestamps as they were sent, and
 /// its request.
 ///
-/// While its request is sought it has what names it, and then the request's record. The order of
-/// the fields leaves no room between them.
+/// While its request is sought it has what names it, and then the request's record.
 #[derive(Clone, Copy, Debug, PartialEq, Eq)]
 pub struct HeldExchange {
-    /// The server's number.
-    pub(crate) server: u8,
-    /// The leap indicator.
-    pub(crate) leap: u8,
-    /// The stratum.
-    pub(crate) stratum: u8,
     /// The reference identifier.
     pub(crate) reference: [u8; 4],
     /// The number of the reply's record.
     pub(crate) reply: u32,
     /// How many ticks after the first one the window of the reply's record ends.
     pub(crate) width: u16,
+    /// The server's number.
+    pub(crate) server: u8,
+    /// The leap indicator.
+    pub(crate) leap: u8,
+    /// The stratum.
+    pub(crate) stratum: u8,
     /// The first tick of the window of the reply's record.
     pub(crate) low: u64,
     /// The receive timestamp.
@@ -66,6 +65,9 @@ pub struct HeldExchange {
     /// Its request.
     pub(crate) request: HeldRequest,
 }
+
+/// A line of the processor's cache, and half of what an `Exchange` takes.
+const _: () = prove!(size_of::<HeldExchange>() == 64);
 
 impl HeldExchange {
     /// A reply of this server, with the root distance that it announces. What names its request is

@@ -40,6 +40,8 @@ pub(crate) enum Place {
     Several,
 }
 
+const _: () = prove!(size_of::<Key>() == 16 && size_of::<Place>() == 16);
+
 /// Each key's requests, as far as the capture was read.
 #[derive(Drop)]
 pub(crate) struct Index {
