@@ -18,7 +18,7 @@ is_utf8-ascii bytes small = is_utf8-from_IsUtf8 bytes (IsUtf8-from_ascii bytes s
 
 module _ (certificate : CertificateData) (few : length certificate.pieces ≤ max_pieces)
     (held : All IsHeld certificate.pieces) where
-  certificate_of-text : certificate_of (certificate_text certificate) ≡ Ok certificate
+  pub certificate_of-text : certificate_of (certificate_text certificate) ≡ Ok certificate
   certificate_of-text =
       certificate_of-read (certificate_text certificate) certificate
       (is_utf8-ascii (certificate_text certificate) (ascii_certificate certificate held))

@@ -1,13 +1,10 @@
 -- What was written is read again.
-use Rattle.std.proofs.Common.{◌≡◌, ℕ, zero, suc, ◌+◌, ◌<◌, ◌≤◌, ◌^◌, List, [], ◌∷◌, length, map, true, nat_le, Some, None, Ok, refl, ap, ◌∙◌, arith, get_or, if◌then◌else◌, String, Global, string_bytes}
+use Rattle.std.proofs.Common.{◌≡◌, ℕ, zero, suc, ◌+◌, ◌<◌, ◌≤◌, ◌^◌, List, [], ◌∷◌, length, map, true, nat_le, Some, None, Ok, refl, ap, ◌∙◌, arith, get_or, if◌then◌else◌}
 use Rattle.std.proofs.lemmas.Bool.Decides.{Decides-ltb, nat_tests}
 use Rattle.std.specs.Prelude.{All}
 use Rattle.serde_json.specs.Data.{Data, depth, items_depth}
 use Rattle.serde_json.specs.Events.{items_len}
 use Rattle.serde_json.specs.View.{items_of}
-use Rattle.std.proofs.Math.Bool.{Bool-set}
-use Rattle.std.proofs.Math.Logic.{∥∥₁_elim}
-use Rattle.std.proofs.lemmas.Str.{is_utf8-from_IsUtf8}
 use Rattle.std.specs.Str.{is_utf8}
 use Rattle.json_text.specs.Step.{given}
 use Rattle.certificate.specs.declared.fault.CertificateFault.TheVariants.{Json}
@@ -93,10 +90,6 @@ held_pieces [] each k d less = absurd (omega arith)
 held_pieces (p ∷ ps) each zero d less = each 0 p (omega arith)
 held_pieces (p ∷ ps) each (suc k) d less =
     held_pieces ps (λ j e within. each (suc j) e (omega arith)) k d (omega arith)
-
--- a string is UTF-8
-pub is_utf8-string : (text : String Global) → is_utf8 (string_bytes text) ≡ true
-is_utf8-string text = ∥∥₁_elim text.ok (Bool-set _ _) (λ u. is_utf8-from_IsUtf8 (string_bytes text) u)
 
 -- what a text of this value says
 pub certificate_of-read : (bytes : List ℕ) (certificate : CertificateData) → is_utf8 bytes ≡ true →

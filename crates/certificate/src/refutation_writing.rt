@@ -5,10 +5,9 @@ ghost use Rattle.std.specs.List.{join_with_byte};
 ghost use Rattle.certificate.specs.Refutation.{data_of};
 ghost use Rattle.certificate.specs.RefutationReading.{refutation_of};
 ghost use Rattle.certificate.specs.RefutationWriting.{refutation_text};
-ghost use Rattle.certificate.specs.Writing.{comma};
+ghost use Rattle.certificate.specs.Writing.{comma, comma_before};
 
 use crate::refutation::Refutation;
-use crate::writing::{push_comma, push_number};
 use itoa::Buffer;
 use std::alloc::{AllocError, Global};
 
@@ -42,4 +41,21 @@ fn push_servers(text: &mut String, servers: &[u8]) -> Result<(), AllocError>
         push_number(text, u64::from(*server))?;
     }
     Ok(())
+}
+
+/// Writes a comma before every element but the first.
+fn push_comma(text: &mut String, index: usize) -> Result<(), AllocError>
+    ensures { OnOk result (string_bytes text.new ≡ string_bytes text.old ++ comma_before index) }
+{
+    if index > 0 {
+        text.push_str(",")?;
+    }
+    Ok(())
+}
+
+/// Writes a number in decimal.
+fn push_number(text: &mut String, number: u64) -> Result<(), AllocError>
+    ensures { OnOk result (string_bytes text.new ≡ string_bytes text.old ++ decimal number) }
+{
+    text.push_str(Buffer::new().format(number))
 }

@@ -1,14 +1,15 @@
 //! The text that writes a certificate.
 
-ghost use Rattle.std.specs.Prelude.{◌≡◌, ℕ, ◌≤◌, ◌++◌, IfOk, OnOk, Ok, length, map, All, string_bytes, decimal};
+ghost use Rattle.std.specs.Prelude.{◌≡◌, ℕ, ◌+◌, ◌≤◌, ◌++◌, IfOk, OnOk, Ok, length, map, All, string_bytes};
 ghost use Rattle.std.specs.List.{join_with_byte};
+ghost use Rattle.line_writer.specs.declared.line.TheConstants.{CAPACITY};
 ghost use Rattle.certificate.specs.Certificate.{NamesSamples, IsHeld, data_of, piece_data, max_pieces};
 ghost use Rattle.certificate.specs.Reading.{certificate_of};
 ghost use Rattle.certificate.specs.Writing as spec;
 ghost use Rattle.certificate.specs.Writing.{comma, comma_before};
 
 use crate::certificate::{Certificate, Piece};
-use itoa::Buffer;
+use line_writer::Line;
 use std::alloc::{AllocError, Global};
 
 /// The text of a certificate: compact, with `entries` before `upto` and numbers in decimal.
@@ -20,79 +21,97 @@ pub fn write_certificate(alloc: Global, certificate: &Certificate) -> Result<Str
     ensures reads_back { IfOk result (λ text. length certificate.now.pieces.items ≤ max_pieces →
         certificate_of (string_bytes text) ≡ Ok (data_of certificate.now)) }
 {
-    let mut text = String::new(alloc);
-    text.push_str("{\"pieces\":[")?;
+    let bytes = certificate_bytes(alloc, certificate)?;
+    Ok(String::from_utf8(bytes).unwrap())
+}
+
+/// The bytes of a certificate's text.
+fn certificate_bytes(alloc: Global, certificate: &Certificate) -> Result<Vec<u8>, AllocError>
+    ensures text { IfOk result (λ text. text.items
+        ≡ spec.certificate_text (data_of certificate.now)) }
+    ensures held { IfOk result (λ _. All IsHeld (data_of certificate.now).pieces) }
+{
+    let mut text = Vec::from_slice(alloc, b"{\"pieces\":[")?;
     push_pieces(&mut text, &certificate.pieces)?;
-    text.push_str("]}")?;
+    text.extend_from_slice(b"]}")?;
     Ok(text)
 }
 
 /// Writes the pieces, with commas between them.
-fn push_pieces(text: &mut String, pieces: &[Piece]) -> Result<(), AllocError>
-    ensures text { OnOk result (string_bytes text.new ≡ string_bytes text.old
+fn push_pieces(text: &mut Vec<u8>, pieces: &[Piece]) -> Result<(), AllocError>
+    ensures text { OnOk result (text.new.items ≡ text.old.items
         ++ join_with_byte comma (map spec.piece_text (map piece_data pieces.now))) }
     ensures held { OnOk result (All IsHeld (map piece_data pieces.now)) }
 {
+    let mut line = Line::new();
     for (index, piece) in pieces.iter().enumerate() {
-        push_comma(text, index)?;
-        push_piece(text, piece)?;
+        push_piece(text, &mut line, index, piece)?;
     }
     Ok(())
 }
 
-/// Writes a piece.
-fn push_piece(text: &mut String, piece: &Piece) -> Result<(), AllocError>
-    ensures text { OnOk result (string_bytes text.new
-        ≡ string_bytes text.old ++ spec.piece_text (piece_data piece.now)) }
+/// Writes the piece with this number, after its comma. `line` holds one part of it at a time.
+fn push_piece(
+    text: &mut Vec<u8>,
+    line: &mut Line,
+    index: usize,
+    piece: &Piece,
+) -> Result<(), AllocError>
+    ensures text { OnOk result (text.new.items
+        ≡ text.old.items ++ comma_before index ++ spec.piece_text (piece_data piece.now)) }
     ensures held { OnOk result (IsHeld (piece_data piece.now)) }
 {
-    text.push_str("{\"entries\":[")?;
-    push_entries(text, &piece.entries)?;
-    text.push_str("],\"upto\":")?;
-    push_number(text, piece.upto)?;
-    text.push_str("}")?;
+    line.clear();
+    line.put_text("{\"entries\":[");
+    put_comma(line, index);
+    text.extend_from_slice(line.as_bytes())?;
+    push_entries(text, line, &piece.entries)?;
+    line.clear();
+    line.put_byte(b'}');
+    line.put_number(piece.upto);
+    line.put_text("],\"upto\":");
+    text.extend_from_slice(line.as_bytes())?;
     Ok(())
 }
 
 /// Writes the entries of a piece, with commas between them.
-fn push_entries(text: &mut String, entries: &[(u32, u32)]) -> Result<(), AllocError>
-    ensures text { OnOk result (string_bytes text.new
-        ≡ string_bytes text.old ++ join_with_byte comma (map spec.entry_text entries.now)) }
+fn push_entries(
+    text: &mut Vec<u8>,
+    line: &mut Line,
+    entries: &[(u32, u32)],
+) -> Result<(), AllocError>
+    ensures text { OnOk result (text.new.items
+        ≡ text.old.items ++ join_with_byte comma (map spec.entry_text entries.now)) }
     ensures named { OnOk result (All NamesSamples entries.now) }
 {
     for (index, entry) in entries.iter().enumerate() {
-        push_comma(text, index)?;
-        push_entry(text, *entry)?;
+        write_entry(line, index, *entry);
+        text.extend_from_slice(line.as_bytes())?;
     }
     Ok(())
 }
 
-/// Writes an entry.
-fn push_entry(text: &mut String, entry: (u32, u32)) -> Result<(), AllocError>
-    ensures text { OnOk result (string_bytes text.new
-        ≡ string_bytes text.old ++ spec.entry_text entry) }
+/// Writes the entry with this number, after its comma, in place of what `line` held.
+fn write_entry(line: &mut Line, index: usize, entry: (u32, u32))
+    ensures text { line.new ≡ comma_before index ++ spec.entry_text entry }
     ensures named { NamesSamples entry }
 {
-    text.push_str("[")?;
-    push_number(text, u64::from(entry.0))?;
-    text.push_str(",")?;
-    push_number(text, u64::from(entry.1))?;
-    text.push_str("]")
+    line.clear();
+    line.put_byte(b']');
+    line.put_number(entry.1);
+    line.put_byte(b',');
+    line.put_number(entry.0);
+    line.put_byte(b'[');
+    put_comma(line, index);
 }
 
-/// Writes a comma before every element but the first.
-pub(crate) fn push_comma(text: &mut String, index: usize) -> Result<(), AllocError>
-    ensures { OnOk result (string_bytes text.new ≡ string_bytes text.old ++ comma_before index) }
+/// Writes a comma, but before the first element none.
+#[inline]
+fn put_comma(line: &mut Line, index: usize)
+    requires { length line.old + 1 ≤ CAPACITY }
+    ensures { line.new ≡ comma_before index ++ line.old }
 {
     if index > 0 {
-        text.push_str(",")?;
+        line.put_byte(b',');
     }
-    Ok(())
-}
-
-/// Writes a number in decimal.
-pub(crate) fn push_number(text: &mut String, number: u64) -> Result<(), AllocError>
-    ensures { OnOk result (string_bytes text.new ≡ string_bytes text.old ++ decimal number) }
-{
-    text.push_str(Buffer::new().format(number))
 }

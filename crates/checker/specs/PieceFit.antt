@@ -1,10 +1,12 @@
 -- What one piece of a certificate needs of a course of events.
 --
 -- Each entry of a piece names two exchanges of a server: it uses the request of the one for the low
--- end of the server's interval, and the reply of the other for the high end. Nothing else counts
--- for what the piece shows. So a course may do as it likes outside of these moments: the clock may
--- be stepped before the first of them or after the last, and servers may be false in another hour,
--- other ones for each piece.
+-- end of the server's interval, and the reply of the other for the high end. Besides these moments
+-- only the observation counts, at any reading of the piece. So a course may do as it likes before
+-- the first of them all and after the last: the clock may be stepped then, and servers may be false
+-- in another hour, other ones for each piece. A step between a moment that is used and the
+-- observation does count, as between the last exchange named and the end of the piece: a course
+-- that is observed after such a step doesn't fit.
 use Rattle.std.specs.Prelude.{◌≡◌, ℕ, ◌<◌, ◌≤◌, ◌+ℤ◌, ◌-ℤ◌, ◌≤ℤ◌, Bool, true, false, List, length, count_by, slice_get, Some}
 use Rattle.std.specs.List.{range_with_len}
 use Rattle.claim_file.specs.Claim.{ClaimData}

@@ -1,7 +1,8 @@
 //! The entries of a piece.
 
-ghost use Rattle.std.specs.Prelude.{◌≡◌, ◌≤◌, ◌==◌, [], Ok, Err, MatchResult, slice_get};
+ghost use Rattle.std.specs.Prelude.{◌≡◌, ◌==◌, [], Ok, Err, MatchResult, slice_get};
 ghost use Rattle.std.specs.List.{list_any};
+ghost use Rattle.sample_interval.specs.Widening.{IsRate};
 ghost use Rattle.span_cover.specs.Piece.{IsPiece};
 ghost use Rattle.checker.specs.Verdict.{part_from, parts_after};
 
@@ -22,7 +23,7 @@ pub(crate) fn add_parts<S: SampleSource>(
     requires empty { parts.old.items ≡ [] }
     requires source { S.IsLawfulSource source.now }
     requires stretch { IsPiece stretch.begin stretch.end }
-    requires rate { drift_ppb ≤ 500_000_000 }
+    requires rate { IsRate drift_ppb }
     ensures { MatchResult result
         (λ _. parts_after (S.samples source.now) stretch drift_ppb [] entries.now.items
         ≡ Ok parts.new.items)
@@ -46,7 +47,7 @@ fn part<S: SampleSource>(
 ) -> Result<Part, Why>
     requires source { S.IsLawfulSource source.now }
     requires stretch { IsPiece stretch.begin stretch.end }
-    requires rate { drift_ppb ≤ 500_000_000 }
+    requires rate { IsRate drift_ppb }
     ensures { result ≡
         part_from stretch drift_ppb earlier.now
         (slice_get (S.samples source.now) entry.0)

@@ -5,8 +5,9 @@
 //! (`sample_interval`), the error throughout a piece (`span_cover`), how many groups leave it out
 //! (here), the hull of whole points that holds it (`intersection`), the pieces that hold every
 //! reading of the span (here).
-ghost use Rattle.std.specs.Prelude.{true, ◌≡◌, ℕ, ◌+◌, ◌<◌, ◌≤◌, ℤ, pos, neg_ℤ, ◌≤ℤ◌, ◌⊎◌, ◌↔◌, Bool, false};
-ghost use Rattle.std.specs.Prelude.{List, [], ◌∷◌, length, All, slice_get, None, Some, Ok};
+ghost use Rattle.std.specs.Prelude.{◌≡◌, ◌⊎◌, ◌↔◌, Bool, true, false, None, Some, Ok};
+ghost use Rattle.std.specs.Prelude.{ℕ, ◌+◌, ◌<◌, ◌≤◌, ℤ, pos, neg_ℤ, ◌≤ℤ◌};
+ghost use Rattle.std.specs.Prelude.{List, [], ◌∷◌, length, All, slice_get};
 ghost use Rattle.certificate.specs.Certificate.{PieceData, CertificateData};
 ghost use Rattle.claim_file.specs.Claim.{ClaimData, IsLawful};
 ghost use Rattle.era_unfold.specs.Nanoseconds.{ticks_down};
@@ -21,8 +22,8 @@ ghost use Rattle.sample_interval.specs.Sample.{IsLawfulSample};
 ghost use Rattle.sample_interval.specs.declared.kinds.Sample.{Sample};
 ghost use Rattle.checker.specs.Acceptance.{AreSaidBy, IsAccepted};
 ghost use Rattle.checker.specs.BestParts.{best_parts};
-ghost use Rattle.checker.specs.Comparison.{IsYesOr, IsContradiction, IsRefusedEntry, HasOneMoreEntry};
-ghost use Rattle.checker.specs.Comparison.{HasEntriesSwapped, IsTakenApart};
+ghost use Rattle.checker.specs.Comparison.{IsYesOr, IsContradiction, IsRefusedEntry};
+ghost use Rattle.checker.specs.Comparison.{HasOneMoreEntry, HasEntriesSwapped, IsTakenApart};
 ghost use Rattle.checker.specs.Comparison.{AreNarrower, IsOfSamples};
 ghost use Rattle.checker.specs.Course.{Course, Fits};
 ghost use Rattle.checker.specs.Groups.{false_group_count};

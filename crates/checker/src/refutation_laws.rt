@@ -13,7 +13,7 @@ ghost use Rattle.checker.specs.RefutationTest.{admits, is_refuted};
 ghost use Rattle.checker.specs.Traceability.{samples_of, IsObservedIn, IsWithin};
 ghost use Rattle.checker.specs.Verdict.{verdict_of};
 ghost use Rattle.checker.specs.WorkedCourse.{worked_second, worked_exchange};
-ghost use Rattle.checker.specs.WorkedRefutation.{claim_with, refutation_with};
+ghost use Rattle.checker.specs.WorkedRefutation.{Refutes, claim_with, refutation_with};
 ghost use Rattle.checker.specs.declared.verdict.Verdict.TheVariants.{Yes};
 
 use crate::laws::verdicts_are_traceable;
@@ -75,8 +75,8 @@ pub fn bound_plays_no_part_in_fitting()
         SomeCourseFits claim xs }
 {}
 
-/// What refutes a claim refutes it with every narrower bound, and with every drift: the clock that it
-/// speaks of doesn't drift at all.
+/// What refutes a claim refutes it with every narrower bound, and with every drift: the clock that
+/// it speaks of doesn't drift at all.
 pub fn narrower_bounds_are_refuted_too()
     ensures { (claim : ClaimData) (narrower : ℤ) (drift_ppb : ℕ) (xs : List Exchange)
         (refutation : RefutationData) → narrower ≤ℤ claim.bound →
@@ -99,38 +99,27 @@ pub fn courses_of_refutations_break_the_claim()
 /// bound, up to both ends of that room, and by any error if its server may be false, with the least
 /// of 64 bits among them.
 pub fn worked_refutations_stand()
-    ensures beyond { IsRefuted (claim_with 42953967 0) (worked_exchange ∷ [])
-        (refutation_with (pos 42953968) []) }
-    ensures greatest { IsRefuted (claim_with 42953967 0) (worked_exchange ∷ [])
-        (refutation_with (pos 42953969) []) }
-    ensures least { IsRefuted (claim_with 42949673 0) (worked_exchange ∷ [])
-        (refutation_with (neg_ℤ (pos 42949674)) []) }
-    ensures no_bound { IsRefuted (claim_with 0 0) (worked_exchange ∷ [])
-        (refutation_with (pos 1) []) }
-    ensures named { IsRefuted (claim_with 42953972 1) (worked_exchange ∷ [])
-        (refutation_with (pos 42953973) (0 ∷ [])) }
-    ensures least_of_all { IsRefuted (claim_with 42953972 1) (worked_exchange ∷ [])
-        (refutation_with (neg_ℤ (pos 9223372036854775808)) (0 ∷ [])) }
+    ensures beyond { Refutes (claim_with 42953967 0) (pos 42953968) [] }
+    ensures greatest { Refutes (claim_with 42953967 0) (pos 42953969) [] }
+    ensures least { Refutes (claim_with 42949673 0) (neg_ℤ (pos 42949674)) [] }
+    ensures no_bound { Refutes (claim_with 0 0) (pos 1) [] }
+    ensures named { Refutes (claim_with 42953972 1) (pos 42953973) (0 ∷ []) }
+    ensures least_of_all { Refutes (claim_with 42953972 1) (neg_ℤ (pos 9223372036854775808))
+        (0 ∷ []) }
 {}
 
-/// It refutes no claim by an error one tick outside that room, by one within the bound, at a reading
-/// outside the span, or by servers that may not all be false, that are named twice or that aren't
-/// listed; nor if its server says that it answered before it received.
+/// It refutes no claim by an error one tick outside that room, by one within the bound, at a
+/// reading outside the span, or by servers that may not all be false, that are named twice or that
+/// aren't listed; nor if its server says that it answered before it received.
 pub fn other_worked_refutations_fall()
-    ensures too_great { ¬ (IsRefuted (claim_with 42953967 0) (worked_exchange ∷ [])
-        (refutation_with (pos 42953970) [])) }
-    ensures too_small { ¬ (IsRefuted (claim_with 42949673 0) (worked_exchange ∷ [])
-        (refutation_with (neg_ℤ (pos 42949675)) [])) }
-    ensures within_bound { ¬ (IsRefuted (claim_with 42953967 0) (worked_exchange ∷ [])
-        (refutation_with (pos 42953967) [])) }
+    ensures too_great { ¬ (Refutes (claim_with 42953967 0) (pos 42953970) []) }
+    ensures too_small { ¬ (Refutes (claim_with 42949673 0) (neg_ℤ (pos 42949675)) []) }
+    ensures within_bound { ¬ (Refutes (claim_with 42953967 0) (pos 42953967) []) }
     ensures outside_span { ¬ (IsRefuted (claim_with 42953967 0) (worked_exchange ∷ [])
         (record (refutation_with (pos 42953968) []) { reading = worked_second + 1 })) }
-    ensures too_many_named { ¬ (IsRefuted (claim_with 42953972 0) (worked_exchange ∷ [])
-        (refutation_with (pos 42953973) (0 ∷ []))) }
-    ensures named_twice { ¬ (IsRefuted (claim_with 42953972 1) (worked_exchange ∷ [])
-        (refutation_with (pos 42953973) (0 ∷ 0 ∷ []))) }
-    ensures not_listed { ¬ (IsRefuted (claim_with 42953967 1) (worked_exchange ∷ [])
-        (refutation_with (pos 42953968) (1 ∷ []))) }
+    ensures too_many_named { ¬ (Refutes (claim_with 42953972 0) (pos 42953973) (0 ∷ [])) }
+    ensures named_twice { ¬ (Refutes (claim_with 42953972 1) (pos 42953973) (0 ∷ 0 ∷ [])) }
+    ensures not_listed { ¬ (Refutes (claim_with 42953967 1) (pos 42953968) (1 ∷ [])) }
     ensures answered_before_received { ¬ (IsRefuted (claim_with 42953967 0)
         (record worked_exchange { t2 = pos (worked_second + 4337916969) } ∷ [])
         (refutation_with (pos 42953968) [])) }

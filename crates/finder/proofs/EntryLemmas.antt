@@ -23,12 +23,10 @@ part_there samples claim stretch entry d e low high =
     rw (slice_get-get_or samples entry.0 d low, slice_get-get_or samples entry.1 e high) refl
 
 -- the same if what is said was computed
-pub part_computed : (samples : List Sample) (claim : ClaimData) (stretch : Stretch) (entry : ℕ × ℕ) (d : Sample)
-    (part : Part) → entry.0 < length samples → entry.1 < length samples
-    → part ≡ part_of (get_or samples entry.0 d) (get_or samples entry.1 d) stretch claim.drift_ppb
-    → part_named samples claim stretch entry ≡ Some part
-part_computed samples claim stretch entry d part low high is =
-    part_there samples claim stretch entry d d low high ∙ ap Some (sym is)
+pub part_computed : (samples : List Sample) (claim : ClaimData) (stretch : Stretch) (entry : ℕ × ℕ) (low high : Sample)
+    (part : Part) → slice_get samples entry.0 ≡ Some low → slice_get samples entry.1 ≡ Some high
+    → part ≡ part_of low high stretch claim.drift_ppb → part_named samples claim stretch entry ≡ Some part
+part_computed samples claim stretch entry low high part at_low at_high is = rw (at_low, at_high) (ap Some (sym is))
 
 -- ---- what holds of whatever entries say
 

@@ -19,10 +19,10 @@ use arrayvec::ArrayVec;
 use certificate::MAX_PIECES;
 use claim_file::Claim;
 use intersection::kinds::Hull;
-use sample_interval::kinds::Sample;
 use span_cover::laws::best_samples_are_the_first_best;
 use span_cover::{Stretch, piece_end};
 use std::alloc::{AllocError, Global};
+use sweep::SampleSource;
 
 /// A piece of a span, and what the samples say of the clock's error there.
 #[derive(Debug, Drop)]
@@ -51,22 +51,24 @@ pub struct Envelope {
 /// The samples are those of all exchanges, in their order, at most 1,000,000. Each piece has one
 /// entry for each server that has a sample, in the order of the servers: the samples that make its
 /// interval there narrowest, of several that agree the first.
-pub fn find_envelope(
+pub fn find_envelope<S: SampleSource>(
     alloc: Global,
-    samples: &[Sample],
+    samples: S,
     claim: &Claim,
     step_s: u32,
 ) -> Result<Envelope, FindFault>
     requires claim { IsLawful (claim_data claim.now) }
-    requires samples { All IsLawfulSample samples.now }
-    requires few { length samples.now ≤ 1_000_000 }
-    requires listed { All (λ sample. sample.server < length claim.now.servers.items) samples.now }
+    requires samples { All IsLawfulSample (S.samples samples) }
+    requires few { length (S.samples samples) ≤ 1_000_000 }
+    requires listed { All (λ sample. sample.server < length claim.now.servers.items)
+        (S.samples samples) }
     requires some_step { 1 ≤ step_s }
     requires at_most_a_day { step_s ≤ 86_400 }
     ensures exact { MatchResult result
-        (λ found. envelope_of samples.now (claim_data claim.now) step_s ≡ Ok (data_of found))
+        (λ found. envelope_of (S.samples samples) (claim_data claim.now) step_s
+        ≡ Ok (data_of found))
         (λ fault. (fault ≡ FindFault.Memory)
-        ⊎ (envelope_of samples.now (claim_data claim.now) step_s ≡ Err fault)) }
+        ⊎ (envelope_of (S.samples samples) (claim_data claim.now) step_s ≡ Err fault)) }
 
     // The pieces are counted before any memory is taken, so that this fault is never told as
     // another.
@@ -74,9 +76,9 @@ pub fn find_envelope(
         ↔ (max_pieces < count_of (claim_data claim.now) step_s) }
 
     ensures least { IfOk result (λ found.
-        IsLeast (hull_at samples.now (claim_data claim.now) step_s)
+        IsLeast (hull_at (S.samples samples) (claim_data claim.now) step_s)
         (count_of (claim_data claim.now) step_s) found.least) }
-    ensures lawful { IfOk result (IsLawfulEnvelope (length samples.now)) }
+    ensures lawful { IfOk result (IsLawfulEnvelope (length (S.samples samples))) }
 {
     last_piece_ends_with_the_span();
     least_bound_is_the_least();
@@ -89,20 +91,21 @@ pub fn find_envelope(
 }
 
 // The envelope of the first `count` pieces.
-fn envelope_to(
+fn envelope_to<S: SampleSource>(
     alloc: Global,
-    samples: &[Sample],
+    samples: S,
     claim: &Claim,
     step_s: u32,
     count: u32,
 ) -> Result<Envelope, AllocError>
     requires claim { IsLawful (claim_data claim.now) }
-    requires samples { All IsLawfulSample samples.now }
-    requires few { length samples.now ≤ 1_000_000 }
-    requires listed { All (λ sample. sample.server < length claim.now.servers.items) samples.now }
+    requires samples { All IsLawfulSample (S.samples samples) }
+    requires few { length (S.samples samples) ≤ 1_000_000 }
+    requires listed { All (λ sample. sample.server < length claim.now.servers.items)
+        (S.samples samples) }
     ensures value { IfOk result (λ found.
-        data_of found ≡ envelope_to samples.now (claim_data claim.now) step_s count) }
-    ensures lawful { IfOk result (IsLawfulEnvelope (length samples.now)) }
+        data_of found ≡ envelope_to (S.samples samples) (claim_data claim.now) step_s count) }
+    ensures lawful { IfOk result (IsLawfulEnvelope (length (S.samples samples))) }
 {
     best_samples_are_the_first_best();
     let tables = tables(alloc, samples, claim, step_s, count)?;

@@ -26,10 +26,10 @@ use checker::laws::{
 };
 use claim_file::Claim;
 use intersection::kinds::Hull;
-use sample_interval::kinds::Sample;
 use span_cover::laws::{best_samples_are_the_first_best, piece_inside_another_is_narrower};
 use span_cover::{Stretch, is_inside, piece_end};
 use std::alloc::{AllocError, Global};
+use sweep::SampleSource;
 
 /// A certificate, or why there is none.
 #[derive(Debug, Drop)]
@@ -50,22 +50,23 @@ pub enum Found {
 /// The samples are those of all exchanges, in their order, at most 1,000,000. Each piece has one
 /// entry for each server that has a sample, in the order of the servers: the samples that make its
 /// interval there narrowest, of several that agree the first.
-pub fn find(
+pub fn find<S: SampleSource>(
     alloc: Global,
-    samples: &[Sample],
+    samples: S,
     claim: &Claim,
     step_s: u32,
 ) -> Result<Found, FindFault>
     requires claim { IsLawful (claim_data claim.now) }
-    requires samples { All IsLawfulSample samples.now }
-    requires few { length samples.now ≤ 1_000_000 }
-    requires listed { All (λ sample. sample.server < length claim.now.servers.items) samples.now }
+    requires samples { All IsLawfulSample (S.samples samples) }
+    requires few { length (S.samples samples) ≤ 1_000_000 }
+    requires listed { All (λ sample. sample.server < length claim.now.servers.items)
+        (S.samples samples) }
     requires some_step { 1 ≤ step_s }
     requires at_most_a_day { step_s ≤ 86_400 }
     ensures exact { MatchResult result
-        (λ found. found_of samples.now (claim_data claim.now) step_s ≡ Ok (data_of found))
+        (λ found. found_of (S.samples samples) (claim_data claim.now) step_s ≡ Ok (data_of found))
         (λ fault. (fault ≡ FindFault.Memory)
-        ⊎ (found_of samples.now (claim_data claim.now) step_s ≡ Err fault)) }
+        ⊎ (found_of (S.samples samples) (claim_data claim.now) step_s ≡ Err fault)) }
 
     // The pieces are counted before any memory is taken, so that this fault is never told as
     // another.
@@ -73,26 +74,26 @@ pub fn find(
         ↔ (max_pieces < count_of (claim_data claim.now) step_s) }
 
     ensures accepted { IfOk result (λ found. IfCertificate found (λ certificate.
-        verdict_of samples.now (claim_data claim.now) certificate ≡ Verdict.Yes)) }
+        verdict_of (S.samples samples) (claim_data claim.now) certificate ≡ Verdict.Yes)) }
     ensures few { IfOk result (λ found. IfCertificate found (λ certificate.
         length certificate.pieces ≤ max_pieces)) }
 
     ensures failing { IfOk result (λ found. IfNothing found
-        (IsFirstFailing samples.now (claim_data claim.now) step_s)) }
+        (IsFirstFailing (S.samples samples) (claim_data claim.now) step_s)) }
 
     // No other certificate is accepted that has a piece over the whole of the one that fails; and
     // where the samples contradict each other there, no course of events has a reading in it.
     ensures none_accepted { IfOk result (λ found. IfNothing found (λ piece hull.
-        hull ≢ Hull.Empty → NoneIsAcceptedOver samples.now (claim_data claim.now)
+        hull ≢ Hull.Empty → NoneIsAcceptedOver (S.samples samples) (claim_data claim.now)
         (stretch_at (claim_data claim.now) step_s piece))) }
     ensures contradiction { IfOk result (λ found. IfNothing found (λ piece hull.
-        hull ≡ Hull.Empty → IsContradicted (claim_data claim.now) samples.now
+        hull ≡ Hull.Empty → IsContradicted (claim_data claim.now) (S.samples samples)
         (stretch_at (claim_data claim.now) step_s piece))) }
 
     // In every course that fits, the error lies in the hull at every moment whose reading lies in
     // the piece.
     ensures held { IfOk result (λ found. IfNothing found (λ piece hull.
-        HoldsError (claim_data claim.now) samples.now
+        HoldsError (claim_data claim.now) (S.samples samples)
         (stretch_at (claim_data claim.now) step_s piece) hull)) }
 {
     last_piece_ends_with_the_span();
@@ -112,21 +113,22 @@ pub fn find(
 }
 
 // The pieces up to the first that fails.
-fn find_pieces(
+fn find_pieces<S: SampleSource>(
     alloc: Global,
-    samples: &[Sample],
+    samples: S,
     claim: &Claim,
     step_s: u32,
     count: u32,
 ) -> Result<Found, AllocError>
     requires claim { IsLawful (claim_data claim.now) }
-    requires samples { All IsLawfulSample samples.now }
-    requires few { length samples.now ≤ 1_000_000 }
-    requires listed { All (λ sample. sample.server < length claim.now.servers.items) samples.now }
+    requires samples { All IsLawfulSample (S.samples samples) }
+    requires few { length (S.samples samples) ≤ 1_000_000 }
+    requires listed { All (λ sample. sample.server < length claim.now.servers.items)
+        (S.samples samples) }
     requires count { count ≡ count_of (claim_data claim.now) step_s }
     ensures { IfOk result (λ found. data_of found
-        ≡ found_without samples.now (claim_data claim.now) step_s
-        (first_failing samples.now (claim_data claim.now) step_s)) }
+        ≡ found_without (S.samples samples) (claim_data claim.now) step_s
+        (first_failing (S.samples samples) (claim_data claim.now) step_s)) }
 {
     best_samples_are_the_first_best();
     let tables = tables(alloc, samples, claim, step_s, count)?;

@@ -10,52 +10,54 @@ ghost use Rattle.finder.specs.Entry.{parts_named};
 use arrayvec::ArrayVec;
 use claim_file::Claim;
 use intersection::kinds::Hull;
-use sample_interval::kinds::Sample;
 use span_cover::{Part, Stretch, part_of, piece_hull};
+use sweep::SampleSource;
 
 /// What the entries of a piece say, in their order: the interval of each server that has one.
 ///
 /// The stretch is of Unix ticks, from 0 to below 2^64.
-pub fn parts(
-    samples: &[Sample],
+pub fn parts<S: SampleSource>(
+    samples: S,
     claim: &Claim,
     stretch: Stretch,
     entries: &ArrayVec<(u32, u32), 32>,
 ) -> ArrayVec<Part, 32>
     requires claim { IsLawful (data_of claim.now) }
-    requires samples { All IsLawfulSample samples.now }
-    requires listed { All (λ sample. sample.server < length claim.now.servers.items) samples.now }
+    requires samples { All IsLawfulSample (S.samples samples) }
+    requires listed { All (λ sample. sample.server < length claim.now.servers.items)
+        (S.samples samples) }
     requires stretch { IsPiece stretch.begin stretch.end }
-    requires low { All (λ entry. entry.0 < length samples.now) entries.now.items }
-    requires high { All (λ entry. entry.1 < length samples.now) entries.now.items }
+    requires low { All (λ entry. entry.0 < length (S.samples samples)) entries.now.items }
+    requires high { All (λ entry. entry.1 < length (S.samples samples)) entries.now.items }
     ensures exact { result.items ≡
-        parts_named samples.now (data_of claim.now) stretch entries.now.items }
+        parts_named (S.samples samples) (data_of claim.now) stretch entries.now.items }
     ensures listed { All (λ part. part.server < length claim.now.servers.items) result.items }
 {
     let mut parts: ArrayVec<Part, 32> = ArrayVec::new();
     for entry in entries.as_slice() {
-        let low = &samples[entry.0 as usize];
-        let high = &samples[entry.1 as usize];
-        parts.push(part_of(low, high, stretch, claim.drift_ppb));
+        let low = samples.sample_at(entry.0 as usize);
+        let high = samples.sample_at(entry.1 as usize);
+        parts.push(part_of(&low, &high, stretch, claim.drift_ppb));
     }
     parts
 }
 
 /// The hull over the groups of servers that have an entry.
-pub(crate) fn hull_of(
-    samples: &[Sample],
+pub(crate) fn hull_of<S: SampleSource>(
+    samples: S,
     claim: &Claim,
     stretch: Stretch,
     entries: &ArrayVec<(u32, u32), 32>,
 ) -> Hull
     requires claim { IsLawful (data_of claim.now) }
-    requires samples { All IsLawfulSample samples.now }
-    requires listed { All (λ sample. sample.server < length claim.now.servers.items) samples.now }
+    requires samples { All IsLawfulSample (S.samples samples) }
+    requires listed { All (λ sample. sample.server < length claim.now.servers.items)
+        (S.samples samples) }
     requires stretch { IsPiece stretch.begin stretch.end }
-    requires low { All (λ entry. entry.0 < length samples.now) entries.now.items }
-    requires high { All (λ entry. entry.1 < length samples.now) entries.now.items }
+    requires low { All (λ entry. entry.0 < length (S.samples samples)) entries.now.items }
+    requires high { All (λ entry. entry.1 < length (S.samples samples)) entries.now.items }
     ensures { result ≡ piece_hull claim.now.groups.items claim.now.false_max
-        (parts_named samples.now (data_of claim.now) stretch entries.now.items) }
+        (parts_named (S.samples samples) (data_of claim.now) stretch entries.now.items) }
 {
     let parts = parts(samples, claim, stretch, entries);
     piece_hull(parts.as_slice(), claim.groups.as_slice(), claim.false_max)

@@ -9,29 +9,29 @@ ghost use Rattle.finder.specs.Piece.{stretch_at};
 
 use crate::piece::piece_ends;
 use claim_file::Claim;
-use sample_interval::kinds::Sample;
 use span_cover::laws::first_best_of_both_ends_are_the_best;
 use std::alloc::{AllocError, Global};
-use sweep::{best_of_pieces, servers_of};
+use sweep::{SampleSource, best_of_pieces, servers_of};
 
 /// For each server that has a sample, in the order of the servers, its best samples in each of the
 /// first `count` pieces.
-pub(crate) fn tables(
+pub(crate) fn tables<S: SampleSource>(
     alloc: Global,
-    samples: &[Sample],
+    samples: S,
     claim: &Claim,
     step_s: u32,
     count: u32,
 ) -> Result<Vec<Vec<(u32, u32)>>, AllocError>
     requires claim { IsLawful (data_of claim.now) }
-    requires samples { All IsLawfulSample samples.now }
-    requires few { length samples.now ≤ 1_000_000 }
+    requires samples { All IsLawfulSample (S.samples samples) }
+    requires few { length (S.samples samples) ≤ 1_000_000 }
     ensures few { IfOk result (λ tables. length tables.items ≤ length claim.now.servers.items) }
     ensures long { IfOk result (λ tables.
         All (λ table. length table.items ≡ count) tables.items) }
     ensures best { IfOk result (λ tables. (k : ℕ) → k < count →
         filter_map (λ table. slice_get table.items k) tables.items
-        ≡ best_entries samples.now (data_of claim.now) (stretch_at (data_of claim.now) step_s k)) }
+        ≡ best_entries (S.samples samples) (data_of claim.now)
+        (stretch_at (data_of claim.now) step_s k)) }
 {
     first_best_of_both_ends_are_the_best();
     let ends = piece_ends(alloc, claim.first, claim.last, step_s, count)?;

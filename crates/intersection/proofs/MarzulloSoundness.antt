@@ -1,12 +1,13 @@
 -- The points where Marzullo's walks stop are the ends of the hull: what was entered and left, against what is left out.
-use Rattle.std.proofs.Common.{◌≡◌, ℕ, ◌+◌, ◌-◌, ◌<◌, ℤ, int_lt, int_le, Bool, true, false, cond, not, ◌&&◌, ◌||◌, List, [], ◌∷◌, length, reverse, Option, Some, None, IfSome, IsPermutation, refl, sym, ◌∙◌, arith}
+use Rattle.std.proofs.Common.{◌≡◌, ℕ, ◌+◌, ◌-◌, ◌<◌, ℤ, int_lt, int_le, Bool, true, false, cond, not, ◌&&◌, ◌||◌, List, [], ◌∷◌, ◌++◌, length, reverse, Option, Some, None, IfSome, IsPermutation, refl, sym, ◌∙◌, arith}
 use Rattle.std.specs.Prelude.{AllPairs}
+use Rattle.std.specs.List.{flat_map, sum_by}
 use Rattle.std.proofs.lemmas.Int.{ints, by_lt_z}
 use Rattle.std.proofs.lemmas.List.Sums.{sum_by-cons, sum_by-append}
 use Rattle.std.proofs.lemmas.List.Sorted.{sum_by-IsPermutation, IsPermutation-trans, IsPermutation-reverse}
 use Rattle.intersection.specs.Interval.{leaves_out}
 use Rattle.intersection.specs.Hull.{count_leaving_out, IsAdmissible, IsHull}
-use Rattle.intersection.specs.Ends.{ends_of_interval, ends_of, MayPrecede, IsInOrder, enters}
+use Rattle.intersection.specs.Ends.{low_end, high_end, ends_of, MayPrecede, IsInOrder, enters}
 use Rattle.intersection.specs.Marzullo.{first_reached}
 use Rattle.intersection.specs.declared.kinds.Interval.{Interval}
 use Rattle.intersection.specs.declared.kinds.Hull.TheVariants.{Empty, Bounded}
@@ -17,7 +18,7 @@ use Rattle.intersection.proofs.MarzulloLemmas.{Follows, is_met, IsShortOf, enter
 
 -- ---- ends against intervals
 balance_at : (walk : Side) (lo hi p : ℤ) (b : Bool) → int_le lo hi ≡ b → let ends : List End =
-    cond b (record { at = lo; side = Low } ∷ record { at = hi; side = High } ∷ []) [] in
+    cond b (record { at = lo; side = Low } ∷ []) [] ++ cond b (record { at = hi; side = High } ∷ []) [] in
     left_by walk p ends + 1 ≡ entered_by walk p ends + cond (int_lt p lo || int_lt hi p) 1 0
 balance_at Low lo hi p true h = grind (arith, ints)
 balance_at Low lo hi p false h = grind (arith, ints)
@@ -25,10 +26,23 @@ balance_at High lo hi p true h = grind (arith, ints)
 balance_at High lo hi p false h = grind (arith, ints)
 
 -- of an interval's ends one more is entered than left before p, where the interval holds p, and else as many
-balance_one : (walk : Side) (interval : Interval) (p : ℤ)
-    → left_by walk p (ends_of_interval interval) + 1 ≡ entered_by walk p (ends_of_interval interval) + cond
-    (leaves_out interval p) 1 0
+balance_one : (walk : Side) (interval : Interval) (p : ℤ) → let ends : List End =
+    low_end interval ++ high_end interval in
+    left_by walk p ends + 1 ≡ entered_by walk p ends + cond (leaves_out interval p) 1 0
 balance_one walk interval p = balance_at walk interval.lo interval.hi p (int_le interval.lo interval.hi) refl
+
+-- what is counted of the ends of a list is what is counted of the first interval's and of the others'
+counted_apart : (f : End → ℕ) (interval : Interval) (list : List Interval)
+    → sum_by f (ends_of (interval ∷ list)) ≡ sum_by f (low_end interval ++ high_end interval) + sum_by f (ends_of list)
+counted_apart f interval list =
+    let lows = flat_map low_end list in
+    let highs = flat_map high_end list in
+    let all = sum_by-append f (low_end interval ++ lows) (high_end interval ++ highs) in
+    let low = sum_by-append f (low_end interval) lows in
+    let high = sum_by-append f (high_end interval) highs in
+    let one = sum_by-append f (low_end interval) (high_end interval) in
+    let others = sum_by-append f lows highs in
+    omega arith
 
 pub balance : (walk : Side) (list : List Interval) (p : ℤ)
     → left_by walk p (ends_of list) + length list ≡ entered_by walk p (ends_of list) + count_leaving_out list p
@@ -36,10 +50,8 @@ balance walk [] p = refl
 balance walk (interval ∷ list) p =
     let rest = balance walk list p in
     let one = balance_one walk interval p in
-    let left = sum_by-append (λ e. cond (not (enters walk e) && is_met walk p e) 1 0) (ends_of_interval interval)
-    (ends_of list) in
-    let entered =
-    sum_by-append (λ e. cond (enters walk e && is_met walk p e) 1 0) (ends_of_interval interval) (ends_of list) in
+    let left = counted_apart (λ e. cond (not (enters walk e) && is_met walk p e) 1 0) interval list in
+    let entered = counted_apart (λ e. cond (enters walk e && is_met walk p e) 1 0) interval list in
     let out = sum_by-cons (λ i. cond (leaves_out i p) 1 0) interval list in
     omega arith
 

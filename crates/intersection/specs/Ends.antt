@@ -1,19 +1,22 @@
 -- The ends of intervals, and their order. Only the code's own contracts speak of these.
-use Rattle.std.specs.Prelude.{◌≡◌, ◌<ℤ◌, ◌≤ℤ◌, int_le, Bool, true, false, cond, List, [], ◌∷◌, flat_map, AllPairs}
+use Rattle.std.specs.Prelude.{◌≡◌, ◌<ℤ◌, ◌≤ℤ◌, int_le, Bool, true, false, cond, List, [], ◌∷◌, ◌++◌, flat_map, AllPairs}
 use Rattle.intersection.specs.declared.kinds.Interval.{Interval}
 use Rattle.intersection.specs.declared.ends.End.{End}
 use Rattle.intersection.specs.declared.ends.Side.{Side}
 use Rattle.intersection.specs.declared.ends.Side.TheVariants.{Low, High}
 
--- both ends of an interval that has a point, and else none
-abbrev pub ends_of_interval : Interval → List End
-ends_of_interval interval =
-    cond (int_le interval.lo interval.hi)
-    (record { at = interval.lo; side = Low } ∷ record { at = interval.hi; side = High } ∷ [])
-    []
+-- the low end of an interval that has a point, and else none
+abbrev pub low_end : Interval → List End
+low_end interval =
+    cond (int_le interval.lo interval.hi) (record { at = interval.lo; side = Low } ∷ []) []
+
+-- the high end of an interval that has a point, and else none
+abbrev pub high_end : Interval → List End
+high_end interval =
+    cond (int_le interval.lo interval.hi) (record { at = interval.hi; side = High } ∷ []) []
 
 abbrev pub ends_of : List Interval → List End
-ends_of list = flat_map ends_of_interval list
+ends_of list = flat_map low_end list ++ flat_map high_end list
 
 -- a low end may stand before any end that isn't below it, and a high end only before a low one that
 -- is above it

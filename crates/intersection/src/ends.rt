@@ -1,5 +1,5 @@
 //! The ends of intervals, in order.
-ghost use Rattle.std.specs.Prelude.{◌≤◌, ◌*◌, length, IsPermutation};
+ghost use Rattle.std.specs.Prelude.{◌≡◌, ◌≤◌, ◌*◌, int_le, length, IsPermutation};
 ghost use Rattle.intersection.specs.Ends.{ends_of, IsInOrder};
 
 use crate::kinds::Interval;
@@ -23,19 +23,25 @@ pub struct End {
     pub side: Side,
 }
 
-/// The ends of the intervals that have a point, in order.
-pub fn sorted_ends(list: &ArrayVec<Interval, 32>) -> ArrayVec<End, 64>
-    ensures ends { IsPermutation (ends_of list.now.items) result.items }
+/// The ends of the intervals that have a point, in order, in an array with room for `ENDS` of them.
+pub fn sorted_ends<const ENDS: usize>(list: &[Interval]) -> ArrayVec<End, ENDS>
+    requires { 2 * length list.now ≤ ENDS }
+    ensures ends { IsPermutation (ends_of list.now) result.items }
     ensures order { IsInOrder result.items }
-    ensures fits { length result.items ≤ 2 * length list.now.items }
+    ensures fits { length result.items ≤ 2 * length list.now }
 {
+    // The low ends come first, since most of them stand below the high ones in the end.
     let mut ends = ArrayVec::new();
-    for interval in list.as_slice() {
-        if interval.lo <= interval.hi {
+    for interval in list {
+        if has_a_point(interval) {
             ends.push(End {
                 at: interval.lo,
                 side: Side::Low,
             });
+        }
+    }
+    for interval in list {
+        if has_a_point(interval) {
             ends.push(End {
                 at: interval.hi,
                 side: Side::High,
@@ -44,4 +50,11 @@ pub fn sorted_ends(list: &ArrayVec<Interval, 32>) -> ArrayVec<End, 64>
     }
     ends.sort_unstable();
     ends
+}
+
+/// Whether some point lies in the interval.
+fn has_a_point(interval: &Interval) -> bool
+    ensures { result ≡ int_le interval.now.lo interval.now.hi }
+{
+    interval.lo <= interval.hi
 }

@@ -1,6 +1,6 @@
 //! The hull of a list of intervals, by Marzullo's algorithm (RFC 5905, section 11.2.1): the ends
 //! are sorted, and a walk along them counts the intervals that it has entered and not left.
-ghost use Rattle.std.specs.Prelude.{◌≡◌, ◌≤◌, ◌*◌, length};
+ghost use Rattle.std.specs.Prelude.{◌≡◌, ◌<◌, ◌≤◌, ◌*◌, length};
 ghost use Rattle.intersection.specs.Hull.{DescribesHull};
 ghost use Rattle.intersection.specs.Marzullo.{first_reached};
 
@@ -29,8 +29,24 @@ pub fn hull_walk(list: &ArrayVec<Interval, 32>, f: u8) -> (Hull, u32)
     if list.len() <= wrong {
         return (Hull::Unbounded, 0);
     }
-    let needed = list.len() - wrong;
-    let mut ends = sorted_ends(list);
+    // The array of the ends is blanked first, which for a short list takes longer than the walks.
+    if list.len() <= 16 {
+        walk_both_ways::<32>(list.as_slice(), f)
+    } else {
+        walk_both_ways::<64>(list.as_slice(), f)
+    }
+}
+
+/// The hull of more intervals than may be wrong, by an array with room for `ENDS` ends.
+fn walk_both_ways<const ENDS: usize>(list: &[Interval], f: u8) -> (Hull, u32)
+    requires room { 2 * length list.now ≤ ENDS }
+    requires size { ENDS ≤ 64 }
+    requires enough { f < length list.now }
+    ensures described { DescribesHull list.now f result.0 }
+    ensures looked { result.1 ≤ 4 * length list.now }
+{
+    let needed = list.len() - usize::from(f);
+    let mut ends: ArrayVec<End, ENDS> = sorted_ends(list);
     let (least, looked_upward) = walk(ends.as_slice(), Side::Low, needed);
     let Some(lo) = least else {
         return (Hull::Empty, looked_upward);

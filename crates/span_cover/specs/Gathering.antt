@@ -1,7 +1,8 @@
 -- Samples that are taken one by one, and what has to be kept of them: for each server the interval
 -- of its best samples over one piece of time, the same as if they were chosen from the whole list.
-use Rattle.std.specs.Prelude.{◌≡◌, ℕ, ◌<◌, ◌≤◌, ℤ, List, Option, Some, None, slice_get, option_and_then}
+use Rattle.std.specs.Prelude.{◌≡◌, ℕ, ◌<◌, ℤ, List, Option, Some, None, slice_get, option_and_then}
 use Rattle.intersection.specs.declared.kinds.Interval.{Interval}
+use Rattle.sample_interval.specs.Widening.{IsRate}
 use Rattle.sample_interval.specs.declared.kinds.Sample.{Sample}
 use Rattle.span_cover.specs.Best.{best_of}
 use Rattle.span_cover.specs.Piece.{IsPiece, piece_interval_of}
@@ -29,7 +30,7 @@ pub record Gathering : Type 0 where
 -- a piece and a rate for which intervals are given
 pub record IsGatheredOver (p q : ℤ) (ppb : ℕ) : Type 0 where
   pub piece : IsPiece p q
-  pub rate : ppb ≤ 500_000_000
+  pub rate : IsRate ppb
 
 -- these are the samples that were taken, for this piece and rate
 pub record Gathered (samples : List Sample) (p q : ℤ) (ppb : ℕ) (best : Gathering) : Type 0 where

@@ -1,6 +1,7 @@
 //! The best samples of a server.
 ghost use Rattle.std.specs.Prelude.{◌≡◌, ℕ, ℤ, ◌≤◌, ◌≤ℤ◌, length, All, IsNone, IfSome, ◌↔◌};
 ghost use Rattle.sample_interval.specs.Sample.{IsLawfulSample};
+ghost use Rattle.sample_interval.specs.Widening.{IsRate};
 ghost use Rattle.span_cover.specs.Piece.{IsPiece};
 ghost use Rattle.span_cover.specs.Best.{best_of, first_best_of, merit, better};
 ghost use Rattle.span_cover.specs.Best.{IsBestLow, IsBestHigh, HasNoSample};
@@ -19,7 +20,7 @@ pub fn best(samples: &[Sample], server: u8, p: i128, q: i128, drift_ppb: u32) ->
     requires samples { All IsLawfulSample samples.now }
     requires few { length samples.now ≤ 1_000_000 }
     requires piece { IsPiece p q }
-    requires rate { drift_ppb ≤ 500_000_000 }
+    requires rate { IsRate drift_ppb }
     ensures exact { result ≡ best_of samples.now server p q drift_ppb }
     ensures none { IsNone result ↔ HasNoSample samples.now server }
     ensures low { IfSome result (λ chosen. IsBestLow samples.now server p q drift_ppb chosen.0) }
@@ -42,7 +43,7 @@ fn first_best(
     requires samples { All IsLawfulSample samples.now }
     requires few { length samples.now ≤ 1_000_000 }
     requires piece { IsPiece p q }
-    requires rate { drift_ppb ≤ 500_000_000 }
+    requires rate { IsRate drift_ppb }
     ensures { result ≡ first_best_of (λ s. merit side s p q drift_ppb) samples.now server }
 {
     let mut best: Option<(u32, i128)> = None;
@@ -68,7 +69,7 @@ fn first_of(
 ) -> Option<(u32, i128)>
     requires sample { IsLawfulSample sample.now }
     requires piece { IsPiece p q }
-    requires rate { drift_ppb ≤ 500_000_000 }
+    requires rate { IsRate drift_ppb }
     ensures { result ≡ better number (merit side sample.now p q drift_ppb) later }
 {
     // To be moved only takes merit away, so that most samples are passed over as they stand.
@@ -96,7 +97,7 @@ fn unmoved(sample: &Sample, side: Side) -> i128
 fn merit_of(sample: &Sample, side: Side, p: i128, q: i128, drift_ppb: u32) -> i128
     requires sample { IsLawfulSample sample.now }
     requires piece { IsPiece p q }
-    requires rate { drift_ppb ≤ 500_000_000 }
+    requires rate { IsRate drift_ppb }
     ensures { result ≡ merit side sample.now p q drift_ppb }
 {
     match side {

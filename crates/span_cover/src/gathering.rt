@@ -1,8 +1,9 @@
 //! The best samples of every server, of samples that are taken one by one.
-ghost use Rattle.std.specs.Prelude.{◌≡◌, ℕ, ℤ, ◌<◌, ◌≤◌, List, [], ◌∷◌, ◌++◌};
+ghost use Rattle.std.specs.Prelude.{◌≡◌, ℕ, ℤ, ◌<◌, List, [], ◌∷◌, ◌++◌};
 ghost use Rattle.std.specs.Int.{int_max, int_min};
 ghost use Rattle.sample_interval.specs.Sample.{IsLawfulSample};
 ghost use Rattle.sample_interval.specs.declared.kinds.Sample.{Sample as TheSample};
+ghost use Rattle.sample_interval.specs.Widening.{IsRate};
 ghost use Rattle.span_cover.specs.Piece.{IsPiece, moved_low, moved_high};
 ghost use Rattle.span_cover.specs.Gathering.{Gathered, best_interval};
 
@@ -47,7 +48,7 @@ impl BestSamples {
     /// 10^9.
     pub fn new(p: i128, q: i128, drift_ppb: u32) -> BestSamples
         requires piece { IsPiece p q }
-        requires rate { drift_ppb ≤ 500_000_000 }
+        requires rate { IsRate drift_ppb }
         ensures { Gathered [] p q drift_ppb result }
     {
         BestSamples {
@@ -93,7 +94,7 @@ impl BestSamples {
 fn greater_low(low: i128, sample: &Sample, p: i128, q: i128, drift_ppb: u32) -> i128
     requires sample { IsLawfulSample sample.now }
     requires piece { IsPiece p q }
-    requires rate { drift_ppb ≤ 500_000_000 }
+    requires rate { IsRate drift_ppb }
     ensures { result ≡ int_max low (moved_low sample.now p q drift_ppb) }
 {
     // To be moved takes it further down, so that most samples are passed over as they stand.
@@ -108,7 +109,7 @@ fn greater_low(low: i128, sample: &Sample, p: i128, q: i128, drift_ppb: u32) -> 
 fn lesser_high(high: i128, sample: &Sample, p: i128, q: i128, drift_ppb: u32) -> i128
     requires sample { IsLawfulSample sample.now }
     requires piece { IsPiece p q }
-    requires rate { drift_ppb ≤ 500_000_000 }
+    requires rate { IsRate drift_ppb }
     ensures { result ≡ int_min high (moved_high sample.now p q drift_ppb) }
 {
     if high <= sample.high {

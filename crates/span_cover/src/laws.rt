@@ -1,6 +1,7 @@
 //! What holds of the definitions. A law is a function that does nothing: its contract is the law,
 //! for every number.
-ghost use Rattle.std.specs.Prelude.{◌≡◌, List, Some, None, MatchOption, ℕ, ◌<◌, ◌≤◌, ℤ, pos, ◌-ℤ◌, ◌*ℤ◌, ◌≤ℤ◌, unsigned_abs};
+ghost use Rattle.std.specs.Prelude.{◌≡◌, List, Some, None, MatchOption};
+ghost use Rattle.std.specs.Prelude.{ℕ, ◌<◌, ◌≤◌, ℤ, pos, ◌-ℤ◌, ◌*ℤ◌, ◌≤ℤ◌, unsigned_abs};
 ghost use Rattle.intersection.specs.Fraction.{HoldsFraction};
 ghost use Rattle.sample_interval.specs.declared.kinds.Sample.{Sample};
 ghost use Rattle.sample_interval.specs.Moment.{Moment, error_of, DriftsWithinByReading, IsInWindow};

@@ -1,6 +1,7 @@
 //! What one server says about a stretch.
-ghost use Rattle.std.specs.Prelude.{◌≡◌, ◌≤◌};
+ghost use Rattle.std.specs.Prelude.{◌≡◌};
 ghost use Rattle.sample_interval.specs.Sample.{IsLawfulSample};
+ghost use Rattle.sample_interval.specs.Widening.{IsRate};
 ghost use Rattle.span_cover.specs.Part.{part_of};
 ghost use Rattle.span_cover.specs.Piece.{IsPiece};
 
@@ -27,7 +28,7 @@ pub fn part_of(low: &Sample, high: &Sample, stretch: Stretch, drift_ppb: u32) ->
     requires low { IsLawfulSample low.now }
     requires high { IsLawfulSample high.now }
     requires stretch { IsPiece stretch.begin stretch.end }
-    requires rate { drift_ppb ≤ 500_000_000 }
+    requires rate { IsRate drift_ppb }
     ensures { result ≡ part_of low.now high.now stretch drift_ppb }
 {
     Part {

@@ -1,6 +1,7 @@
 //! The interval of a piece.
 ghost use Rattle.std.specs.Prelude.{◌≡◌, ◌≤◌, ◌^◌, pos, ◌≤ℤ◌, unsigned_abs};
 ghost use Rattle.sample_interval.specs.Sample.{IsLawfulSample};
+ghost use Rattle.sample_interval.specs.Widening.{IsRate};
 ghost use Rattle.span_cover.specs.Piece.{IsPiece, farthest, moved_low, moved_high};
 ghost use Rattle.span_cover.specs.Piece.{piece_interval_of};
 
@@ -17,7 +18,7 @@ pub fn piece_interval(low: &Sample, high: &Sample, p: i128, q: i128, drift_ppb: 
     requires low { IsLawfulSample low.now }
     requires high { IsLawfulSample high.now }
     requires piece { IsPiece p q }
-    requires rate { drift_ppb ≤ 500_000_000 }
+    requires rate { IsRate drift_ppb }
     ensures { result ≡ piece_interval_of low.now high.now p q drift_ppb }
 {
     Interval {
@@ -30,7 +31,7 @@ pub fn piece_interval(low: &Sample, high: &Sample, p: i128, q: i128, drift_ppb: 
 pub fn lowered(sample: &Sample, p: i128, q: i128, drift_ppb: u32) -> i128
     requires sample { IsLawfulSample sample.now }
     requires piece { IsPiece p q }
-    requires rate { drift_ppb ≤ 500_000_000 }
+    requires rate { IsRate drift_ppb }
     ensures value { result ≡ moved_low sample.now p q drift_ppb }
     ensures in_range { unsigned_abs result ≤ 2 ^ 74 }
 {
@@ -42,7 +43,7 @@ pub fn lowered(sample: &Sample, p: i128, q: i128, drift_ppb: u32) -> i128
 pub fn raised(sample: &Sample, p: i128, q: i128, drift_ppb: u32) -> i128
     requires sample { IsLawfulSample sample.now }
     requires piece { IsPiece p q }
-    requires rate { drift_ppb ≤ 500_000_000 }
+    requires rate { IsRate drift_ppb }
     ensures value { result ≡ moved_high sample.now p q drift_ppb }
     ensures in_range { unsigned_abs result ≤ 2 ^ 74 }
 {

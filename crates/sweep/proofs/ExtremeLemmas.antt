@@ -1,10 +1,10 @@
 -- The extremes of a server's samples.
-use Rattle.std.proofs.Common.{◌≡◌, ℕ, ◌+◌, ◌<◌, ◌≤◌, ◌^◌, ℤ, List, [], ◌∷◌, ◌++◌, length, map, Some}
+use Rattle.std.proofs.Common.{◌≡◌, ℕ, ◌+◌, ◌<◌, ◌≤◌, ◌^◌, ℤ, List, [], ◌∷◌, ◌++◌, length, map, take, Some}
 use Rattle.std.proofs.Common.{arith, subst, get_or, ⊎_elim, sym, ◌∙◌, ap, neg_ℤ, unsigned_abs, ◌≢◌, ◌≤ℤ◌}
 use Rattle.std.specs.List.{slice_get, All}
 use Rattle.std.proofs.lemmas.Bool.{cases_lt}
 use Rattle.std.proofs.lemmas.Int.{ints}
-use Rattle.std.proofs.lemmas.List.{length-append, length-map, get_or-map}
+use Rattle.std.proofs.lemmas.List.{length-append, length-map, get_or-map, map_more}
 use Rattle.std.proofs.lemmas.Option.{slice_get-get_or, slice_get_within, same_Some, get_or_from_slice_get}
 use Rattle.sample_interval.specs.Sample.{IsLawfulSample}
 use Rattle.sample_interval.specs.declared.kinds.Sample.{Sample}
@@ -45,6 +45,24 @@ module _ (samples : List Sample) (servers : List ℕ) (are : servers ≡ map (λ
       let within = slice_get_within samples number sample is in
       rw are (get_or-map (λ sample. sample.server) samples number sample d within
       ∙ ap (λ s. s.server) (get_or_from_slice_get samples number sample sample is))
+
+-- what holds of all samples holds of the one of a number
+pub lawful_at : (samples : List Sample) → All IsLawfulSample samples → (number : ℕ) (sample : Sample) →
+    slice_get samples number ≡ Some sample → IsLawfulSample sample
+lawful_at samples lawful number sample is =
+    subst IsLawfulSample (get_or_from_slice_get samples number sample sample is)
+    (lawful number sample (slice_get_within samples number sample is))
+
+-- the server of one more sample
+pub servers_more : (samples : List Sample) (n : ℕ) (sample : Sample) → slice_get samples n ≡ Some sample →
+    (servers pushed : List ℕ) → servers ≡ map (λ s. s.server) (take n samples) → pushed ≡ servers ++ sample.server ∷ [] →
+    pushed ≡ map (λ s. s.server) (take (n + 1) samples)
+servers_more samples n sample is servers pushed so_far more =
+    let within = slice_get_within samples n sample is in
+    let here : get_or samples n sample ≡ sample = get_or_from_slice_get samples n sample sample is in
+    more ∙ ap (λ (xs : List ℕ). xs ++ sample.server ∷ []) so_far
+    ∙ sym (map_more (λ (s : Sample). s.server) samples n sample within
+    ∙ ap (λ (s : Sample). map (λ (s : Sample). s.server) (take n samples) ++ s.server ∷ []) here)
 
 -- the extremes of the samples below number n
 pub record ExtremesSoFar (side : Side) (samples : List Sample) (server n : ℕ) (extremes : List Extreme) : Type 0 where

@@ -3,6 +3,7 @@ ghost use Rattle.std.specs.Prelude.{◌≡◌, ◌≤◌, length, All, IfOk, map
 ghost use Rattle.sample_interval.specs.Sample.{IsLawfulSample};
 ghost use Rattle.sweep.specs.Extreme.{AreExtremesOf, IsExtremeOf, IsLawfulExtreme, mirrored_extreme};
 
+use crate::source::SampleSource;
 use crate::tick::{from_origin, mirrored_tick};
 use intersection::Side;
 use sample_interval::kinds::Sample;
@@ -24,39 +25,51 @@ pub struct Extreme {
 
 /// The server of each sample, in their order. Each server's samples are looked for in this list,
 /// which takes a hundredth of the memory of theirs.
-pub fn servers_of(alloc: Global, samples: &[Sample]) -> Result<Vec<u8>, AllocError>
-    ensures { IfOk result (λ servers. servers.items ≡ map (λ sample. sample.server) samples.now) }
+pub fn servers_of<S: SampleSource>(alloc: Global, samples: S) -> Result<Vec<u8>, AllocError>
+    ensures { IfOk result (λ servers.
+        servers.items ≡ map (λ sample. sample.server) (S.samples samples)) }
 {
-    let mut servers = Vec::with_capacity(alloc, samples.len())?;
-    for sample in samples {
-        servers.push(sample.server)?;
+    let mut servers = Vec::with_capacity(alloc, samples.count())?;
+    for number in 0..samples.count() {
+        servers.push(samples.sample_at(number).server)?;
     }
     Ok(servers)
 }
 
+// How many samples are of the server.
+fn count_of(servers: &[u8], server: u8) -> usize
+    ensures { result ≤ length servers.now }
+{
+    let mut count = 0;
+    for of in servers {
+        count += usize::from(*of == server);
+    }
+    count
+}
+
 /// The low ends of the server's samples, and the high ends, in the order of their numbers.
-pub fn extremes_of(
+pub fn extremes_of<S: SampleSource>(
     alloc: Global,
-    samples: &[Sample],
+    samples: S,
     servers: &[u8],
     server: u8,
 ) -> Result<(Vec<Extreme>, Vec<Extreme>), AllocError>
-    requires samples { All IsLawfulSample samples.now }
-    requires few { length samples.now ≤ 1_000_000 }
-    requires servers { servers.now ≡ map (λ sample. sample.server) samples.now }
+    requires samples { All IsLawfulSample (S.samples samples) }
+    requires few { length (S.samples samples) ≤ 1_000_000 }
+    requires servers { servers.now ≡ map (λ sample. sample.server) (S.samples samples) }
     ensures lows { IfOk result (λ extremes.
-        AreExtremesOf Side.Low samples.now server extremes.0.items) }
+        AreExtremesOf Side.Low (S.samples samples) server extremes.0.items) }
     ensures highs { IfOk result (λ extremes.
-        AreExtremesOf Side.High samples.now server extremes.1.items) }
+        AreExtremesOf Side.High (S.samples samples) server extremes.1.items) }
 {
-    let count = servers.iter().filter(|of| **of == server).count();
+    let count = count_of(servers, server);
     let mut lows = Vec::with_capacity(alloc, count)?;
     let mut highs = Vec::with_capacity(alloc, count)?;
     for (number, of) in servers.iter().enumerate() {
         if *of == server {
-            let sample = &samples[number];
-            lows.push(extreme_of(number as u32, sample, Side::Low))?;
-            highs.push(extreme_of(number as u32, sample, Side::High))?;
+            let sample = samples.sample_at(number);
+            lows.push(extreme_of(number as u32, &sample, Side::Low))?;
+            highs.push(extreme_of(number as u32, &sample, Side::High))?;
         }
     }
     Ok((lows, highs))

@@ -17,9 +17,11 @@ mod extreme;
 mod passage;
 mod pieces;
 mod queue;
+mod source;
 mod stretch;
 mod tick;
 mod top;
 
 pub use extreme::servers_of;
 pub use pieces::best_of_pieces;
+pub use source::SampleSource;

@@ -6,8 +6,8 @@ ghost use Rattle.sweep.specs.Pieces.{ArePieces, AreBestOfPieces, ArePairsOf};
 
 use crate::choice::top_numbers;
 use crate::extreme::extremes_of;
+use crate::source::SampleSource;
 use crate::stretch::stretches_of;
-use sample_interval::kinds::Sample;
 use span_cover::laws::first_best_of_both_ends_are_the_best;
 use std::alloc::{AllocError, Global};
 
@@ -19,23 +19,23 @@ use std::alloc::{AllocError, Global};
 /// `servers` has the server of each sample, as [`servers_of`](crate::servers_of) makes it once for
 /// all of them. `first` and `ends` are Unix ticks, from 0 to below 2^64, and never fall. The rate
 /// is up to 500,000,000 parts in 10^9, and the samples are at most 1,000,000.
-pub fn best_of_pieces(
+pub fn best_of_pieces<S: SampleSource>(
     alloc: Global,
-    samples: &[Sample],
+    samples: S,
     servers: &[u8],
     server: u8,
     first: i128,
     ends: &[i128],
     drift_ppb: u32,
 ) -> Result<Option<Vec<(u32, u32)>>, AllocError>
-    requires samples { All IsLawfulSample samples.now }
-    requires few { length samples.now ≤ 1_000_000 }
-    requires servers { servers.now ≡ map (λ sample. sample.server) samples.now }
+    requires samples { All IsLawfulSample (S.samples samples) }
+    requires few { length (S.samples samples) ≤ 1_000_000 }
+    requires servers { servers.now ≡ map (λ sample. sample.server) (S.samples samples) }
     requires pieces { ArePieces first ends.now }
     requires rate { drift_ppb ≤ 500_000_000 }
-    ensures none { IfOk result (λ found. IsNone found ↔ HasNoSample samples.now server) }
+    ensures none { IfOk result (λ found. IsNone found ↔ HasNoSample (S.samples samples) server) }
     ensures best { IfOk result (λ found. IfSome found
-        (λ chosen. AreBestOfPieces samples.now server first ends.now drift_ppb chosen.items)) }
+        (λ chosen. AreBestOfPieces (S.samples samples) server first ends.now drift_ppb chosen.items)) }
 {
     first_best_of_both_ends_are_the_best();
     let (lows, highs) = extremes_of(alloc, samples, servers, server)?;

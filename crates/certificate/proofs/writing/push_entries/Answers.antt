@@ -9,7 +9,8 @@ loop-index-preserved c =
     let within : c.loop-index.index < length c.args.entries.now = omega arith in
     let more = joined_more entry_text c.args.entries.now c.loop-index.index (0, 0) within in
     record {
-      written = c.in_ok-push_entry.ensures.text
-          ∙ rw (c.in_ok-push_comma.ensures, c.loop-index.invariant.written, more) (simp append_assoc);
+      written = c.in_ok-extend_from_slice.ensures.items
+          ∙ rw (c.as_bytes.ensures.text, c.write_entry.ensures.text, c.loop-index.invariant.written, more)
+          (simp append_assoc);
       named = grind (arith, common_steps);
     }

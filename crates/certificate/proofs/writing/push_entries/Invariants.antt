@@ -1,4 +1,4 @@
-use Rattle.std.proofs.Common.{◌≡◌, ◌<◌, ℕ, ◌++◌, map, take, get_or, string_bytes}
+use Rattle.std.proofs.Common.{◌≡◌, ◌<◌, ℕ, ◌++◌, map, take, get_or}
 use Rattle.std.specs.List.{join_with_byte}
 use Rattle.certificate.specs.Certificate.{NamesSamples}
 use Rattle.certificate.specs.Writing.{comma, entry_text}
@@ -6,7 +6,7 @@ use Rattle.certificate.proofs.writing.push_entries.Given as goal
 
 abbrev pub invariant-loop-index : goal.invariant-loop-index
 invariant-loop-index l = record {
-  written : string_bytes l.text
-      ≡ string_bytes l.fn.text ++ join_with_byte comma (map entry_text (take l.index l.entries));
+  written : l.text.items
+      ≡ l.fn.text.items ++ join_with_byte comma (map entry_text (take l.index l.entries));
   named : (k : ℕ) (d : ℕ × ℕ) → k < l.index → NamesSamples (get_or l.entries k d);
 }

@@ -1,8 +1,8 @@
-use Rattle.std.proofs.Common.{◌≡◌, ◌<◌, ◌+◌, ◌++◌, length, take, get_or, string_bytes, arith, ap, ◌∙◌, append_assoc}
+use Rattle.std.proofs.Common.{◌≡◌, ◌<◌, ◌+◌, ◌++◌, length, take, get_or, arith, ap, ◌∙◌, append_assoc}
 use Rattle.std.proofs.lemmas.Grind.{common_steps}
 use Rattle.std.proofs.lemmas.Simd.{map-map}
 use Rattle.certificate.specs.Certificate.{piece_data}
-use Rattle.certificate.specs.Writing.{piece_text}
+use Rattle.certificate.specs.Writing.{comma_before, piece_text}
 use Rattle.certificate.proofs.Joined.{joined_more}
 use Rattle.certificate.proofs.ReadBack.{held_pieces}
 use Rattle.certificate.proofs.writing.push_pieces.Goals as goal
@@ -14,14 +14,13 @@ loop-index-preserved c =
     let within : i < length pieces = omega arith in
     let d = c.index-pieces-index.result in
     let more = joined_more (λ p. piece_text (piece_data p)) pieces i d within in
-    let pushed : string_bytes c.push_piece.new.text
-    ≡ string_bytes c.push_comma.new.text ++ piece_text (piece_data (get_or pieces i d)) =
+    let pushed : c.push_piece.new.text.items
+    ≡ c.loop-index.text.items ++ comma_before i ++ piece_text (piece_data (get_or pieces i d)) =
     c.in_ok-push_piece.ensures.text
-    ∙ ap (λ p. string_bytes c.push_comma.new.text ++ piece_text (piece_data p)) c.index-pieces-index.is in
+    ∙ ap (λ p. c.loop-index.text.items ++ comma_before i ++ piece_text (piece_data p)) c.index-pieces-index.is in
     record {
       written = pushed
           ∙ rw (
-            c.in_ok-push_comma.ensures,
             c.loop-index.invariant.written,
             map-map piece_text piece_data (take i pieces),
             map-map piece_text piece_data (take (i + 1) pieces),

@@ -1,4 +1,4 @@
-use Rattle.std.proofs.Common.{◌≡◌, ◌<◌, ℕ, ◌++◌, map, take, get_or, string_bytes}
+use Rattle.std.proofs.Common.{◌≡◌, ◌<◌, ℕ, ◌++◌, map, take, get_or}
 use Rattle.std.specs.List.{join_with_byte}
 use Rattle.certificate.specs.declared.certificate.Piece.{Piece}
 use Rattle.certificate.specs.Certificate.{IsHeld, piece_data}
@@ -7,7 +7,7 @@ use Rattle.certificate.proofs.writing.push_pieces.Given as goal
 
 abbrev pub invariant-loop-index : goal.invariant-loop-index
 invariant-loop-index l = record {
-  written : string_bytes l.text
-      ≡ string_bytes l.fn.text ++ join_with_byte comma (map piece_text (map piece_data (take l.index l.pieces)));
+  written : l.text.items
+      ≡ l.fn.text.items ++ join_with_byte comma (map piece_text (map piece_data (take l.index l.pieces)));
   held : (k : ℕ) (d : Piece) → k < l.index → IsHeld (piece_data (get_or l.pieces k d));
 }

@@ -9,17 +9,17 @@ use Rattle.finder.proofs.PieceLemmas.{count_kept}
 use Rattle.finder.proofs.envelope.find_envelope.Goals as goal
 
 pub returns-then-count-clause-exact : goal.returns-then-count-clause-exact
-returns-then-count-clause-exact c =
+returns-then-count-clause-exact g c =
     let claim = claim_data c.args.claim.now in
     let count = count_kept claim c.requires.claim c.args.step_s c.piece_count-count.result
     c.piece_count-count.ensures in
     let many : max_pieces < count_of claim c.args.step_s = rw count at c.if-count.true in
-    inr (envelope_of_many c.args.samples.now claim c.args.step_s many)
+    inr (envelope_of_many (g.S.SampleSource.samples c.args.samples) claim c.args.step_s many)
 
 pub returns-clause-exact : goal.returns-clause-exact
-returns-clause-exact c =
+returns-clause-exact g c =
     let claim = claim_data c.args.claim.now in
-    let samples = c.args.samples.now in
+    let samples = g.S.SampleSource.samples c.args.samples in
     let step = c.args.step_s in
     let count = count_kept claim c.requires.claim step c.piece_count-count.result c.piece_count-count.ensures in
     let few : count_of claim step ≤ max_pieces = rw count at c.if-count.false in
@@ -28,9 +28,9 @@ returns-clause-exact c =
     envelope_of_few samples claim step few ∙ ap Ok (sym found)
 
 pub returns-clause-least : goal.returns-clause-least
-returns-clause-least c =
+returns-clause-least g c =
     let claim = claim_data c.args.claim.now in
-    let samples = c.args.samples.now in
+    let samples = g.S.SampleSource.samples c.args.samples in
     let step = c.args.step_s in
     let count = count_kept claim c.requires.claim step c.piece_count-count.result c.piece_count-count.ensures in
     let found : data_of c.in_ok-found.found ≡ envelope_to samples claim step (count_of claim step) =

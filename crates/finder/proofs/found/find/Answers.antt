@@ -14,25 +14,25 @@ use Rattle.finder.proofs.RefusalLemmas.{Laws, none_accepted, contradicted}
 use Rattle.finder.proofs.found.find.Goals as goal
 
 pub returns-then-count-clause-exact : goal.returns-then-count-clause-exact
-returns-then-count-clause-exact c =
+returns-then-count-clause-exact g c =
     let claim = claim_data c.args.claim.now in
     let count = count_kept claim c.requires.claim c.args.step_s c.piece_count-count.result
     c.piece_count-count.ensures in
     let many : max_pieces < count_of claim c.args.step_s = rw count at c.if-count.true in
-    inr (found_of_many c.args.samples.now claim c.args.step_s many)
+    inr (found_of_many (g.S.SampleSource.samples c.args.samples) claim c.args.step_s many)
 
 pub returns-clause-exact : goal.returns-clause-exact
-returns-clause-exact c =
+returns-clause-exact g c =
     let claim = claim_data c.args.claim.now in
     let count = count_kept claim c.requires.claim c.args.step_s c.piece_count-count.result
     c.piece_count-count.ensures in
     let few : count_of claim c.args.step_s ≤ max_pieces = rw count at c.if-count.false in
-    found_of_few c.args.samples.now claim c.args.step_s few ∙ ap Ok (sym c.in_ok-found.ensures)
+    found_of_few (g.S.SampleSource.samples c.args.samples) claim c.args.step_s few ∙ ap Ok (sym c.in_ok-found.ensures)
 
 pub returns-clause-accepted : goal.returns-clause-accepted
-returns-clause-accepted c =
+returns-clause-accepted g c =
     let claim = claim_data c.args.claim.now in
-    let samples = c.args.samples.now in
+    let samples = g.S.SampleSource.samples c.args.samples in
     let step = c.args.step_s in
     let lawful = c.requires.claim in
     let count = c.last_piece_ends_with_the_span.ensures claim.first claim.last step lawful.span_forward
@@ -42,9 +42,9 @@ returns-clause-accepted c =
     (whole samples claim step c.in_ok-found.found c.in_ok-found.ensures)
 
 pub returns-clause-few : goal.returns-clause-few
-returns-clause-few c =
+returns-clause-few g c =
     let claim = claim_data c.args.claim.now in
-    let samples = c.args.samples.now in
+    let samples = g.S.SampleSource.samples c.args.samples in
     let step = c.args.step_s in
     let count = count_kept claim c.requires.claim step c.piece_count-count.result c.piece_count-count.ensures in
     let few : count_of claim step ≤ max_pieces = rw count at c.if-count.false in
@@ -53,11 +53,11 @@ returns-clause-few c =
     (whole samples claim step c.in_ok-found.found c.in_ok-found.ensures)
 
 pub returns-clause-failing : goal.returns-clause-failing
-returns-clause-failing c =
-    failing c.args.samples.now (claim_data c.args.claim.now) c.args.step_s c.in_ok-found.found c.in_ok-found.ensures
+returns-clause-failing g c =
+    failing (g.S.SampleSource.samples c.args.samples) (claim_data c.args.claim.now) c.args.step_s c.in_ok-found.found c.in_ok-found.ensures
 
 pub returns-clause-none_accepted : goal.returns-clause-none_accepted
-returns-clause-none_accepted c =
+returns-clause-none_accepted g c =
     let laws : Laws = record {
       best = c.best_samples_are_the_first_best.ensures;
       low = c.piece_inside_another_is_narrower.ensures.low;
@@ -67,15 +67,15 @@ returns-clause-none_accepted c =
       each = c.pieces_give_the_verdict.ensures.each;
     } in
     let claim = claim_data c.args.claim.now in
-    let samples = c.args.samples.now in
+    let samples = g.S.SampleSource.samples c.args.samples in
     let step = c.args.step_s in
     if_nothing samples claim step (IsFirstFailing samples claim step)
     (λ k hull. hull ≢ Empty → NoneIsAcceptedOver samples claim (stretch_at claim step k)) c.in_ok-found.found
     (none_accepted laws samples claim step c.requires.claim c.requires.samples c.requires.listed)
-    (returns-clause-failing c)
+    (returns-clause-failing g c)
 
 pub returns-clause-contradiction : goal.returns-clause-contradiction
-returns-clause-contradiction c =
+returns-clause-contradiction g c =
     let laws : Laws = record {
       best = c.best_samples_are_the_first_best.ensures;
       low = c.piece_inside_another_is_narrower.ensures.low;
@@ -85,22 +85,22 @@ returns-clause-contradiction c =
       each = c.pieces_give_the_verdict.ensures.each;
     } in
     let claim = claim_data c.args.claim.now in
-    let samples = c.args.samples.now in
+    let samples = g.S.SampleSource.samples c.args.samples in
     let step = c.args.step_s in
     if_nothing samples claim step (IsFirstFailing samples claim step)
     (λ k hull. hull ≡ Empty → IsContradicted claim samples (stretch_at claim step k)) c.in_ok-found.found
     (contradicted laws samples claim step c.requires.claim c.requires.samples c.requires.listed
     c.verdicts_are_traceable.ensures)
-    (returns-clause-failing c)
+    (returns-clause-failing g c)
 
 pub returns-clause-held : goal.returns-clause-held
-returns-clause-held c =
+returns-clause-held g c =
     let claim = claim_data c.args.claim.now in
-    let samples = c.args.samples.now in
+    let samples = g.S.SampleSource.samples c.args.samples in
     let step = c.args.step_s in
     if_nothing samples claim step (IsFirstFailing samples claim step)
     (λ k hull. HoldsError claim samples (stretch_at claim step k) hull) c.in_ok-found.found
     (λ k hull failing.
     subst (HoldsError claim samples (stretch_at claim step k)) (sym failing.its_hull)
     (c.best_hulls_hold_the_error.ensures claim samples (stretch_at claim step k) c.requires.claim c.requires.listed))
-    (returns-clause-failing c)
+    (returns-clause-failing g c)

@@ -12,37 +12,37 @@ use Rattle.finder.proofs.PieceLemmas.{piece_of_claim, end_kept, end_fits}
 use Rattle.finder.proofs.found.find_pieces.Goals as goal
 
 pub hull_of-hull-requires-clause-stretch : goal.hull_of-hull-requires-clause-stretch
-hull_of-hull-requires-clause-stretch c =
+hull_of-hull-requires-clause-stretch g c =
     let claim = claim_data c.args.claim.now in
     let end = end_kept claim c.requires.claim c.args.step_s c.loop-number.number c.piece_end-end.result
     c.piece_end-end.ensures in
     rw (c.loop-number.invariant.begin, end) (piece_of_claim claim c.requires.claim c.args.step_s c.loop-number.number)
 
 pub hull_of-hull-requires-clause-low : goal.hull_of-hull-requires-clause-low
-hull_of-hull-requires-clause-low c k d within =
+hull_of-hull-requires-clause-low g c k d within =
     let claim = claim_data c.args.claim.now in
     let number = c.loop-number.number in
     let entries = rw c.as_slice.ensures.value at c.entries_at-entries.ensures
     ∙ c.in_ok-tables.ensures.best number c.loop-number-test.true in
-    let there = rw (← entries) at (entries_there c.best_samples_are_the_first_best.ensures c.args.samples.now claim
+    let there = rw (← entries) at (entries_there c.best_samples_are_the_first_best.ensures (g.S.SampleSource.samples c.args.samples) claim
     (stretch_at claim c.args.step_s number)) in
     (there k d within).0
 
 pub hull_of-hull-requires-clause-high : goal.hull_of-hull-requires-clause-high
-hull_of-hull-requires-clause-high c k d within =
+hull_of-hull-requires-clause-high g c k d within =
     let claim = claim_data c.args.claim.now in
     let number = c.loop-number.number in
     let entries = rw c.as_slice.ensures.value at c.entries_at-entries.ensures
     ∙ c.in_ok-tables.ensures.best number c.loop-number-test.true in
-    let there = rw (← entries) at (entries_there c.best_samples_are_the_first_best.ensures c.args.samples.now claim
+    let there = rw (← entries) at (entries_there c.best_samples_are_the_first_best.ensures (g.S.SampleSource.samples c.args.samples) claim
     (stretch_at claim c.args.step_s number)) in
     (there k d within).1
 
 pub returns-then-not-is_inside : goal.returns-then-not-is_inside
-returns-then-not-is_inside c =
+returns-then-not-is_inside g c =
     let claim = claim_data c.args.claim.now in
     let lawful = c.requires.claim in
-    let samples = c.args.samples.now in
+    let samples = g.S.SampleSource.samples c.args.samples in
     let step = c.args.step_s in
     let number = c.loop-number.number in
     let not_below = lawful.bound_not_negative in
@@ -58,16 +58,16 @@ returns-then-not-is_inside c =
     found_failing samples claim step number c.hull_of-hull.result below hull outside c.loop-number.invariant.passed
 
 pub overflow_cast-end : goal.overflow_cast-end
-overflow_cast-end c =
+overflow_cast-end g c =
     let claim = claim_data c.args.claim.now in
     end_fits claim c.requires.claim c.args.step_s c.loop-number.number _
     (end_kept claim c.requires.claim c.args.step_s c.loop-number.number c.piece_end-end.result c.piece_end-end.ensures)
 
 pub loop-number-preserved : goal.loop-number-preserved
-loop-number-preserved c =
+loop-number-preserved g c =
     let claim = claim_data c.args.claim.now in
     let lawful = c.requires.claim in
-    let samples = c.args.samples.now in
+    let samples = g.S.SampleSource.samples c.args.samples in
     let step = c.args.step_s in
     let number = c.loop-number.number in
     let not_below = lawful.bound_not_negative in
@@ -88,11 +88,11 @@ loop-number-preserved c =
     }
 
 pub returns : goal.returns
-returns c =
+returns g c =
     let claim = claim_data c.args.claim.now in
     let up = c.loop-number-test.false in
     let to = c.loop-number.auto.number-end in
     let counted = c.requires.count in
     let all : c.loop-number.number ≡ count_of claim c.args.step_s = omega arith in
-    found_all c.args.samples.now claim c.args.step_s _ (rw all at c.loop-number.invariant.pieces)
+    found_all (g.S.SampleSource.samples c.args.samples) claim c.args.step_s _ (rw all at c.loop-number.invariant.pieces)
     (λ k below. c.loop-number.invariant.passed k (rw (← all) at below))

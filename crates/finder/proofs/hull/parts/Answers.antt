@@ -2,42 +2,46 @@ use Rattle.std.proofs.Common.{◌<◌, ◌≤◌, length, get_or, arith}
 use Rattle.std.proofs.lemmas.Grind.{common_steps}
 use Rattle.std.proofs.lemmas.List.{take_all}
 use Rattle.claim_file.specs.Claim.{data_of}
+use Rattle.sample_interval.specs.Sample.{IsLawfulSample}
 use Rattle.finder.specs.Entry.{part_named}
 use Rattle.finder.proofs.EntryLemmas.{listed_parts, part_computed}
-use Rattle.finder.proofs.ListLemmas.{filter_map_more}
+use Rattle.finder.proofs.ListLemmas.{All-slice_get, filter_map_more}
 use Rattle.finder.proofs.hull.parts.Goals as goal
 
-pub part_of-requires-clause-low : goal.part_of-requires-clause-low
-part_of-requires-clause-low c =
+pub sample_at-low-requires : goal.sample_at-low-requires
+sample_at-low-requires g c =
     let same = c.as_slice-entry-items.ensures.value in
     let within = c.loop-entry-test.true in
     let index = c.loop-entry.entry-index in
-    let bound : (get_or c.as_slice-entry-items.result.now index (0, 0)).0 < length c.args.samples.now =
-    rw same (c.requires.low index (0, 0) (rw (← same) within)) in
-    c.requires.samples _ _ bound
+    rw same (c.requires.low index (0, 0) (rw (← same) within))
+
+pub part_of-requires-clause-low : goal.part_of-requires-clause-low
+part_of-requires-clause-low g c =
+    All-slice_get IsLawfulSample (g.S.SampleSource.samples c.args.samples) _ _ c.requires.samples
+    c.sample_at-low.ensures
 
 pub loop-entry-preserved : goal.loop-entry-preserved
-loop-entry-preserved c =
+loop-entry-preserved g c =
     let same = c.as_slice-entry-items.ensures.value in
     let within = c.loop-entry-test.true in
     let index = c.loop-entry.entry-index in
     let entries = c.args.entries.now.items in
     let inside : index < length entries = rw (← same) within in
     let stretch = c.args.stretch in
-    let says = part_computed c.args.samples.now (data_of c.args.claim.now) stretch (get_or entries index (0, 0)) _
-    c.part_of.result (c.requires.low index (0, 0) inside) (c.requires.high index (0, 0) inside)
-    (rw same at c.part_of.ensures) in
+    let says = part_computed (g.S.SampleSource.samples c.args.samples) (data_of c.args.claim.now) stretch
+    (get_or entries index (0, 0)) c.sample_at-low.result c.sample_at-high.result c.part_of.result
+    (rw same at c.sample_at-low.ensures) (rw same at c.sample_at-high.ensures) c.part_of.ensures in
     record {
-      so_far = filter_map_more (part_named c.args.samples.now (data_of c.args.claim.now) stretch) entries index (0, 0) _
+      so_far = filter_map_more (part_named (g.S.SampleSource.samples c.args.samples) (data_of c.args.claim.now) stretch) entries index (0, 0) _
           c.loop-entry.parts.items c.push.new.self.items c.loop-entry.invariant.so_far inside says
           c.push.ensures.items;
       fits = grind (arith, common_steps);
     }
 
 pub returns-clause-listed : goal.returns-clause-listed
-returns-clause-listed c =
+returns-clause-listed g c =
     let entries = c.args.entries.now.items in
-    let listed = listed_parts c.args.samples.now (data_of c.args.claim.now) c.args.stretch entries
+    let listed = listed_parts (g.S.SampleSource.samples c.args.samples) (data_of c.args.claim.now) c.args.stretch entries
     (length c.args.claim.now.servers.items) c.requires.listed in
     let past : length entries ≤ c.loop-entry.entry-index =
     rw c.as_slice-entry-items.ensures.value at c.loop-entry-test.false in

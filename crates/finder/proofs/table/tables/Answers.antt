@@ -14,7 +14,7 @@ use Rattle.finder.proofs.table.tables.Goals as goal
 use Rattle.finder.proofs.table.tables.Goals.{in-Some+in_ok-push, in_default}
 
 pub best_of_pieces-requires-clause-pieces : goal.best_of_pieces-requires-clause-pieces
-best_of_pieces-requires-clause-pieces c =
+best_of_pieces-requires-clause-pieces g c =
     let claim = c.requires.claim in
     let begins = claim.span_begins in
     let forward = claim.span_forward in
@@ -25,7 +25,7 @@ best_of_pieces-requires-clause-pieces c =
     _ first last first c.as_slice-in-loop-server.ensures.value c.in_ok-ends.ensures begins forward ends
 
 pub loop-server-preserved : goal.loop-server-preserved
-loop-server-preserved c =
+loop-server-preserved g c =
     let claim = c.args.claim.now in
     let server = c.loop-server.server in
     let lawful = c.requires.claim in
@@ -35,16 +35,16 @@ loop-server-preserved c =
     let first = kept claim.first (omega (arith, ints)) in
     let last = kept claim.last (omega (arith, ints)) in
     let over : ℕ → ℕ → _ = λ (k : ℕ).
-    best_over c.args.samples.now (data_of claim) (stretch_at (data_of claim) c.args.step_s k) in
+    best_over (g.S.SampleSource.samples c.args.samples) (data_of claim) (stretch_at (data_of claim) c.args.step_s k) in
     elim c.match-table.branch [
       | in-Some+in_ok-push w ↦
           let chosen = w.in-Some.table.items in
           let are = rw w.in-Some.is at c.in_ok-table.ensures.best in
           let long = as_many claim.first claim.last c.args.step_s c.args.count _ _ _ c.in_ok-ends.ends.items _
-          first last first c.as_slice-in-loop-server.ensures.value c.in_ok-ends.ensures c.args.samples.now server
+          first last first c.as_slice-in-loop-server.ensures.value c.in_ok-ends.ensures (g.S.SampleSource.samples c.args.samples) server
           claim.drift_ppb chosen are in
           let best = best_are claim.first claim.last c.args.step_s c.args.count _ _ _ c.in_ok-ends.ends.items _
-          first last first c.as_slice-in-loop-server.ensures.value c.in_ok-ends.ensures c.args.samples.now server
+          first last first c.as_slice-in-loop-server.ensures.value c.in_ok-ends.ensures (g.S.SampleSource.samples c.args.samples) server
           claim.drift_ppb chosen are in
           let old = c.loop-server.tables.items in
           let pushed : w.push.new.self.items ≡ old ++ w.in-Some.table ∷ [] = search rules in
@@ -62,15 +62,15 @@ loop-server-preserved c =
             few = grind (arith, common_steps);
             long = rw w.tables-is c.loop-server.invariant.long;
             best = λ k below. rw w.tables-is (without (over k) server _ (c.loop-server.invariant.best k below)
-                (c.first_best_of_both_ends_are_the_best.ensures.none c.args.samples.now server _ _ claim.drift_ppb
+                (c.first_best_of_both_ends_are_the_best.ensures.none (g.S.SampleSource.samples c.args.samples) server _ _ claim.drift_ppb
                 none));
           }
     ]
 
 pub returns-clause-best : goal.returns-clause-best
-returns-clause-best c k below =
+returns-clause-best g c k below =
     let claim = data_of c.args.claim.now in
-    let over = best_over c.args.samples.now claim (stretch_at claim c.args.step_s k) in
+    let over = best_over (g.S.SampleSource.samples c.args.samples) claim (stretch_at claim c.args.step_s k) in
     let some = c.loop-server-test.false in
     let all : c.loop-server.server ≡ length claim.servers = grind (arith, common_steps) in
     c.loop-server.invariant.best k below

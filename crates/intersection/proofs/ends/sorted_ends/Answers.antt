@@ -4,6 +4,6 @@ use Rattle.intersection.proofs.EndsLemmas.{in_order}
 use Rattle.intersection.proofs.ends.sorted_ends.Goals as goal
 
 pub returns-clause-order : goal.returns-clause-order
-returns-clause-order c =
-    rw (items-with_items c.loop-interval.ends c.sort_unstable.new.self (search rules))
+returns-clause-order g c =
+    rw (items-with_items c.loop-interval-2.ends c.sort_unstable.new.self (search rules))
     (in_order c.sort_unstable.new.self c.sort_unstable.ensures.sorted)

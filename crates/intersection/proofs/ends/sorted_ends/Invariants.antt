@@ -1,9 +1,16 @@
-use Rattle.std.proofs.Common.{◌≡◌, ◌*◌, ◌≤◌, length, take}
-use Rattle.intersection.specs.Ends.{ends_of}
+use Rattle.std.proofs.Common.{◌≡◌, ◌≤◌, ◌+◌, ◌++◌, length, take}
+use Rattle.std.specs.List.{flat_map}
+use Rattle.intersection.specs.Ends.{low_end, high_end}
 use Rattle.intersection.proofs.ends.sorted_ends.Given as goal
 
 abbrev pub invariant-loop-interval : goal.invariant-loop-interval
-invariant-loop-interval l = record {
-  so_far : l.ends.items ≡ ends_of (take l.interval-index l.interval-items);
-  fits : length l.ends.items ≤ 2 * l.interval-index;
+invariant-loop-interval g l = record {
+  so_far : l.ends.items ≡ flat_map low_end (take l.interval-index l.list);
+  fits : length l.ends.items ≤ l.interval-index;
+}
+
+abbrev pub invariant-loop-interval-2 : goal.invariant-loop-interval-2
+invariant-loop-interval-2 g l = record {
+  so_far : l.ends.items ≡ flat_map low_end l.list ++ flat_map high_end (take l.interval-index l.list);
+  fits : length l.ends.items ≤ length l.list + l.interval-index;
 }

@@ -1,32 +1,53 @@
-use Rattle.std.proofs.Common.{◌<◌, length, arith, subst, sym, ap, ◌∙◌, Vec, Global}
+use Rattle.std.proofs.Common.{◌<◌, pos, length, arith, subst, sym, ap, ◌∙◌, Vec, Global}
 use Rattle.std.proofs.lemmas.Option.{slice_get-get_or}
+use Rattle.sample_interval.specs.declared.kinds.Sample.{Sample}
 use Rattle.sweep.specs.declared.extreme.Extreme.{Extreme}
 use Rattle.intersection.specs.declared.ends.Side.TheVariants.{Low, High}
-use Rattle.sweep.proofs.ExtremeLemmas.{as_many_servers, server_at}
+use Rattle.sweep.proofs.ExtremeLemmas.{as_many_servers, lawful_at, server_at}
 use Rattle.sweep.proofs.ExtremeLemmas.{ExtremesSoFar, ExtremesSoFar-more, ExtremesSoFar-other, ExtremesSoFar-all}
 use Rattle.sweep.proofs.extreme.extremes_of.Goals as goal
 use Rattle.sweep.proofs.extreme.extremes_of.Goals.{then-of-server+in_ok-push+in_ok-push-2, else-of-server}
 
-pub bounds-samples-number : goal.bounds-samples-number
-bounds-samples-number c =
-    let as_many = as_many_servers c.args.samples.now c.args.servers.now c.requires.servers in
+none : Sample
+none = record {
+  server = 0;
+  low = pos 0;
+  low_from = pos 0;
+  low_to = pos 0;
+  high = pos 0;
+  high_from = pos 0;
+  high_to = pos 0;
+}
+
+pub extreme_of-requires : goal.extreme_of-requires
+extreme_of-requires g c =
+    lawful_at (g.S.SampleSource.samples c.args.samples) c.requires.samples c.loop-number.number _
+    c.sample_at-sample.ensures
+
+pub extreme_of-requires-then-of-server : goal.extreme_of-requires-then-of-server
+extreme_of-requires-then-of-server g c =
+    lawful_at (g.S.SampleSource.samples c.args.samples) c.requires.samples c.loop-number.number _
+    c.sample_at-sample.ensures
+
+pub sample_at-sample-requires : goal.sample_at-sample-requires
+sample_at-sample-requires g c =
+    let as_many = as_many_servers (g.S.SampleSource.samples c.args.samples) c.args.servers.now c.requires.servers in
     omega arith
 
 pub loop-number-preserved : goal.loop-number-preserved
-loop-number-preserved c =
-    let samples = c.args.samples.now in
+loop-number-preserved g c =
+    let samples = g.S.SampleSource.samples c.args.samples in
     let servers = c.args.servers.now in
     let number = c.loop-number.number in
     let lows = c.loop-number.invariant.lows in
     let highs = c.loop-number.invariant.highs in
     let as_many = as_many_servers samples servers c.requires.servers in
     let within : number < length samples = omega arith in
-    let here = slice_get-get_or samples number _ within in
-    let of = server_at samples servers c.requires.servers number _ _ here in
     elim c.if-of-server.branch [
       | then-of-server+in_ok-push+in_ok-push-2 w ↦
-          let own = sym of ∙ w.if-of-server.true in
-          let lawful = c.requires.samples number _ within in
+          let here = w.sample_at-sample.ensures in
+          let own = sym (server_at samples servers c.requires.servers number _ _ here) ∙ w.if-of-server.true in
+          let lawful = lawful_at samples c.requires.samples number _ here in
           record {
             lows = subst (ExtremesSoFar Low samples c.args.server _)
                 (sym (ap (λ (v : Vec Extreme Global). v.items) w.lows-is ∙ w.in_ok-push.ensures.items))
@@ -39,6 +60,8 @@ loop-number-preserved c =
                 w.extreme_of-then-of-server.ensures.is);
           }
       | else-of-server w ↦
+          let here = slice_get-get_or samples number none within in
+          let of = server_at samples servers c.requires.servers number _ _ here in
           record {
             lows = subst (ExtremesSoFar Low samples c.args.server _)
                 (sym (ap (λ (v : Vec Extreme Global). v.items) w.lows-is))
@@ -52,13 +75,13 @@ loop-number-preserved c =
     ]
 
 pub returns-clause-lows : goal.returns-clause-lows
-returns-clause-lows c =
-    let as_many = as_many_servers c.args.samples.now c.args.servers.now c.requires.servers in
-    ExtremesSoFar-all Low c.args.samples.now c.args.server c.loop-number.number c.loop-number.lows.items
+returns-clause-lows g c =
+    let as_many = as_many_servers (g.S.SampleSource.samples c.args.samples) c.args.servers.now c.requires.servers in
+    ExtremesSoFar-all Low (g.S.SampleSource.samples c.args.samples) c.args.server c.loop-number.number c.loop-number.lows.items
     c.loop-number.invariant.lows (omega arith)
 
 pub returns-clause-highs : goal.returns-clause-highs
-returns-clause-highs c =
-    let as_many = as_many_servers c.args.samples.now c.args.servers.now c.requires.servers in
-    ExtremesSoFar-all High c.args.samples.now c.args.server c.loop-number.number c.loop-number.highs.items
+returns-clause-highs g c =
+    let as_many = as_many_servers (g.S.SampleSource.samples c.args.samples) c.args.servers.now c.requires.servers in
+    ExtremesSoFar-all High (g.S.SampleSource.samples c.args.samples) c.args.server c.loop-number.number c.loop-number.highs.items
     c.loop-number.invariant.highs (omega arith)

@@ -3,7 +3,7 @@ use Rattle.sweep.proofs.ExtremeLemmas.{ExtremesSoFar}
 use Rattle.sweep.proofs.extreme.extremes_of.Given as goal
 
 abbrev pub invariant-loop-number : goal.invariant-loop-number
-invariant-loop-number l = record {
-  lows : ExtremesSoFar Low l.fn.samples l.fn.server l.number l.lows.items;
-  highs : ExtremesSoFar High l.fn.samples l.fn.server l.number l.highs.items;
+invariant-loop-number g l = record {
+  lows : ExtremesSoFar Low (g.S.SampleSource.samples l.fn.samples) l.fn.server l.number l.lows.items;
+  highs : ExtremesSoFar High (g.S.SampleSource.samples l.fn.samples) l.fn.server l.number l.highs.items;
 }

@@ -13,52 +13,52 @@ use Rattle.sweep.proofs.StretchLemmas.{MiddlesRise-adjoin}
 use Rattle.sweep.proofs.pieces.best_of_pieces.Goals as goal
 
 pub stretches_of-requires : goal.stretches_of-requires
-stretches_of-requires c =
+stretches_of-requires g c =
     subst (λ (first : ℤ). ArePieces first c.args.ends.now) (sym (to_z-of_z w128 c.args.first c.ranges.first))
     c.requires.pieces
 
 pub top_numbers-requires-clause-extremes : goal.top_numbers-requires-clause-extremes
-top_numbers-requires-clause-extremes c =
+top_numbers-requires-clause-extremes g c =
     let P : List Extreme → Type 0 = All IsLawfulExtreme in
     subst P (sym c.as_slice.ensures.value)
-    (lawful_extremes Low c.args.samples.now c.args.server c.in_ok-lows.lows.items c.in_ok-lows.ensures.lows)
+    (lawful_extremes Low (g.S.SampleSource.samples c.args.samples) c.args.server c.in_ok-lows.lows.items c.in_ok-lows.ensures.lows)
 
 pub top_numbers-requires-clause-in_order : goal.top_numbers-requires-clause-in_order
-top_numbers-requires-clause-in_order c =
+top_numbers-requires-clause-in_order g c =
     subst MiddlesRise (sym c.as_slice-2.ensures.value)
     (MiddlesRise-adjoin c.in_ok-stretches.stretches.items c.in_ok-stretches.ensures.lawful
     c.in_ok-stretches.ensures.adjoin)
 
 pub top_numbers-requires-2-clause-extremes : goal.top_numbers-requires-2-clause-extremes
-top_numbers-requires-2-clause-extremes c =
+top_numbers-requires-2-clause-extremes g c =
     let P : List Extreme → Type 0 = All IsLawfulExtreme in
     subst P (sym c.as_slice-3.ensures.value)
-    (lawful_extremes High c.args.samples.now c.args.server c.in_ok-lows.highs.items c.in_ok-lows.ensures.highs)
+    (lawful_extremes High (g.S.SampleSource.samples c.args.samples) c.args.server c.in_ok-lows.highs.items c.in_ok-lows.ensures.highs)
 
 pub top_numbers-requires-2-clause-some : goal.top_numbers-requires-2-clause-some
-top_numbers-requires-2-clause-some c =
+top_numbers-requires-2-clause-some g c =
     let some : 0 < length c.in_ok-lows.lows.items = search rules in
     subst (λ (b : List Extreme). 0 < length b) (sym c.as_slice-3.ensures.value)
-    (some_extreme High c.args.samples.now c.args.server c.in_ok-lows.highs.items c.in_ok-lows.ensures.highs
-    (some_sample Low c.args.samples.now c.args.server c.in_ok-lows.lows.items c.in_ok-lows.ensures.lows some))
+    (some_extreme High (g.S.SampleSource.samples c.args.samples) c.args.server c.in_ok-lows.highs.items c.in_ok-lows.ensures.highs
+    (some_sample Low (g.S.SampleSource.samples c.args.samples) c.args.server c.in_ok-lows.lows.items c.in_ok-lows.ensures.lows some))
 
 pub top_numbers-requires-2-clause-in_order : goal.top_numbers-requires-2-clause-in_order
-top_numbers-requires-2-clause-in_order c =
+top_numbers-requires-2-clause-in_order g c =
     subst MiddlesRise (sym c.as_slice-4.ensures.value)
     (MiddlesRise-adjoin c.in_ok-stretches.stretches.items c.in_ok-stretches.ensures.lawful
     c.in_ok-stretches.ensures.adjoin)
 
 pub returns-clause-none : goal.returns-clause-none
-returns-clause-none c = (
+returns-clause-none g c = (
   λ none. absurd cc,
   λ none. absurd
       (let some : 0 < length c.in_ok-lows.lows.items = search rules in
-      some_sample Low c.args.samples.now c.args.server c.in_ok-lows.lows.items c.in_ok-lows.ensures.lows some none),
+      some_sample Low (g.S.SampleSource.samples c.args.samples) c.args.server c.in_ok-lows.lows.items c.in_ok-lows.ensures.lows some none),
 )
 
 pub returns-clause-best : goal.returns-clause-best
-returns-clause-best c =
-    AreBestOfPieces-tops c.first_best_of_both_ends_are_the_best.ensures.some c.args.samples.now c.args.server
+returns-clause-best g c =
+    AreBestOfPieces-tops c.first_best_of_both_ends_are_the_best.ensures.some (g.S.SampleSource.samples c.args.samples) c.args.server
     c.args.first c.args.ends.now c.args.drift_ppb c.in_ok-lows.lows.items c.in_ok-lows.highs.items
     c.in_ok-lows.ensures.lows c.in_ok-lows.ensures.highs c.in_ok-stretches.stretches.items
     (subst (λ (first : ℤ). AreStretchesOf first c.args.ends.now c.in_ok-stretches.stretches.items)
