@@ -15,10 +15,9 @@ ghost use Rattle.audit_text.specs.Envelope.{hull_fields, lines_from, place_field
 use crate::sample_line::put_interval;
 use crate::second::second_of;
 use claim_file::Claim;
-use finder::{Envelope, LeastBound, PieceHull, parts};
+use finder::{Envelope, LeastBound, PieceHull, SampleSource, parts};
 use intersection::kinds::Hull;
 use line_writer::Line;
-use sample_interval::kinds::Sample;
 use span_cover::{Part, Stretch};
 use std::alloc::{AllocError, Global};
 
@@ -109,20 +108,20 @@ fn add_parts(
 }
 
 /// What each server says in a piece.
-fn add_servers(
+fn add_servers<S: SampleSource>(
     text: &mut Vec<u8>,
     line: &mut Line,
-    samples: &[Sample],
+    samples: S,
     claim: &Claim,
     number: u32,
     piece: &PieceHull,
 ) -> Result<(), AllocError>
     requires claim { IsLawful (data_of claim.now) }
-    requires samples { All IsLawfulSample samples.now }
-    requires listed { All (λ sample. sample.server < length claim.now.servers.items) samples.now }
-    requires piece { IsLawfulPiece (length samples.now) (piece_data piece.now) }
+    requires samples { All IsLawfulSample (S.samples samples) }
+    requires listed { All (λ sample. sample.server < length claim.now.servers.items) (S.samples samples) }
+    requires piece { IsLawfulPiece (length (S.samples samples)) (piece_data piece.now) }
     ensures { IfOk result (λ _. text.new.items ≡ text.old.items
-        ++ server_lines samples.now (data_of claim.now) number (piece_data piece.now)) }
+        ++ server_lines (S.samples samples) (data_of claim.now) number (piece_data piece.now)) }
 {
     let parts = parts(samples, claim, piece.stretch, &piece.entries);
     add_parts(text, line, claim, number, parts.as_slice())
@@ -151,22 +150,22 @@ fn write_bound_line(line: &mut Line, least: LeastBound)
 }
 
 /// The lines of the pieces, in their order.
-fn add_pieces(
+fn add_pieces<S: SampleSource>(
     text: &mut Vec<u8>,
     line: &mut Line,
-    samples: &[Sample],
+    samples: S,
     claim: &Claim,
     servers: bool,
     pieces: &[PieceHull],
 ) -> Result<(), AllocError>
     requires claim { IsLawful (data_of claim.now) }
-    requires samples { All IsLawfulSample samples.now }
-    requires listed { All (λ sample. sample.server < length claim.now.servers.items) samples.now }
+    requires samples { All IsLawfulSample (S.samples samples) }
+    requires listed { All (λ sample. sample.server < length claim.now.servers.items) (S.samples samples) }
     requires few { length pieces.now ≤ 100_000 }
-    requires pieces { All (λ piece. IsLawfulPiece (length samples.now) (piece_data piece))
+    requires pieces { All (λ piece. IsLawfulPiece (length (S.samples samples)) (piece_data piece))
         pieces.now }
     ensures { IfOk result (λ _. text.new.items ≡ text.old.items
-        ++ lines_from samples.now (data_of claim.now) servers 0 (map piece_data pieces.now)) }
+        ++ lines_from (S.samples samples) (data_of claim.now) servers 0 (map piece_data pieces.now)) }
 {
     for (number, piece) in pieces.iter().enumerate() {
         if servers {
@@ -186,20 +185,20 @@ fn add_pieces(
 ///
 /// The envelope is of these samples, at most 1,000,000, and of this claim.
 #[tactic(auto, unfolding(crate::specs::Envelope::envelope_text))]
-pub fn envelope_text(
+pub fn envelope_text<S: SampleSource>(
     alloc: Global,
-    samples: &[Sample],
+    samples: S,
     claim: &Claim,
     servers: bool,
     envelope: &Envelope,
 ) -> Result<Vec<u8>, AllocError>
     requires claim { IsLawful (data_of claim.now) }
-    requires samples { All IsLawfulSample samples.now }
-    requires listed { All (λ sample. sample.server < length claim.now.servers.items) samples.now }
+    requires samples { All IsLawfulSample (S.samples samples) }
+    requires listed { All (λ sample. sample.server < length claim.now.servers.items) (S.samples samples) }
     requires few { length envelope.now.pieces.items ≤ 100_000 }
-    requires envelope { IsLawfulEnvelope (length samples.now) envelope.now }
+    requires envelope { IsLawfulEnvelope (length (S.samples samples)) envelope.now }
     ensures { IfOk result (λ text. text.items ≡
-        spec.envelope_text samples.now (data_of claim.now) servers (envelope_data envelope.now)) }
+        spec.envelope_text (S.samples samples) (data_of claim.now) servers (envelope_data envelope.now)) }
 {
     let mut text = Vec::new(alloc);
     let mut line = Line::new();

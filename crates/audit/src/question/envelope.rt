@@ -9,12 +9,11 @@ ghost use Rattle.audit.specs.Report.{IsOfMaking};
 
 use crate::evidence::Evidence;
 use crate::question::find::run_fault_of;
-use crate::sample_list::samples_of;
 use crate::step::Step;
 use audit_text::envelope_text;
 use checker::laws::{hulls_hold_the_error, parts_are_of_samples};
-use finder::laws::best_entries_are_accepted;
-use finder::{LeastBound, find_envelope};
+use finder::laws::{best_entries_are_accepted, samples_of_exchanges_keep_limits};
+use finder::{ExchangeSamples, LeastBound, find_envelope};
 use report::{Made, Outcome, RunFault};
 use std::alloc::{AllocError, Global};
 
@@ -46,12 +45,14 @@ pub(crate) fn make_envelope(
     best_entries_are_accepted();
     parts_are_of_samples();
     hulls_hold_the_error();
+    samples_of_exchanges_keep_limits();
     let claim = &evidence.claim;
-    let Ok(samples) = samples_of(alloc, claim, &evidence.held.exchanges) else {
-        return Err(RunFault::Memory);
+    let samples = ExchangeSamples {
+        exchanges: &evidence.held.exchanges,
+        reading: claim.reading,
     };
-    match find_envelope(alloc, samples.as_slice(), claim, step.seconds) {
-        Ok(envelope) => match envelope_text(alloc, samples.as_slice(), claim, servers, &envelope) {
+    match find_envelope(alloc, samples, claim, step.seconds) {
+        Ok(envelope) => match envelope_text(alloc, samples, claim, servers, &envelope) {
             Ok(text) => Ok(Made {
                 text,
                 outcome: outcome_of(envelope.least),

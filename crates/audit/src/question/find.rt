@@ -12,11 +12,11 @@ ghost use Rattle.audit.specs.Question.{ShowsOf, find_with};
 ghost use Rattle.audit.specs.Report.{IsOfMaking};
 
 use crate::evidence::Evidence;
-use crate::sample_list::samples_of;
 use crate::step::Step;
 use audit_text::nothing_text;
 use certificate::{Certificate, write_certificate};
-use finder::{FindFault, Found, find};
+use finder::laws::samples_of_exchanges_keep_limits;
+use finder::{ExchangeSamples, FindFault, Found, find};
 use report::{Made, Outcome, RunFault};
 use std::alloc::{AllocError, Global};
 
@@ -70,11 +70,13 @@ pub(crate) fn make_find(alloc: Global, step: Step, evidence: &Evidence) -> Resul
     ensures shows { IfOk result (λ made. ShowsOf (find_with step.seconds)
         (evidence_data evidence.now) made.outcome) }
 {
+    samples_of_exchanges_keep_limits();
     let claim = &evidence.claim;
-    let Ok(samples) = samples_of(alloc, claim, &evidence.held.exchanges) else {
-        return Err(RunFault::Memory);
+    let samples = ExchangeSamples {
+        exchanges: &evidence.held.exchanges,
+        reading: claim.reading,
     };
-    match find(alloc, samples.as_slice(), claim, step.seconds) {
+    match find(alloc, samples, claim, step.seconds) {
         Ok(found) => match found_text(alloc, &found) {
             Ok(text) => Ok(Made {
                 text,
