@@ -10,7 +10,8 @@ use Rattle.audit.specs.Evidence.{EvidenceData, samples_in}
 use Rattle.audit.specs.Question.{ShowsOf, check_of}
 
 module _ (certificate : CertificateData) (e : EvidenceData) where
-  shown : (verdict : Verdict) → IsVerdictOn e.claim (samples_in e) certificate verdict → ShowsOf (check_of certificate) e (outcome_of verdict)
+  shown : (verdict : Verdict) → IsVerdictOn e.claim (samples_in e) certificate verdict →
+      ShowsOf (check_of certificate) e (outcome_of verdict)
   shown verdicts.Yes settled = record {
     verdict_is = sym settled.exact;
     whole = settled.yes refl;

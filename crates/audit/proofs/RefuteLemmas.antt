@@ -10,7 +10,8 @@ use Rattle.audit.specs.Question.{ShowsOf, refute_by}
 use Rattle.audit.specs.Refute.{refuted_outcome}
 
 module _ (refutation : RefutationData) (e : EvidenceData) (agree : AllPairs SameRequest e.collection.exchanges) where
-  shown : (stands : Bool) → Settles e.claim e.collection.exchanges refutation stands → ShowsOf (refute_by refutation) e (refuted_outcome stands)
+  shown : (stands : Bool) → Settles e.claim e.collection.exchanges refutation stands →
+      ShowsOf (refute_by refutation) e (refuted_outcome stands)
   shown true judged = record {
     accepted = judged.exact.0 refl;
     course = judged.course refl agree;

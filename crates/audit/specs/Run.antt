@@ -31,8 +31,8 @@ abbrev pub RunsAlone : {F : Type 0} → QuestionData → RunState → RunState �
 RunsAlone question before after capture capture' answer =
     RunsFor {T = Unit {0}} question before after (tt {0}) (tt {0}) capture capture' answer
 
--- What a caller of a whole command sees: all that a run promises, and its answer, told by a line and
--- a status.
+-- What a caller of a whole command sees: all that a run promises, and its answer, told by a line
+-- and a status.
 abbrev pub AnswersFor : {T F : Type 0} → QuestionData → RunState → RunState → T → T → F → F →
     SinkState → SinkState → ℕ → Type 0
 AnswersFor question before after second second' capture capture' err err' status =

@@ -59,7 +59,8 @@ pub(crate) fn parts_at(claim: &Claim, exchanges: &[HeldExchange], tick: i128) ->
         (map exchange_shown exchanges.now) }
     requires piece { IsPiece tick tick }
     ensures exact { result.items ≡
-        spec.parts_at (data_of claim.now) (samples_of (map exchange_shown exchanges.now) (data_of claim.now)) tick }
+        spec.parts_at (data_of claim.now)
+        (samples_of (map exchange_shown exchanges.now) (data_of claim.now)) tick }
     ensures listed { All (λ part. part.server < length claim.now.servers.items) result.items }
 {
     let best = best_at(claim, exchanges, tick);

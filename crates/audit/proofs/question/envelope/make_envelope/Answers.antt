@@ -10,7 +10,8 @@ use Rattle.audit.proofs.question.envelope.make_envelope.Goals as goal
 pub returns-in-Ok-envelope_text-clause-shows : goal.returns-in-Ok-envelope_text-clause-shows
 returns-in-Ok-envelope_text-clause-shows c =
     let found = c.in-Ok-find_envelope in
-    let exchanges = ap (λ xs. samples_of (map exchange_shown xs) (data_of c.args.evidence.now.claim)) c.deref.ensures.value in
+    let exchanges =
+    ap (λ xs. samples_of (map exchange_shown xs) (data_of c.args.evidence.now.claim)) c.deref.ensures.value in
     envelope_shows (record {
       accepted = c.best_entries_are_accepted.ensures.parts;
       of_samples = c.parts_are_of_samples.ensures;
