@@ -15,8 +15,12 @@ use Rattle.pairing.specs.declared.index.Place.{Place}
 use Rattle.pairing.specs.declared.refusal.Refusal.{Refusal}
 use Rattle.pairing.specs.Counts.{IsJoined, with_leap, with_outcome, with_refusal}
 use Rattle.pairing.specs.Held.{exchange_shown, shown_with}
-use Rattle.pairing.specs.Join.{blank, with_request, exchange_by, outcome_by, outcomes_by, request_by}
+use Rattle.pairing.specs.Join.{exchange_by, outcome_by, outcomes_by, request_by}
 use Rattle.pairing.proofs.JoinSteps.{joined-push, outcomes-more, too_many}
+
+-- with this request in place of what is known of it
+abbrev pub with_request : HeldExchange → HeldRequest → HeldExchange
+with_request x request = record x { request = request }
 
 exchange_shown-with_request : (x : HeldExchange) (request : HeldRequest) →
     exchange_shown (with_request x request) ≡ shown_with request x
@@ -27,6 +31,22 @@ exchange_shown-with_request x (Found width number low) = refl
 leap-shown_with : (x : HeldExchange) (request : HeldRequest) → (shown_with request x).leap ≡ x.leap
 leap-shown_with x (Named port stamp) = refl
 leap-shown_with x (Found width number low) = refl
+
+-- what stands past the end of a list of replies
+abbrev pub blank : HeldExchange
+blank = record {
+  server = 0;
+  leap = 0;
+  stratum = 0;
+  reference = [];
+  reply = 0;
+  width = 0;
+  low = 0;
+  receive = 0;
+  transmit = 0;
+  distance = 0;
+  request = Named 0 0;
+}
 
 -- Of these replies the first ones were joined: those with a request stand at the front of the list,
 -- and the others are as they were.

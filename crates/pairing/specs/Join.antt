@@ -1,5 +1,5 @@
 -- What becomes of a reply that is held, by an index of requests.
-use Rattle.std.specs.Prelude.{ℕ, List, [], map, Option, Some, None, Result, Ok, Err}
+use Rattle.std.specs.Prelude.{ℕ, List, map, Option, Some, None, Result, Ok, Err}
 use Rattle.pairing.specs.declared.exchange.Exchange.{Exchange}
 use Rattle.pairing.specs.declared.held.HeldExchange.{HeldExchange}
 use Rattle.pairing.specs.declared.held.HeldRequest.{HeldRequest}
@@ -10,26 +10,6 @@ use Rattle.pairing.specs.declared.index.Place.TheVariants.{One, Several}
 use Rattle.pairing.specs.declared.refusal.Refusal.{Refusal}
 use Rattle.pairing.specs.declared.refusal.Refusal.TheVariants.{NoRequest, Ambiguous}
 use Rattle.pairing.specs.Held.{shown_with}
-
--- with this request in place of what is known of it
-abbrev pub with_request : HeldExchange → HeldRequest → HeldExchange
-with_request x request = record x { request = request }
-
--- what stands past the end of a list of replies
-abbrev pub blank : HeldExchange
-blank = record {
-  server = 0;
-  leap = 0;
-  stratum = 0;
-  reference = [];
-  reply = 0;
-  width = 0;
-  low = 0;
-  receive = 0;
-  transmit = 0;
-  distance = 0;
-  request = Named 0 0;
-}
 
 -- the one and only request, where the index has this at its key
 abbrev pub request_at : Option Place → Result HeldRequest Refusal

@@ -1,6 +1,6 @@
 //! The joining of replies with their requests.
 
-ghost use Rattle.std.specs.Prelude.{◌≡◌, ◌<◌, ◌≤◌, length, map, take, get_or, set, IfErr, IfOk};
+ghost use Rattle.std.specs.Prelude.{◌≡◌, ◌<◌, ◌≤◌, length, map, take, IfErr, IfOk};
 ghost use Rattle.std.specs.List.{filter_map};
 ghost use Rattle.std.specs.Result.{result_ok};
 ghost use Rattle.indexmap.specs.IndexMap.{get};
@@ -8,7 +8,7 @@ ghost use Rattle.pairing.specs.Counts.{HasRoom, IsJoined};
 ghost use Rattle.pairing.specs.Exchange.{most_exchanges};
 ghost use Rattle.pairing.specs.Held.{exchange_shown};
 ghost use Rattle.pairing.specs.Index.{same_key};
-ghost use Rattle.pairing.specs.Join.{blank, outcomes_by, request_by, with_request};
+ghost use Rattle.pairing.specs.Join.{outcomes_by, request_by};
 
 use crate::counts::Counts;
 use crate::fault::PairFault;
@@ -47,25 +47,6 @@ fn find_request(
     }
 }
 
-/// Puts the reply that stands at `number` at `kept`, with its request. Mostly it stands there, and
-/// nothing moves.
-#[inline(always)]
-fn keep(exchanges: &mut [HeldExchange], number: usize, kept: usize, request: HeldRequest)
-    requires order { kept ≤ number }
-    requires within { number < length exchanges.old }
-    ensures { exchanges.new ≡ set exchanges.old kept
-        (with_request (get_or exchanges.old number blank) request) }
-{
-    if kept == number {
-        exchanges[kept].request = request;
-    } else {
-        exchanges[kept] = HeldExchange {
-            request,
-            ..exchanges[number]
-        };
-    }
-}
-
 /// Joins each reply with its request, in place: those with a request come first, in their order,
 /// and the answer is how many they are. The counts grow by what becomes of the replies.
 ///
@@ -88,20 +69,15 @@ pub(crate) fn join(
     let mut guess = 0;
     let mut kept = 0;
     for number in 0..exchanges.len() {
-        let HeldExchange {
-            server,
-            leap,
-            request,
-            ..
-        } = exchanges[number];
-        match find_request(index, server, request, &mut guess) {
+        let reply = exchanges[number];
+        match find_request(index, reply.server, reply.request, &mut guess) {
             Ok(request) => {
                 if kept == MOST_EXCHANGES {
                     return Err(PairFault::TooManyExchanges);
                 }
-                keep(exchanges, number, kept, request);
+                exchanges[kept] = HeldExchange { request, ..reply };
                 kept += 1;
-                counts.accept(leap);
+                counts.accept(reply.leap);
             }
             Err(refusal) => counts.refuse(refusal),
         }

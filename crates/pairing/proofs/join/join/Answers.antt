@@ -28,11 +28,11 @@ loop-number-preserved c =
     let rest = drop_more_same l.exchanges c.args.exchanges.now l.number l.invariant.rest in
     elim c.match-find_request.branch [
       | in-Ok+else-kept-eq-MOST_EXCHANGES w ↦ record {
-        joined = rw (w.kept-is, w.exchanges-is, w.keep.ensures, w.counts-is, w.accept.ensures)
+        joined = rw (w.kept-is, w.exchanges-is, w.counts-is, w.accept.ensures)
             (joined-found look_up c.args.counts.now l.counts c.args.exchanges.now l.exchanges l.number l.kept
             l.invariant.joined l.invariant.rest c.loop-number-test.true w.in-Ok.request w.in-Ok.ensures
             (omega (arith, l.invariant.within, c.loop-number-test.true, l.auto.exchanges)));
-        rest = rw (w.exchanges-is, w.keep.ensures, drop-set-lt) rest;
+        rest = rw (w.exchanges-is, drop-set-lt) rest;
         within = omega (arith, w.kept-is, l.invariant.within);
         few = omega (arith, w.kept-is, l.invariant.few, w.if-kept-eq-MOST_EXCHANGES.false);
       }
