@@ -1,4 +1,5 @@
 pub mod NanosecondLemmas
+pub mod MadeLemmas
 pub mod SampleLemmas
 pub mod CaptureLemmas
 pub mod MomentLemmas

@@ -17,15 +17,6 @@ module _ (claim : ClaimData) (xs : List Exchange) (i : ℕ) (d : Exchange) (with
   sample_more old new s pushed so_far is =
       pushed ∙ rw (so_far, is) (sym (map_more (λ x. sample_of x claim.reading) xs i d within))
 
-  pub sample_listed : (servers : ℕ) (old new : List Sample) (s : Sample) → new ≡ old ++ s ∷ [] →
-      All (IsLawful servers) xs → All (λ t. t.server < servers) old →
-      s ≡ sample_of (get_or xs i d) claim.reading → All (λ t. t.server < servers) new
-  sample_listed servers old new s pushed each so_far is =
-      let given = All-get_or (IsLawful servers) xs i d within each in
-      let one = subst (λ (t : Sample). t.server < servers) (sym is) given.listed in
-      subst (All (λ (t : Sample). t.server < servers)) (sym pushed)
-      (All-push (λ (t : Sample). t.server < servers) old s so_far one)
-
 -- the servers of samples are listed, where those of the exchanges are
 pub listed_samples : (claim : ClaimData) (xs : List Exchange) (servers : ℕ) → All (IsLawful servers) xs →
     All (λ sample. sample.server < servers) (samples_of xs claim)

@@ -9,11 +9,12 @@ ghost use Rattle.audit.specs.Report.{IsOfMaking};
 
 use crate::evidence::Evidence;
 use crate::question::find::run_fault_of;
+use crate::sample_list::samples_of;
 use crate::step::Step;
 use audit_text::envelope_text;
 use checker::laws::{hulls_hold_the_error, parts_are_of_samples};
 use finder::laws::{best_entries_are_accepted, samples_of_exchanges_keep_limits};
-use finder::{ExchangeSamples, LeastBound, find_envelope};
+use finder::{LeastBound, find_envelope};
 use report::{Made, Outcome, RunFault};
 use std::alloc::{AllocError, Global};
 
@@ -47,10 +48,7 @@ pub(crate) fn make_envelope(
     hulls_hold_the_error();
     samples_of_exchanges_keep_limits();
     let claim = &evidence.claim;
-    let samples = ExchangeSamples {
-        exchanges: &evidence.held.exchanges,
-        reading: claim.reading,
-    };
+    let samples = samples_of(claim, &evidence.held.exchanges);
     match find_envelope(alloc, samples, claim, step.seconds) {
         Ok(envelope) => match envelope_text(alloc, samples, claim, servers, &envelope) {
             Ok(text) => Ok(Made {

@@ -12,11 +12,12 @@ ghost use Rattle.audit.specs.Question.{ShowsOf, find_with};
 ghost use Rattle.audit.specs.Report.{IsOfMaking};
 
 use crate::evidence::Evidence;
+use crate::sample_list::samples_of;
 use crate::step::Step;
 use audit_text::nothing_text;
 use certificate::{Certificate, write_certificate};
 use finder::laws::samples_of_exchanges_keep_limits;
-use finder::{ExchangeSamples, FindFault, Found, find};
+use finder::{FindFault, Found, find};
 use report::{Made, Outcome, RunFault};
 use std::alloc::{AllocError, Global};
 
@@ -72,10 +73,7 @@ pub(crate) fn make_find(alloc: Global, step: Step, evidence: &Evidence) -> Resul
 {
     samples_of_exchanges_keep_limits();
     let claim = &evidence.claim;
-    let samples = ExchangeSamples {
-        exchanges: &evidence.held.exchanges,
-        reading: claim.reading,
-    };
+    let samples = samples_of(claim, &evidence.held.exchanges);
     match find(alloc, samples, claim, step.seconds) {
         Ok(found) => match found_text(alloc, &found) {
             Ok(text) => Ok(Made {
