@@ -86,8 +86,10 @@ module _ (look_up : Key → Option Place) (start counts : Counts) (xs ys : List 
       ++ shown_with request reply ∷ [] =
       ap (map exchange_shown) (take_more_set ys kept x free)
       ∙ map-append exchange_shown (take kept ys) (x ∷ [])
-      ∙ ap (λ (y : Exchange). map exchange_shown (take kept ys) ++ y ∷ []) (exchange_shown-with_request reply request) in
-      rw (first, ← leap-shown_with reply request) (next (Ok (shown_with request reply)) (ap (exchange_by reply) (sym is)))
+      ∙ ap (λ (y : Exchange). map exchange_shown (take kept ys) ++ y ∷ [])
+      (exchange_shown-with_request reply request) in
+      rw (first, ← leap-shown_with reply request) (next (Ok (shown_with request reply))
+      (ap (exchange_by reply) (sym is)))
 
   -- one more would be too many
   pub found_beyond : (request : HeldRequest) → Ok request ≡ request_by look_up reply.server reply.request →

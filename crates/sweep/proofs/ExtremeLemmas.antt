@@ -55,7 +55,8 @@ lawful_at samples lawful number sample is =
 
 -- the server of one more sample
 pub servers_more : (samples : List Sample) (n : ℕ) (sample : Sample) → slice_get samples n ≡ Some sample →
-    (servers pushed : List ℕ) → servers ≡ map (λ s. s.server) (take n samples) → pushed ≡ servers ++ sample.server ∷ [] →
+    (servers pushed : List ℕ) → servers ≡ map (λ s. s.server) (take n samples) → pushed ≡ servers ++
+    sample.server ∷ [] →
     pushed ≡ map (λ s. s.server) (take (n + 1) samples)
 servers_more samples n sample is servers pushed so_far more =
     let within = slice_get_within samples n sample is in

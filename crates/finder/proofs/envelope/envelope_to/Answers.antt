@@ -23,7 +23,8 @@ hull_of-hull-requires-clause-low g c k d within =
     let number = c.loop-number.number in
     let entries = rw c.as_slice.ensures.value at c.entries_at-entries.ensures
     ∙ c.in_ok-tables.ensures.best number c.loop-number-test.true in
-    let there = rw (← entries) at (entries_there c.best_samples_are_the_first_best.ensures (g.S.SampleSource.samples c.args.samples) claim
+    let there = rw (← entries) at (entries_there c.best_samples_are_the_first_best.ensures
+    (g.S.SampleSource.samples c.args.samples) claim
     (stretch_at claim c.args.step_s number)) in
     (there k d within).0
 
@@ -33,7 +34,8 @@ hull_of-hull-requires-clause-high g c k d within =
     let number = c.loop-number.number in
     let entries = rw c.as_slice.ensures.value at c.entries_at-entries.ensures
     ∙ c.in_ok-tables.ensures.best number c.loop-number-test.true in
-    let there = rw (← entries) at (entries_there c.best_samples_are_the_first_best.ensures (g.S.SampleSource.samples c.args.samples) claim
+    let there = rw (← entries) at (entries_there c.best_samples_are_the_first_best.ensures
+    (g.S.SampleSource.samples c.args.samples) claim
     (stretch_at claim c.args.step_s number)) in
     (there k d within).1
 
@@ -68,11 +70,14 @@ returns-clause-value g c =
 pub returns-clause-lawful : goal.returns-clause-lawful
 returns-clause-lawful g c =
     let claim = claim_data c.args.claim.now in
-    let all : All (IsLawfulPiece (length (g.S.SampleSource.samples c.args.samples))) (map piece_data c.loop-number.pieces.items) =
+    let all : All (IsLawfulPiece (length (g.S.SampleSource.samples c.args.samples)))
+    (map piece_data c.loop-number.pieces.items) =
     rw c.loop-number.invariant.pieces
-    (lawful_pieces (g.S.SampleSource.samples c.args.samples) claim c.args.step_s c.best_samples_are_the_first_best.ensures c.requires.claim
+    (lawful_pieces (g.S.SampleSource.samples c.args.samples) claim c.args.step_s
+    c.best_samples_are_the_first_best.ensures c.requires.claim
     c.loop-number.number) in
     record {
-      pieces = All-from_map (IsLawfulPiece (length (g.S.SampleSource.samples c.args.samples))) piece_data c.loop-number.pieces.items all;
+      pieces = All-from_map (IsLawfulPiece (length (g.S.SampleSource.samples c.args.samples))) piece_data
+          c.loop-number.pieces.items all;
       least = c.loop-number.invariant.below;
     }

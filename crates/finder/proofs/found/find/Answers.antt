@@ -54,7 +54,8 @@ returns-clause-few g c =
 
 pub returns-clause-failing : goal.returns-clause-failing
 returns-clause-failing g c =
-    failing (g.S.SampleSource.samples c.args.samples) (claim_data c.args.claim.now) c.args.step_s c.in_ok-found.found c.in_ok-found.ensures
+    failing (g.S.SampleSource.samples c.args.samples) (claim_data c.args.claim.now) c.args.step_s
+    c.in_ok-found.found c.in_ok-found.ensures
 
 pub returns-clause-none_accepted : goal.returns-clause-none_accepted
 returns-clause-none_accepted g c =

@@ -24,7 +24,8 @@ hull_of-hull-requires-clause-low g c k d within =
     let number = c.loop-number.number in
     let entries = rw c.as_slice.ensures.value at c.entries_at-entries.ensures
     ∙ c.in_ok-tables.ensures.best number c.loop-number-test.true in
-    let there = rw (← entries) at (entries_there c.best_samples_are_the_first_best.ensures (g.S.SampleSource.samples c.args.samples) claim
+    let there = rw (← entries) at (entries_there c.best_samples_are_the_first_best.ensures
+    (g.S.SampleSource.samples c.args.samples) claim
     (stretch_at claim c.args.step_s number)) in
     (there k d within).0
 
@@ -34,7 +35,8 @@ hull_of-hull-requires-clause-high g c k d within =
     let number = c.loop-number.number in
     let entries = rw c.as_slice.ensures.value at c.entries_at-entries.ensures
     ∙ c.in_ok-tables.ensures.best number c.loop-number-test.true in
-    let there = rw (← entries) at (entries_there c.best_samples_are_the_first_best.ensures (g.S.SampleSource.samples c.args.samples) claim
+    let there = rw (← entries) at (entries_there c.best_samples_are_the_first_best.ensures
+    (g.S.SampleSource.samples c.args.samples) claim
     (stretch_at claim c.args.step_s number)) in
     (there k d within).1
 

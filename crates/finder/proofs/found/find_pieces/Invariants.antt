@@ -7,7 +7,8 @@ use Rattle.finder.proofs.found.find_pieces.Given as goal
 
 abbrev pub invariant-loop-number : goal.invariant-loop-number
 invariant-loop-number g l = record {
-  pieces : map piece_data l.pieces.items ≡ pieces_from (g.S.SampleSource.samples l.samples) (claim_data l.claim) l.step_s 0 l.number;
+  pieces : map piece_data l.pieces.items ≡ pieces_from (g.S.SampleSource.samples l.samples) (claim_data l.claim)
+      l.step_s 0 l.number;
   begin : l.begin ≡ piece_begin_of l.claim.first l.claim.last l.step_s l.number;
   passed : (k : ℕ) → k < l.number → passes (g.S.SampleSource.samples l.samples) (claim_data l.claim) l.step_s k ≡ true;
 }

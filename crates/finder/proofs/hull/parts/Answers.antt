@@ -32,7 +32,8 @@ loop-entry-preserved g c =
     (get_or entries index (0, 0)) c.sample_at-low.result c.sample_at-high.result c.part_of.result
     (rw same at c.sample_at-low.ensures) (rw same at c.sample_at-high.ensures) c.part_of.ensures in
     record {
-      so_far = filter_map_more (part_named (g.S.SampleSource.samples c.args.samples) (data_of c.args.claim.now) stretch) entries index (0, 0) _
+      so_far = filter_map_more (part_named (g.S.SampleSource.samples c.args.samples) (data_of c.args.claim.now)
+          stretch) entries index (0, 0) _
           c.loop-entry.parts.items c.push.new.self.items c.loop-entry.invariant.so_far inside says
           c.push.ensures.items;
       fits = grind (arith, common_steps);
@@ -41,7 +42,8 @@ loop-entry-preserved g c =
 pub returns-clause-listed : goal.returns-clause-listed
 returns-clause-listed g c =
     let entries = c.args.entries.now.items in
-    let listed = listed_parts (g.S.SampleSource.samples c.args.samples) (data_of c.args.claim.now) c.args.stretch entries
+    let listed = listed_parts (g.S.SampleSource.samples c.args.samples) (data_of c.args.claim.now)
+    c.args.stretch entries
     (length c.args.claim.now.servers.items) c.requires.listed in
     let past : length entries ≤ c.loop-entry.entry-index =
     rw c.as_slice-entry-items.ensures.value at c.loop-entry-test.false in

@@ -41,10 +41,12 @@ loop-server-preserved g c =
           let chosen = w.in-Some.table.items in
           let are = rw w.in-Some.is at c.in_ok-table.ensures.best in
           let long = as_many claim.first claim.last c.args.step_s c.args.count _ _ _ c.in_ok-ends.ends.items _
-          first last first c.as_slice-in-loop-server.ensures.value c.in_ok-ends.ensures (g.S.SampleSource.samples c.args.samples) server
+          first last first c.as_slice-in-loop-server.ensures.value c.in_ok-ends.ensures
+          (g.S.SampleSource.samples c.args.samples) server
           claim.drift_ppb chosen are in
           let best = best_are claim.first claim.last c.args.step_s c.args.count _ _ _ c.in_ok-ends.ends.items _
-          first last first c.as_slice-in-loop-server.ensures.value c.in_ok-ends.ensures (g.S.SampleSource.samples c.args.samples) server
+          first last first c.as_slice-in-loop-server.ensures.value c.in_ok-ends.ensures
+          (g.S.SampleSource.samples c.args.samples) server
           claim.drift_ppb chosen are in
           let old = c.loop-server.tables.items in
           let pushed : w.push.new.self.items ≡ old ++ w.in-Some.table ∷ [] = search rules in
@@ -62,7 +64,8 @@ loop-server-preserved g c =
             few = grind (arith, common_steps);
             long = rw w.tables-is c.loop-server.invariant.long;
             best = λ k below. rw w.tables-is (without (over k) server _ (c.loop-server.invariant.best k below)
-                (c.first_best_of_both_ends_are_the_best.ensures.none (g.S.SampleSource.samples c.args.samples) server _ _ claim.drift_ppb
+                (c.first_best_of_both_ends_are_the_best.ensures.none (g.S.SampleSource.samples c.args.samples)
+                server _ _ claim.drift_ppb
                 none));
           }
     ]

@@ -11,6 +11,7 @@ invariant-loop-server g l = record {
   few : length l.tables.items ≤ l.server;
   long : All (λ table. length table.items ≡ l.count) l.tables.items;
   best : (k : ℕ) → k < l.count → filter_map (λ table. slice_get table.items k) l.tables.items
-      ≡ filter_map (best_over (g.S.SampleSource.samples l.samples) (data_of l.claim) (stretch_at (data_of l.claim) l.step_s k))
+      ≡ filter_map (best_over (g.S.SampleSource.samples l.samples) (data_of l.claim)
+      (stretch_at (data_of l.claim) l.step_s k))
       (range_with_len 0 l.server);
 }

@@ -77,11 +77,13 @@ loop-number-preserved g c =
 pub returns-clause-lows : goal.returns-clause-lows
 returns-clause-lows g c =
     let as_many = as_many_servers (g.S.SampleSource.samples c.args.samples) c.args.servers.now c.requires.servers in
-    ExtremesSoFar-all Low (g.S.SampleSource.samples c.args.samples) c.args.server c.loop-number.number c.loop-number.lows.items
+    ExtremesSoFar-all Low (g.S.SampleSource.samples c.args.samples) c.args.server c.loop-number.number
+    c.loop-number.lows.items
     c.loop-number.invariant.lows (omega arith)
 
 pub returns-clause-highs : goal.returns-clause-highs
 returns-clause-highs g c =
     let as_many = as_many_servers (g.S.SampleSource.samples c.args.samples) c.args.servers.now c.requires.servers in
-    ExtremesSoFar-all High (g.S.SampleSource.samples c.args.samples) c.args.server c.loop-number.number c.loop-number.highs.items
+    ExtremesSoFar-all High (g.S.SampleSource.samples c.args.samples) c.args.server c.loop-number.number
+    c.loop-number.highs.items
     c.loop-number.invariant.highs (omega arith)

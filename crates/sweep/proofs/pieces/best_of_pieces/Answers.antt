@@ -21,7 +21,8 @@ pub top_numbers-requires-clause-extremes : goal.top_numbers-requires-clause-extr
 top_numbers-requires-clause-extremes g c =
     let P : List Extreme → Type 0 = All IsLawfulExtreme in
     subst P (sym c.as_slice.ensures.value)
-    (lawful_extremes Low (g.S.SampleSource.samples c.args.samples) c.args.server c.in_ok-lows.lows.items c.in_ok-lows.ensures.lows)
+    (lawful_extremes Low (g.S.SampleSource.samples c.args.samples) c.args.server c.in_ok-lows.lows.items
+    c.in_ok-lows.ensures.lows)
 
 pub top_numbers-requires-clause-in_order : goal.top_numbers-requires-clause-in_order
 top_numbers-requires-clause-in_order g c =
@@ -33,14 +34,17 @@ pub top_numbers-requires-2-clause-extremes : goal.top_numbers-requires-2-clause-
 top_numbers-requires-2-clause-extremes g c =
     let P : List Extreme → Type 0 = All IsLawfulExtreme in
     subst P (sym c.as_slice-3.ensures.value)
-    (lawful_extremes High (g.S.SampleSource.samples c.args.samples) c.args.server c.in_ok-lows.highs.items c.in_ok-lows.ensures.highs)
+    (lawful_extremes High (g.S.SampleSource.samples c.args.samples) c.args.server c.in_ok-lows.highs.items
+    c.in_ok-lows.ensures.highs)
 
 pub top_numbers-requires-2-clause-some : goal.top_numbers-requires-2-clause-some
 top_numbers-requires-2-clause-some g c =
     let some : 0 < length c.in_ok-lows.lows.items = search rules in
     subst (λ (b : List Extreme). 0 < length b) (sym c.as_slice-3.ensures.value)
-    (some_extreme High (g.S.SampleSource.samples c.args.samples) c.args.server c.in_ok-lows.highs.items c.in_ok-lows.ensures.highs
-    (some_sample Low (g.S.SampleSource.samples c.args.samples) c.args.server c.in_ok-lows.lows.items c.in_ok-lows.ensures.lows some))
+    (some_extreme High (g.S.SampleSource.samples c.args.samples) c.args.server c.in_ok-lows.highs.items
+    c.in_ok-lows.ensures.highs
+    (some_sample Low (g.S.SampleSource.samples c.args.samples) c.args.server c.in_ok-lows.lows.items
+    c.in_ok-lows.ensures.lows some))
 
 pub top_numbers-requires-2-clause-in_order : goal.top_numbers-requires-2-clause-in_order
 top_numbers-requires-2-clause-in_order g c =
@@ -53,12 +57,14 @@ returns-clause-none g c = (
   λ none. absurd cc,
   λ none. absurd
       (let some : 0 < length c.in_ok-lows.lows.items = search rules in
-      some_sample Low (g.S.SampleSource.samples c.args.samples) c.args.server c.in_ok-lows.lows.items c.in_ok-lows.ensures.lows some none),
+      some_sample Low (g.S.SampleSource.samples c.args.samples) c.args.server c.in_ok-lows.lows.items
+      c.in_ok-lows.ensures.lows some none),
 )
 
 pub returns-clause-best : goal.returns-clause-best
 returns-clause-best g c =
-    AreBestOfPieces-tops c.first_best_of_both_ends_are_the_best.ensures.some (g.S.SampleSource.samples c.args.samples) c.args.server
+    AreBestOfPieces-tops c.first_best_of_both_ends_are_the_best.ensures.some
+    (g.S.SampleSource.samples c.args.samples) c.args.server
     c.args.first c.args.ends.now c.args.drift_ppb c.in_ok-lows.lows.items c.in_ok-lows.highs.items
     c.in_ok-lows.ensures.lows c.in_ok-lows.ensures.highs c.in_ok-stretches.stretches.items
     (subst (λ (first : ℤ). AreStretchesOf first c.args.ends.now c.in_ok-stretches.stretches.items)
