@@ -62,7 +62,7 @@ fn worked_sample(rt: HostRuntime) -> Result<(), Fail> {
         let claim = read_claim(rt.alloc(), claim_of(rt.alloc(), terms)?.as_bytes())?;
         // The prover is told that each step of the table is one that `find` takes.
         let step = u32::max(step, 1).min(86_400);
-        let found = find(rt.alloc(), &samples, &claim, step);
+        let found = find(rt.alloc(), samples.as_slice(), &claim, step);
         assert_eq!(rt; answer_of(&found), wanted, "{terms:?} {step}");
     }
     Ok(())
