@@ -6,8 +6,8 @@ ghost use Rattle.pairing.specs.Exchange.{IsLawful as IsLawfulExchange};
 ghost use Rattle.pairing.specs.Held.{exchange_shown};
 
 use claim_file::Claim;
-use finder::ExchangeSamples;
 use pairing::HeldExchange;
+use sample_interval::ExchangeSamples;
 
 /// The samples of exchanges, in their order, with the claimed allowance. Each is made when it is
 /// asked for.

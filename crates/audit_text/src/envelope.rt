@@ -15,9 +15,10 @@ ghost use Rattle.audit_text.specs.Envelope.{hull_fields, lines_from, place_field
 use crate::sample_line::put_interval;
 use crate::second::second_of;
 use claim_file::Claim;
-use finder::{Envelope, LeastBound, PieceHull, SampleSource, parts};
+use finder::{Envelope, LeastBound, PieceHull, parts};
 use intersection::kinds::Hull;
 use line_writer::Line;
+use sample_interval::SampleSource;
 use span_cover::{Part, Stretch};
 use std::alloc::{AllocError, Global};
 

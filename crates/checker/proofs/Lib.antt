@@ -1,6 +1,6 @@
 pub mod PartLemmas
 pub mod SaidLemmas
-pub mod SourceLemmas
+pub mod ExchangeLemmas
 pub mod CountingLemmas
 pub mod CoverLemmas
 pub mod VerdictLemmas

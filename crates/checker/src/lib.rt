@@ -24,7 +24,6 @@ pub mod laws;
 mod piece;
 mod refutation;
 mod refutation_laws;
-mod source;
 mod verdict;
 
 pub use refutation::{check_refutation, false_group_count};

@@ -3,32 +3,33 @@
 ghost use Rattle.std.specs.Prelude.{◌≡◌, ◌≤◌, ◌<◌, ◌^◌, pos, ◌≤ℤ◌, ◌<ℤ◌, length, All};
 ghost use Rattle.claim_file.specs.Claim.{IsLawful, data_of};
 ghost use Rattle.certificate.specs.Certificate.{piece_data};
+ghost use Rattle.sample_interval.specs.Sample.{IsLawfulSample};
 ghost use Rattle.checker.specs.Verdict.{hull_fault, piece_fault};
 
 use crate::entry::add_parts;
-use crate::source::SampleSource;
 use crate::verdict::Why;
 use arrayvec::ArrayVec;
 use certificate::Piece;
 use claim_file::Claim;
 use intersection::kinds::Hull;
+use sample_interval::SampleSource;
 use span_cover::{Stretch, is_inside, piece_hull};
 
 /// The first test that fails in a piece that begins at `begin`.
 pub fn piece_fault<S: SampleSource>(
-    source: &S,
+    samples: S,
     claim: &Claim,
     begin: i128,
     piece: &Piece,
 ) -> Option<Why>
     requires claim { IsLawful (data_of claim.now) }
-    requires source { S.IsLawfulSource source.now }
+    requires samples { All IsLawfulSample (S.samples samples) }
     requires listed { All (λ sample. sample.server < length claim.now.servers.items)
-        (S.samples source.now) }
+        (S.samples samples) }
     requires from_1970 { pos 0 ≤ℤ begin }
     requires in_range { begin <ℤ pos (2 ^ 64) }
     ensures { result ≡
-        piece_fault (S.samples source.now) (data_of claim.now) begin (piece_data piece.now) }
+        piece_fault (S.samples samples) (data_of claim.now) begin (piece_data piece.now) }
 {
     let stretch = Stretch {
         begin,
@@ -38,7 +39,13 @@ pub fn piece_fault<S: SampleSource>(
         return Some(Why::Cut);
     }
     let mut parts = ArrayVec::new();
-    match add_parts(&mut parts, source, stretch, claim.drift_ppb, &piece.entries) {
+    match add_parts(
+        &mut parts,
+        samples,
+        stretch,
+        claim.drift_ppb,
+        &piece.entries,
+    ) {
         Ok(()) => hull_fault(
             piece_hull(parts.as_slice(), claim.groups.as_slice(), claim.false_max),
             claim.bound,

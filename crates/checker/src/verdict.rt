@@ -10,11 +10,11 @@ ghost use Rattle.checker.specs.Verdict.{verdict_of};
 
 use crate::laws::verdicts_are_traceable;
 use crate::piece::piece_fault;
-use crate::source::{Listed, Made, SampleSource};
 use certificate::Certificate;
 use claim_file::Claim;
 use pairing::ToExchange;
 use sample_interval::kinds::Sample;
+use sample_interval::{ExchangeSamples, SampleSource};
 
 /// Why a certificate isn't accepted: the first test that fails in its piece.
 #[derive(Clone, Copy, Debug, PartialEq, Eq)]
@@ -87,7 +87,7 @@ pub fn check(samples: &[Sample], claim: &Claim, certificate: &Certificate) -> Ve
         result }
 {
     verdicts_are_traceable();
-    first_fault(&Listed(samples), claim, certificate)
+    first_fault(samples, claim, certificate)
 }
 
 /// Whether the certificate shows that of exchanges: `check` of their samples with the claim's
@@ -106,22 +106,26 @@ pub fn check_exchanges<X: ToExchange>(
         (certificate_data certificate.now) result }
 {
     verdicts_are_traceable();
-    first_fault(&Made { exchanges, claim }, claim, certificate)
+    let source = ExchangeSamples {
+        exchanges,
+        reading: claim.reading,
+    };
+    first_fault(source, claim, certificate)
 }
 
 // The verdict, piece by piece.
-fn first_fault<S: SampleSource>(source: &S, claim: &Claim, certificate: &Certificate) -> Verdict
+fn first_fault<S: SampleSource>(samples: S, claim: &Claim, certificate: &Certificate) -> Verdict
     requires claim { IsLawful (claim_data claim.now) }
-    requires source { S.IsLawfulSource source.now }
+    requires samples { All IsLawfulSample (S.samples samples) }
     requires listed { All (λ sample. sample.server < length claim.now.servers.items)
-        (S.samples source.now) }
+        (S.samples samples) }
     requires pieces { vec_len certificate.now.pieces ≤ max_pieces }
-    ensures { result ≡ verdict_of (S.samples source.now)
+    ensures { result ≡ verdict_of (S.samples samples)
         (claim_data claim.now) (certificate_data certificate.now) }
 {
     let mut begin = claim.first;
     for (number, piece) in certificate.pieces.iter().enumerate() {
-        if let Some(why) = piece_fault(source, claim, begin, piece) {
+        if let Some(why) = piece_fault(samples, claim, begin, piece) {
             return Verdict::No {
                 piece: number as u32,
                 why,

@@ -19,10 +19,10 @@ use arrayvec::ArrayVec;
 use certificate::MAX_PIECES;
 use claim_file::Claim;
 use intersection::kinds::Hull;
+use sample_interval::SampleSource;
 use span_cover::laws::best_samples_are_the_first_best;
 use span_cover::{Stretch, piece_end};
 use std::alloc::{AllocError, Global};
-use sweep::SampleSource;
 
 /// A piece of a span, and what the samples say of the clock's error there.
 #[derive(Debug, Drop)]

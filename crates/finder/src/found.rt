@@ -26,10 +26,10 @@ use checker::laws::{
 };
 use claim_file::Claim;
 use intersection::kinds::Hull;
+use sample_interval::SampleSource;
 use span_cover::laws::{best_samples_are_the_first_best, piece_inside_another_is_narrower};
 use span_cover::{Stretch, is_inside, piece_end};
 use std::alloc::{AllocError, Global};
-use sweep::SampleSource;
 
 /// A certificate, or why there is none.
 #[derive(Debug, Drop)]

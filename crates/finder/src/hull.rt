@@ -10,8 +10,8 @@ ghost use Rattle.finder.specs.Entry.{parts_named};
 use arrayvec::ArrayVec;
 use claim_file::Claim;
 use intersection::kinds::Hull;
+use sample_interval::SampleSource;
 use span_cover::{Part, Stretch, part_of, piece_hull};
-use sweep::SampleSource;
 
 /// What the entries of a piece say, in their order: the interval of each server that has one.
 ///

@@ -26,4 +26,3 @@ pub use found::{Found, find};
 pub use hull::parts;
 pub use least::LeastBound;
 pub use sought::find_refutation;
-pub use sweep::{ExchangeSamples, SampleSource};

@@ -9,9 +9,10 @@ ghost use Rattle.finder.specs.Piece.{stretch_at};
 
 use crate::piece::piece_ends;
 use claim_file::Claim;
+use sample_interval::SampleSource;
 use span_cover::laws::first_best_of_both_ends_are_the_best;
 use std::alloc::{AllocError, Global};
-use sweep::{SampleSource, best_of_pieces, servers_of};
+use sweep::{best_of_pieces, servers_of};
 
 /// For each server that has a sample, in the order of the servers, its best samples in each of the
 /// first `count` pieces.

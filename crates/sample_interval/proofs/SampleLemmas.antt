@@ -1,6 +1,9 @@
--- The sample of an exchange.
-use Rattle.std.proofs.Common.{◌≡◌, ℕ, ◌^◌, ℤ, pos, ◌≤ℤ◌, refl, arith}
+-- The samples of exchanges.
+use Rattle.std.proofs.Common.{◌≡◌, ℕ, ◌^◌, ℤ, pos, ◌≤ℤ◌, List, map, refl, arith}
+use Rattle.std.specs.List.{All}
 use Rattle.std.proofs.lemmas.Int.{ints}
+use Rattle.std.proofs.lemmas.List.Elements.{All-map}
+use Rattle.pairing.specs.Exchange.{IsLawful}
 use Rattle.pairing.specs.declared.exchange.Exchange.{Exchange}
 use Rattle.sample_interval.specs.Exchange.{IsOfSomeClaim}
 use Rattle.sample_interval.specs.Sample.{sample_of, IsLawfulSample}
@@ -14,6 +17,7 @@ pub same_sample : {server : ℕ} {low low' from from' to to' high high' begin be
     { server = server; low = low'; low_from = from'; low_to = to'; high = high'; high_from = begin'; high_to = end' }
 same_sample a b c d e f = rw (a, b, c, d, e, f) refl
 
+-- the sample of an exchange that keeps its limits keeps its own
 pub lawful : (x : Exchange) (reading : ℤ) → IsOfSomeClaim x → pos 0 ≤ℤ reading → reading ≤ℤ pos (2 ^ 32) →
     IsLawfulSample (sample_of x reading)
 lawful x reading h from to = record {
@@ -26,3 +30,10 @@ lawful x reading h from to = record {
   high_to = omega (arith, ints);
   high_window_in_order = omega (arith, ints);
 }
+
+-- and so do those of all
+pub lawful_samples : (servers : ℕ) (xs : List Exchange) (reading : ℤ) → All (IsLawful servers) xs →
+    pos 0 ≤ℤ reading → reading ≤ℤ pos (2 ^ 32) → All IsLawfulSample (map (λ x. sample_of x reading) xs)
+lawful_samples servers xs reading each from to =
+    All-map IsLawfulSample (λ x. sample_of x reading) xs
+    (λ k d within. lawful _ reading (record { servers = servers; lawful = each k d within }) from to)

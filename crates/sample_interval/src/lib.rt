@@ -9,15 +9,22 @@
 //!
 //! Each is exact by its contract, takes no memory and refuses nothing. [`laws`] has what holds of
 //! the definitions.
+//!
+//! A [`SampleSource`] gives samples under their numbers. A slice of them is one, and so is
+//! [`ExchangeSamples`], which makes each sample from its exchange when it is asked for.
 #![tactic(auto)]
 
 mod bounds;
+mod exchange_samples;
 pub mod kinds;
 pub mod laws;
 mod on_wire;
+mod source;
 mod widening;
 mod window;
 
 pub use bounds::sample;
+pub use exchange_samples::ExchangeSamples;
 pub use on_wire::{delay, offset};
+pub use source::SampleSource;
 pub use widening::{PARTS, widen};

@@ -1,11 +1,11 @@
 -- The number of the highest extreme, for each stretch so far.
-use Rattle.std.proofs.Common.{◌≡◌, ℕ, ◌+◌, ◌-◌, ◌<◌, ◌≤◌, List, [], ◌∷◌, ◌++◌, length, Option, None, Some}
+use Rattle.std.proofs.Common.{◌≡◌, ℕ, ◌+◌, ◌-◌, ◌<◌, List, [], ◌∷◌, ◌++◌, length, Option, None, Some}
 use Rattle.std.proofs.Common.{IsSome, refl, arith}
 use Rattle.std.proofs.Common.{subst, ⊎_elim, sym, ◌∙◌, ap, map, get_or}
 use Rattle.std.specs.List.{slice_get, All}
 use Rattle.std.proofs.lemmas.List.{length-append}
 use Rattle.std.proofs.lemmas.Option.{same_Some, slice_get-get_or, slice_get_read, slice_get_within}
-use Rattle.sample_interval.specs.Widening.{IsWidening, widening, billion}
+use Rattle.sample_interval.specs.Widening.{IsRate, IsWidening, widening, billion}
 use Rattle.sweep.specs.Extreme.{IsLawfulExtreme, mirrored_extreme}
 use Rattle.sweep.specs.Stretch.{IsLawfulStretch, mirrored_stretch}
 use Rattle.sweep.specs.Top.{IsTop, IsTopOf, IsAtLeast, IsEarlyAtLeast, AreEarlyTops, AreLateTops, higher_of}
@@ -18,7 +18,7 @@ use Rattle.sweep.proofs.ReachLemmas.{reaches_either, either_reaches, some_reache
 use Rattle.sweep.proofs.TopLemmas.{Either, same_top, top-higher_of}
 
 module _ (widens : (ppb distance : ℕ) → ppb < billion → IsWidening ppb distance (widening ppb distance)) (ppb : ℕ)
-    (slow : ppb ≤ 500000000) (extremes : List Extreme) (lawful : All IsLawfulExtreme extremes) (stretch : Stretch)
+    (slow : IsRate ppb) (extremes : List Extreme) (lawful : All IsLawfulExtreme extremes) (stretch : Stretch)
     (lawful_stretch : IsLawfulStretch stretch) where
   -- the higher of the early top and the late one is the top
   pub top_here : (one other : Option Top) → IsTopOf (IsEarlyAtLeast ppb extremes stretch) one →
@@ -66,7 +66,7 @@ module _ (ppb : ℕ) (extremes : List Extreme) (stretches : List Stretch) (n : �
 
 -- ---- what the code reads and chooses at number k
 module _ (widens : (ppb distance : ℕ) → ppb < billion → IsWidening ppb distance (widening ppb distance)) (ppb : ℕ)
-    (slow : ppb ≤ 500000000) (extremes : List Extreme) (lawful : All IsLawfulExtreme extremes)
+    (slow : IsRate ppb) (extremes : List Extreme) (lawful : All IsLawfulExtreme extremes)
     (stretches : List Stretch)
     (lawful_stretches : All IsLawfulStretch stretches) (early late : List (Option Top))
     (are_early : AreEarlyTops ppb extremes stretches early)

@@ -1,5 +1,4 @@
 mod ListLemmas
-mod SourceLemmas
 mod ExtremeLemmas
 mod PieceLemmas
 mod StretchLemmas

@@ -10,7 +10,7 @@ use Rattle.std.proofs.lemmas.List.Sorted.{Contains-permutation, IsPermutation-sy
 use Rattle.std.proofs.lemmas.Map.Keys.{IsDistinct-IsPermutation, IsDistinct-head, IsDistinct-tail, IsDistinct-cons}
 use Rattle.std.proofs.lemmas.Option.{slice_get-get_or, slice_get_within, same_Some, get_or_from_slice_get}
 use Rattle.std.proofs.Math.Nat.{mul-le-mul_right}
-use Rattle.sample_interval.specs.Widening.{billion}
+use Rattle.sample_interval.specs.Widening.{IsRate, billion}
 use Rattle.sweep.specs.Extreme.{IsLawfulExtreme}
 use Rattle.sweep.specs.Queue.{IsArrivalOf, IsArrivalAt, AreArrivalsOf, ArriveOnce, IsQueueOf}
 use Rattle.sweep.specs.declared.extreme.Extreme.{Extreme}
@@ -136,7 +136,7 @@ ArrivalsSoFar-more ppb extremes n arrivals a so_far here = record {
 }
 
 -- the arrival that the code makes
-pub arrival_here : (ppb rate index : ℕ) (extremes : List Extreme) (extreme : Extreme) → ppb ≤ 500000000 → rate ≡ ppb →
+pub arrival_here : (ppb rate index : ℕ) (extremes : List Extreme) (extreme : Extreme) → IsRate ppb → rate ≡ ppb →
     slice_get extremes index ≡ Some extreme → IsLawfulExtreme extreme →
     IsArrivalAt ppb extremes index (record {
       at = extreme.from + extreme.to;

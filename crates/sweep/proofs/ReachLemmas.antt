@@ -7,7 +7,7 @@ use Rattle.std.specs.List.{All}
 use Rattle.std.proofs.lemmas.Bool.{cases_lt}
 use Rattle.std.proofs.Math.Nat.{mul-le-mul_right, le_of_mul-le-mul_left}
 use Rattle.era_unfold.specs.Ratio.{IsCeiling}
-use Rattle.sample_interval.specs.Widening.{IsWidening, widening, billion}
+use Rattle.sample_interval.specs.Widening.{IsRate, IsWidening, widening, billion}
 use Rattle.sweep.specs.Extreme.{IsLawfulExtreme, mirrored_extreme}
 use Rattle.sweep.specs.Stretch.{IsLawfulStretch, mirrored_stretch}
 use Rattle.sweep.specs.Top.{IsAtLeast, IsEarly, IsEarlyAtLeast, distance, height, height_for}
@@ -37,7 +37,7 @@ module _ (scale rate distance from to end level wide : ℕ) (apart : distance + 
       omega arith
 
 module _ (widens : (ppb distance : ℕ) → ppb < billion → IsWidening ppb distance (widening ppb distance)) (ppb : ℕ)
-    (slow : ppb ≤ 500000000) where
+    (slow : IsRate ppb) where
   -- an early extreme's distance is from its begin to the stretch's end
   early_distance : (extreme : Extreme) (stretch : Stretch) → IsLawfulExtreme extreme → IsLawfulStretch stretch →
       IsEarly extreme stretch →

@@ -8,7 +8,7 @@ use Rattle.std.proofs.lemmas.Bool.Decides.{nat_tests}
 use Rattle.std.proofs.lemmas.Int.{ints, to_z_pos}
 use Rattle.std.proofs.lemmas.Nat.{le-div}
 use Rattle.std.proofs.Math.Nat.{div-mul-le_self}
-use Rattle.sample_interval.specs.Widening.{billion}
+use Rattle.sample_interval.specs.Widening.{IsRate, billion}
 use Rattle.ranking.specs.Ranking.{IsGreatest, AllBelow, IsLeastNumber}
 use Rattle.sweep.specs.Top.{IsTop, IsTopOf, HasHeight, height_for, is_above, higher_of}
 use Rattle.sweep.specs.declared.top.Top.{Top}
@@ -61,7 +61,7 @@ module _ (held : List (Option ℤ)) (ppb end : ℕ) where
       absurd (omega (arith, ints))
 
   module _ (greatest : ℤ) (is : IsGreatest held greatest) (from_zero : pos 0 ≤ℤ greatest) (room : ℕ)
-      (enough : room + ppb * end ≡ unsigned_abs greatest) (rate : ppb ≤ 500000000) where
+      (enough : room + ppb * end ≡ unsigned_abs greatest) (rate : IsRate ppb) where
     -- some number has the height for the level that the greatest reaches
     pub top-some_number : ¬ AllBelow held (pos (height_for ppb end (room / (billion - ppb))))
     top-some_number none =

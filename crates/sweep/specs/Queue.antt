@@ -54,8 +54,8 @@ pub record IsCovered (held : List (Option ℤ)) (height : ℤ) (index : ℕ) : T
   pub upto : other ≤ index
   pub has : HasAtLeast held height other
 
--- the ranking holds the heights of first arrivals, each at its index, and nothing else. It may leave
--- one out that is covered: whatever that one reaches, an index before it reaches too.
+-- the ranking holds the heights of first arrivals, each at its index, and nothing else. It may
+-- leave one out that is covered: whatever that one reaches, an index before it reaches too.
 pub record HoldsFirst (queue : List Arrival) (next : ℕ) (held : List (Option ℤ)) : Type 0 where
   pub put : (i : ℕ) (a : Arrival) → i < next → slice_get queue i ≡ Some a →
       IsCovered held (pos a.height) a.index

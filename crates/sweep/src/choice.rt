@@ -1,5 +1,6 @@
 //! The best samples for one end.
 ghost use Rattle.std.specs.Prelude.{◌≤◌, ◌<◌, length, All, IfOk};
+ghost use Rattle.sample_interval.specs.Widening.{IsRate};
 ghost use Rattle.sweep.specs.Extreme.{IsLawfulExtreme};
 ghost use Rattle.sweep.specs.Stretch.{IsLawfulStretch, MiddlesRise};
 ghost use Rattle.sweep.specs.Top.{AreLateTops, AreTopNumbers};
@@ -24,7 +25,7 @@ pub fn top_numbers(
     requires few { length extremes.now ≤ 1_000_000 }
     requires stretches { All IsLawfulStretch stretches.now }
     requires in_order { MiddlesRise stretches.now }
-    requires rate { drift_ppb ≤ 500_000_000 }
+    requires rate { IsRate drift_ppb }
     ensures { IfOk result (λ numbers.
         AreTopNumbers drift_ppb extremes.now stretches.now numbers.items) }
 {
@@ -40,8 +41,8 @@ pub fn top_numbers(
     Ok(numbers)
 }
 
-// The top of the extremes that are early where time runs backwards: over the last stretch, then over
-// the one before it, and so on.
+// The top of the extremes that are early where time runs backwards: over the last stretch, then
+// over the one before it, and so on.
 fn late_tops(
     alloc: Global,
     extremes: &[Extreme],
@@ -52,7 +53,7 @@ fn late_tops(
     requires few { length extremes.now ≤ 1_000_000 }
     requires stretches { All IsLawfulStretch stretches.now }
     requires in_order { MiddlesRise stretches.now }
-    requires rate { drift_ppb ≤ 500_000_000 }
+    requires rate { IsRate drift_ppb }
     ensures { IfOk result (λ tops. AreLateTops drift_ppb extremes.now stretches.now tops.items) }
 {
     let extremes = mirrored_extremes(alloc, extremes)?;

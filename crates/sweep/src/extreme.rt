@@ -3,9 +3,9 @@ ghost use Rattle.std.specs.Prelude.{◌≡◌, ◌≤◌, length, All, IfOk, map
 ghost use Rattle.sample_interval.specs.Sample.{IsLawfulSample};
 ghost use Rattle.sweep.specs.Extreme.{AreExtremesOf, IsExtremeOf, IsLawfulExtreme, mirrored_extreme};
 
-use crate::source::SampleSource;
 use crate::tick::{from_origin, mirrored_tick};
 use intersection::Side;
+use sample_interval::SampleSource;
 use sample_interval::kinds::Sample;
 use std::alloc::{AllocError, Global};
 

@@ -13,17 +13,13 @@
 #![tactic(auto)]
 
 mod choice;
-mod exchange_samples;
 mod extreme;
 mod passage;
 mod pieces;
 mod queue;
-mod source;
 mod stretch;
 mod tick;
 mod top;
 
-pub use exchange_samples::ExchangeSamples;
 pub use extreme::servers_of;
 pub use pieces::best_of_pieces;
-pub use source::SampleSource;

@@ -1,5 +1,6 @@
 //! The extremes that are early, while the stretches go by.
 ghost use Rattle.std.specs.Prelude.{◌≡◌, ℕ, ◌≤◌, ◌<◌, length, All, IfOk, Some, slice_get};
+ghost use Rattle.sample_interval.specs.Widening.{IsRate};
 ghost use Rattle.sweep.specs.Extreme.{IsLawfulExtreme};
 ghost use Rattle.sweep.specs.Queue.{ArriveOnce, HoldsFirst};
 ghost use Rattle.sweep.specs.Stretch.{IsLawfulStretch, MiddlesRise};
@@ -24,7 +25,7 @@ pub fn early_tops(
     requires few { length extremes.now ≤ 1_000_000 }
     requires stretches { All IsLawfulStretch stretches.now }
     requires in_order { MiddlesRise stretches.now }
-    requires rate { drift_ppb ≤ 500_000_000 }
+    requires rate { IsRate drift_ppb }
     ensures { IfOk result (λ tops. AreEarlyTops drift_ppb extremes.now stretches.now tops.items) }
 {
     let queue = queue_of(alloc, extremes, drift_ppb)?;

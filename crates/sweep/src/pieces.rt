@@ -1,13 +1,14 @@
 //! The best samples of every piece.
 ghost use Rattle.std.specs.Prelude.{◌≡◌, ◌≤◌, length, All, IsNone, IfOk, IfSome, ◌↔◌, map};
 ghost use Rattle.sample_interval.specs.Sample.{IsLawfulSample};
+ghost use Rattle.sample_interval.specs.Widening.{IsRate};
 ghost use Rattle.span_cover.specs.Best.{HasNoSample};
 ghost use Rattle.sweep.specs.Pieces.{ArePieces, AreBestOfPieces, ArePairsOf};
 
 use crate::choice::top_numbers;
 use crate::extreme::extremes_of;
-use crate::source::SampleSource;
 use crate::stretch::stretches_of;
+use sample_interval::SampleSource;
 use span_cover::laws::first_best_of_both_ends_are_the_best;
 use std::alloc::{AllocError, Global};
 
@@ -32,10 +33,10 @@ pub fn best_of_pieces<S: SampleSource>(
     requires few { length (S.samples samples) ≤ 1_000_000 }
     requires servers { servers.now ≡ map (λ sample. sample.server) (S.samples samples) }
     requires pieces { ArePieces first ends.now }
-    requires rate { drift_ppb ≤ 500_000_000 }
+    requires rate { IsRate drift_ppb }
     ensures none { IfOk result (λ found. IsNone found ↔ HasNoSample (S.samples samples) server) }
-    ensures best { IfOk result (λ found. IfSome found
-        (λ chosen. AreBestOfPieces (S.samples samples) server first ends.now drift_ppb chosen.items)) }
+    ensures best { IfOk result (λ found. IfSome found (λ chosen.
+        AreBestOfPieces (S.samples samples) server first ends.now drift_ppb chosen.items)) }
 {
     first_best_of_both_ends_are_the_best();
     let (lows, highs) = extremes_of(alloc, samples, servers, server)?;

@@ -1,5 +1,6 @@
 //! The extremes in the order in which they become early.
 ghost use Rattle.std.specs.Prelude.{◌≤◌, length, All, IfOk};
+ghost use Rattle.sample_interval.specs.Widening.{IsRate};
 ghost use Rattle.sweep.specs.Extreme.{IsLawfulExtreme};
 ghost use Rattle.sweep.specs.Queue.{AreArrivalsOf, IsQueueOf};
 
@@ -26,7 +27,7 @@ pub fn queue_of(
 ) -> Result<Vec<Arrival>, AllocError>
     requires extremes { All IsLawfulExtreme extremes.now }
     requires few { length extremes.now ≤ 1_000_000 }
-    requires rate { drift_ppb ≤ 500_000_000 }
+    requires rate { IsRate drift_ppb }
     ensures { IfOk result (λ queue. IsQueueOf drift_ppb extremes.now queue.items) }
 {
     let mut queue = arrivals_of(alloc, extremes, drift_ppb)?;
@@ -42,7 +43,7 @@ fn arrivals_of(
 ) -> Result<Vec<Arrival>, AllocError>
     requires extremes { All IsLawfulExtreme extremes.now }
     requires few { length extremes.now ≤ 1_000_000 }
-    requires rate { drift_ppb ≤ 500_000_000 }
+    requires rate { IsRate drift_ppb }
     ensures { IfOk result (λ arrivals. AreArrivalsOf drift_ppb extremes.now arrivals.items) }
 {
     let rate = u128::from(drift_ppb);

@@ -1,5 +1,6 @@
 //! The highest level that is reached.
 ghost use Rattle.std.specs.Prelude.{◌≡◌, ◌≤◌, ◌^◌};
+ghost use Rattle.sample_interval.specs.Widening.{IsRate};
 ghost use Rattle.sweep.specs.Top.{IsTopOf, HasHeight, higher_of, is_above};
 
 use ranking::Ranking;
@@ -14,7 +15,7 @@ pub struct Top {
 
 /// The top of a ranking of heights, over a stretch that ends at `end`.
 pub fn top_of(ranking: &Ranking, end: u128, drift_ppb: u32) -> Option<Top>
-    requires rate { drift_ppb ≤ 500_000_000 }
+    requires rate { IsRate drift_ppb }
     requires end { end ≤ 2 ^ 76 }
     ensures { IsTopOf (HasHeight drift_ppb ranking.now end) result }
 {

@@ -4,7 +4,7 @@ use Rattle.checker.proofs.piece.piece_fault.Goals as goal
 
 pub piece_hull-requires-clause-listed : goal.piece_hull-requires-clause-listed
 piece_hull-requires-clause-listed g c =
-    let samples = g.S.SampleSource.samples c.args.source.now in
+    let samples = g.S.SampleSource.samples c.args.samples in
     let listed =
     listed_parts samples _ c.args.claim.now.drift_ppb (length c.args.claim.now.servers.items)
     c.args.piece.now.entries.items c.add_parts.new.parts.items c.requires.listed c.in-Ok.ensures in

@@ -6,9 +6,9 @@ use Rattle.checker.proofs.verdict.first_fault.Given as goal
 
 abbrev pub invariant-loop-number : goal.invariant-loop-number
 invariant-loop-number g l = record {
-  rest : verdict_from (g.S.SampleSource.samples l.source) (claim_data l.claim) l.number l.begin
+  rest : verdict_from (g.S.SampleSource.samples l.samples) (claim_data l.claim) l.number l.begin
       (map piece_data (drop l.number l.certificate.pieces.items))
-      ≡ verdict_of (g.S.SampleSource.samples l.source) (claim_data l.claim) (certificate_data l.certificate);
+      ≡ verdict_of (g.S.SampleSource.samples l.samples) (claim_data l.claim) (certificate_data l.certificate);
   from_1970 : pos 0 ≤ℤ l.begin;
   in_range : l.begin <ℤ pos (2 ^ 64);
 }

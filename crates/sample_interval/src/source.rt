@@ -1,9 +1,8 @@
 //! Samples under their numbers.
-
 ghost use Rattle.std.specs.Prelude.{◌≡◌, ◌<◌, List, length, Some, slice_get};
 ghost use Rattle.sample_interval.specs.declared.kinds.Sample.{Sample};
 
-use sample_interval::kinds::Sample;
+use crate::kinds::Sample;
 
 /// What gives samples under their numbers, in whatever form it holds them.
 pub trait SampleSource: Copy {

@@ -1,20 +1,19 @@
 //! The samples of exchanges.
-
 ghost use Rattle.std.specs.Prelude.{◌≡◌, ◌^◌, ⊤, pos, ◌≤ℤ◌, map, All};
 ghost use Rattle.pairing.specs.Exchange.{IsLawful};
 ghost use Rattle.sample_interval.specs.Sample.{sample_of};
 
+use crate::bounds::sample;
+use crate::kinds::Sample;
 use crate::source::SampleSource;
 use pairing::ToExchange;
-use sample_interval::kinds::Sample;
-use sample_interval::sample;
 use std::alloc::AllocError;
 
 /// The samples of exchanges, each made when it is asked for: no list of them takes memory.
 pub struct ExchangeSamples<'a, X: ToExchange> {
-    /// The exchanges.
+    /// The exchanges. Each keeps the limits of a capture's exchanges.
     pub exchanges: &'a [X],
-    /// How far a record time may be from the clock's reading, in ticks.
+    /// How far a record time may be from the clock's reading: from 0 to 2^32 ticks.
     pub reading: i128,
     ghost lawful: { All (IsLawful 32) (map X.shown exchanges.now) },
     ghost from_zero: { pos 0 ≤ℤ reading },

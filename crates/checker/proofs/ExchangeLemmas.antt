@@ -1,0 +1,39 @@
+-- The limits of exchanges, one by one and of their samples.
+use Rattle.std.proofs.Common.{◌≡◌, ℕ, ◌<◌, ℤ, List, map, Some, sym, ◌∙◌, ap, subst}
+use Rattle.std.specs.Prelude.{All, slice_get}
+use Rattle.std.proofs.lemmas.Option.{get_or_from_slice_get, slice_get_within}
+use Rattle.std.proofs.lemmas.List.{get_or-map, length-map}
+use Rattle.std.proofs.lemmas.List.Elements.{All-map}
+use Rattle.claim_file.specs.Claim.{ClaimData, IsLawful}
+use Rattle.pairing.specs.Exchange.{IsLawful as IsLawfulExchange}
+use Rattle.pairing.specs.declared.exchange.Exchange.{Exchange}
+use Rattle.sample_interval.specs.Sample.{sample_of, IsLawfulSample}
+use Rattle.sample_interval.proofs.SampleLemmas as sample
+use Rattle.checker.specs.Traceability.{samples_of}
+
+-- what is shown by the thing at a place is lawful, where all of it is
+pub lawful_at : {X : Type 0} (shown : X → Exchange) (xs : List X) (servers k : ℕ) (x : X) → slice_get xs k ≡ Some x →
+    All (IsLawfulExchange servers) (map shown xs) → IsLawfulExchange servers (shown x)
+lawful_at shown xs servers k x at each =
+    let within = slice_get_within xs k x at in
+    subst (IsLawfulExchange servers)
+    (get_or-map shown xs k x (shown x) within ∙ ap shown (get_or_from_slice_get xs k x x at))
+    (each k (shown x) (rw (length-map xs shown) within))
+
+-- the servers of samples are listed, where those of the exchanges are
+pub listed_samples : (xs : List Exchange) (claim : ClaimData) (servers : ℕ) → All (IsLawfulExchange servers) xs →
+    All (λ sample. sample.server < servers) (samples_of xs claim)
+listed_samples xs claim servers each =
+    All-map (λ sample. sample.server < servers) (λ x. sample_of x claim.reading) xs
+    (λ k d within. (each k d within).listed)
+
+-- the samples keep their limits, where the exchanges do
+pub lawful_samples : (xs : List Exchange) (claim : ClaimData) (servers : ℕ) → IsLawful claim →
+    All (IsLawfulExchange servers) xs → All IsLawfulSample (samples_of xs claim)
+lawful_samples xs claim servers lawful each =
+    sample.lawful_samples servers xs claim.reading each lawful.reading_not_negative lawful.reading_in_range
+
+-- they are those with an allowance that is the claim's
+pub same_samples : (xs : List Exchange) (claim : ClaimData) (reading : ℤ) → reading ≡ claim.reading →
+    samples_of xs claim ≡ map (λ x. sample_of x reading) xs
+same_samples xs claim reading is = ap (λ (r : ℤ). map (λ x. sample_of x r) xs) (sym is)
