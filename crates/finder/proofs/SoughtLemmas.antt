@@ -8,6 +8,7 @@ use Rattle.pairing.specs.declared.exchange.Exchange.{Exchange}
 use Rattle.intersection.specs.declared.kinds.Interval.{Interval}
 use Rattle.finder.specs.Room.{AreRooms, IsNear, possible_by, refused_by, refuses, room_at}
 use Rattle.finder.specs.Sought.{IsFirstBeyond, after, greatest_error, is_possible, least_error_below, nearest, sought_error}
+use Rattle.finder.proofs.ClaimLemmas.{few_groups}
 use Rattle.finder.proofs.GroupLemmas.{as_many_groups}
 use Rattle.finder.proofs.ListLemmas.{by_test, find_first, find_none}
 
@@ -36,9 +37,6 @@ module _ (test : ℤ → Bool) (bound limit : ℤ) where
       (λ k from to. fails (after bound k) (omega (arith, ints)) (omega (arith, ints, to))))
 
 -- ---- what the intervals say
-
-few_groups : (claim : ClaimData) → IsLawful claim → length claim.groups ≤ 32
-few_groups claim lawful = let same = lawful.group_for_each in let few = lawful.few_servers in omega arith
 
 pub possible_is : (claim : ClaimData) → IsLawful claim → (xs : List Exchange) (rooms : List Interval)
     → AreRooms claim.reading xs rooms → (error : ℤ) → IsNear error

@@ -6,21 +6,9 @@ use mir.Val.{SFits}
 use Rattle.claim_file.specs.Claim.{ClaimData, IsLawful, data_of as claim_data}
 use Rattle.finder.specs.Sought.{IsSought, refutation_at}
 use Rattle.finder.proofs.FoundRefutationLemmas.{refutation_is, says_none, says_some}
+use Rattle.finder.proofs.ClaimLemmas.{first_kept, reading_kept}
 use Rattle.finder.proofs.Kept.{kept}
 use Rattle.finder.proofs.sought.find_refutation.Goals as goal
-
-reading_kept : (claim : ClaimData) → IsLawful claim → to_z w128 (of_z w128 claim.reading) ≡ claim.reading
-reading_kept claim lawful =
-    let from = lawful.reading_not_negative in
-    let to = lawful.reading_in_range in
-    kept claim.reading (omega (arith, ints))
-
-first_kept : (claim : ClaimData) → IsLawful claim → to_z w128 (of_z w128 claim.first) ≡ claim.first
-first_kept claim lawful =
-    let begins = lawful.span_begins in
-    let forward = lawful.span_forward in
-    let ends = lawful.span_ends in
-    kept claim.first (omega (arith, ints))
 
 pub returns-in_err-error-clause-none : goal.returns-in_err-error-clause-none
 returns-in_err-error-clause-none g c none =

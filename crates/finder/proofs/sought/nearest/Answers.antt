@@ -3,19 +3,11 @@ use Rattle.std.proofs.lemmas.Int.{ints, to_z-of_z}
 use mir.Syntax.{w128}
 use Rattle.claim_file.specs.Claim.{ClaimData, IsLawful, data_of as claim_data}
 use Rattle.finder.specs.Room.{possible_by, room_at}
+use Rattle.finder.proofs.ClaimLemmas.{bound_kept, few_groups}
 use Rattle.finder.proofs.Kept.{kept}
 use Rattle.finder.proofs.NearestLemmas.{first_is_nearest, next_is_nearest, nothing_so_far, none_is_nearest, passed, taken}
 use Rattle.finder.proofs.sought.nearest.Goals as goal
 use Rattle.finder.proofs.sought.nearest.Goals.{then-claim-error+then-error-first+then-is_possible-2, else-claim-error, else-claim-error-via-then-claim-error+then-error-first+else-is_possible-2, else-claim-error-via-then-claim-error+else-error-first, else-claim-error-via-else-claim-error}
-
-few_groups : (claim : ClaimData) → IsLawful claim → length claim.groups ≤ 32
-few_groups claim lawful = let same = lawful.group_for_each in let few = lawful.few_servers in omega arith
-
-bound_kept : (claim : ClaimData) → IsLawful claim → to_z w128 (of_z w128 claim.bound) ≡ claim.bound
-bound_kept claim lawful =
-    let not_below = lawful.bound_not_negative in
-    let not_above = lawful.bound_in_range in
-    kept claim.bound (omega (arith, ints))
 
 next_kept : (claim : ClaimData) → IsLawful claim
     → to_z w128 (of_z w128 (claim.bound +ℤ pos 1)) ≡ claim.bound +ℤ pos 1
