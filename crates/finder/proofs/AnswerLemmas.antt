@@ -12,9 +12,7 @@ use Rattle.checker.specs.Traceability.{HoldsError}
 use Rattle.checker.specs.Verdict.{verdict_of}
 use Rattle.checker.specs.declared.verdict.Verdict.TheVariants.{Yes}
 use Rattle.span_cover.specs.Group.{is_inside}
-use Rattle.span_cover.specs.declared.stretch.Stretch.{Stretch}
 use Rattle.finder.specs.Answer.{Finds}
-use Rattle.finder.specs.Entry.{best_hull}
 use Rattle.finder.specs.Found.{data_of, IsFirstFailing, pieces_from, piece_at, hull_at, passes, first_failing, found_without, found_of}
 use Rattle.finder.specs.Piece.{IsPieceCount, count_of, stretch_at}
 use Rattle.finder.specs.Samples.{AreSamplesOf}

@@ -12,7 +12,7 @@ use Rattle.span_cover.specs.declared.stretch.Stretch.{Stretch}
 use Rattle.span_cover.specs.Group.{is_inside}
 use Rattle.finder.specs.Entry.{best_entries, best_hull, parts_named}
 use Rattle.finder.specs.Found.{certificate, nothing, piece_at, pieces_from, hull_at, passes, first_failing, found_without}
-use Rattle.finder.specs.Piece.{count_of, piece_begin_of, stretch_at}
+use Rattle.finder.specs.Piece.{count_of, stretch_at}
 use Rattle.finder.proofs.ListLemmas.{find_none, find_first}
 
 module _ (samples : List Sample) (claim : ClaimData) (step : ℕ) where

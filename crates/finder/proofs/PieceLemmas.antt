@@ -16,9 +16,9 @@ use Rattle.era_unfold.specs.Window.{ticks_per_second}
 use Rattle.span_cover.specs.Piece.{IsPiece}
 use Rattle.span_cover.specs.Step.{piece_end_of}
 use Rattle.finder.proofs.ClaimLemmas.{first_kept, last_kept}
-use Rattle.finder.proofs.Kept.{kept, kept_difference}
+use Rattle.finder.proofs.Kept.{kept}
 use Rattle.span_cover.specs.declared.stretch.Stretch.{Stretch}
-use Rattle.finder.specs.Piece.{IsPieceCount, piece_count_of, piece_begin_of, ends_of, count_of, stretch_at}
+use Rattle.finder.specs.Piece.{IsPieceCount, piece_count_of, piece_begin_of, ends_of, stretch_at}
 
 -- a quotient that is rounded up by its remainder
 pub div_ceil-ceiling_of : (n d : ℕ) → 0 < d → div_ceil n d ≡ ceiling_of n d

@@ -1,7 +1,4 @@
-use Rattle.std.proofs.Common.{◌≡◌, ◌<◌, ◌≤◌, sym}
-use Rattle.certificate.specs.Certificate.{max_pieces}
 use Rattle.claim_file.specs.Claim.{data_of as claim_data}
-use Rattle.finder.specs.Envelope.{data_of, envelope_to}
 use Rattle.finder.specs.Found.{hull_at}
 use Rattle.finder.specs.Piece.{count_of}
 use Rattle.finder.proofs.EnvelopeLemmas.{finds, finds_many, lacks_memory}

@@ -1,7 +1,4 @@
-use Rattle.std.proofs.Common.{◌≡◌, ◌<◌, ◌≤◌, sym}
-use Rattle.certificate.specs.Certificate.{max_pieces}
 use Rattle.claim_file.specs.Claim.{data_of as claim_data}
-use Rattle.finder.specs.Piece.{count_of}
 use Rattle.finder.proofs.AnswerLemmas.{finds, finds_many, lacks_memory}
 use Rattle.finder.proofs.found.find_over.Goals as goal
 

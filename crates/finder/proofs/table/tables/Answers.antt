@@ -2,7 +2,6 @@ use Rattle.std.proofs.Common.{ℕ, length, ap, ◌∙◌, arith, rules, ◌≡�
 use Rattle.std.specs.Prelude.{slice_get}
 use Rattle.std.specs.List.{filter_map, range_with_len}
 use Rattle.std.proofs.lemmas.Grind.{common_steps}
-use Rattle.std.proofs.lemmas.Int.{ints}
 use Rattle.std.proofs.lemmas.List.Elements.{All-push}
 use Rattle.claim_file.specs.Claim.{data_of}
 use Rattle.finder.specs.Entry.{best_over}
