@@ -64,13 +64,13 @@ module _ (samples : List Sample) (claim : ClaimData) (step : ℕ) where
     held = tt;
   }
 
-  pub finds_many : max_pieces < count_of claim step → Finds samples claim step (Err TooManyPieces)
-  finds_many many = refuses TooManyPieces (inr (found_of_many many)) (λ is. many, λ over. refl)
+  pub found_many : max_pieces < count_of claim step → Finds samples claim step (Err TooManyPieces)
+  found_many many = refuses TooManyPieces (inr (found_of_many many)) (λ is. many, λ over. refl)
 
-  pub lacks_memory : count_of claim step ≤ max_pieces → (result : Result Found FindFault)
+  pub found_without_memory : count_of claim step ≤ max_pieces → (result : Result Found FindFault)
       → IsErrAnd result (λ fault. fault ≡ Memory) → Finds samples claim step result
-  lacks_memory few (Ok found) is = absurd is
-  lacks_memory few (Err fault) is = refuses fault (inl is) (λ e. absurd cc, λ many. absurd (omega arith))
+  found_without_memory few (Ok found) is = absurd is
+  found_without_memory few (Err fault) is = refuses fault (inl is) (λ e. absurd cc, λ many. absurd (omega arith))
 
   module _ (laws : Laws) (lawful : IsLawful claim) (are : AreSamplesOf claim samples)
       (counted : IsPieceCount claim.first claim.last step (count_of claim step))
@@ -118,8 +118,8 @@ module _ (samples : List Sample) (claim : ClaimData) (step : ℕ) where
       finds_at (Certificate found) (Some k) first e is = absurd cc
       finds_at (Nothing piece hull) None first e is = absurd cc
       finds_at (Certificate found) None first e is =
-          let all : certificate_data found ≡ record { pieces = pieces_from samples claim step 0 (count_of claim step) } =
-          cc in
+          let pieces = pieces_from samples claim step 0 (count_of claim step) in
+          let all : certificate_data found ≡ record { pieces = pieces } = cc in
           let says = finds_certificate (certificate_data found) first all in
           record {
             exact = exact (Certificate found) is;
@@ -148,7 +148,7 @@ module _ (samples : List Sample) (claim : ClaimData) (step : ℕ) where
                 (laws.held claim samples stretch lawful are.listed);
           }
 
-      pub finds : (found : Found)
+      pub found_few : (found : Found)
           → data_of found ≡ found_without samples claim step (first_failing samples claim step)
           → Finds samples claim step (Ok found)
-      finds found e = finds_at found _ refl e e
+      found_few found e = finds_at found _ refl e e

@@ -113,20 +113,20 @@ module _ (samples : List Sample) (claim : ClaimData) (step : ℕ) where
       → FindsEnvelope samples claim step (Err fault)
   refuses fault exact too_many = record { exact = exact; too_many = too_many; least = tt; lawful = tt }
 
-  pub finds_many : max_pieces < count_of claim step → FindsEnvelope samples claim step (Err TooManyPieces)
-  finds_many many = refuses TooManyPieces (inr (envelope_of_many many)) (λ is. many, λ over. refl)
+  pub envelope_many : max_pieces < count_of claim step → FindsEnvelope samples claim step (Err TooManyPieces)
+  envelope_many many = refuses TooManyPieces (inr (envelope_of_many many)) (λ is. many, λ over. refl)
 
-  pub lacks_memory : count_of claim step ≤ max_pieces → (result : Result Envelope FindFault)
+  pub envelope_without_memory : count_of claim step ≤ max_pieces → (result : Result Envelope FindFault)
       → IsErrAnd result (λ fault. fault ≡ Memory) → FindsEnvelope samples claim step result
-  lacks_memory few (Ok found) is = absurd is
-  lacks_memory few (Err fault) is = refuses fault (inl is) (λ e. absurd cc, λ many. absurd (omega arith))
+  envelope_without_memory few (Ok found) is = absurd is
+  envelope_without_memory few (Err fault) is = refuses fault (inl is) (λ e. absurd cc, λ many. absurd (omega arith))
 
-  pub finds : count_of claim step ≤ max_pieces
+  pub envelope_few : count_of claim step ≤ max_pieces
       → IsLeast (hull_at samples claim step) (count_of claim step)
       (least_of (hull_at samples claim step) (count_of claim step))
       → (found : Envelope) → data_of found ≡ envelope_to samples claim step (count_of claim step)
       → IsLawfulEnvelope (length samples) found → FindsEnvelope samples claim step (Ok found)
-  finds few least found is lawful = record {
+  envelope_few few least found is lawful = record {
     exact = envelope_of_few few ∙ ap Ok (sym is);
     too_many = (λ is. absurd cc, λ many. absurd (omega arith));
     least = rw (ap (λ (e : EnvelopeData). e.least) is) least;

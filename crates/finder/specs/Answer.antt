@@ -25,7 +25,7 @@ module _ (samples : List Sample) (claim : ClaimData) (step : ℕ) where
     pub exact : MatchResult result
         (λ found. found_of samples claim step ≡ Ok (data_of found))
         (λ fault. (fault ≡ Memory) ⊎ (found_of samples claim step ≡ Err fault))
-    -- the pieces are counted before any memory is taken, so that this fault is never told as another
+    -- the pieces are counted before any memory is taken: this fault is never told as another
     pub too_many : (result ≡ Err TooManyPieces) ↔ (max_pieces < count_of claim step)
     -- the checker accepts a certificate that is found
     pub accepted : IfOk result (λ found. IfCertificate found (λ certificate.
@@ -52,7 +52,7 @@ module _ (samples : List Sample) (claim : ClaimData) (step : ℕ) where
     pub exact : MatchResult result
         (λ found. envelope_of samples claim step ≡ Ok (envelope.data_of found))
         (λ fault. (fault ≡ Memory) ⊎ (envelope_of samples claim step ≡ Err fault))
-    -- the pieces are counted before any memory is taken, so that this fault is never told as another
+    -- the pieces are counted before any memory is taken: this fault is never told as another
     pub too_many : (result ≡ Err TooManyPieces) ↔ (max_pieces < count_of claim step)
     -- the bound is the least of the hulls of all pieces
     pub least : IfOk result (λ found.

@@ -73,8 +73,9 @@ pub fn best_hulls_hold_the_error()
     hulls_hold_the_error();
 }
 
-/// The best entries of a piece show as much as any others of a stretch that has the whole of it. If
-/// those pass the tests of a verdict, then the hull of these lies inside the bound too, or is empty.
+/// The best entries of a piece show as much as any entries of a stretch that has the whole of it:
+/// if those pass the tests of a verdict, then the hull of these lies inside the bound too, or is
+/// empty.
 pub fn best_entries_show_as_much()
     ensures { (samples : List Sample) (claim : ClaimData) (outer inner : Stretch)
         (entries : List (ℕ × ℕ)) → claim.drift_ppb ≤ max_drift_ppb → AreSamplesOf claim samples →

@@ -42,8 +42,9 @@ pub(crate) fn piece_hull_at<S: SampleSource>(
     requires samples { AreSamplesOf (claim_data claim.now) (S.samples samples) }
     requires few { length tables.now ≤ 32 }
     requires long { All (λ table. number < length table.items) tables.now }
-    requires best { filter_map (λ table. slice_get table.items number) tables.now ≡ best_entries
-        (S.samples samples) (claim_data claim.now) (stretch_at (claim_data claim.now) step_s number) }
+    requires best { filter_map (λ table. slice_get table.items number) tables.now
+        ≡ best_entries (S.samples samples) (claim_data claim.now)
+        (stretch_at (claim_data claim.now) step_s number) }
     ensures { piece_data result
         ≡ piece_hull_at (S.samples samples) (claim_data claim.now) step_s number }
 {

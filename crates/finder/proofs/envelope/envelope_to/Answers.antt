@@ -8,16 +8,15 @@ use Rattle.finder.proofs.envelope.envelope_to.Goals as goal
 
 pub loop-number-preserved : goal.loop-number-preserved
 loop-number-preserved g c =
-    let claim = claim_data c.args.claim.now in
     let samples = g.S.SampleSource.samples c.args.samples in
-    let step = c.args.step_s in
+    let claim = claim_data c.args.claim.now in
     let number = c.loop-number.number in
     let piece = c.piece_hull_at-piece.ensures in
     record {
       pieces = ap (map piece_data) c.in_ok-push.ensures.items ∙ map-append piece_data c.loop-number.pieces.items _
-          ∙ piece_hulls_more samples claim step number _ _ c.loop-number.invariant.pieces piece;
+          ∙ piece_hulls_more samples claim c.args.step_s number _ _ c.loop-number.invariant.pieces piece;
       least = c.with_piece-least.ensures.value
-          ∙ least_more samples claim step number _ _ c.loop-number.invariant.least
+          ∙ least_more samples claim c.args.step_s number _ _ c.loop-number.invariant.least
           (ap (λ (p : PieceHullData). p.hull) piece);
       below = c.with_piece-least.ensures.in_range;
     }

@@ -1,15 +1,15 @@
 use Rattle.claim_file.specs.Claim.{data_of as claim_data}
-use Rattle.finder.proofs.AnswerLemmas.{finds, finds_many, lacks_memory}
+use Rattle.finder.proofs.AnswerLemmas.{found_few, found_many, found_without_memory}
 use Rattle.finder.proofs.found.find_over.Goals as goal
 
 pub returns-then-count : goal.returns-then-count
 returns-then-count g c =
-    finds_many (g.S.SampleSource.samples c.args.samples) (claim_data c.args.claim.now) c.args.step_s
+    found_many (g.S.SampleSource.samples c.args.samples) (claim_data c.args.claim.now) c.args.step_s
     (rw c.piece_count-count.ensures at c.if-count.true)
 
 pub returns-in_err-found : goal.returns-in_err-found
 returns-in_err-found g c =
-    lacks_memory (g.S.SampleSource.samples c.args.samples) (claim_data c.args.claim.now) c.args.step_s
+    found_without_memory (g.S.SampleSource.samples c.args.samples) (claim_data c.args.claim.now) c.args.step_s
     (rw c.piece_count-count.ensures at c.if-count.false) c.from_residual.result c.from_residual.ensures.1
 
 pub returns : goal.returns
@@ -18,7 +18,7 @@ returns g c =
     let step = c.args.step_s in
     let counted = c.last_piece_ends_with_the_span.ensures claim.first claim.last step c.requires.claim.span_forward
     c.requires.step.some in
-    finds (g.S.SampleSource.samples c.args.samples) claim step (record {
+    found_few (g.S.SampleSource.samples c.args.samples) claim step (record {
       best = c.best_samples_are_the_first_best.ensures;
       narrow = c.best_entries_show_as_much.ensures;
       each = c.pieces_give_the_verdict.ensures.each;
