@@ -4,26 +4,23 @@ use Rattle.std.proofs.lemmas.Bool.Decides.{nat_tests}
 use Rattle.std.proofs.lemmas.List.{length-map}
 use Rattle.std.proofs.lemmas.List.Elements.{All-map}
 use Rattle.std.proofs.lemmas.List.FromFn.{length-map-range_with_len}
-use Rattle.std.specs.Prelude.{[], All, nat_lt, if◌then◌else◌, map}
+use Rattle.std.specs.Prelude.{All, nat_lt, if◌then◌else◌, map}
 use Rattle.std.specs.List.{range_with_len}
 use Rattle.certificate.specs.Certificate.{max_pieces}
 use Rattle.claim_file.specs.Claim.{ClaimData, IsLawful}
 use Rattle.intersection.specs.declared.kinds.Hull.{Hull}
 use Rattle.intersection.specs.declared.kinds.Hull.TheVariants.{Empty}
 use Rattle.sample_interval.specs.declared.kinds.Sample.{Sample}
-use Rattle.checker.specs.Comparison.{IsOfSamples}
-use Rattle.span_cover.specs.Group.{piece_hull}
 use Rattle.checker.specs.Traceability.{HoldsError, IsContradicted}
-use Rattle.checker.specs.Verdict.{parts_after}
-use Rattle.span_cover.specs.declared.part.Part.{Part}
 use Rattle.span_cover.specs.declared.stretch.Stretch.{Stretch}
 use Rattle.finder.specs.declared.envelope.Envelope.{Envelope}
 use Rattle.finder.specs.declared.fault.FindFault.{FindFault}
 use Rattle.finder.specs.declared.fault.FindFault.TheVariants.{TooManyPieces}
-use Rattle.finder.specs.Entry.{best_entries, best_hull, parts_named}
-use Rattle.finder.specs.Envelope.{EnvelopeData, IsLeast, PieceHullData, data_of, envelope_of, envelope_to, piece_data, piece_hull_at}
-use Rattle.finder.specs.Found.{hull_at}
+use Rattle.finder.specs.Answer.{FindsEnvelope}
+use Rattle.finder.specs.Entry.{best_hull}
+use Rattle.finder.specs.Envelope.{EnvelopeData, PieceHullData, data_of, envelope_of, envelope_to, piece_data, piece_hull_at}
 use Rattle.finder.specs.Piece.{count_of}
+use Rattle.finder.specs.Samples.{AreSamplesOf}
 use Rattle.report.specs.declared.fault.Outcome.{Outcome}
 use Rattle.audit.specs.Envelope.{IsEnvelopeOf, bound_outcome}
 use Rattle.audit.specs.Evidence.{EvidenceData, samples_in}
@@ -61,33 +58,10 @@ module _ (samples : List Sample) (claim : ClaimData) (step : ℕ) where
 
 -- ---- what their hulls hold
 
--- the laws that say it
-pub record Laws : Type 0 where
-  pub accepted : (samples : List Sample) (claim : ClaimData) (stretch : Stretch) →
-      let entries = best_entries samples claim stretch in
-      parts_after samples stretch claim.drift_ppb [] entries ≡ Ok (parts_named samples claim stretch entries)
-  pub of_samples : (samples : List Sample) (stretch : Stretch) (ppb : ℕ) (entries : List (ℕ × ℕ))
-      (parts : List Part) → parts_after samples stretch ppb [] entries ≡ Ok parts →
-      All (IsOfSamples samples stretch ppb) parts
-  pub hulls : (claim : ClaimData) (samples : List Sample) (stretch : Stretch) (parts : List Part) → IsLawful claim →
-      All (λ sample. sample.server < length claim.servers) samples →
-      All (IsOfSamples samples stretch claim.drift_ppb) parts →
-      HoldsError claim samples stretch (piece_hull claim.groups claim.false_max parts)
-
-module _ (laws : Laws) (samples : List Sample) (claim : ClaimData) (lawful : IsLawful claim)
-    (listed : All (λ sample. sample.server < length claim.servers) samples) where
-  held : (stretch : Stretch) → HoldsError claim samples stretch (best_hull samples claim stretch)
-  unfolding best_hull
-  held stretch =
-      let entries = best_entries samples claim stretch in
-      let parts = parts_named samples claim stretch entries in
-      laws.hulls claim samples stretch parts lawful listed
-      (laws.of_samples samples stretch claim.drift_ppb entries parts (laws.accepted samples claim stretch))
-
-  contradicted : (stretch : Stretch) (hull : Hull) → HoldsError claim samples stretch hull → hull ≡ Empty →
-      IsContradicted claim samples stretch
-  contradicted stretch hull holds is =
-      subst (λ (h : Hull). HoldsError claim samples stretch h) is holds
+contradicted : (claim : ClaimData) (samples : List Sample) (stretch : Stretch) (hull : Hull)
+    → HoldsError claim samples stretch hull → hull ≡ Empty → IsContradicted claim samples stretch
+contradicted claim samples stretch hull holds is =
+    subst (λ (h : Hull). HoldsError claim samples stretch h) is holds
 
 module _ (P : PieceHullData → Type 0) (at : ℕ → PieceHullData) (each : (k : ℕ) → P (at k)) where
   all_numbers : (ks : List ℕ) → All (λ k. P (at k)) ks
@@ -98,37 +72,39 @@ module _ (P : PieceHullData → Type 0) (at : ℕ → PieceHullData) (each : (k 
 
 -- ---- the whole
 
--- what is known of an envelope of these samples
-pub record Enveloped (step : ℕ) (e : EvidenceData) (samples : List Sample) (envelope : EnvelopeData) : Type 0 where
-  pub exact : envelope_of samples e.claim step ≡ Ok envelope
-  pub least : IsLeast (hull_at samples e.claim step) (count_of e.claim step) envelope.least
-  pub listed : All (λ sample. sample.server < length e.claim.servers) samples
+-- the law that the hull of a piece holds the error
+abbrev pub HullLaw : Type 0
+HullLaw = (claim : ClaimData) (samples : List Sample) (stretch : Stretch) → IsLawful claim
+    → All (λ sample. sample.server < length claim.servers) samples
+    → HoldsError claim samples stretch (best_hull samples claim stretch)
 
-module _ (laws : Laws) (step : ℕ) (e : EvidenceData) (lawful : IsLawful e.claim) where
-  shown : (envelope : EnvelopeData) → Enveloped step e (samples_in e) envelope →
-      IsEnvelopeOf step (bound_outcome envelope.least) e
-  shown envelope known =
+module _ (law : HullLaw) (step : ℕ) (e : EvidenceData) (lawful : IsLawful e.claim) where
+  shown : AreSamplesOf e.claim (samples_in e) → (envelope : Envelope)
+      → FindsEnvelope (samples_in e) e.claim step (Ok envelope)
+      → IsEnvelopeOf step (bound_outcome envelope.least) e
+  shown are envelope finds =
       let samples = samples_in e in
-      let is = whole samples e.claim step envelope known.exact in
+      let is = whole samples e.claim step (data_of envelope) finds.exact in
       let n = count_of e.claim step in
       let at = piece_hull_at samples e.claim step in
       let Holds = λ (piece : PieceHullData). HoldsError e.claim samples piece.stretch piece.hull in
       let Void = λ (piece : PieceHullData). piece.hull ≡ Empty → IsContradicted e.claim samples piece.stretch in
-      let held_at = λ (k : ℕ). held laws samples e.claim lawful known.listed (at k).stretch in
+      let held_at = λ (k : ℕ). law e.claim samples (at k).stretch lawful are.listed in
       record {
-        envelope = envelope;
-        envelope_is = known.exact;
+        envelope = data_of envelope;
+        envelope_is = finds.exact;
         holds_error = subst (λ (d : EnvelopeData). All Holds d.pieces) (sym is.same) (all_pieces Holds at held_at n);
         empty = subst (λ (d : EnvelopeData). All Void d.pieces) (sym is.same) (all_pieces Void at
-            (λ k. contradicted laws samples e.claim lawful known.listed (at k).stretch (at k).hull (held_at k)) n);
-        least = known.least;
+            (λ k. contradicted e.claim samples (at k).stretch (at k).hull (held_at k)) n);
+        least = finds.least;
         outcome_is = refl;
       }
 
   -- the outcome that is told of it
-  pub envelope_shows : (samples : List Sample) → samples ≡ samples_in e → (envelope : EnvelopeData)
-      (outcome : Outcome) → outcome ≡ bound_outcome envelope.least → Enveloped step e samples envelope →
-      IsEnvelopeOf step outcome e
-  envelope_shows samples same envelope outcome is known =
+  pub envelope_shows : (samples : List Sample) → samples ≡ samples_in e → AreSamplesOf e.claim samples
+      → (envelope : Envelope) (outcome : Outcome) → outcome ≡ bound_outcome envelope.least
+      → FindsEnvelope samples e.claim step (Ok envelope) → IsEnvelopeOf step outcome e
+  envelope_shows samples same are envelope outcome is finds =
       subst (λ (o : Outcome). IsEnvelopeOf step o e) (sym is)
-      (shown envelope (subst (λ (s : List Sample). Enveloped step e s envelope) same known))
+      (shown (subst (AreSamplesOf e.claim) same are) envelope
+      (subst (λ (s : List Sample). FindsEnvelope s e.claim step (Ok envelope)) same finds))

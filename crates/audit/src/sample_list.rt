@@ -1,28 +1,29 @@
 //! The samples of exchanges.
 
-ghost use Rattle.std.specs.Prelude.{◌≡◌, length, map, All};
-ghost use Rattle.claim_file.specs.Claim.{IsLawful, data_of};
-ghost use Rattle.pairing.specs.Exchange.{IsLawful as IsLawfulExchange};
-ghost use Rattle.pairing.specs.Held.{exchange_shown};
+ghost use Rattle.std.specs.Prelude.{◌≡◌, ◌≤◌, length};
+ghost use Rattle.claim_file.specs.Claim.{data_of};
+ghost use Rattle.finder.specs.Samples.{AreSamplesOf};
+ghost use Rattle.audit.specs.Evidence.{IsLawfulEvidence, evidence_data, samples_in};
 
-use claim_file::Claim;
+use crate::evidence::Evidence;
+use finder::laws::samples_of_exchanges_keep_limits;
 use pairing::HeldExchange;
-use sample_interval::ExchangeSamples;
+use sample_interval::{ExchangeSamples, SampleSource};
 
-/// The samples of exchanges, in their order, with the claimed allowance. Each is made when it is
-/// asked for.
-pub(crate) fn samples_of<'a>(
-    claim: &Claim,
-    exchanges: &'a [HeldExchange],
-) -> ExchangeSamples<'a, HeldExchange>
-    requires lawful { IsLawful (data_of claim.now) }
-    requires exchanges { All (IsLawfulExchange (length claim.now.servers.items))
-        (map exchange_shown exchanges.now) }
-    ensures exchanges { result.exchanges.now ≡ exchanges.now }
-    ensures allowance { result.reading ≡ claim.now.reading }
+/// The samples of the exchanges, in their order, with the claimed allowance. Each is made when it
+/// is asked for.
+pub(crate) fn samples_of<'a>(evidence: &'a Evidence) -> ExchangeSamples<'a, HeldExchange>
+    requires { IsLawfulEvidence evidence.now }
+    ensures samples { ⟦<ExchangeSamples<'a, HeldExchange> as SampleSource>⟧.samples result
+        ≡ samples_in (evidence_data evidence.now) }
+    ensures of_claim { AreSamplesOf (data_of evidence.now.claim)
+        (⟦<ExchangeSamples<'a, HeldExchange> as SampleSource>⟧.samples result) }
+    ensures few { length (⟦<ExchangeSamples<'a, HeldExchange> as SampleSource>⟧.samples result)
+        ≤ 1_000_000 }
 {
+    samples_of_exchanges_keep_limits();
     ExchangeSamples {
-        exchanges,
-        reading: claim.reading,
+        exchanges: &evidence.held.exchanges,
+        reading: evidence.claim.reading,
     }
 }

@@ -4,10 +4,10 @@ ghost use Rattle.std.specs.Prelude.{◌≡◌, ◌+◌, ◌^◌, ◌<◌, ◌≤
 ghost use Rattle.std.specs.Fmt.{decimal};
 ghost use Rattle.line_writer.specs.declared.line.TheConstants.{CAPACITY};
 ghost use Rattle.claim_file.specs.Claim.{IsLawful, data_of};
-ghost use Rattle.sample_interval.specs.Sample.{IsLawfulSample};
 ghost use Rattle.finder.specs.Entry.{parts_named};
 ghost use Rattle.finder.specs.Envelope.{data_of as envelope_data, piece_data};
 ghost use Rattle.finder.specs.Envelope.{IsBelowLimit, IsLawfulEnvelope, IsLawfulPiece};
+ghost use Rattle.finder.specs.Samples.{AreSamplesOf};
 ghost use Rattle.audit_text.specs.Second.{second_of};
 ghost use Rattle.audit_text.specs.Envelope as spec;
 ghost use Rattle.audit_text.specs.Envelope.{hull_fields, lines_from, place_fields, server_lines};
@@ -118,8 +118,7 @@ fn add_servers<S: SampleSource>(
     piece: &PieceHull,
 ) -> Result<(), AllocError>
     requires claim { IsLawful (data_of claim.now) }
-    requires samples { All IsLawfulSample (S.samples samples) }
-    requires listed { All (λ sample. sample.server < length claim.now.servers.items) (S.samples samples) }
+    requires samples { AreSamplesOf (data_of claim.now) (S.samples samples) }
     requires piece { IsLawfulPiece (length (S.samples samples)) (piece_data piece.now) }
     ensures { IfOk result (λ _. text.new.items ≡ text.old.items
         ++ server_lines (S.samples samples) (data_of claim.now) number (piece_data piece.now)) }
@@ -160,8 +159,7 @@ fn add_pieces<S: SampleSource>(
     pieces: &[PieceHull],
 ) -> Result<(), AllocError>
     requires claim { IsLawful (data_of claim.now) }
-    requires samples { All IsLawfulSample (S.samples samples) }
-    requires listed { All (λ sample. sample.server < length claim.now.servers.items) (S.samples samples) }
+    requires samples { AreSamplesOf (data_of claim.now) (S.samples samples) }
     requires few { length pieces.now ≤ 100_000 }
     requires pieces { All (λ piece. IsLawfulPiece (length (S.samples samples)) (piece_data piece))
         pieces.now }
@@ -194,8 +192,7 @@ pub fn envelope_text<S: SampleSource>(
     envelope: &Envelope,
 ) -> Result<Vec<u8>, AllocError>
     requires claim { IsLawful (data_of claim.now) }
-    requires samples { All IsLawfulSample (S.samples samples) }
-    requires listed { All (λ sample. sample.server < length claim.now.servers.items) (S.samples samples) }
+    requires samples { AreSamplesOf (data_of claim.now) (S.samples samples) }
     requires few { length envelope.now.pieces.items ≤ 100_000 }
     requires envelope { IsLawfulEnvelope (length (S.samples samples)) envelope.now }
     ensures { IfOk result (λ text. text.items ≡

@@ -10,7 +10,7 @@ use Rattle.sample_interval.specs.declared.kinds.Sample.{Sample}
 use Rattle.span_cover.specs.Part.{part_of}
 use Rattle.span_cover.specs.declared.part.Part.{Part}
 use Rattle.span_cover.specs.declared.stretch.Stretch.{Stretch}
-use Rattle.finder.specs.Entry.{best_over, best_entries, part_between, part_named, parts_named}
+use Rattle.finder.specs.Entry.{AreNamed, best_over, best_entries, part_between, part_named, parts_named}
 use Rattle.finder.proofs.BestLemmas.{BestLaw, best_of_is}
 use Rattle.finder.proofs.ListLemmas.{All-slice_get, All-filter_map}
 
@@ -58,7 +58,7 @@ listed_parts samples claim stretch entries n listed =
 
 -- each names two samples that there are
 pub entries_there : (law : BestLaw) (samples : List Sample) (claim : ClaimData) (stretch : Stretch)
-    → All (λ entry. (entry.0 < length samples) × (entry.1 < length samples)) (best_entries samples claim stretch)
+    → AreNamed (length samples) (best_entries samples claim stretch)
 entries_there law samples claim stretch =
     All-filter_map (best_over samples claim stretch)
     (λ entry. (entry.0 < length samples) × (entry.1 < length samples))

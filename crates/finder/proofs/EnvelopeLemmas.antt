@@ -1,6 +1,6 @@
 -- The pieces of an envelope, one after another.
-use Rattle.std.proofs.Common.{◌≡◌, ℕ, zero, suc, ◌+◌, ◌<◌, ◌≤◌, nat_lt, true, false, List, [], ◌∷◌, ◌++◌, length, map, Ok, Err, sym, ap, ◌∙◌, arith, add-one, subst}
-use Rattle.std.specs.Prelude.{All}
+use Rattle.std.proofs.Common.{◌≡◌, ℕ, zero, suc, ◌+◌, ◌<◌, ◌≤◌, nat_lt, true, false, List, [], ◌∷◌, ◌++◌, length, map, Ok, Err, inl, inr, refl, sym, ap, ◌∙◌, arith, add-one, subst}
+use Rattle.std.specs.Prelude.{All, Result, ◌⊎◌, ◌↔◌, IsErrAnd}
 use Rattle.std.specs.List.{range_with_len}
 use Rattle.std.proofs.lemmas.Bool.{cond-true, cond-false}
 use Rattle.std.proofs.lemmas.Bool.Decides.{nat_tests}
@@ -11,15 +11,20 @@ use Rattle.certificate.specs.Certificate.{max_pieces}
 use Rattle.claim_file.specs.Claim.{ClaimData, IsLawful}
 use Rattle.intersection.specs.declared.kinds.Hull.{Hull}
 use Rattle.sample_interval.specs.declared.kinds.Sample.{Sample}
+use Rattle.span_cover.specs.Group.{piece_hull}
 use Rattle.span_cover.specs.declared.stretch.Stretch.{Stretch}
-use Rattle.finder.specs.Entry.{best_entries}
-use Rattle.finder.specs.Envelope.{EnvelopeData, PieceHullData, IsLawfulPiece, piece_hull_at, piece_hulls, least_of, with_piece, envelope_of, envelope_to}
+use Rattle.finder.specs.Answer.{FindsEnvelope}
+use Rattle.finder.specs.Entry.{best_entries, parts_named}
+use Rattle.finder.specs.Envelope.{EnvelopeData, PieceHullData, IsLawfulEnvelope, IsLawfulPiece, IsLeast, data_of, piece_hull_at, piece_hulls, least_of, with_piece, envelope_of, envelope_to}
 use Rattle.finder.specs.Found.{hull_at}
 use Rattle.finder.specs.Piece.{count_of, stretch_at}
-use Rattle.finder.specs.declared.fault.FindFault.TheVariants.{TooManyPieces}
+use Rattle.finder.specs.declared.envelope.Envelope.{Envelope}
+use Rattle.finder.specs.declared.fault.FindFault.{FindFault}
+use Rattle.finder.specs.declared.fault.FindFault.TheVariants.{TooManyPieces, Memory}
 use Rattle.finder.specs.declared.least.LeastBound.{LeastBound}
 use Rattle.finder.proofs.BestLemmas.{BestLaw}
 use Rattle.finder.proofs.EntryLemmas.{entries_there}
+use Rattle.finder.proofs.FoundLemmas.{hull_is}
 use Rattle.finder.proofs.PieceLemmas.{piece_of_claim}
 
 too_many : (n : ℕ) → max_pieces < n → nat_lt max_pieces n ≡ true
@@ -45,20 +50,27 @@ module _ (samples : List Sample) (claim : ClaimData) (step : ℕ) where
   unfolding envelope_of
   envelope_of_few h = cond-false (nat_lt max_pieces (count_of claim step)) _ _ (few _ h)
 
-  -- one more piece
-  pub piece_hulls_more : (k : ℕ) (old : List PieceHullData) (stretch : Stretch) (entries : List (ℕ × ℕ)) (hull : Hull)
-      → old ≡ piece_hulls samples claim step k → stretch ≡ stretch_at claim step k
-      → entries ≡ best_entries samples claim (stretch_at claim step k) → hull ≡ hull_at samples claim step k
-      → old ++ record { stretch = stretch; entries = entries; hull = hull } ∷ []
-      ≡ piece_hulls samples claim step (k + 1)
-  piece_hulls_more k old stretch entries hull so_far a b e =
+  -- a piece that the code makes
+  pub piece_hull_is : (k : ℕ) (stretch : Stretch) (entries : List (ℕ × ℕ)) (hull : Hull)
+      → stretch ≡ stretch_at claim step k → entries ≡ best_entries samples claim (stretch_at claim step k)
+      → hull ≡ piece_hull claim.groups claim.false_max (parts_named samples claim stretch entries)
+      → ◌≡◌ {A = PieceHullData} (record { stretch = stretch; entries = entries; hull = hull })
+      (piece_hull_at samples claim step k)
+  piece_hull_is k stretch entries hull a b e =
       let make : Stretch → List (ℕ × ℕ) → Hull → PieceHullData =
       λ s es h. record { stretch = s; entries = es; hull = h } in
-      ap (λ (ps : List PieceHullData). ps ++ make stretch entries hull ∷ []) so_far
-      ∙ ap (λ (s : Stretch). piece_hulls samples claim step k ++ make s entries hull ∷ []) a
-      ∙ ap (λ (es : List (ℕ × ℕ)). piece_hulls samples claim step k ++ make (stretch_at claim step k) es hull ∷ []) b
-      ∙ ap (λ (h : Hull). piece_hulls samples claim step k
-      ++ make (stretch_at claim step k) (best_entries samples claim (stretch_at claim step k)) h ∷ []) e
+      ap (λ (s : Stretch). make s entries hull) a
+      ∙ ap (λ (es : List (ℕ × ℕ)). make (stretch_at claim step k) es hull) b
+      ∙ ap (make (stretch_at claim step k) (best_entries samples claim (stretch_at claim step k)))
+      (hull_is samples claim step k stretch entries hull a b e)
+
+  -- one more piece
+  pub piece_hulls_more : (k : ℕ) (old : List PieceHullData) (piece : PieceHullData)
+      → old ≡ piece_hulls samples claim step k → piece ≡ piece_hull_at samples claim step k
+      → old ++ piece ∷ [] ≡ piece_hulls samples claim step (k + 1)
+  piece_hulls_more k old piece so_far is =
+      ap (λ (ps : List PieceHullData). ps ++ piece ∷ []) so_far
+      ∙ ap (λ (p : PieceHullData). piece_hulls samples claim step k ++ p ∷ []) is
       ∙ sym (map-range_with_len_more (piece_hull_at samples claim step) 0 k k (omega arith))
 
   pub least_more : (k : ℕ) (old : LeastBound) (hull : Hull) → old ≡ least_of (hull_at samples claim step) k
@@ -94,8 +106,29 @@ module _ (samples : List Sample) (claim : ClaimData) (step : ℕ) where
     pub lawful_pieces : (n : ℕ) → All (IsLawfulPiece (length samples)) (piece_hulls samples claim step n)
     lawful_pieces n = lawful_from 0 n
 
-  -- ---- what it says of the bound
+  -- ---- the answer
 
-  pub least_of_envelope : (n : ℕ) (envelope : EnvelopeData) → envelope ≡ envelope_to samples claim step n
-      → envelope.least ≡ least_of (hull_at samples claim step) n
-  least_of_envelope n envelope is = ap (λ (e : EnvelopeData). e.least) is
+  refuses : (fault : FindFault) → (fault ≡ Memory) ⊎ (envelope_of samples claim step ≡ Err fault)
+      → (◌≡◌ {A = Result Envelope FindFault} (Err fault) (Err TooManyPieces)) ↔ (max_pieces < count_of claim step)
+      → FindsEnvelope samples claim step (Err fault)
+  refuses fault exact too_many = record { exact = exact; too_many = too_many; least = tt; lawful = tt }
+
+  pub envelope_many : max_pieces < count_of claim step → FindsEnvelope samples claim step (Err TooManyPieces)
+  envelope_many many = refuses TooManyPieces (inr (envelope_of_many many)) (λ is. many, λ over. refl)
+
+  pub envelope_without_memory : count_of claim step ≤ max_pieces → (result : Result Envelope FindFault)
+      → IsErrAnd result (λ fault. fault ≡ Memory) → FindsEnvelope samples claim step result
+  envelope_without_memory few (Ok found) is = absurd is
+  envelope_without_memory few (Err fault) is = refuses fault (inl is) (λ e. absurd cc, λ many. absurd (omega arith))
+
+  pub envelope_few : count_of claim step ≤ max_pieces
+      → IsLeast (hull_at samples claim step) (count_of claim step)
+      (least_of (hull_at samples claim step) (count_of claim step))
+      → (found : Envelope) → data_of found ≡ envelope_to samples claim step (count_of claim step)
+      → IsLawfulEnvelope (length samples) found → FindsEnvelope samples claim step (Ok found)
+  envelope_few few least found is lawful = record {
+    exact = envelope_of_few few ∙ ap Ok (sym is);
+    too_many = (λ is. absurd cc, λ many. absurd (omega arith));
+    least = rw (ap (λ (e : EnvelopeData). e.least) is) least;
+    lawful = lawful;
+  }

@@ -5,60 +5,60 @@ use Rattle.std.proofs.lemmas.Bool.{cases_lt}
 use Rattle.std.proofs.lemmas.Int.{ints, clamps}
 use Rattle.std.proofs.lemmas.Nat.{div-add-mod'}
 use Rattle.era_unfold.specs.Window.{ticks_per_second}
-use Rattle.claim_file.specs.Claim.{ClaimData}
+use Rattle.claim_file.specs.Claim.{ClaimData, IsLawful}
 use Rattle.intersection.specs.declared.kinds.Hull.{Hull}
 use Rattle.intersection.specs.declared.kinds.Hull.TheVariants.{Unbounded, Empty}
 use Rattle.sample_interval.specs.declared.kinds.Sample.{Sample}
 use Rattle.span_cover.specs.Piece.{IsPiece}
 use Rattle.span_cover.specs.Step.{piece_end_of}
 use Rattle.span_cover.specs.declared.stretch.Stretch.{Stretch}
-use Rattle.finder.specs.Entry.{best_entries, best_hull, parts_named}
-use Rattle.finder.specs.Envelope.{AreInside, EnvelopeData, IsGivenOf, IsInside, envelope_of, with_bound}
+use Rattle.finder.specs.Entry.{best_entries, best_hull}
+use Rattle.finder.specs.Envelope.{AreInside, EnvelopeData, IsInside, envelope_of, with_bound}
 use Rattle.finder.specs.Found.{hull_at}
 use Rattle.finder.specs.Piece.{IsPieceCount, count_of, piece_begin_of, stretch_at}
 use Rattle.finder.specs.Refusal.{HoldsWhole}
+use Rattle.finder.specs.Samples.{AreSamplesOf}
 use Rattle.finder.specs.declared.least.LeastBound.TheVariants.{Holds, NoneHolds}
 use Rattle.finder.proofs.BoundLemmas.{Roundings, none_inside}
 use Rattle.finder.proofs.CarriedLemmas.{least_is}
-use Rattle.finder.proofs.PieceLemmas.{begin_from_first, piece_of_claim}
-use Rattle.finder.proofs.RefusalLemmas.{IsGiven, Laws, Shows, no_more_is_shown}
-use Rattle.finder.proofs.VerdictLemmas.{entries_accepted, inside_passes}
+use Rattle.finder.proofs.BestLemmas.{BestLaw}
+use Rattle.finder.proofs.NarrowLemmas.{NarrowLaw}
+use Rattle.finder.proofs.PieceLemmas.{IsPieceCount-piece_count_of, begin_from_first, piece_of_claim}
+use Rattle.finder.proofs.VerdictLemmas.{entries_fault, inside_passes}
+
+-- what is known of the best entries, and of ticks
+pub record Laws : Type 0 where
+  pub best : BestLaw
+  pub narrow : NarrowLaw
+  pub roundings : Roundings
 
 -- ---- a stretch inside another
 
-module _ (laws : Laws) (samples : List Sample) (claim : ClaimData) (given : IsGivenOf samples claim)
-    (outer inner : Stretch) (n : ℕ) where
-  same_hull : (stretch : Stretch) → best_hull samples (with_bound claim n) stretch ≡ best_hull samples claim stretch
-  unfolding best_hull
-  same_hull stretch = refl
+module _ (laws : Laws) (samples : List Sample) (claim : ClaimData) (lawful : IsLawful claim)
+    (are : AreSamplesOf claim samples) (outer inner : Stretch) (n : ℕ)
+  where
+    same_hull : (stretch : Stretch)
+        → best_hull samples (with_bound claim n) stretch ≡ best_hull samples claim stretch
+    unfolding best_hull
+    same_hull stretch = refl
 
-  shown : IsInside n (best_hull samples claim outer) → Shows samples (with_bound claim n) outer
-  unfolding best_hull
-  shown inside = record {
-    entries = best_entries samples (with_bound claim n) outer;
-    parts = parts_named samples (with_bound claim n) outer (best_entries samples (with_bound claim n) outer);
-    said = entries_accepted laws.best samples (with_bound claim n) outer;
-    passes = inside_passes (with_bound claim n).bound _ inside;
-  }
-
-  -- its hull lies in a bound in which that of the other does, or is empty
-  pub inner_inside : IsPiece inner.begin inner.end → HoldsWhole outer inner
-      → IsInside n (best_hull samples claim outer) → best_hull samples claim inner ≢ Empty
-      → IsInside n (best_hull samples claim inner)
-  inner_inside piece whole inside some =
-      let is : IsGiven samples (with_bound claim n) outer inner = record {
-        rate = given.lawful.drift_in_range;
-        samples_lawful = given.samples_lawful;
-        listed = given.listed;
-        piece = piece;
-        whole = whole;
-      } in
-      rw (← same_hull inner) (no_more_is_shown laws samples (with_bound claim n) outer inner is (shown inside)
-      (λ empty. some (sym (same_hull inner) ∙ empty)))
+    -- its hull lies in a bound in which that of the other does, or is empty
+    pub inner_inside : IsPiece inner.begin inner.end → HoldsWhole outer inner
+        → IsInside n (best_hull samples claim outer) → best_hull samples claim inner ≢ Empty
+        → IsInside n (best_hull samples claim inner)
+    inner_inside piece whole inside some =
+        let wider = with_bound claim n in
+        let passes = entries_fault laws.best samples wider outer
+        ∙ inside_passes wider.bound _ (rw (same_hull outer) inside) in
+        rw (← same_hull inner) (⊎_elim
+        (λ empty. absurd (some (sym (same_hull inner) ∙ empty)))
+        (λ is. is)
+        (laws.narrow samples wider outer inner (best_entries samples wider outer) lawful.drift_in_range
+        (record { lawful = are.lawful; listed = are.listed }) piece whole passes))
 
 -- ---- a piece inside another
 
-pub product : (a b : ℕ) → 0 < a → 0 < b → 0 < a * b
+product : (a b : ℕ) → 0 < a → 0 < b → 0 < a * b
 product a b p q = let h : 1 * b ≤ a * b = mul-le-mul_right b (omega arith) in omega (arith, h, q)
 
 quotient : (k d : ℕ) → 0 < d → (k / d * d ≤ k) × (k < (k / d + 1) * d)
@@ -128,23 +128,26 @@ begin_inside first last in_order step times (suc l) (suc p) some from to =
 
 -- ---- the least bounds
 
-module _ (laws : Laws) (roundings : Roundings) (samples : List Sample) (claim : ClaimData)
-    (given : IsGivenOf samples claim) (step times : ℕ) (some : 0 < times)
-    (coarse : IsPieceCount claim.first claim.last (step * times) (count_of claim (step * times)))
-    (fine : IsPieceCount claim.first claim.last step (count_of claim step)) where
+module _ (laws : Laws) (samples : List Sample) (claim : ClaimData) (lawful : IsLawful claim)
+    (are : AreSamplesOf claim samples) (step times : ℕ) (some_step : 0 < step) (some : 0 < times) where
+  counted : (s : ℕ) → 0 < s → IsPieceCount claim.first claim.last s (count_of claim s)
+  counted s more =
+      IsPieceCount-piece_count_of laws.roundings.up claim.first claim.last s lawful.span_forward more
+
   -- the hull of each finer piece lies in a bound that holds, or is empty
   piece_inside : (n : ℕ) → AreInside (hull_at samples claim (step * times)) (count_of claim (step * times)) n
       → (k : ℕ) → k < count_of claim step → hull_at samples claim step k ≢ Empty
       → IsInside n (hull_at samples claim step k)
   piece_inside n inside k below some_point =
-      let forward = given.lawful.span_forward in
+      let forward = lawful.span_forward in
       let q : ℕ = k / times in
       let parts = quotient k times some in
       let there : q < count_of claim (step * times) =
       count_more claim.first claim.last forward step times k q parts.0 parts.1 (count_of claim (step * times))
-      (count_of claim step) coarse fine some below in
-      inner_inside laws samples claim given (stretch_at claim (step * times) q) (stretch_at claim step k) n
-      (piece_of_claim claim given.lawful step k) (
+      (count_of claim step) (counted (step * times) (product step times some_step some)) (counted step some_step)
+      some below in
+      inner_inside laws samples claim lawful are (stretch_at claim (step * times) q) (stretch_at claim step k) n
+      (piece_of_claim claim lawful step k) (
         begin_inside claim.first claim.last forward step times k q some parts.0 parts.1,
         end_inside claim.first claim.last forward step times k q parts.0 parts.1,
       )
@@ -153,17 +156,17 @@ module _ (laws : Laws) (roundings : Roundings) (samples : List Sample) (claim : 
   module _ (wide narrow : EnvelopeData) (wide_is : envelope_of samples claim (step * times) ≡ Ok wide)
       (narrow_is : envelope_of samples claim step ≡ Ok narrow) (n j : ℕ) (holds : wide.least ≡ Holds n j) where
     wide_inside : AreInside (hull_at samples claim (step * times)) (count_of claim (step * times)) n
-    wide_inside = (least_is samples claim (step * times) roundings wide wide_is (Holds n j) holds).0.all_inside
+    wide_inside = (least_is samples claim (step * times) laws.roundings wide wide_is (Holds n j) holds).0.all_inside
 
     pub no_wider : (m k : ℕ) → narrow.least ≡ Holds m k → m ≤ n
     no_wider m k is =
-        let least = (least_is samples claim step roundings narrow narrow_is (Holds m k) is).0 in
+        let least = (least_is samples claim step laws.roundings narrow narrow_is (Holds m k) is).0 in
         least.least n (λ i below. piece_inside n wide_inside i below
         (λ empty. none_inside m (hull_at samples claim step i) (least.all_inside i below) (inr empty)))
 
     pub is_empty : (k : ℕ) → narrow.least ≡ NoneHolds k → hull_at samples claim step k ≡ Empty
     is_empty k is =
-        let first = least_is samples claim step roundings narrow narrow_is (NoneHolds k) is in
+        let first = least_is samples claim step laws.roundings narrow narrow_is (NoneHolds k) is in
         ⊎_elim
         (λ unbounded. absurd (none_inside n (hull_at samples claim step k)
         (piece_inside n wide_inside k first.of_span (λ empty. not_both _ unbounded empty)) (inl unbounded)))

@@ -12,15 +12,8 @@ use Rattle.span_cover.specs.declared.stretch.Stretch.{Stretch}
 use Rattle.span_cover.specs.Group.{is_inside}
 use Rattle.finder.specs.Entry.{best_entries, best_hull, parts_named}
 use Rattle.finder.specs.Found.{certificate, nothing, piece_at, pieces_from, hull_at, passes, first_failing, found_without}
-use Rattle.finder.specs.Piece.{count_of, piece_begin_of, stretch_at}
+use Rattle.finder.specs.Piece.{count_of, stretch_at}
 use Rattle.finder.proofs.ListLemmas.{find_none, find_first}
-
-pub stretch_is : (claim : ClaimData) (step k : ℕ) (begin end : ℤ) → begin ≡ piece_begin_of claim.first claim.last step k
-    → end ≡ piece_end_of claim.first claim.last step k
-    → ◌≡◌ {A = Stretch} (record { begin = begin; end = end }) (stretch_at claim step k)
-stretch_is claim step k begin end a b =
-    let make : ℤ → ℤ → Stretch = λ x y. record { begin = x; end = y } in
-    ap (λ (x : ℤ). make x end) a ∙ ap (λ (y : ℤ). make (piece_begin_of claim.first claim.last step k) y) b
 
 module _ (samples : List Sample) (claim : ClaimData) (step : ℕ) where
   pub hull_is : (k : ℕ) (stretch : Stretch) (entries : List (ℕ × ℕ)) (hull : Hull) → stretch ≡ stretch_at claim step k

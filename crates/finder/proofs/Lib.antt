@@ -1,4 +1,5 @@
 pub mod Kept
+pub mod ClaimLemmas
 pub mod ListLemmas
 pub mod BestLemmas
 pub mod PieceLemmas
@@ -6,8 +7,9 @@ pub mod TableLemmas
 pub mod EntryLemmas
 pub mod FoundLemmas
 pub mod VerdictLemmas
-pub mod AnswerLemmas
+pub mod NarrowLemmas
 pub mod RefusalLemmas
+pub mod AnswerLemmas
 pub mod BoundLemmas
 pub mod EnvelopeLemmas
 pub mod CarriedLemmas

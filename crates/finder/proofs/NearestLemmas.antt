@@ -46,10 +46,10 @@ module _ (rooms : List Interval) where
       let from = before.from in
       let to = before.to in
       rw (← add-one) (⊎_elim
-      (λ above. kept_one n start error before above)
+      (λ above. same_one n start error before (λ le. absurd (omega (arith, ints))))
       (λ not_above. ⊎_elim
       (λ more. new_one n start error before more not_above)
-      (λ no_more. same_one n start error before no_more)
+      (λ no_more. same_one n start error before (λ le. no_more))
       (int_cases before.number (room_at rooms n).lo))
       (int_cases error (room_at rooms n).lo))
     where
@@ -60,22 +60,8 @@ module _ (rooms : List Interval) where
           (λ w. inr (w.0, (let below = w.1 in omega arith), w.2))
           before.which
 
-      kept_one : (n : ℕ) (start error : ℤ) → Candidate n start error → error <ℤ (room_at rooms n).lo
-          → Candidate (n + 1) start error
-      kept_one n start error before above = record {
-        number = before.number;
-        from = before.from;
-        to = before.to;
-        which = which_of n start error before;
-        greatest = λ server below le. ⊎_elim
-            (λ less. before.greatest server less le)
-            (λ last. absurd (let same : server ≡ n = omega arith in
-            let here : (room_at rooms n).lo ≤ℤ error = rw same at le in omega (arith, ints)))
-            (cases_lt server n);
-      }
-
       same_one : (n : ℕ) (start error : ℤ) (before : Candidate n start error)
-          → (room_at rooms n).lo ≤ℤ before.number → Candidate (n + 1) start error
+          → ((room_at rooms n).lo ≤ℤ error → (room_at rooms n).lo ≤ℤ before.number) → Candidate (n + 1) start error
       same_one n start error before no_more = record {
         number = before.number;
         from = before.from;
@@ -83,7 +69,7 @@ module _ (rooms : List Interval) where
         which = which_of n start error before;
         greatest = λ server below le. ⊎_elim
             (λ less. before.greatest server less le)
-            (λ last. let same : server ≡ n = omega arith in rw same no_more)
+            (λ last. let same : server ≡ n = omega arith in rw same (no_more (rw same at le)))
             (cases_lt server n);
       }
 

@@ -15,8 +15,10 @@ use Rattle.era_unfold.specs.Ratio.{IsCeiling, ceiling_of}
 use Rattle.era_unfold.specs.Window.{ticks_per_second}
 use Rattle.span_cover.specs.Piece.{IsPiece}
 use Rattle.span_cover.specs.Step.{piece_end_of}
+use Rattle.finder.proofs.ClaimLemmas.{first_kept, last_kept}
 use Rattle.finder.proofs.Kept.{kept}
-use Rattle.finder.specs.Piece.{IsPieceCount, piece_count_of, piece_begin_of, ends_of, count_of}
+use Rattle.span_cover.specs.declared.stretch.Stretch.{Stretch}
+use Rattle.finder.specs.Piece.{IsPieceCount, piece_count_of, piece_begin_of, ends_of, stretch_at}
 
 -- a quotient that is rounded up by its remainder
 pub div_ceil-ceiling_of : (n d : ℕ) → 0 < d → div_ceil n d ≡ ceiling_of n d
@@ -132,21 +134,23 @@ module _ (claim : ClaimData) (lawful : IsLawful claim) (step k : ℕ) where
       (piece_end_of claim.first claim.last step k)
   piece_of_claim = each_is_piece claim.first claim.last lawful.span_forward step lawful.span_begins lawful.span_ends k
 
-  -- an end that the code computes
-  pub end_kept : (end : ℤ)
-      → end ≡ piece_end_of (to_z w128 (of_z w128 claim.first)) (to_z w128 (of_z w128 claim.last)) step k
+  -- 128 bits keep its end
+  pub end_kept : (end : ℤ) → end ≡ piece_end_of claim.first claim.last step k
       → to_z w128 (of_z w128 end) ≡ piece_end_of claim.first claim.last step k
   end_kept end is =
       let begins = lawful.span_begins in
       let forward = lawful.span_forward in
       let ends = lawful.span_ends in
-      let first = kept claim.first (omega (arith, ints)) in
-      let last = kept claim.last (omega (arith, ints)) in
-      let e = rw (first, last) at is in
       let from_first = end_from_first claim.first claim.last forward step k in
       let to_last = end_to_last claim.first claim.last forward step k in
-      ap (λ (z : ℤ). to_z w128 (of_z w128 z)) e
+      ap (λ (z : ℤ). to_z w128 (of_z w128 z)) is
       ∙ kept (piece_end_of claim.first claim.last step k) (omega (arith, ints))
+
+  -- also where the code computes it
+  pub end_computed : (end : ℤ)
+      → end ≡ piece_end_of (to_z w128 (of_z w128 claim.first)) (to_z w128 (of_z w128 claim.last)) step k
+      → to_z w128 (of_z w128 end) ≡ piece_end_of claim.first claim.last step k
+  end_computed end is = end_kept end (rw (first_kept claim lawful, last_kept claim lawful) at is)
 
   -- it is a number of Unix ticks
   pub end_fits : (end : ℤ) → end ≡ piece_end_of claim.first claim.last step k
@@ -160,12 +164,15 @@ module _ (claim : ClaimData) (lawful : IsLawful claim) (step k : ℕ) where
       let to : end <ℤ pos (2 ^ 64) = rw is in_range in
       (yes_non_neg from, record { fits = omega (arith, ints) })
 
--- the count of pieces that the code computes
-pub count_kept : (claim : ClaimData) → IsLawful claim → (step count : ℕ)
-    → count ≡ piece_count_of (to_z w128 (of_z w128 claim.first)) (to_z w128 (of_z w128 claim.last)) step
-    → count ≡ count_of claim step
-count_kept claim lawful step count is =
-    let begins = lawful.span_begins in
-    let forward = lawful.span_forward in
-    let ends = lawful.span_ends in
-    rw (kept claim.first (omega (arith, ints)), kept claim.last (omega (arith, ints))) at is
+-- where piece k begins that isn't the first
+pub begin_later : (first last : ℤ) (step k j : ℕ) → k ≡ suc j
+    → piece_begin_of first last step k ≡ piece_end_of first last step j
+begin_later first last step k j is = ap (piece_begin_of first last step) is
+
+-- the readings that the code computes
+pub stretch_is : (claim : ClaimData) (step k : ℕ) (begin end : ℤ) → begin ≡ piece_begin_of claim.first claim.last step k
+    → end ≡ piece_end_of claim.first claim.last step k
+    → ◌≡◌ {A = Stretch} (record { begin = begin; end = end }) (stretch_at claim step k)
+stretch_is claim step k begin end a b =
+    let make : ℤ → ℤ → Stretch = λ x y. record { begin = x; end = y } in
+    ap (λ (x : ℤ). make x end) a ∙ ap (λ (y : ℤ). make (piece_begin_of claim.first claim.last step k) y) b

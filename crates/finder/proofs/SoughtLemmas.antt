@@ -1,13 +1,14 @@
 -- Which refutation is found.
-use Rattle.std.proofs.Common.{◌≡◌, ℕ, ◌-◌, ◌<◌, ◌≤◌, ◌^◌, ℤ, pos, neg_ℤ, ◌-ℤ◌, ◌≤ℤ◌, ◌<ℤ◌, int_lt, nat_le, unsigned_abs, Bool, true, false, ◌||◌, List, length, Some, None, refl, sym, ap, ◌∙◌, arith}
+use Rattle.std.proofs.Common.{◌≡◌, ℕ, ◌-◌, ◌<◌, ◌^◌, ℤ, pos, neg_ℤ, ◌-ℤ◌, ◌≤ℤ◌, ◌<ℤ◌, int_lt, nat_le, unsigned_abs, Bool, true, false, ◌||◌, List, Some, None, refl, sym, ap, ◌∙◌, arith}
 use Rattle.std.specs.Prelude.{option_map}
 use Rattle.std.specs.List.{find, range_with_len}
 use Rattle.std.proofs.lemmas.Int.{ints}
 use Rattle.claim_file.specs.Claim.{ClaimData, IsLawful}
 use Rattle.pairing.specs.declared.exchange.Exchange.{Exchange}
 use Rattle.intersection.specs.declared.kinds.Interval.{Interval}
-use Rattle.finder.specs.Room.{AreRooms, IsNear, possible_by, refused_by, refuses, room_at}
+use Rattle.finder.specs.Room.{AreMirrored, AreRooms, IsNear, possible_by, refused_by, refuses, room_at}
 use Rattle.finder.specs.Sought.{IsFirstBeyond, after, greatest_error, is_possible, least_error_below, nearest, sought_error}
+use Rattle.finder.proofs.ClaimLemmas.{few_groups}
 use Rattle.finder.proofs.GroupLemmas.{as_many_groups}
 use Rattle.finder.proofs.ListLemmas.{by_test, find_first, find_none}
 
@@ -37,9 +38,6 @@ module _ (test : ℤ → Bool) (bound limit : ℤ) where
 
 -- ---- what the intervals say
 
-few_groups : (claim : ClaimData) → IsLawful claim → length claim.groups ≤ 32
-few_groups claim lawful = let same = lawful.group_for_each in let few = lawful.few_servers in omega arith
-
 pub possible_is : (claim : ClaimData) → IsLawful claim → (xs : List Exchange) (rooms : List Interval)
     → AreRooms claim.reading xs rooms → (error : ℤ) → IsNear error
     → possible_by rooms claim error ≡ is_possible claim xs error
@@ -64,11 +62,6 @@ lt_turned_back : (a b : ℤ) → int_lt (neg_ℤ a) b ≡ int_lt (neg_ℤ b) a
 lt_turned_back a b = by_test (int_lt (neg_ℤ a) b)
     (λ e. let f : int_lt (neg_ℤ b) a ≡ true = grind (arith, ints) in e ∙ sym f)
     (λ e. let f : int_lt (neg_ℤ b) a ≡ false = grind (arith, ints) in e ∙ sym f)
-
--- the intervals of the negatives
-pub record AreMirrored (rooms mirrored : List Interval) : Type 0 where
-  pub low : (server : ℕ) → server < 32 → (room_at mirrored server).lo ≡ neg_ℤ (room_at rooms server).hi
-  pub high : (server : ℕ) → server < 32 → (room_at mirrored server).hi ≡ neg_ℤ (room_at rooms server).lo
 
 module _ (claim : ClaimData) (lawful : IsLawful claim) (xs : List Exchange) (rooms mirrored : List Interval)
     (are : AreRooms claim.reading xs rooms) (turned : AreMirrored rooms mirrored) where

@@ -28,8 +28,7 @@ use Rattle.finder.specs.Entry.{best_over, best_entries, best_hull, part_between,
 use Rattle.finder.specs.Found.{piece_at, pieces_from, hull_at, passes}
 use Rattle.finder.specs.Piece.{IsPieceCount, piece_begin_of, stretch_at}
 use Rattle.finder.proofs.BestLemmas.{BestLaw, best_of_is}
-use Rattle.finder.proofs.FoundLemmas.{stretch_is}
-use Rattle.finder.proofs.PieceLemmas.{begin_before_end, end_to_last, piece_of_claim}
+use Rattle.finder.proofs.PieceLemmas.{begin_before_end, end_to_last, piece_of_claim, stretch_is}
 
 -- ---- the entries are accepted
 

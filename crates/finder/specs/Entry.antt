@@ -3,7 +3,7 @@
 -- Each server that has a sample has one entry, in the order of the servers: the samples that make
 -- its interval over the piece narrowest. The hull is taken over the groups of servers, as in a
 -- verdict.
-use Rattle.std.specs.Prelude.{ℕ, List, length, slice_get, Option, Some, None}
+use Rattle.std.specs.Prelude.{ℕ, ◌<◌, List, length, slice_get, All, Option, Some, None}
 use Rattle.std.specs.List.{filter_map}
 use Rattle.claim_file.specs.Claim.{ClaimData}
 use Rattle.claim_file.specs.Group.{servers_of}
@@ -24,6 +24,10 @@ best_over samples claim stretch server =
 abbrev pub best_entries : List Sample → ClaimData → Stretch → List (ℕ × ℕ)
 best_entries samples claim stretch =
     filter_map (best_over samples claim stretch) (servers_of (length claim.servers))
+
+-- entries that name samples, of so many
+abbrev pub AreNamed : ℕ → List (ℕ × ℕ) → Type 0
+AreNamed count entries = All (λ entry. (entry.0 < count) × (entry.1 < count)) entries
 
 -- what an entry says that names these two samples
 abbrev pub part_between : Stretch → ℕ → Option Sample → Option Sample → Option Part

@@ -6,30 +6,29 @@
 -- says how good the clock is known to be: the claim's own bound plays no part in it. If a hull has
 -- no ends, or nothing in it, then no bound holds.
 use Rattle.std.specs.Prelude.{◌≡◌, ◌⊎◌, ℕ, zero, suc, ◌*◌, ◌<◌, ◌≤◌, ◌^◌, max, nat_lt, ⊤, if◌then◌else◌}
-use Rattle.std.specs.Prelude.{ℤ, pos, unsigned_abs, true, List, map, length, All, Result, Ok, Err}
+use Rattle.std.specs.Prelude.{ℤ, pos, unsigned_abs, true, List, map, All, Result, Ok, Err}
 use Rattle.std.specs.Int.{int_max, int_min}
 use Rattle.std.specs.List.{range_with_len}
 use Rattle.era_unfold.specs.Nanoseconds.{nanoseconds_per_second, ticks_down}
 use Rattle.era_unfold.specs.Ratio.{ceiling_of}
 use Rattle.era_unfold.specs.Window.{ticks_per_second}
 use Rattle.certificate.specs.Certificate.{CertificateData, max_pieces}
-use Rattle.claim_file.specs.Claim.{ClaimData, IsLawful}
+use Rattle.claim_file.specs.Claim.{ClaimData}
 use Rattle.intersection.specs.declared.kinds.Hull.{Hull}
 use Rattle.intersection.specs.declared.kinds.Hull.TheVariants.{Unbounded, Empty, Bounded}
-use Rattle.sample_interval.specs.Sample.{IsLawfulSample}
 use Rattle.sample_interval.specs.declared.kinds.Sample.{Sample}
 use Rattle.span_cover.specs.Piece.{IsPiece}
 use Rattle.span_cover.specs.declared.stretch.Stretch.{Stretch}
 use Rattle.span_cover.specs.Group.{is_inside}
-use Rattle.finder.specs.Entry.{best_entries}
+use Rattle.finder.specs.Entry.{AreNamed, best_entries}
 use Rattle.finder.specs.Found.{FoundData, certificate, nothing, hull_at}
 use Rattle.finder.specs.Piece.{count_of, stretch_at}
 use Rattle.finder.specs.declared.envelope.Envelope.{Envelope}
-use Rattle.finder.specs.declared.envelope.PieceHull.{PieceHull}
 use Rattle.finder.specs.declared.fault.FindFault.{FindFault}
 use Rattle.finder.specs.declared.fault.FindFault.TheVariants.{TooManyPieces}
 use Rattle.finder.specs.declared.least.LeastBound.{LeastBound}
 use Rattle.finder.specs.declared.least.LeastBound.TheVariants.{Holds, NoneHolds}
+use Rattle.finder.specs.declared.piece_hull.PieceHull.{PieceHull}
 
 -- ---- the least bound of hulls
 
@@ -148,13 +147,6 @@ module _ (samples : List Sample) (claim : ClaimData) (step : ℕ) where
       if nat_lt max_pieces (count_of claim step) then Err TooManyPieces
       else Ok (envelope_to (count_of claim step))
 
--- what is given of a claim and its samples: they keep their limits, and each sample is of a server
--- of the claim
-pub record IsGivenOf (samples : List Sample) (claim : ClaimData) : Type 0 where
-  pub lawful : IsLawful claim
-  pub samples_lawful : All IsLawfulSample samples
-  pub listed : All (λ sample. sample.server < length claim.servers) samples
-
 -- ---- a bound that is claimed
 
 -- the same claim with a bound of m nanoseconds
@@ -186,7 +178,7 @@ IsNotCertified answer = (piece : ℕ) × (hull : Hull) × (answer ≡ Ok (nothin
 -- a piece of Unix ticks, with entries that name two of so many samples
 pub record IsLawfulPiece (samples : ℕ) (piece : PieceHullData) : Type 0 where
   pub stretch : IsPiece piece.stretch.begin piece.stretch.end
-  pub named : All (λ entry. (entry.0 < samples) × (entry.1 < samples)) piece.entries
+  pub named : AreNamed samples piece.entries
 
 -- the bound is a number of 127 bits
 abbrev pub IsBelowLimit : LeastBound → Type 0

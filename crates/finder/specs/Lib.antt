@@ -1,8 +1,10 @@
 pub mod Fault
+pub mod Samples
 pub mod Piece
 pub mod Entry
 pub mod Found
 pub mod Refusal
 pub mod Envelope
+pub mod Answer
 pub mod Room
 pub mod Sought

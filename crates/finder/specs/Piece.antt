@@ -3,13 +3,18 @@
 -- The first piece begins where the span does, each other one where the piece before it ends, and
 -- both hold that reading. A piece ends so many seconds after its begin, or with the span. The last
 -- piece is the first that ends with the span, so that a span of one moment is one piece.
-use Rattle.std.specs.Prelude.{◌≡◌, ℕ, zero, suc, ◌+◌, ◌-◌, ◌*◌, ◌<◌, max, ℤ, ◌-ℤ◌, ◌<ℤ◌, unsigned_abs, List, map}
+use Rattle.std.specs.Prelude.{◌≡◌, ℕ, zero, suc, ◌+◌, ◌-◌, ◌*◌, ◌<◌, ◌≤◌, max, ℤ, ◌-ℤ◌, ◌<ℤ◌, unsigned_abs, List, map}
 use Rattle.std.specs.List.{range_with_len}
 use Rattle.era_unfold.specs.Ratio.{ceiling_of}
 use Rattle.era_unfold.specs.Window.{ticks_per_second}
 use Rattle.claim_file.specs.Claim.{ClaimData}
 use Rattle.span_cover.specs.Step.{piece_end_of}
 use Rattle.span_cover.specs.declared.stretch.Stretch.{Stretch}
+
+-- a number of seconds that a span may be cut by
+pub record IsStep (step : ℕ) : Type 0 where
+  pub some : 1 ≤ step
+  pub at_most_a_day : step ≤ 86_400
 
 -- so many pieces are the span: the last of them ends with it, and each before that one earlier
 pub record IsPieceCount (first last : ℤ) (step n : ℕ) : Type 0 where

@@ -2,10 +2,10 @@
 
 ghost use Rattle.std.specs.Prelude.{◌≡◌, ◌<◌, length, All};
 ghost use Rattle.claim_file.specs.Claim.{IsLawful, data_of};
-ghost use Rattle.sample_interval.specs.Sample.{IsLawfulSample};
 ghost use Rattle.span_cover.specs.Piece.{IsPiece};
 ghost use Rattle.span_cover.specs.Group.{piece_hull};
-ghost use Rattle.finder.specs.Entry.{parts_named};
+ghost use Rattle.finder.specs.Entry.{AreNamed, parts_named};
+ghost use Rattle.finder.specs.Samples.{AreSamplesOf};
 
 use arrayvec::ArrayVec;
 use claim_file::Claim;
@@ -23,12 +23,9 @@ pub fn parts<S: SampleSource>(
     entries: &ArrayVec<(u32, u32), 32>,
 ) -> ArrayVec<Part, 32>
     requires claim { IsLawful (data_of claim.now) }
-    requires samples { All IsLawfulSample (S.samples samples) }
-    requires listed { All (λ sample. sample.server < length claim.now.servers.items)
-        (S.samples samples) }
+    requires samples { AreSamplesOf (data_of claim.now) (S.samples samples) }
     requires stretch { IsPiece stretch.begin stretch.end }
-    requires low { All (λ entry. entry.0 < length (S.samples samples)) entries.now.items }
-    requires high { All (λ entry. entry.1 < length (S.samples samples)) entries.now.items }
+    requires named { AreNamed (length (S.samples samples)) entries.now.items }
     ensures exact { result.items ≡
         parts_named (S.samples samples) (data_of claim.now) stretch entries.now.items }
     ensures listed { All (λ part. part.server < length claim.now.servers.items) result.items }
@@ -50,12 +47,9 @@ pub(crate) fn hull_of<S: SampleSource>(
     entries: &ArrayVec<(u32, u32), 32>,
 ) -> Hull
     requires claim { IsLawful (data_of claim.now) }
-    requires samples { All IsLawfulSample (S.samples samples) }
-    requires listed { All (λ sample. sample.server < length claim.now.servers.items)
-        (S.samples samples) }
+    requires samples { AreSamplesOf (data_of claim.now) (S.samples samples) }
     requires stretch { IsPiece stretch.begin stretch.end }
-    requires low { All (λ entry. entry.0 < length (S.samples samples)) entries.now.items }
-    requires high { All (λ entry. entry.1 < length (S.samples samples)) entries.now.items }
+    requires named { AreNamed (length (S.samples samples)) entries.now.items }
     ensures { result ≡ piece_hull claim.now.groups.items claim.now.false_max
         (parts_named (S.samples samples) (data_of claim.now) stretch entries.now.items) }
 {

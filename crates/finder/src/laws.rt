@@ -1,23 +1,25 @@
 //! What holds of the definitions. A law is a function that does nothing: its contract is the law,
 //! for every number.
-ghost use Rattle.std.specs.Prelude.{◌≡◌, ℕ, ◌<◌, ◌≤◌, ◌*◌, ℤ, ◌≤ℤ◌, List, [], Ok, All, length};
-ghost use Rattle.claim_file.specs.Claim.{ClaimData, IsLawful};
+ghost use Rattle.std.specs.Prelude.{◌≡◌, ◌⊎◌, ℕ, ◌<◌, ◌≤◌, ◌*◌, ℤ, ◌≤ℤ◌, true, List, [], Ok, All, length};
+ghost use Rattle.claim_file.specs.Claim.{ClaimData, IsLawful, max_drift_ppb};
 ghost use Rattle.pairing.specs.Exchange.{IsLawful as IsLawfulExchange};
 ghost use Rattle.pairing.specs.declared.exchange.Exchange.{Exchange};
 ghost use Rattle.sample_interval.specs.Sample.{IsLawfulSample};
 ghost use Rattle.sample_interval.specs.declared.kinds.Sample.{Sample};
 ghost use Rattle.checker.specs.Traceability.{HoldsError, samples_of};
 ghost use Rattle.checker.specs.Verdict.{parts_after, parts_fault, hull_fault};
+ghost use Rattle.span_cover.specs.Group.{is_inside};
+ghost use Rattle.span_cover.specs.Piece.{IsPiece};
 ghost use Rattle.span_cover.specs.declared.stretch.Stretch.{Stretch};
 ghost use Rattle.finder.specs.Entry.{best_entries, best_hull, parts_named};
-ghost use Rattle.finder.specs.Envelope.{EnvelopeData, IsCertified, IsGivenOf, IsLeast, IsNotCertified, envelope_of, least_of, with_bound};
+ghost use Rattle.finder.specs.Envelope.{EnvelopeData, IsCertified, IsLeast, IsNotCertified, envelope_of, least_of, with_bound};
 ghost use Rattle.finder.specs.Found.{found_of, hull_at};
 ghost use Rattle.finder.specs.Piece.{IsPieceCount, piece_count_of};
+ghost use Rattle.finder.specs.Refusal.{HoldsWhole};
+ghost use Rattle.finder.specs.Samples.{AreSamplesOf};
 ghost use Rattle.finder.specs.declared.least.LeastBound.{LeastBound};
 
-use checker::laws::{
-    hulls_hold_the_error, narrower_parts_narrow, parts_are_of_samples, pieces_give_the_verdict,
-};
+use checker::laws::{hulls_hold_the_error, narrower_parts_narrow, parts_are_of_samples};
 use era_unfold::laws::{
     nanoseconds_lie_between_their_ticks, ratios_are_rounded_as_little_as_can_be,
 };
@@ -71,6 +73,23 @@ pub fn best_hulls_hold_the_error()
     hulls_hold_the_error();
 }
 
+/// The best entries of a piece show as much as any entries of a stretch that has the whole of it:
+/// if those pass the tests of a verdict, then the hull of these lies inside the bound too, or is
+/// empty.
+pub fn best_entries_show_as_much()
+    ensures { (samples : List Sample) (claim : ClaimData) (outer inner : Stretch)
+        (entries : List (ℕ × ℕ)) → claim.drift_ppb ≤ max_drift_ppb → AreSamplesOf claim samples →
+        IsPiece inner.begin inner.end → HoldsWhole outer inner →
+        parts_fault claim (parts_after samples outer claim.drift_ppb [] entries) ≡ None →
+        (best_hull samples claim inner ≡ Hull.Empty)
+        ⊎ (is_inside claim.bound (best_hull samples claim inner) ≡ true) }
+{
+    best_samples_are_the_first_best();
+    piece_inside_another_is_narrower();
+    parts_are_of_samples();
+    narrower_parts_narrow();
+}
+
 /// The least bound of hulls is the least inside which all of them lie, with the first piece that
 /// needs it; and no other answer is.
 pub fn least_bound_is_the_least()
@@ -108,22 +127,20 @@ pub fn find_carries_the_least_bound()
 /// over the others, then the samples contradict each other in the first such piece.
 pub fn finer_pieces_need_no_wider_bound()
     ensures holds { (samples : List Sample) (claim : ClaimData) (step times n j m k : ℕ)
-        (coarse fine : EnvelopeData) → IsGivenOf samples claim → 0 < step → 0 < times →
+        (coarse fine : EnvelopeData) → IsLawful claim → AreSamplesOf claim samples →
+        0 < step → 0 < times →
         envelope_of samples claim (step * times) ≡ Ok coarse →
         coarse.least ≡ LeastBound.Holds n j → envelope_of samples claim step ≡ Ok fine →
         fine.least ≡ LeastBound.Holds m k → m ≤ n }
     ensures contradiction { (samples : List Sample) (claim : ClaimData) (step times n j k : ℕ)
-        (coarse fine : EnvelopeData) → IsGivenOf samples claim → 0 < step → 0 < times →
+        (coarse fine : EnvelopeData) → IsLawful claim → AreSamplesOf claim samples →
+        0 < step → 0 < times →
         envelope_of samples claim (step * times) ≡ Ok coarse →
         coarse.least ≡ LeastBound.Holds n j → envelope_of samples claim step ≡ Ok fine →
         fine.least ≡ LeastBound.NoneHolds k → hull_at samples claim step k ≡ Hull.Empty }
 {
-    last_piece_ends_with_the_span();
     best_samples_are_the_first_best();
-    piece_inside_another_is_narrower();
-    parts_are_of_samples();
-    narrower_parts_narrow();
-    pieces_give_the_verdict();
+    best_entries_show_as_much();
     ratios_are_rounded_as_little_as_can_be();
     nanoseconds_lie_between_their_ticks();
 }

@@ -4,8 +4,9 @@
 //! of each piece, and gives either a certificate, which the checker accepts, or the first piece of
 //! which these samples don't show enough. What it finds is a proposal: nothing rests on it before
 //! the checker has said yes. [`find_envelope`] takes the same pieces, and gives the hull of each
-//! and the least bound that holds over all of them. [`find_refutation`] gives a refutation, which
-//! the checker accepts, unless it accepts none. [`laws`] has what holds of the definitions.
+//! and the least bound that holds over all of them. [`find_over`] and [`find_envelope_over`] do so
+//! over samples from any source. [`find_refutation`] gives a refutation, which the checker accepts,
+//! unless it accepts none. [`laws`] has what holds of the definitions.
 #![tactic(auto)]
 
 mod entry;
@@ -16,13 +17,15 @@ mod hull;
 pub mod laws;
 mod least;
 mod piece;
+mod piece_hull;
 mod room;
 mod sought;
 mod table;
 
-pub use envelope::{Envelope, PieceHull, find_envelope};
+pub use envelope::{Envelope, find_envelope, find_envelope_over};
 pub use fault::FindFault;
-pub use found::{Found, find};
+pub use found::{Found, find, find_over};
 pub use hull::parts;
 pub use least::LeastBound;
+pub use piece_hull::PieceHull;
 pub use sought::find_refutation;

@@ -1,28 +1,28 @@
 //! The pieces of a span.
 
 ghost use Rattle.std.specs.Prelude.{◌≡◌, ◌<◌, ◌≤◌, ◌^◌, pos, ◌≤ℤ◌, ◌<ℤ◌, IfOk};
-ghost use Rattle.finder.specs.Piece.{piece_count_of, ends_of};
+ghost use Rattle.claim_file.specs.Claim.{IsLawful, data_of};
+ghost use Rattle.finder.specs.Piece.{count_of, ends_of, stretch_at};
 
+use claim_file::Claim;
 use era_unfold::TICKS_PER_SECOND;
-use span_cover::piece_end;
+use span_cover::{Stretch, piece_end};
 use std::alloc::{AllocError, Global};
 
-/// How many pieces a span has that is cut every `step_s` seconds: the last is the first that ends
+/// How many pieces the span has that is cut every `step_s` seconds: the last is the first that ends
 /// with the span.
-///
-/// `first` and `last` are Unix ticks, from 0 to below 2^64.
-pub(crate) fn piece_count(first: i128, last: i128, step_s: u32) -> u64
-    requires from_zero { pos 0 ≤ℤ first }
-    requires in_order { first ≤ℤ last }
-    requires in_range { last <ℤ pos (2 ^ 64) }
+pub(crate) fn piece_count(claim: &Claim, step_s: u32) -> u64
+    requires claim { IsLawful (data_of claim.now) }
     requires step { 0 < step_s }
-    ensures { result ≡ piece_count_of first last step_s }
+    ensures { result ≡ count_of (data_of claim.now) step_s }
 {
     let step = u128::from(step_s) * TICKS_PER_SECOND;
-    ((last - first) as u128).div_ceil(step).max(1) as u64
+    let length = (claim.last - claim.first) as u128;
+    length.div_ceil(step).max(1) as u64
 }
 
-/// The ends of the first `count` pieces.
+/// The ends of the first `count` pieces of the span from `first` to `last`, which are Unix ticks,
+/// from 0 to below 2^64.
 pub(crate) fn piece_ends(
     alloc: Global,
     first: i128,
@@ -40,4 +40,18 @@ pub(crate) fn piece_ends(
         ends.push(piece_end(first, last, step_s, number))?;
     }
     Ok(ends)
+}
+
+/// The readings of the piece of this number. Each piece begins where the one before it ends.
+pub(crate) fn stretch_at(claim: &Claim, step_s: u32, number: u32) -> Stretch
+    requires { IsLawful (data_of claim.now) }
+    ensures { result ≡ stretch_at (data_of claim.now) step_s number }
+{
+    let begin = if number == 0 {
+        claim.first
+    } else {
+        piece_end(claim.first, claim.last, step_s, number - 1)
+    };
+    let end = piece_end(claim.first, claim.last, step_s, number);
+    Stretch { begin, end }
 }

@@ -1,13 +1,13 @@
 //! The errors for which exchanges leave room.
 
-ghost use Rattle.std.specs.Prelude.{◌≡◌, ◌^◌, ◌<◌, ◌≤◌, ◌≤ℤ◌, ◌+ℤ◌, ◌-ℤ◌, ℤ, ℕ, pos, neg_ℤ, not, unsigned_abs, filter, map, All};
+ghost use Rattle.std.specs.Prelude.{◌≡◌, ◌^◌, ◌<◌, ◌≤◌, ◌≤ℤ◌, ◌+ℤ◌, ◌-ℤ◌, ℤ, ℕ, pos, not, unsigned_abs, filter, map, All};
 ghost use Rattle.claim_file.specs.Claim.{IsLawful, data_of as claim_data};
 ghost use Rattle.intersection.specs.Interval.{leaves_out};
 ghost use Rattle.pairing.specs.Exchange.{IsLawful as IsLawfulExchange};
 ghost use Rattle.sample_interval.specs.Exchange.{IsOfSomeClaim};
 ghost use Rattle.span_cover.specs.Group.{numbers_below};
 ghost use Rattle.checker.specs.RefutationTest.{admits};
-ghost use Rattle.finder.specs.Room.{AreRooms, IsNear, possible_by, refused_by, room_at};
+ghost use Rattle.finder.specs.Room.{AreMirrored, AreRooms, IsNear, possible_by, refused_by, room_at};
 
 use arrayvec::ArrayVec;
 use checker::false_group_count;
@@ -95,10 +95,7 @@ pub(crate) fn mirrored(rooms: &[Interval; 32]) -> [Interval; 32]
         unsigned_abs (room_at rooms.now server).lo ≤ 2 ^ 80 }
     requires high { (server : ℕ) → server < 32 →
         unsigned_abs (room_at rooms.now server).hi ≤ 2 ^ 80 }
-    ensures low { (server : ℕ) → server < 32 →
-        (room_at result server).lo ≡ neg_ℤ (room_at rooms.now server).hi }
-    ensures high { (server : ℕ) → server < 32 →
-        (room_at result server).hi ≡ neg_ℤ (room_at rooms.now server).lo }
+    ensures { AreMirrored rooms.now result }
 {
     let mut mirrored = [EVERY_ERROR; 32];
     for server in 0..32 {

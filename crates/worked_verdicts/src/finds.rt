@@ -3,7 +3,7 @@
 use crate::claims::{AS_IS, LONG, LONG_TIGHT, TIGHT, claim_of};
 use crate::pieces::twenty_milliseconds;
 use claim_file::read_claim;
-use finder::{FindFault, Found, find};
+use finder::{Envelope, FindFault, Found, LeastBound, find, find_envelope};
 use intersection::kinds::Hull;
 use std::test::Fail;
 
@@ -62,8 +62,35 @@ fn worked_sample(rt: HostRuntime) -> Result<(), Fail> {
         let claim = read_claim(rt.alloc(), claim_of(rt.alloc(), terms)?.as_bytes())?;
         // The prover is told that each step of the table is one that `find` takes.
         let step = u32::max(step, 1).min(86_400);
-        let found = find(rt.alloc(), samples.as_slice(), &claim, step);
+        let found = find(rt.alloc(), &samples, &claim, step);
         assert_eq!(rt; answer_of(&found), wanted, "{terms:?} {step}");
+    }
+    Ok(())
+}
+
+fn least_of(found: &Result<Envelope, FindFault>) -> Option<LeastBound> {
+    match found {
+        Ok(envelope) => Some(envelope.least),
+        Err(_) => None,
+    }
+}
+
+/// The length of the pieces in seconds, and the least bound, which is the one that `find` carries
+/// in the table above, with the first piece that needs it.
+#[test]
+fn least_bounds(rt: HostRuntime) -> Result<(), Fail> {
+    let samples = [twenty_milliseconds()];
+    for (terms, step, bound_ns, piece) in [
+        (TIGHT, 64, 10_001_001, 0),
+        (LONG_TIGHT, 64, 11_280_627, 0),
+        (LONG_TIGHT, 32, 11_280_627, 1),
+    ] {
+        let claim = read_claim(rt.alloc(), claim_of(rt.alloc(), terms)?.as_bytes())?;
+        // The prover is told that each step of the table is one that `find_envelope` takes.
+        let step = u32::max(step, 1).min(86_400);
+        let found = find_envelope(rt.alloc(), &samples, &claim, step);
+        let wanted = LeastBound::Holds { bound_ns, piece };
+        assert_eq!(rt; least_of(&found), Some(wanted), "{terms:?} {step}");
     }
     Ok(())
 }

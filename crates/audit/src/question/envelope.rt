@@ -12,9 +12,8 @@ use crate::question::find::run_fault_of;
 use crate::sample_list::samples_of;
 use crate::step::Step;
 use audit_text::envelope_text;
-use checker::laws::{hulls_hold_the_error, parts_are_of_samples};
-use finder::laws::{best_entries_are_accepted, samples_of_exchanges_keep_limits};
-use finder::{LeastBound, find_envelope};
+use finder::laws::best_hulls_hold_the_error;
+use finder::{LeastBound, find_envelope_over};
 use report::{Made, Outcome, RunFault};
 use std::alloc::{AllocError, Global};
 
@@ -43,13 +42,10 @@ pub(crate) fn make_envelope(
     ensures shows { IfOk result (λ made. ShowsOf (show_envelope step.seconds servers)
         (evidence_data evidence.now) made.outcome) }
 {
-    best_entries_are_accepted();
-    parts_are_of_samples();
-    hulls_hold_the_error();
-    samples_of_exchanges_keep_limits();
+    best_hulls_hold_the_error();
     let claim = &evidence.claim;
-    let samples = samples_of(claim, &evidence.held.exchanges);
-    match find_envelope(alloc, samples, claim, step.seconds) {
+    let samples = samples_of(evidence);
+    match find_envelope_over(alloc, samples, claim, step.seconds) {
         Ok(envelope) => match envelope_text(alloc, samples, claim, servers, &envelope) {
             Ok(text) => Ok(Made {
                 text,

@@ -16,8 +16,7 @@ use crate::sample_list::samples_of;
 use crate::step::Step;
 use audit_text::nothing_text;
 use certificate::{Certificate, write_certificate};
-use finder::laws::samples_of_exchanges_keep_limits;
-use finder::{FindFault, Found, find};
+use finder::{FindFault, Found, find_over};
 use report::{Made, Outcome, RunFault};
 use std::alloc::{AllocError, Global};
 
@@ -71,10 +70,9 @@ pub(crate) fn make_find(alloc: Global, step: Step, evidence: &Evidence) -> Resul
     ensures shows { IfOk result (λ made. ShowsOf (find_with step.seconds)
         (evidence_data evidence.now) made.outcome) }
 {
-    samples_of_exchanges_keep_limits();
     let claim = &evidence.claim;
-    let samples = samples_of(claim, &evidence.held.exchanges);
-    match find(alloc, samples, claim, step.seconds) {
+    let samples = samples_of(evidence);
+    match find_over(alloc, samples, claim, step.seconds) {
         Ok(found) => match found_text(alloc, &found) {
             Ok(text) => Ok(Made {
                 text,

@@ -2,14 +2,12 @@ use Rattle.std.proofs.Common.{◌≡◌, map}
 use Rattle.claim_file.specs.Claim.{data_of as claim_data}
 use Rattle.finder.specs.Envelope.{IsBelowLimit, least_of, piece_data, piece_hulls}
 use Rattle.finder.specs.Found.{hull_at}
-use Rattle.finder.specs.Piece.{piece_begin_of}
 use Rattle.finder.proofs.envelope.envelope_to.Given as goal
 
 abbrev pub invariant-loop-number : goal.invariant-loop-number
 invariant-loop-number g l = record {
   pieces : map piece_data l.pieces.items ≡ piece_hulls (g.S.SampleSource.samples l.samples) (claim_data l.claim)
       l.step_s l.number;
-  begin : l.begin ≡ piece_begin_of l.claim.first l.claim.last l.step_s l.number;
   least : l.least ≡ least_of (hull_at (g.S.SampleSource.samples l.samples) (claim_data l.claim) l.step_s) l.number;
   below : IsBelowLimit l.least;
 }

@@ -2,13 +2,11 @@ use Rattle.std.proofs.Common.{◌≡◌, ℕ, ◌<◌, true, map}
 use Rattle.certificate.specs.Certificate.{piece_data}
 use Rattle.claim_file.specs.Claim.{data_of as claim_data}
 use Rattle.finder.specs.Found.{pieces_from, passes}
-use Rattle.finder.specs.Piece.{piece_begin_of}
 use Rattle.finder.proofs.found.find_pieces.Given as goal
 
 abbrev pub invariant-loop-number : goal.invariant-loop-number
 invariant-loop-number g l = record {
   pieces : map piece_data l.pieces.items ≡ pieces_from (g.S.SampleSource.samples l.samples) (claim_data l.claim)
       l.step_s 0 l.number;
-  begin : l.begin ≡ piece_begin_of l.claim.first l.claim.last l.step_s l.number;
   passed : (k : ℕ) → k < l.number → passes (g.S.SampleSource.samples l.samples) (claim_data l.claim) l.step_s k ≡ true;
 }

@@ -13,11 +13,11 @@ sample_at-low-requires g c =
     let same = c.as_slice-entry-items.ensures.value in
     let within = c.loop-entry-test.true in
     let index = c.loop-entry.entry-index in
-    rw same (c.requires.low index (0, 0) (rw (← same) within))
+    rw same (c.requires.named index (0, 0) (rw (← same) within)).0
 
 pub part_of-requires-clause-low : goal.part_of-requires-clause-low
 part_of-requires-clause-low g c =
-    All-slice_get IsLawfulSample (g.S.SampleSource.samples c.args.samples) _ _ c.requires.samples
+    All-slice_get IsLawfulSample (g.S.SampleSource.samples c.args.samples) _ _ c.requires.samples.lawful
     c.sample_at-low.ensures
 
 pub loop-entry-preserved : goal.loop-entry-preserved
@@ -44,7 +44,7 @@ returns-clause-listed g c =
     let entries = c.args.entries.now.items in
     let listed = listed_parts (g.S.SampleSource.samples c.args.samples) (data_of c.args.claim.now)
     c.args.stretch entries
-    (length c.args.claim.now.servers.items) c.requires.listed in
+    (length c.args.claim.now.servers.items) c.requires.samples.listed in
     let past : length entries ≤ c.loop-entry.entry-index =
     rw c.as_slice-entry-items.ensures.value at c.loop-entry-test.false in
     rw (c.loop-entry.invariant.so_far, take_all c.loop-entry.entry-index entries past) listed

@@ -1,26 +1,13 @@
-use Rattle.std.proofs.Common.{rules, subst, ◌≡◌, ◌∙◌, Some, length, sym, ap, arith, unsigned_abs, to_z, of_z, w64}
+use Rattle.std.proofs.Common.{rules, subst, true≢false, ◌≡◌, ◌∙◌, Some, length, sym, ap, arith, unsigned_abs, w64}
 use Rattle.std.specs.Prelude.{map, option_map}
 use Rattle.std.proofs.lemmas.Int.{ints, to_z-of_z}
-use mir.Syntax.{w128}
 use mir.Val.{SFits}
-use Rattle.claim_file.specs.Claim.{ClaimData, IsLawful, data_of as claim_data}
+use Rattle.claim_file.specs.Claim.{data_of as claim_data}
 use Rattle.finder.specs.Sought.{IsSought, refutation_at}
 use Rattle.finder.proofs.FoundRefutationLemmas.{refutation_is, says_none, says_some}
+use Rattle.finder.proofs.ClaimLemmas.{first_kept, reading_kept}
 use Rattle.finder.proofs.Kept.{kept}
 use Rattle.finder.proofs.sought.find_refutation.Goals as goal
-
-reading_kept : (claim : ClaimData) → IsLawful claim → to_z w128 (of_z w128 claim.reading) ≡ claim.reading
-reading_kept claim lawful =
-    let from = lawful.reading_not_negative in
-    let to = lawful.reading_in_range in
-    kept claim.reading (omega (arith, ints))
-
-first_kept : (claim : ClaimData) → IsLawful claim → to_z w128 (of_z w128 claim.first) ≡ claim.first
-first_kept claim lawful =
-    let begins = lawful.span_begins in
-    let forward = lawful.span_forward in
-    let ends = lawful.span_ends in
-    kept claim.first (omega (arith, ints))
 
 pub returns-in_err-error-clause-none : goal.returns-in_err-error-clause-none
 returns-in_err-error-clause-none g c none =
@@ -30,11 +17,12 @@ returns-in_err-error-clause-none g c none =
     says_none c.test_is_passed_where_room_is_left.ensures claim c.requires.claim xs c.requires.exchanges
     (sym (c.in_err-error.ensures.exact xs are))
 
-pub returns-clause-exact : goal.returns-clause-exact
-returns-clause-exact g c =
+pub returns : goal.returns
+returns g c =
     let claim = claim_data c.args.claim.now in
     let lawful = c.requires.claim in
     let xs = map g.X.ToExchange.shown c.args.exchanges.now in
+    let law = c.test_is_passed_where_room_is_left.ensures in
     let found = c.in_ok-error.error in
     let in_range = c.in_ok-error.ensures.in_range in
     let bottom = in_range.not_below in
@@ -45,31 +33,11 @@ returns-clause-exact g c =
     let fits : SFits w64 found = search rules in
     let count : c.len.result ≡ length claim.servers = search rules in
     let liars = rw (wide, count) at c.refusing.ensures in
-    let reading = ap unsigned_abs (first_kept claim lawful) in
-    rw (wide, to_z-of_z w64 found fits)
-    (ap Some (refutation_is c.test_is_passed_where_room_is_left.ensures claim lawful xs c.requires.exchanges
-    c.rooms_of-rooms.result are found in_range _ _ liars
-    reading) ∙ ap (option_map (refutation_at claim xs)) exact)
-
-pub returns-clause-found : goal.returns-clause-found
-returns-clause-found g c =
-    let claim = claim_data c.args.claim.now in
-    let lawful = c.requires.claim in
-    let xs = map g.X.ToExchange.shown c.args.exchanges.now in
-    let found = c.in_ok-error.error in
-    let in_range = c.in_ok-error.ensures.in_range in
-    let bottom = in_range.not_below in
-    let top = in_range.not_above in
-    let are = rw (reading_kept claim lawful) at c.rooms_of-rooms.ensures.rooms in
-    let exact = c.in_ok-error.ensures.exact xs are in
-    let wide = kept found (omega (arith, ints)) in
-    let fits : SFits w64 found = search rules in
-    let count : c.len.result ≡ length claim.servers = search rules in
-    let liars = rw (wide, count) at c.refusing.ensures in
-    let reading = ap unsigned_abs (first_kept claim lawful) in
-    rw (wide, to_z-of_z w64 found fits)
-    (subst (IsSought claim xs)
-    (sym (refutation_is c.test_is_passed_where_room_is_left.ensures claim lawful xs c.requires.exchanges
-    c.rooms_of-rooms.result are found in_range _ _ liars
-    reading))
-    (says_some c.test_is_passed_where_room_is_left.ensures claim lawful xs c.requires.exchanges found (sym exact)))
+    let is = refutation_is law claim lawful xs c.requires.exchanges c.rooms_of-rooms.result are found in_range _ _ liars
+    (ap unsigned_abs (first_kept claim lawful)) in
+    rw (wide, to_z-of_z w64 found fits) (record {
+      exact = ap Some is ∙ ap (option_map (refutation_at claim xs)) exact;
+      found = subst (IsSought claim xs) (sym is)
+          (says_some law claim lawful xs c.requires.exchanges found (sym exact));
+      none = λ none. absurd (true≢false none);
+    })

@@ -1,21 +1,13 @@
-use Rattle.std.proofs.Common.{◌≡◌, ◌∙◌, refl, ◌≤◌, ◌+ℤ◌, pos, true, false, true≢false, sym, length, arith, to_z, of_z}
+use Rattle.std.proofs.Common.{◌≡◌, ◌∙◌, refl, ◌+ℤ◌, pos, true, false, true≢false, sym, arith, to_z, of_z}
 use Rattle.std.proofs.lemmas.Int.{ints, to_z-of_z}
 use mir.Syntax.{w128}
 use Rattle.claim_file.specs.Claim.{ClaimData, IsLawful, data_of as claim_data}
 use Rattle.finder.specs.Room.{possible_by, room_at}
+use Rattle.finder.proofs.ClaimLemmas.{bound_kept, few_groups}
 use Rattle.finder.proofs.Kept.{kept}
 use Rattle.finder.proofs.NearestLemmas.{first_is_nearest, next_is_nearest, nothing_so_far, none_is_nearest, passed, taken}
 use Rattle.finder.proofs.sought.nearest.Goals as goal
-use Rattle.finder.proofs.sought.nearest.Goals.{then-claim-error+then-error-first+then-is_possible-2, else-claim-error, else-claim-error-via-then-claim-error+then-error-first+else-is_possible-2, else-claim-error-via-then-claim-error+else-error-first, else-claim-error-via-else-claim-error}
-
-few_groups : (claim : ClaimData) → IsLawful claim → length claim.groups ≤ 32
-few_groups claim lawful = let same = lawful.group_for_each in let few = lawful.few_servers in omega arith
-
-bound_kept : (claim : ClaimData) → IsLawful claim → to_z w128 (of_z w128 claim.bound) ≡ claim.bound
-bound_kept claim lawful =
-    let not_below = lawful.bound_not_negative in
-    let not_above = lawful.bound_in_range in
-    kept claim.bound (omega (arith, ints))
+use Rattle.finder.proofs.sought.nearest.Goals.{Else-is_possible, then-claim-error+then-error-first+then-is_possible-2, else-claim-error, else-claim-error-via-then-claim-error+then-error-first+else-is_possible-2, else-claim-error-via-then-claim-error+else-error-first, else-claim-error-via-else-claim-error}
 
 next_kept : (claim : ClaimData) → IsLawful claim
     → to_z w128 (of_z w128 (claim.bound +ℤ pos 1)) ≡ claim.bound +ℤ pos 1
@@ -74,32 +66,34 @@ loop-server-preserved c =
           ]))
     ]
 
+-- the first number of all fails
+fails : (c : Else-is_possible)
+    → possible_by c.args.rooms.now (claim_data c.args.claim.now) (c.args.claim.now.bound +ℤ pos 1) ≡ false
+fails c =
+    let claim = claim_data c.args.claim.now in
+    rw (bound_kept claim c.requires.claim, next_kept claim c.requires.claim) at
+    (sym c.is_possible.ensures ∙ c.if-is_possible.false)
+
 pub returns-then-first-limit : goal.returns-then-first-limit
 returns-then-first-limit c =
     let claim = claim_data c.args.claim.now in
     let few = few_groups claim c.requires.claim in
-    let fails : possible_by c.args.rooms.now claim (claim.bound +ℤ pos 1) ≡ false =
-    rw (bound_kept claim c.requires.claim, next_kept claim c.requires.claim) at
-    (sym c.is_possible.ensures ∙ c.if-is_possible.false) in
     let limit = to_z-of_z w128 c.args.limit c.ranges.limit in
     let within = rw limit at c.if-first-limit.true in
     let up = c.loop-server-test.false in
     let to = c.loop-server.auto.server-end in
     let all : c.loop-server.server ≡ 32 = omega arith in
-    first_is_nearest c.args.rooms.now claim few c.args.limit _ (rw (limit, all) at c.loop-server.invariant) fails
-    (grind (arith, ints))
+    first_is_nearest c.args.rooms.now claim few c.args.limit _ (rw (limit, all) at c.loop-server.invariant)
+    (fails (goal.at.returns-then-first-limit c).Else-is_possible) (grind (arith, ints))
 
 pub returns-else-first-limit : goal.returns-else-first-limit
 returns-else-first-limit c =
     let claim = claim_data c.args.claim.now in
     let few = few_groups claim c.requires.claim in
-    let fails : possible_by c.args.rooms.now claim (claim.bound +ℤ pos 1) ≡ false =
-    rw (bound_kept claim c.requires.claim, next_kept claim c.requires.claim) at
-    (sym c.is_possible.ensures ∙ c.if-is_possible.false) in
     let limit = to_z-of_z w128 c.args.limit c.ranges.limit in
     let outside = rw limit at c.if-first-limit.false in
     let up = c.loop-server-test.false in
     let to = c.loop-server.auto.server-end in
     let all : c.loop-server.server ≡ 32 = omega arith in
-    none_is_nearest c.args.rooms.now claim few c.args.limit _ (rw (limit, all) at c.loop-server.invariant) fails
-    (grind (arith, ints))
+    none_is_nearest c.args.rooms.now claim few c.args.limit _ (rw (limit, all) at c.loop-server.invariant)
+    (fails (goal.at.returns-else-first-limit c).Else-is_possible) (grind (arith, ints))

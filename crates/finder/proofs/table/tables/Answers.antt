@@ -2,12 +2,11 @@ use Rattle.std.proofs.Common.{ℕ, length, ap, ◌∙◌, arith, rules, ◌≡�
 use Rattle.std.specs.Prelude.{slice_get}
 use Rattle.std.specs.List.{filter_map, range_with_len}
 use Rattle.std.proofs.lemmas.Grind.{common_steps}
-use Rattle.std.proofs.lemmas.Int.{ints}
 use Rattle.std.proofs.lemmas.List.Elements.{All-push}
 use Rattle.claim_file.specs.Claim.{data_of}
 use Rattle.finder.specs.Entry.{best_over}
 use Rattle.finder.specs.Piece.{stretch_at}
-use Rattle.finder.proofs.Kept.{kept}
+use Rattle.finder.proofs.ClaimLemmas.{first_kept, last_kept}
 use Rattle.finder.proofs.ListLemmas.{without}
 use Rattle.finder.proofs.TableLemmas.{are_pieces_of, best_are, as_many, table_more}
 use Rattle.finder.proofs.table.tables.Goals as goal
@@ -15,25 +14,20 @@ use Rattle.finder.proofs.table.tables.Goals.{in-Some+in_ok-push, in_default}
 
 pub best_of_pieces-requires-clause-pieces : goal.best_of_pieces-requires-clause-pieces
 best_of_pieces-requires-clause-pieces g c =
-    let claim = c.requires.claim in
-    let begins = claim.span_begins in
-    let forward = claim.span_forward in
-    let ends = claim.span_ends in
-    let first = kept c.args.claim.now.first (omega (arith, ints)) in
-    let last = kept c.args.claim.now.last (omega (arith, ints)) in
-    are_pieces_of c.args.claim.now.first c.args.claim.now.last c.args.step_s c.args.count _ _ _ c.in_ok-ends.ends.items
-    _ first last first c.as_slice-in-loop-server.ensures.value c.in_ok-ends.ensures begins forward ends
+    let claim = c.args.claim.now in
+    let lawful = c.requires.claim in
+    let first = first_kept (data_of claim) lawful in
+    let last = last_kept (data_of claim) lawful in
+    are_pieces_of claim.first claim.last c.args.step_s c.args.count _ _ _ c.in_ok-ends.ends.items
+    _ first last first c.as_slice-in-loop-server.ensures.value c.in_ok-ends.ensures lawful.span_begins
+    lawful.span_forward lawful.span_ends
 
 pub loop-server-preserved : goal.loop-server-preserved
 loop-server-preserved g c =
     let claim = c.args.claim.now in
     let server = c.loop-server.server in
-    let lawful = c.requires.claim in
-    let begins = lawful.span_begins in
-    let forward = lawful.span_forward in
-    let ends = lawful.span_ends in
-    let first = kept claim.first (omega (arith, ints)) in
-    let last = kept claim.last (omega (arith, ints)) in
+    let first = first_kept (data_of claim) c.requires.claim in
+    let last = last_kept (data_of claim) c.requires.claim in
     let over : ℕ → ℕ → _ = λ (k : ℕ).
     best_over (g.S.SampleSource.samples c.args.samples) (data_of claim) (stretch_at (data_of claim) c.args.step_s k) in
     elim c.match-table.branch [

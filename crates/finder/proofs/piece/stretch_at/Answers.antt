@@ -1,0 +1,26 @@
+use Rattle.std.proofs.Common.{◌≡◌, ◌-◌, ◌∙◌, sym, ap, arith, to_z}
+use mir.Syntax.{w128}
+use Rattle.claim_file.specs.Claim.{data_of}
+use Rattle.finder.specs.Piece.{piece_begin_of}
+use Rattle.finder.proofs.ClaimLemmas.{first_kept}
+use Rattle.finder.proofs.PieceLemmas.{begin_later, end_computed, stretch_is}
+use Rattle.finder.proofs.piece.stretch_at.Goals as goal
+use Rattle.finder.proofs.piece.stretch_at.Goals.{then-number-eq0, else-number-eq0}
+
+pub returns : goal.returns
+returns c =
+    let claim = data_of c.args.claim.now in
+    let step = c.args.step_s in
+    let number = c.args.number in
+    let begin_of = piece_begin_of claim.first claim.last step in
+    let begin : to_z w128 c.if-number-eq0.begin-bits ≡ begin_of number =
+    elim c.if-number-eq0.branch [
+      | then-number-eq0 w ↦ w.begin-is ∙ first_kept claim c.requires ∙ ap begin_of (sym w.if-number-eq0.true)
+      | else-number-eq0 w ↦
+          let later = w.if-number-eq0.false in
+          w.begin-is
+          ∙ end_computed claim c.requires step (number - 1) w.piece_end-begin.result w.piece_end-begin.ensures
+          ∙ sym (begin_later claim.first claim.last step number (number - 1) (omega arith))
+    ] in
+    stretch_is claim step number _ _ begin
+    (end_computed claim c.requires step number c.piece_end-end.result c.piece_end-end.ensures)

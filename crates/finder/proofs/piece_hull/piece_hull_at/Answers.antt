@@ -1,0 +1,25 @@
+use Rattle.std.proofs.Common.{◌∙◌}
+use Rattle.claim_file.specs.Claim.{data_of as claim_data}
+use Rattle.finder.specs.Piece.{stretch_at}
+use Rattle.finder.proofs.EntryLemmas.{entries_there}
+use Rattle.finder.proofs.EnvelopeLemmas.{piece_hull_is}
+use Rattle.finder.proofs.PieceLemmas.{piece_of_claim}
+use Rattle.finder.proofs.piece_hull.piece_hull_at.Goals as goal
+
+pub hull_of-hull-requires-clause-stretch : goal.hull_of-hull-requires-clause-stretch
+hull_of-hull-requires-clause-stretch g c =
+    rw c.stretch_at-stretch.ensures
+    (piece_of_claim (claim_data c.args.claim.now) c.requires.claim c.args.step_s c.args.number)
+
+pub hull_of-hull-requires-clause-named : goal.hull_of-hull-requires-clause-named
+hull_of-hull-requires-clause-named g c =
+    let claim = claim_data c.args.claim.now in
+    rw (c.entries_at-entries.ensures ∙ c.requires.best)
+    (entries_there c.best_samples_are_the_first_best.ensures (g.S.SampleSource.samples c.args.samples) claim
+    (stretch_at claim c.args.step_s c.args.number))
+
+pub returns : goal.returns
+returns g c =
+    piece_hull_is (g.S.SampleSource.samples c.args.samples) (claim_data c.args.claim.now) c.args.step_s c.args.number
+    _ _ c.hull_of-hull.result c.stretch_at-stretch.ensures (c.entries_at-entries.ensures ∙ c.requires.best)
+    c.hull_of-hull.ensures
