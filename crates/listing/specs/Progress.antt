@@ -31,18 +31,18 @@ pub record HasGiven (whole rest : Coming) (done : List (List ℕ)) (records : �
   pub fault : whole.fault ≡ rest.fault
   pub given : length whole.records ≡ records + length rest.records
 
--- the same where the bytes of the capture are known
+-- the same if the bytes of the capture are known
 abbrev pub HasPassed : Option Coming → Option Coming → List (List ℕ) → ℕ → Type 0
 HasPassed start now done records =
     IfSome start (λ whole. (rest : Coming) × (now ≡ Some rest) × HasGiven whole rest done records)
 
--- a source and an output at one moment
-pub record Moment : Type 0 where
+-- how far it has come: what its source and its output are then
+pub record Progress : Type 0 where
   pub source : SourceState
   pub output : OutputState
 
-abbrev pub moment : SourceState → OutputState → Moment
-moment source output = record { source = source; output = output }
+abbrev pub progress : SourceState → OutputState → Progress
+progress source output = record { source = source; output = output }
 
 -- more bytes than a line of a listing has
 abbrev pub most_line : ℕ
@@ -53,15 +53,15 @@ abbrev pub texts_of : Option (List ℕ) → List (List ℕ)
 texts_of None = []
 texts_of (Some line) = line ∷ []
 
--- A record's line was put, where it has one, and so many lines were.
+-- A record's line was put, if it has one, and this is how many lines that are.
 abbrev pub PutsLine : Option (List ℕ) → OutputState → OutputState → Result ℕ RunFault → Type 0
 PutsLine line old new (Ok count) =
     (count ≡ length (texts_of line)) × Puts old new (texts_of line) (Ok tt)
 PutsLine line old new (Err fault) = Puts old new (texts_of line) (Err fault)
 
--- A listing under way: so many records were given, of which so many hold an NTP packet, and the
--- lines of these were put.
-pub record IsUnderWay (start : SourceState) (sink : SinkState) (now : Moment) (packets : ℕ)
+-- A listing under way: some records were given, `packets` of them hold an NTP packet, and the lines
+-- of these were put.
+pub record IsUnderWay (start : SourceState) (sink : SinkState) (now : Progress) (packets : ℕ)
     : Type 0 where
   pub ready : IsReady now.output
   pub unfailed : now.source.has_failed ≡ false
@@ -76,7 +76,7 @@ pub record IsUnderWay (start : SourceState) (sink : SinkState) (now : Moment) (p
   pub put : HasPut sink.contents now.output done
   pub passed : HasPassed start.remaining now.source.remaining done now.source.given
 
--- The capture's device failed in the run exactly where the answer says so, and it says so of no
+-- The capture's device failed in the run exactly if the answer says so, and it says so about no
 -- other input.
 pub record CountsCapture (ran : Result Outcome RunFault) (before after : ℕ) : Type 0 where
   pub claim : is_device is_claim ran ≡ false
@@ -84,7 +84,7 @@ pub record CountsCapture (ran : Result Outcome RunFault) (before after : ℕ) : 
   pub capture : CountsFault (is_device is_capture ran) before after
 
 -- A listing that came to this answer and is still to be closed.
-pub record HasListed (start : SourceState) (sink : SinkState) (now : Moment)
+pub record HasListed (start : SourceState) (sink : SinkState) (now : Progress)
     (ran : Result Outcome RunFault) : Type 0 where
   pub text : IfSome start.remaining (λ coming. HasRun (listing coming) sink.contents now.output ran)
   pub can_close : CanClose now.output ran

@@ -27,7 +27,7 @@ held_of reply = record {
   request = Named reply.port (origin_of reply.header);
 }
 
--- with a request of this record, whose window begins at this tick and is so many ticks long
+-- with a request of this record, whose window begins at this tick and is `width` ticks long
 abbrev pub exchange_with : ℕ → ℕ → ℕ → HeldExchange → Exchange
 exchange_with width number low x = record {
   server = x.server;
@@ -56,4 +56,7 @@ exchange_shown x = shown_with x.request x
 
 -- what a value of the program says
 abbrev pub held_data : Held → Collection
-held_data held = record { exchanges = map exchange_shown held.exchanges.items; counts = held.counts }
+held_data held = record {
+  exchanges = map exchange_shown held.exchanges.items;
+  counts = held.counts;
+}

@@ -33,7 +33,8 @@ fn gather<S: RecordSource>(
     requires fresh { IsFresh (S.state source.old) }
     requires room { (S.state source.old).fault_count < 2 ^ 64 - 1 }
     requires empty { IsGatheredFrom (data_of claim.now) []
-        (get same_key gathering.old.index.places) gathering.old.exchanges.items gathering.old.counts }
+        (get same_key gathering.old.index.places) gathering.old.exchanges.items
+        gathering.old.counts }
     ensures whole { OnOk result (GathersAll (data_of claim.now) (S.state source.old).remaining
         (get same_key gathering.new.index.places) gathering.new.exchanges.items
         gathering.new.counts) }
@@ -60,9 +61,8 @@ fn gather<S: RecordSource>(
 /// hasher with a random key.
 ///
 /// The source has given nothing and answered no fault, and the claim keeps its limits. `Capture`
-/// comes where the source ends with a fault, `TooManyExchanges` where it ends whole with over
-/// 1,000,000 exchanges, and `Memory` where no memory was left. After a fault the source is used no
-/// further.
+/// comes if the source ends with a fault, `TooManyExchanges` if it ends whole with over 1,000,000
+/// exchanges, and `Memory` if no memory was left. After a fault the source is used no further.
 pub fn collect_held<S: RecordSource, H: BuildHasher + Drop>(
     alloc: Global,
     source: &mut S,

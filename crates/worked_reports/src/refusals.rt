@@ -8,12 +8,9 @@ use claim_file::ClaimFault;
 use pcap_reader::CaptureFault;
 use report::{Input, RunFault};
 use std::test::Fail;
-use vectors::{C1, K1, V1};
+use vectors::{C1, K1, SECOND, V1};
 
-/// The second of `C1`.
-const SECOND: u32 = 1_000_000_000;
-
-/// A refused capture is told as what it is by every engine, and never as being out of memory.
+/// A refused capture is reported as what it is by every engine, and never as out of memory.
 #[test]
 fn captures(rt: HostRuntime) -> Result<(), Fail> {
     let long = edited(&[(32, b"\x01\x00\x04\x00")]);
