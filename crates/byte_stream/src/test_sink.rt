@@ -13,7 +13,7 @@ use crate::reserved::Reserved;
 use crate::sink::{Sink, SinkFault};
 use std::alloc::{AllocError, Global};
 
-/// A sink in memory that takes a few bytes with each push and fails where it's asked to: for
+/// A sink in memory that takes a few bytes with each push and fails when it's asked to: for
 /// tests. Its room is reserved when it's made, and a push that finds none left fails.
 #[derive(Debug, Drop)]
 pub struct TestSink {
@@ -25,8 +25,8 @@ pub struct TestSink {
 }
 
 impl TestSink {
-    /// An open sink with room for so many bytes, that takes at most `most` of them with each
-    /// push, or one where `most` is 0. The push with the number `failing` fails, the first being
+    /// An open sink with room for this many bytes, that takes at most `most` of them with each
+    /// push, or one if `most` is 0. The push with the number `failing` fails, the first being
     /// number 1, and no other does while there is room; `finish_fails` says whether `finish`
     /// fails. Only being out of memory is an error.
     pub fn new(
