@@ -56,7 +56,7 @@ abbrev pub merit : Side → Sample → ℤ → ℤ → ℕ → ℤ
 merit Low sample p q ppb = moved_low sample p q ppb
 merit High sample p q ppb = neg_ℤ (moved_high sample p q ppb)
 
--- both numbers, where the server has a sample
+-- both numbers, if the server has a sample
 abbrev pub pair_of : Option ℕ → Option ℕ → Option (ℕ × ℕ)
 pair_of (Some low) (Some high) = Some (low, high)
 pair_of (Some low) None = None
