@@ -14,9 +14,8 @@ abbrev pub IsPut : Report → Option (List ℕ) → OutputState → Type 0
 IsPut report before now =
     (texts : List (List ℕ)) × (concat texts ≡ text_of report) × HasPut before now texts
 
--- What a run has put that comes to this answer, of the report that it's to give: all of it, but
--- nothing where memory was refused and some first lines where a device failed. Where the sink
--- failed it has got a part of it.
+-- What a run that comes to this answer has put of its report: all of it, but nothing if memory was
+-- refused, and some first lines if a device failed. If the sink failed, it has got a part of it.
 abbrev pub HasRun : Report → Option (List ℕ) → OutputState → Result Outcome RunFault → Type 0
 HasRun report before now (Err Memory) = HasPut before now []
 HasRun report before now (Err (Device input)) =
@@ -25,8 +24,8 @@ HasRun report before now (Err (Write sent)) = IsCut (text_of report) before now.
 HasRun report before now answer =
     (answer ≡ report.answer) × IsPut report before now
 
--- A run that came to this answer may be ended: its sink is closed where it has failed, and else may
--- be used further.
+-- A run that came to this answer may be ended: its sink is closed if it has failed, and otherwise
+-- may be used further.
 abbrev pub CanClose : OutputState → Result Outcome RunFault → Type 0
 CanClose now (Err (Write sent)) = now.sink.is_open ≡ false
 CanClose now answer = IsReady now
@@ -52,8 +51,8 @@ abbrev pub stops_of : Result Outcome RunFault → ℕ
 stops_of (Err (Write sent)) = 1
 stops_of answer = 0
 
--- What ending a run does: the sink gets the text of whatever report the run has come to the answer
--- of, and is closed, and no input's device is asked.
+-- What ending a run does: the sink gets the text of the report whose answer the run came to, and is
+-- closed, and no input's device is asked.
 pub record Closes (old : OutputState) (after : SinkState)
     (ran answer : Result Outcome RunFault) : Type 0 where
   pub text : (report : Report) (before : Option (List ℕ)) → HasRun report before old ran →

@@ -1,4 +1,4 @@
--- What every engine promises of its answer, of its sink and of its inputs.
+-- What every engine promises about its answer, its sink and its inputs.
 use Rattle.std.specs.Prelude.{◌≡◌, ◌<◌, ◌⊎◌, ℕ, List, [], ◌++◌, length, take, Option, IfSome, Bool, true, false, Result, Ok, Err, IsOk}
 use Rattle.std.specs.List.{concat}
 use Rattle.std.specs.Io.KnownBytes.{Appends, Keeps}
@@ -25,7 +25,7 @@ text_of report = concat report.lines ++ report.closing
 abbrev pub whole_text : List ℕ → Outcome → Report
 whole_text text outcome = record { lines = []; closing = text; answer = Ok outcome }
 
--- the report where an input is refused before any line: no text
+-- the report if an input is refused before any line: no text
 abbrev pub refused : RunFault → Report
 refused fault = record { lines = []; closing = []; answer = Err fault }
 
@@ -35,14 +35,14 @@ GetsLines report before after =
     (first others : List (List ℕ)) × (report.lines ≡ first ++ others)
     × Appends before after (concat first)
 
--- The sink may fail after so many bytes of a report: while its text goes out, or, where it has an
+-- The sink may fail after this many bytes of a report: while its text goes out, or, if it has an
 -- outcome, as the whole of it is finished. A refusal stays, whatever `finish` gives.
 abbrev pub MayStop : Report → ℕ → Type 0
 MayStop report sent =
     (sent < length (text_of report))
     ⊎ ((sent ≡ length (text_of report)) × IsOk report.answer)
 
--- What the sink has got at each answer: nothing where memory was refused, some first lines where a
+-- What the sink has got at each answer: nothing if memory was refused, some first lines if a
 -- device failed, and at a failed write exactly as many bytes of the text as it says. Any other
 -- answer is the report's, and comes with the whole text.
 abbrev pub GetsText : Report → Option (List ℕ) → Option (List ℕ) → Result Outcome RunFault → Type 0
@@ -53,9 +53,9 @@ GetsText report before after (Err (Write sent)) =
 GetsText report before after answer =
     (answer ≡ report.answer) × Appends before after (text_of report)
 
--- How the sink's faults are counted: one more where the answer is `Write`, and none where it's an
+-- How the sink's faults are counted: one more if the answer is `Write`, and none if it's an
 -- outcome. At any other fault the sink may have failed as it was finished, which the answer doesn't
--- tell.
+-- say.
 abbrev pub CountsSink : Result Outcome RunFault → ℕ → ℕ → Type 0
 CountsSink (Ok outcome) before after = CountsFault false before after
 CountsSink (Err (Write sent)) before after = CountsFault true before after
@@ -80,8 +80,8 @@ abbrev pub is_device : {A : Type 0} → (Input → Bool) → Result A RunFault �
 is_device which (Err (Device input)) = which input
 is_device which answer = false
 
--- What an engine promises of its answer and of its devices, for the report that its inputs' bytes
--- call for, where they are known. The sink is closed in the end: after the last byte it was
+-- What an engine promises about its answer and its devices, for the report that its inputs' bytes
+-- call for, if they are known. The sink is closed in the end: after the last byte it was
 -- finished, unless a push failed.
 pub record Reports (report : Option Report) (before after : RunState)
     (answer : Result Outcome RunFault) : Type 0 where

@@ -1,4 +1,4 @@
-//! The line that tells a fault.
+//! The line that reports a fault.
 
 ghost use Rattle.std.specs.Prelude.{◌≡◌, ◌+◌, ◌≤◌, ◌++◌, length, IfOk, string_bytes};
 ghost use Rattle.std.specs.Fmt.{decimal};
@@ -156,7 +156,7 @@ fn put_input(line: &mut Line, input: &Input)
     }
 }
 
-/// Writes the line that tells a fault before what stands in `line`, with no line feed. It has at
+/// Writes the line that reports a fault before what stands in `line`, with no line feed. It has at
 /// most 69 bytes, and no memory is taken for it.
 pub(crate) fn put_fault(line: &mut Line, fault: &RunFault)
     requires { length line.old + 69 ≤ CAPACITY }
@@ -182,7 +182,7 @@ pub(crate) fn put_fault(line: &mut Line, fault: &RunFault)
     }
 }
 
-/// The line that tells a fault, without its line feed. Its only error is that memory was refused.
+/// The line that reports a fault, without its line feed. Its only error is that memory was refused.
 pub fn fault_line(alloc: Global, fault: &RunFault) -> Result<String, AllocError>
     ensures { IfOk result (λ line. string_bytes line ≡ fault_text fault.now) }
 {
