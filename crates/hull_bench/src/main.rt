@@ -26,7 +26,7 @@ fn next_random(state: u64) -> u64 {
         .wrapping_add(1442695040888963407)
 }
 
-/// A list of so many intervals that mostly share points, and the last of the numbers that made it.
+/// A list of this many intervals that mostly share points, and the last number that made it.
 fn list_of(seed: u64, length: u64) -> (ArrayVec<Interval, 32>, u64) {
     let mut state = seed;
     let mut list = ArrayVec::new();
@@ -84,7 +84,7 @@ fn hull_by(way: Way, list: &ArrayVec<Interval, 32>) -> Hull {
     }
 }
 
-/// A sum over the hulls of so many lists.
+/// A sum over the hulls of this many lists.
 fn work(way: Way, length: u64, rounds: u64) -> u64 {
     let mut state = 1;
     let mut sum = 0u64;
