@@ -8,7 +8,7 @@ use Rattle.pcap_reader.specs.Remaining.{Coming}
 use Rattle.pcap_reader.specs.Source.{IsNext}
 use Rattle.worked_examples.specs.Count.{IsCountOf}
 
--- so many of the records to come were counted, and the others are still to come
+-- this many of the records to come were counted, and the others are still to come
 abbrev pub HasCounted : Option Coming → Option Coming → ℕ → Type 0
 HasCounted None now count = Unit {0}
 HasCounted (Some whole) now count =
