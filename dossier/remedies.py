@@ -1,4 +1,4 @@
-"""What to do about a fault line. The words are those of docs/GUIDE.md, shortened; it has the commands."""
+"""What to do about a fault line. The words are those of docs/REFUSALS.md, shortened; it has the commands."""
 from __future__ import annotations
 
 import re
