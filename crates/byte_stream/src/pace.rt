@@ -12,8 +12,8 @@ pub enum Cut {
     Growing,
 }
 
-/// How many bytes the next call takes at most, where 0 counts as 1, how many more the one after
-/// it does, and which call fails: 1 is the next, 0 none.
+/// How many bytes the next call takes at most (0 counts as 1), how many more the one after it
+/// does, and which call fails: 1 is the next, 0 none.
 #[derive(Clone, Copy, Debug)]
 pub(crate) struct Pace {
     pub(crate) share: usize,
@@ -22,7 +22,7 @@ pub(crate) struct Pace {
 }
 
 impl Pace {
-    /// A device that cuts so, and fails with this call, the first being number 1.
+    /// A device that cuts like this, and fails with this call, the first being number 1.
     pub(crate) fn new(cut: Cut, failing: Option<u64>) -> Pace
         ensures { result ≡ pace_of cut failing }
     {

@@ -24,7 +24,7 @@ and_one found entry = option_and_then (λ es. option_map (λ e. es ++ e ∷ []) 
 abbrev and_more : Option (List (ℕ × ℕ)) → Option (List (ℕ × ℕ)) → Option (List (ℕ × ℕ))
 and_more found more = option_and_then (λ es. option_map (λ more. es ++ more) more) found
 
--- what is said, where so many elements were read and these are left
+-- what is said if this many elements were read and these are left
 abbrev pub entries_after : ℕ → ℕ → Option (List (ℕ × ℕ)) → Items → Result (List (ℕ × ℕ)) CertificateFault
 entries_after number count found items =
     asked (TooManyEntries number) (nat_le (count + items_len items) max_entries) (

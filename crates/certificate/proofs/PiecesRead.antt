@@ -20,7 +20,7 @@ Pieces = Result (List PieceData) CertificateFault
 abbrev and_more : Pieces → Pieces → Pieces
 and_more found more = after found λ pieces. after more λ others. Ok (pieces ++ others)
 
--- what is said, where so many pieces were read and these are left
+-- what is said if this many pieces were read and these are left
 abbrev pub pieces_after : ℕ → Result (List PieceData) CertificateFault → Items →
     Result (List PieceData) CertificateFault
 pieces_after count found items =

@@ -29,8 +29,8 @@ pub fn certificates_are_written_as_they_are_read()
         certificate_from (certificate_value certificate) ≡ Ok certificate }
 {}
 
-/// The text of a refutation says that refutation, and it is as short as a refutation that is read
-/// may be.
+/// The text of a refutation says that refutation, and it is no longer than a refutation that is
+/// read may be.
 pub fn refutations_are_written_as_they_are_read()
     ensures read { (refutation : RefutationData) → IsHeldRefutation refutation →
         refutation_of (refutation_text refutation) ≡ Ok refutation }

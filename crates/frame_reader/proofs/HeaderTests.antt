@@ -1,4 +1,4 @@
--- A frame is not skipped exactly where each of the tests on its headers passes.
+-- A frame is kept if each of the tests on its headers passes, and otherwise skipped.
 use Rattle.std.proofs.Common.{◌≡◌, ℕ, ◌-◌, ◌/◌, ◌%◌, ◌^◌, ◌≤◌, Bool, true, false, cond, eqb, ltb, List, length, get_or, Option, Some, None, refl, not}
 use Rattle.std.specs.Option.{option_or}
 use Rattle.std.proofs.lemmas.Bool.{ltb-false, eqb-true, eq-eqb, le-ltb, not-false}

@@ -1,4 +1,4 @@
--- Where a point is admissible, so are an end that is not above it and one that is not below it.
+-- If a point is admissible, so are an end that is not above it and one that is not below it.
 use Rattle.std.proofs.Common.{◌≡◌, ℕ, ◌+◌, ◌<◌, ◌≤◌, ℤ, ◌≤ℤ◌, Bool, true, false, cond, nat_le, ◌⊎◌, inl, inr, ⊎_elim, List, [], ◌∷◌, length, refl, sym, ap, ◌∙◌, subst, arith}
 use Rattle.std.specs.Prelude.{filter, fold}
 use Rattle.std.specs.Int.{int_max, int_min}

@@ -32,7 +32,7 @@ neg_times : (k n : ℕ) → (neg_ℤ (pos k) *ℤ pos n) ≡ neg_ℤ (pos (k * n
 neg_times zero n = omega (arith, ints)
 neg_times (suc k) n = omega (arith, ints)
 
--- where products by n are in order, so are the factors
+-- if products by n are in order, so are the factors
 pub le_from_times : (a b : ℤ) (n : ℕ) → 0 < n → (a *ℤ pos n) ≤ℤ (b *ℤ pos n) → a ≤ℤ b
 le_from_times a b n positive h =
     by_lt_z b a
@@ -40,7 +40,7 @@ le_from_times a b n positive h =
     omega (arith, ints)))
     (λ le. le)
 
--- q is the floor where e/n lies from q to below q + 1
+-- q is the floor if e/n lies from q to below q + 1
 floor_between : (q e : ℤ) (n : ℕ) → 0 < n → (q *ℤ pos n) ≤ℤ e → e <ℤ ((q *ℤ pos n) +ℤ pos n) → IsSignedFloor q e n
 floor_between q e n positive low high = (
   low,

@@ -19,7 +19,7 @@ below_max p x y h = ⊎_elim (λ e. inl (omega (arith, ints))) (λ e. inr (omega
 above_min : (p x y : ℤ) → int_min x y <ℤ p → (x <ℤ p) ⊎ (y <ℤ p)
 above_min p x y h = ⊎_elim (λ e. inl (omega (arith, ints))) (λ e. inr (omega (arith, ints))) (int_min_or x y)
 
--- a point is left out by the meet exactly where one of the two leaves it out
+-- a point is left out by the meet exactly if one of the two leaves it out
 pub meet_leaves_out : (a b both : Interval) → both.lo ≡ int_max a.lo b.lo → both.hi ≡ int_min a.hi b.hi → (point : ℤ)
     → LeavesOut both point ↔ (LeavesOut a point ⊎ LeavesOut b point)
 meet_leaves_out a b both lo hi point =
@@ -37,7 +37,7 @@ meet_leaves_out a b both lo hi point =
           (λ (h : b.hi <ℤ point). inr (omega (arith, ints, clamps)))),
     )
 
--- the same of a fraction
+-- the same for a fraction
 pub meet_leaves_fraction_out : (a b both : Interval) (e : ℤ) (n : ℕ) → both.lo ≡ int_max a.lo b.lo
     → both.hi ≡ int_min a.hi b.hi → LeavesFractionOut both e n ↔ (LeavesFractionOut a e n ⊎ LeavesFractionOut b e n)
 meet_leaves_fraction_out a b both e n lo hi =

@@ -187,9 +187,9 @@ leaves : (walk : Side) (needed entered left : ℕ) (e : End) (es : List End) →
     → first_reached walk needed entered left (e ∷ es) ≡ first_reached walk needed entered (left + 1) es
 leaves walk needed entered left e es h = cond-false (enters walk e) _ _ h
 
--- ---- what a walk says of points, where `needed` more intervals have to be entered than left
+-- ---- what a walk says about points, if `needed` more intervals have to be entered than left
 module _ (walk : Side) (needed : ℕ) where
-  -- At a point that the walk comes by before it stops, or at any where it doesn't stop, too few are entered.
+  -- Too few are entered at a point that the walk comes by before it stops, or at any if it doesn't stop.
   abbrev pub TooFew : ℕ → ℕ → ℤ → List End → Type 0
   TooFew entered left p ends = entered + entered_by walk p ends < left + left_by walk p ends + needed
 

@@ -25,7 +25,7 @@ balance_at Low lo hi p false h = grind (arith, ints)
 balance_at High lo hi p true h = grind (arith, ints)
 balance_at High lo hi p false h = grind (arith, ints)
 
--- of an interval's ends one more is entered than left before p, where the interval holds p, and else as many
+-- of an interval's ends one more is entered than left before p if the interval holds p, and otherwise as many
 balance_one : (walk : Side) (interval : Interval) (p : ℤ) → let ends : List End =
     low_end interval ++ high_end interval in
     left_by walk p ends + 1 ≡ entered_by walk p ends + cond (leaves_out interval p) 1 0
@@ -55,7 +55,7 @@ balance walk (interval ∷ list) p =
     let out = sum_by-cons (λ i. cond (leaves_out i p) 1 0) interval list in
     omega arith
 
--- the same of the ends in whatever order
+-- the same for the ends in any order
 balance_moved : (walk : Side) (list : List Interval) (ends : List End) (p : ℤ) → IsPermutation (ends_of list) ends
     → left_by walk p ends + length list ≡ entered_by walk p ends + count_leaving_out list p
 balance_moved walk list ends p moved =

@@ -5,12 +5,12 @@ use Rattle.intersection.specs.declared.ends.End.{End}
 use Rattle.intersection.specs.declared.ends.Side.{Side}
 use Rattle.intersection.specs.declared.ends.Side.TheVariants.{Low, High}
 
--- the low end of an interval that has a point, and else none
+-- the low end of an interval that has a point, otherwise none
 abbrev pub low_end : Interval → List End
 low_end interval =
     cond (int_le interval.lo interval.hi) (record { at = interval.lo; side = Low } ∷ []) []
 
--- the high end of an interval that has a point, and else none
+-- the high end of an interval that has a point, otherwise none
 abbrev pub high_end : Interval → List End
 high_end interval =
     cond (int_le interval.lo interval.hi) (record { at = interval.hi; side = High } ∷ []) []

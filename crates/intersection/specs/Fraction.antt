@@ -1,7 +1,7 @@
 -- Fractions against whole ends.
 --
 -- A clock's error needn't be a whole number of ticks. Here it is e/n, a whole number over a
--- positive one, and the definitions multiply by n in place of dividing.
+-- positive one, and the definitions multiply by n instead of dividing.
 use Rattle.std.specs.Prelude.{ℕ, ◌≤◌, ℤ, pos, ◌*ℤ◌, ◌<ℤ◌, ◌≤ℤ◌, ◌⊎◌, Bool, int_lt, ◌||◌, List, count_by, ⊤}
 pub use Rattle.era_unfold.specs.Ratio.{IsSignedFloor as IsFloor, IsSignedCeiling as IsCeiling}
 use Rattle.intersection.specs.declared.kinds.Interval.{Interval}

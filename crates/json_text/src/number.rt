@@ -19,7 +19,8 @@ pub(crate) fn unsigned_in(text: &str) -> Option<Option<u64>>
     }
 }
 
-/// The same of any number, the long way. It stays apart so that the short way needs no room for it.
+/// The same for any number, the long way. It stays apart, so that the short way needs no room for
+/// it.
 #[cold]
 #[inline(never)]
 fn other_in(text: &[u8]) -> Option<Option<u64>>
@@ -76,7 +77,7 @@ fn has_minus(bytes: &[u8]) -> bool
     !bytes.is_empty() && bytes[0] == b'-'
 }
 
-/// The same of what follows a minus sign.
+/// The same for what follows a minus sign.
 fn negative(numeral: &Numeral<'_>) -> Option<Option<u64>>
     ensures { result ≡ option_map as_u64 (number_from true numeral.now) }
 {

@@ -1,8 +1,8 @@
 //! A line of text, written from right to left into an array of its own.
 //!
 //! What is written last stands first, so the first piece to write is the line feed. A piece of text
-//! is written once and where it stays, and none can fail or takes memory. The whole line is then
-//! one slice to copy.
+//! is written once, in the place where it stays, which can't fail and takes no memory. The whole
+//! line is then one slice to copy.
 #![tactic(auto)]
 
 mod decimal;

@@ -20,7 +20,7 @@ payload_bytes frame h =
     range_bytes segment 8 (word segment 4) (range_bytes packet (header_length packet) (word packet 2) (All-drop (λ
     (x : ℕ). x < 256) (header_end frame) frame h))
 
--- the packet that a datagram is, where it is one
+-- the packet that a datagram is, if it is one
 abbrev ntp_of : Fields → Option Packet
 ntp_of d = if is_ntp d then Some (record { datagram = d; header = header_of d.payload }) else None
 

@@ -1,4 +1,4 @@
--- The way down from the root to the first leaf that has at least so much.
+-- The way down from the root to the first leaf that has at least this much.
 use Rattle.std.proofs.Common.{◌≡◌, ℕ, zero, suc, ◌+◌, ◌-◌, ◌*◌, ◌<◌, ◌≤◌, inl, inr, ℤ, ◌≤ℤ◌, ◌<ℤ◌, List, length}
 use Rattle.std.proofs.Common.{arith}
 use Rattle.std.proofs.lemmas.Bool.{cases_lt}
@@ -8,7 +8,7 @@ use Rattle.ranking.specs.declared.tree.TheConstants.{NOTHING}
 use Rattle.ranking.specs.Tree.{IsTree, IsChild, value_of, first_below}
 use Rattle.ranking.proofs.Spans.{Spans, root, is_inner, child_spans, under, among_children}
 
--- the first leaf with at least so much is below this node
+-- the first leaf with at least this much is below this node
 pub record IsAbove (nodes : List ℤ) (leaves node : ℕ) (at_least : ℤ) : Type 0 where
   pub height : ℕ
   pub spans : Spans leaves node height

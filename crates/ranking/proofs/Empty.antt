@@ -42,7 +42,7 @@ no_entries (suc n) = ap (λ entries. None ∷ entries) (no_entries n)
 pub empty_entries : (n leaves : ℕ) → entries_of (replicate n NOTHING) leaves ≡ replicate (n - leaves) None
 empty_entries n leaves = ap (map entry_of) (drop-replicate leaves n NOTHING) ∙ no_entries (n - leaves)
 
--- where nothing is held, any number may lead
+-- if nothing is held, any number may lead
 pub empty_lead : (n leaves : ℕ) (lead : Lead) → IsLead (entries_of (replicate n NOTHING) leaves) lead
 empty_lead n leaves lead =
     record {

@@ -56,7 +56,7 @@ module _ (nodes : List ℤ) (leaves number : ℕ) where
       IsHeld (entries_of nodes leaves) number (value_of nodes (leaves + number))
   held_at within something = shown within ∙ ap Some (entry_some (value_of nodes (leaves + number)) something)
 
-  -- where nothing was put, the leaf has no value
+  -- if nothing was put, the leaf has no value
   pub free_leaf : IsFree (entries_of nodes leaves) number → value_of nodes (leaves + number) ≤ℤ NOTHING
   free_leaf free =
       by_lt_z NOTHING (value_of nodes (leaves + number))

@@ -102,7 +102,7 @@ module _ (held : List (Option ℤ)) (number : ℕ) (value greatest : ℤ) (somet
             (λ m w was less. let under = is_lead.before m w less was in omega (arith, ints)) n v is earlier;
       }
 
--- where the numbers before the lead have less than the limit, and some number has as much, it's the lead
+-- if the numbers before the lead have less than the limit, and some number has as much, it's the lead
 module _ (held : List (Option ℤ)) (lead : Lead) (greatest least limit : ℤ) (is_lead : IsLead held lead)
     (alone : lead.rival <ℤ limit) (most : IsGreatest held greatest) where
   pub leader_is : limit ≤ℤ greatest → least ≤ℤ limit →

@@ -1,4 +1,4 @@
--- What the root and the first leaf say of the values that are held.
+-- What the root and the first leaf say about the values that are held.
 use Rattle.std.proofs.Common.{◌≡◌, ℕ, ◌+◌, ◌-◌, ◌<◌, ℤ, ◌≤ℤ◌, ◌<ℤ◌, List, length, sym, subst, arith}
 use Rattle.std.proofs.lemmas.Int.{ints}
 use Rattle.ranking.specs.declared.tree.TheConstants.{NOTHING}
@@ -20,7 +20,7 @@ module _ (nodes : List ℤ) (leaves : ℕ) (tree : IsTree nodes leaves) where
       (omega arith) (omega arith) in
       subst (λ v. v ≤ℤ value_of nodes 0) leaf.1 below
 
-  -- where the root has no value, no number has
+  -- if the root has no value, no number has
   pub holds_nothing : value_of nodes 0 ≤ℤ NOTHING → HoldsNothing (entries_of nodes leaves)
   holds_nothing empty number value held =
       let bound = at_most_root number value held in
@@ -40,7 +40,7 @@ module _ (nodes : List ℤ) (leaves : ℕ) (tree : IsTree nodes leaves) where
       let is_held = subst (λ v. IsHeld (entries_of nodes leaves) number v) is held in
       record { reached = (number, is_held); at_most = at_most_root }
 
-  -- What is at least so much is at least `limit`, since it is a value.
+  -- A value of at least `least` is at least `limit`.
   module _ (least limit : ℤ) (bound : (value : ℤ) → NOTHING <ℤ value → least ≤ℤ value → limit ≤ℤ value) where
     pub leaf_at_least : (number : ℕ) → HasAtLeast (entries_of nodes leaves) least number →
         limit ≤ℤ value_of nodes (leaves + number)
@@ -48,7 +48,7 @@ module _ (nodes : List ℤ) (leaves : ℕ) (tree : IsTree nodes leaves) where
         let leaf = leaf_of nodes leaves number has.value has.is_held in
         rw leaf.1 (bound has.value leaf.2 has.at_least)
 
-    -- where the root is less, all are
+    -- if the root is less, all are
     pub all_below : value_of nodes 0 <ℤ limit → AllBelow (entries_of nodes leaves) least
     all_below less number has =
         let leaf = leaf_of nodes leaves number has.value has.is_held in

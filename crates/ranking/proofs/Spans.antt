@@ -1,11 +1,11 @@
--- Which leaves lie below a node, and what the node says of them.
+-- Which leaves lie below a node, and what the node says about them.
 use Rattle.std.proofs.Common.{◌≡◌, ℕ, zero, suc, ◌+◌, ◌*◌, ◌<◌, ◌≤◌, inl, inr, ℤ, ◌≤ℤ◌, List, refl, sym}
 use Rattle.std.proofs.Common.{ap, ◌∙◌, arith}
 use Rattle.std.proofs.lemmas.Int.{ints}
 use Rattle.std.proofs.lemmas.Bool.{cases_lt}
 use Rattle.ranking.specs.Tree.{IsTree, IsChild, IsFirstLeaf, value_of, first_below}
 
--- ---- the first of the nodes so many levels below a node
+-- ---- the first of the nodes this many levels below a node
 
 first_below_later : (k node : ℕ) → node ≤ first_below k node
 first_below_later zero node = omega arith
@@ -19,7 +19,7 @@ pub first_below_child : (k node : ℕ) → first_below k (4 * node + 1) ≡ firs
 first_below_child zero node = refl
 first_below_child (suc k) node = ap (λ first. 4 * first + 1) (first_below_child k node)
 
--- ---- all nodes so many levels below a node are leaves
+-- ---- all nodes this many levels below a node are leaves
 
 pub record Spans (leaves node k : ℕ) : Type 0 where
   pub low : leaves ≤ first_below k node

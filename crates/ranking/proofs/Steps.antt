@@ -115,7 +115,7 @@ module _ (nodes : List ℤ) (leaves : ℕ) (value : ℤ) where
       (λ up_inner. written.parent up inner is_child value
       (record { first = grows; second = omega (arith, ints); is_one = inr refl }))
 
-  -- The tree is whole again where the parent isn't less than the value, or there is none.
+  -- The tree is whole again if the parent isn't less than the value, or there is none.
   pub whole_again : (before : List ℤ) (node : ℕ) → IsTree before leaves → length nodes ≡ length before →
       IsWritten nodes leaves node value →
       ((i : ℕ) → IsChild i node → value ≤ℤ value_of nodes i) → IsTree nodes leaves

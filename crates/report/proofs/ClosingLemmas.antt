@@ -67,7 +67,7 @@ module _ (report : Report) (before : Option (List ℕ)) where
   gets_refusal after Memory r same went = absurd r
   gets_refusal after fault r same went = (same, went)
 
--- no input's device failed where the sink did, or where an input is refused
+-- no input's device failed if the sink did, or if an input is refused
 write_device : (fault : RunFault) → IsWrite fault → (which : Input → Bool) →
     is_device {A = Outcome} which (Err fault) ≡ false
 write_device (Write sent) w which = refl

@@ -1,4 +1,4 @@
--- The line that tells a fault is ASCII, and so UTF-8.
+-- The line that reports a fault is ASCII, and so UTF-8.
 use Rattle.std.proofs.Common.{ℕ, zero, suc, ◌/◌, ◌%◌, ◌<◌, ◌++◌, ◌==◌, ◌&&◌, Bool, true, false, if◌then◌else◌, T, List, [], ◌∷◌, codes, nat_lt, arith}
 use Rattle.std.proofs.lemmas.Bool.Decides.{nat_tests}
 use Rattle.std.proofs.Math.Facts.{ltb_yes}

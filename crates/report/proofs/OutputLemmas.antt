@@ -98,7 +98,7 @@ puts_none o ready = record {
   faults = refl;
 }
 
--- where nothing is gathered all has gone out
+-- if nothing is gathered, all has gone out
 pub put_all : (before : Option (List ℕ)) (now : OutputState) (texts : List (List ℕ)) → HasPut before now texts →
     now.gathered ≡ [] → Appends before now.sink.contents (concat texts) × (now.sent ≡ length (concat texts))
 put_all before now texts p empty =

@@ -52,8 +52,8 @@ abbrev pub stops_of : Result Outcome RunFault → ℕ
 stops_of (Err (Write sent)) = 1
 stops_of answer = 0
 
--- What ending a run does: the sink gets the text of whatever report the run has come to the answer
--- of, and is closed, and no input's device is asked.
+-- What ending a run does: the sink gets the text of the report whose answer the run came to, and is
+-- closed, and no input's device is asked.
 pub record Closes (old : OutputState) (after : SinkState)
     (ran answer : Result Outcome RunFault) : Type 0 where
   pub text : (report : Report) (before : Option (List ℕ)) → HasRun report before old ran →

@@ -1,4 +1,4 @@
--- What every engine promises of its answer, of its sink and of its inputs.
+-- What every engine promises about its answer, its sink and its inputs.
 use Rattle.std.specs.Prelude.{◌≡◌, ◌<◌, ◌⊎◌, ℕ, List, [], ◌++◌, length, take, Option, IfSome, Bool, true, false, Result, Ok, Err, IsOk}
 use Rattle.std.specs.List.{concat}
 use Rattle.std.specs.Io.KnownBytes.{Appends, Keeps}

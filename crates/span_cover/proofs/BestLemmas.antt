@@ -42,7 +42,7 @@ same_some : (s t : Sample) → ◌≡◌ {A = Option Sample} (Some s) (Some t) �
 same_some s t h = cc
 
 module _ (merit : Sample → ℤ) (server n : ℕ) (s : Sample) (samples : List Sample) where
-  -- what was found stays, where the sample before it isn't of the server or has less merit
+  -- what was found stays, if the sample before it isn't of the server or has less merit
   still_best : (b : ℕ × ℤ) (found : Found merit server (n + 1) samples b) →
       (s.server ≡ server → merit s <ℤ merit found.best.sample) → Found merit server n (s ∷ samples) b
   still_best b found behind = record {
@@ -73,7 +73,7 @@ module _ (merit : Sample → ℤ) (server n : ℕ) (s : Sample) (samples : List 
       first zero t is of less = at_front t is of
       first (suc i) t is of less = found.best.first i t is of (omega arith)
 
-  -- the sample is the best, where none that follows has more merit
+  -- the sample is the best, if none that follows has more merit
   new_best : s.server ≡ server →
       ((i : ℕ) (t : Sample) → slice_get samples i ≡ Some t → t.server ≡ server → merit t ≤ℤ merit s) →
       Found merit server n (s ∷ samples) (n, merit s)
@@ -125,7 +125,7 @@ module _ (merit : Sample → ℤ) (server n : ℕ) (s : Sample) (samples : List 
         | false ↦ λ e. first_wins same later found (not_less_from_test (merit s) later.1 e)
       ] refl
 
--- what the function gives is the best, of every list
+-- what the function gives is the best, for every list
 pub chosen : (merit : Sample → ℤ) (server n : ℕ) (samples : List Sample) →
     Chosen merit server n samples (best_from merit server n samples)
 chosen merit server n [] = λ i t is. absurd cc
@@ -236,7 +236,7 @@ pub best_of-is : (samples : List Sample) (server : ℕ) (p q : ℤ) (ppb : ℕ) 
 unfolding best_of
 best_of-is samples server p q ppb low high a b = rw (a, b) refl
 
--- what is said of ends that were passed on is said of the ends
+-- what holds for ends that were passed on holds for the ends
 passed_on : (f : ℤ → ℤ → Option ℕ) (p q : ℤ) (o : Option ℕ) → IsPiece p q →
     o ≡ f (to_z w128 (of_z w128 p)) (to_z w128 (of_z w128 q)) → f p q ≡ o
 passed_on f p q o piece e =

@@ -77,7 +77,7 @@ module _ (merit : Sample → ℤ) (server : ℕ) where
       omega (arith, ints)
 
   module _ (samples : List Sample) (s : Sample) where
-    -- what a sample of the server had no more of than `most`, and one more has not either
+    -- if no sample of the server has more than `most`, and one more hasn't either, then none of them all has
     none_above : (most : ℤ) →
         ((i : ℕ) (t : Sample) → slice_get samples i ≡ Some t → t.server ≡ server → merit t ≤ℤ most) →
         (s.server ≡ server → merit s ≤ℤ most) →
@@ -88,7 +88,7 @@ module _ (merit : Sample → ℤ) (server : ℕ) where
           | inr same ↦ subst (λ (u : Sample). u.server ≡ server → merit u ≤ℤ most) same last of
         ]
 
-    -- the most stays, where one sample more has no more
+    -- the most stays, if the one sample more has no more
     pub most_stays : (most : ℤ) → IsMost samples most → (s.server ≡ server → merit s ≤ℤ most) →
         IsMost (samples ++ s ∷ []) most
     most_stays most is last = record {
@@ -100,7 +100,7 @@ module _ (merit : Sample → ℤ) (server : ℕ) where
       greatest = none_above most is.greatest last;
     }
 
-    -- it is that of one sample more, where no sample before has more
+    -- it is that of the one sample more, if no sample before has more
     pub most_of_last : s.server ≡ server →
         ((i : ℕ) (t : Sample) → slice_get samples i ≡ Some t → t.server ≡ server → merit t ≤ℤ merit s) →
         IsMost (samples ++ s ∷ []) (merit s)
