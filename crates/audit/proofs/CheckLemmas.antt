@@ -25,7 +25,7 @@ module _ (certificate : CertificateData) (e : EvidenceData) where
     held = settled.held piece why refl;
   }
 
-  -- the outcome that is told of a verdict
+  -- what the outcome of a verdict shows
   pub verdict_shows : (verdict : Verdict) (outcome : Outcome) → outcome ≡ outcome_of verdict →
       IsVerdictOn e.claim (samples_in e) certificate verdict → ShowsOf (check_of certificate) e outcome
   verdict_shows verdict outcome is settled = subst (ShowsOf (check_of certificate) e) (sym is) (shown verdict settled)

@@ -1,4 +1,4 @@
--- What a claim that was read says of its text.
+-- What a claim that was read says about its text.
 use Rattle.std.proofs.Common.{◌≡◌, ℕ, ◌*◌, ◌<◌, ◌≤◌, Bool, true, false, ◌↔◌, List, [], ◌∷◌, length, map, codes, Option, Some, None, Result, Ok, Err, refl, ap, ◌∙◌, subst, arith}
 use Rattle.std.specs.Prelude.{slice_get}
 use Rattle.std.proofs.lemmas.Bool.Decides.{nat_tests}
@@ -65,7 +65,7 @@ number_is (string s) n e = absurd cc
 number_is (array items) n e = absurd cc
 number_is (object _) n e = absurd cc
 
--- a member where there is one of a kind
+-- a member, if it is there and of a kind
 member_is : {A : Type 0} (kind : Data → Option A) (make : A → Data)
     → ((d : Data) (a : A) → kind d ≡ Some a → d ≡ make a) → (o : Option Data) (a : A)
     → option_and_then kind o ≡ Some a → o ≡ Some (make a)
@@ -105,7 +105,7 @@ list_is kind make is d xs e = at (as_array d) refl e
 numbers_are : (d : Data) (ns : List ℕ) → numbers_of d ≡ Some ns → d ≡ numbers_value ns
 numbers_are d ns e = list_is unsigned_of (λ n. number (unsigned n)) number_is d ns e
 
--- an array of texts, where the member is looked up first
+-- an array of texts, with the member looked up first
 texts_are : (o : Option Data) (texts : List (List ℕ))
     → option_and_then texts_of (option_and_then as_array o) ≡ Some texts
     → o ≡ Some (array (items_of (map string texts)))

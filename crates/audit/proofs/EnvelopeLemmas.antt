@@ -100,7 +100,7 @@ module _ (law : HullLaw) (step : ℕ) (e : EvidenceData) (lawful : IsLawful e.cl
         outcome_is = refl;
       }
 
-  -- the outcome that is told of it
+  -- what its outcome shows
   pub envelope_shows : (samples : List Sample) → samples ≡ samples_in e → AreSamplesOf e.claim samples
       → (envelope : Envelope) (outcome : Outcome) → outcome ≡ bound_outcome envelope.least
       → FindsEnvelope samples e.claim step (Ok envelope) → IsEnvelopeOf step outcome e

@@ -230,7 +230,7 @@ pub record AreInPlace (unit : TimeUnit) (records : List Record) : Type 0 where
   pub in_unit : (k : ℕ) (r : Record) → slice_get records k ≡ Some r → r.head.unit ≡ unit
   pub bytes : (k : ℕ) (r : Record) → slice_get records k ≡ Some r → IsBytes r.bytes
 
--- the same packet, where addresses and ports are said in other words
+-- the same packet, with addresses and ports said in other words
 moved : {s s₂ : List ℕ} {p p₂ : ℕ} {d d₂ : List ℕ} {q q₂ : ℕ} (frame header : List ℕ) → s ≡ s₂ → p ≡ p₂ → d ≡ d₂
     → q ≡ q₂ → HoldsPacket frame s p d q header → HoldsPacket frame s₂ p₂ d₂ q₂ header
 moved {s} {s₂} {p} {p₂} {d} {d₂} {q} {q₂} frame header a b c e held =

@@ -28,7 +28,7 @@ module _ (step : ℕ) (e : EvidenceData) where
     held = finds.held;
   }
 
-  -- the outcome that is told of what was found
+  -- what the outcome of what was found shows
   pub found_shows : (samples : List Sample) → samples ≡ samples_in e → (found : Found) (outcome : Outcome)
       → outcome ≡ found_outcome (data_of found) → Finds samples e.claim step (Ok found)
       → ShowsOf (find_with step) e outcome

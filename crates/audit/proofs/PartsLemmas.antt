@@ -39,7 +39,7 @@ module _ (says : ℕ → Option Part) (server : ℕ) where
       sym (append-nil (filter_map says (numbers_below server)))
       ∙ ap (λ (o : Option Part). filter_map says (numbers_below server) ++ cons_option o []) (sym is) ∙ sym one_more
 
--- the parts of the servers whose number is below `server`, of a claim with so many servers
+-- the parts of the servers whose number is below `server`, of a claim with this many servers
 pub record StandsFor (says : ℕ → Option Part) (servers server : ℕ) (parts : List Part) : Type 0 where
   pub so_far : parts ≡ filter_map says (numbers_below server)
   pub fits : length parts ≤ server

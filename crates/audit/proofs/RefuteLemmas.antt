@@ -19,7 +19,7 @@ module _ (refutation : RefutationData) (e : EvidenceData) (agree : AllPairs Same
   }
   shown false judged = λ refuted. absurd (true≢false (sym (judged.exact.1 refuted)))
 
-  -- the outcome that is told of it
+  -- what the outcome shows
   pub judgement_shows : (stands : Bool) (outcome : Outcome) → outcome ≡ refuted_outcome stands →
       Settles e.claim e.collection.exchanges refutation stands → ShowsOf (refute_by refutation) e outcome
   judgement_shows stands outcome is judged = subst (ShowsOf (refute_by refutation) e) (sym is) (shown stands judged)

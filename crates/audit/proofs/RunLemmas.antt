@@ -51,7 +51,7 @@ was_memory (Ok m) answer (inl same) is = cc
 was_memory (Ok m) answer (inr (sent, writes)) is = cc
 was_memory (Err fault) answer same is = cc
 
--- ---- nothing is written where a run is given up
+-- ---- nothing is written if a run is given up
 
 keeps : (before after : Option (List ℕ)) → Appends before after [] → Keeps before after
 keeps None after h = tt
@@ -96,7 +96,7 @@ claim_taken (Ok claim) made before after is h = takes_within inputs.Claim max_cl
 claim_taken (Err fault) made before after is h =
     subst (λ (m : Result Made RunFault). TakesAtMost (most_read inputs.Claim max_claim m) before after) (sym is) h
 
--- the answer says of an input's length what was known once the text was made
+-- the answer says about an input's length what was known once the text was made
 same_most : (which : Input) (limit : ℕ) (made : Result Made RunFault) (answer : Result Outcome RunFault) →
     IsAnswerFor made answer → most_read which limit made ≡ most_read which limit answer
 same_most which limit (Ok m) answer (inl same) = sym (ap (most_read which limit) same)
@@ -109,7 +109,7 @@ same_most_second questions.check made answer stays = same_most inputs.Certificat
 same_most_second questions.refute made answer stays = same_most inputs.Refutation max_refutation made answer stays
 same_most_second question made answer stays = refl
 
--- ---- what was lawful where memory is refused
+-- ---- what was lawful if memory is refused
 
 has_claim : (known : Option (List ℕ)) (claim : Claim) →
     IfSome known (λ bytes. Reads claim_data (claim_read bytes) (Ok claim)) → HasClaim known

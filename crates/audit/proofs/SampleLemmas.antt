@@ -17,7 +17,7 @@ module _ (claim : ClaimData) (xs : List Exchange) (i : ℕ) (d : Exchange) (with
   sample_more old new s pushed so_far is =
       pushed ∙ rw (so_far, is) (sym (map_more (λ x. sample_of x claim.reading) xs i d within))
 
--- the servers of samples are listed, where those of the exchanges are
+-- the servers of samples are listed, if those of the exchanges are
 pub listed_samples : (claim : ClaimData) (xs : List Exchange) (servers : ℕ) → All (IsLawful servers) xs →
     All (λ sample. sample.server < servers) (samples_of xs claim)
 listed_samples claim xs servers each =

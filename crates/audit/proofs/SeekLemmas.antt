@@ -59,7 +59,7 @@ module _ (laws : Laws) (e : EvidenceData) (limits : Limits e) where
   }
   shown None sought = record { found_is = sym sought.exact; none_accepted = sought.none refl }
 
-  -- the outcome that is told of what was found
+  -- what the outcome of what was found shows
   pub search_shows : (found : Option Refutation) (outcome : Outcome) →
       outcome ≡ sought_outcome (option_map refutation_data found) → Sought e found → ShowsOf seek_refutation e outcome
   search_shows found outcome is sought = subst (ShowsOf seek_refutation e) (sym is) (shown found sought)

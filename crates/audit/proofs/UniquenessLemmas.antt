@@ -79,7 +79,7 @@ ceiling_same n d a b x y =
     let least = y.least a x.not_below in
     omega (arith, least, most)
 
--- lists of one length, where what stands in the first stands in the second
+-- lists of one length are the same, if what stands in the first stands at the same places in the second
 same_list : (a b : List ℕ) → length a ≡ length b
     → ((k x : ℕ) → slice_get a k ≡ Some x → slice_get b k ≡ Some x) → a ≡ b
 same_list [] [] sized each = refl

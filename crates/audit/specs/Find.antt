@@ -58,9 +58,9 @@ pub record IsFoundOf (step : ℕ) (e : EvidenceData) : Type 0 where
   pub accepted : verdict_on found e ≡ verdicts.Yes
 
 -- Nothing is found in this evidence: a piece fails, which the report names with its hull. If the
--- hull is empty, no course of events that fits the exchanges has its reading in that piece, and
--- else no certificate is accepted that has a piece over the whole of it. In every course that fits,
--- the error lies in the hull at every moment whose reading lies in the piece.
+-- hull is empty, no course of events that fits the exchanges has its reading in that piece,
+-- otherwise no certificate is accepted that has a piece over the whole of it. In every course that
+-- fits, the error lies in the hull at every moment whose reading lies in the piece.
 pub record IsNothingOf (step : ℕ) (e : EvidenceData) : Type 0 where
   pub piece : ℕ
   pub hull : Hull

@@ -41,9 +41,9 @@ use std::alloc::Global;
 /// What is asked of a claim and a capture.
 #[derive(Clone, Copy, Debug)]
 pub enum Question {
-    /// What does each exchange say of the clock?
+    /// What does each exchange say about the clock?
     Samples,
-    /// What does each server say of the clock at a moment, in Unix seconds?
+    /// What does each server say about the clock at a moment, in Unix seconds?
     At(u32),
     /// Is there a certificate with pieces of this length?
     Find(Step),
@@ -55,7 +55,7 @@ pub enum Question {
     Envelope {
         /// How long the pieces are.
         step: Step,
-        /// Whether to show what each server says of each piece.
+        /// Whether to show what each server says about each piece.
         servers: bool,
     },
     /// Is there a refutation of the claim?
@@ -79,14 +79,14 @@ pub(crate) enum Task {
     Envelope {
         /// How long the pieces are.
         step: Step,
-        /// Whether to show what each server says of each piece.
+        /// Whether to show what each server says about each piece.
         servers: bool,
     },
     /// Look for a refutation.
     Seek,
 }
 
-/// Reads the second input of a question, where it has one.
+/// Reads the second input of a question, if it has one.
 ///
 /// The faults are those of that input, and come as its reader has them.
 pub(crate) fn read_task<T: Feed>(

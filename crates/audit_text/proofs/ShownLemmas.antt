@@ -26,7 +26,7 @@ module _ (held : List HeldExchange) (i : ℕ) (d : HeldExchange) (within : i < l
   pub keeps_limits : (servers : ℕ) → All (IsLawful servers) (map exchange_shown held) → IsLawful servers x
   keeps_limits servers each = subst (IsLawful servers) (sym (stands_at x)) (each i x is_inside)
 
--- the advice on the reference of the first, where all others are compared with it
+-- the advice on the reference of the first, if all others are compared with it
 pub first_advice : (held : List HeldExchange) (d : HeldExchange) (x : Exchange) → 1 ≤ length held →
     x ≡ exchange_shown (get_or held 0 d) → (same : Bool) →
     same ≡ list_all (λ y. bytes_eq (exchange_shown y).reference x.reference) (take (length held - 1) (drop 1 held)) →

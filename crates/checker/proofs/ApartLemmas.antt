@@ -1,6 +1,6 @@
 -- Groups that are taken apart leave no more points admissible.
 --
--- A group leaves a point out where one of its parts does, and that part's finer group leaves it out too. Finer groups
+-- A group leaves a point out if one of its parts does, and that part's finer group leaves it out too. Finer groups
 -- of different groups are different, so at least as many of them leave the point out.
 use Rattle.std.proofs.Common.{◌≡◌, ℕ, zero, suc, ◌+◌, ◌<◌, ◌≤◌, ℤ, Bool, true, false, cond, not, ◌&&◌, ◌||◌, List, [], ◌∷◌, length, Option, Some, None, Result, Ok, Err, count_by, refl, sym, ap, ◌∙◌, subst, arith}
 use Rattle.std.specs.Prelude.{All, slice_index, ◌==◌, nat_lt, fold, filter, filter_map}
@@ -77,7 +77,7 @@ at_most_one : (b : Bool) → cond b 1 0 ≤ 1
 at_most_one true = omega arith
 at_most_one false = omega arith
 
--- where each number that passes is that of some other one that passes, no more pass
+-- if each number that passes q is `whole` of one that passes r, no more pass q than r
 pub counted_through : (whole : ℕ → ℕ) (r : ℕ → Bool) (n : ℕ) (js : List ℕ) (q : ℕ → Bool)
     → ((k : ℕ) → k < n → q k ≡ true → list_any (λ j. r j && (whole j == k)) js ≡ true)
     → count_by q (numbers_below n) ≤ count_by r js
@@ -105,7 +105,7 @@ counted_through whole r n (j ∷ js) q each =
 
 -- ---- what a group's interval passes, one of its parts does
 
--- a test on intervals that a meet passes exactly where one of the two does
+-- a test on intervals that a meet passes exactly if one of the two does
 abbrev pub IsOfEither : (Interval → Bool) → Type 0
 IsOfEither p = (a b : Interval) → p (meet_of a b) ≡ (p a || p b)
 
@@ -214,7 +214,7 @@ module _ (p : Interval → Bool) (either : IsOfEither p) (groups finer : List �
 
 -- ---- the two tests
 
--- a meet leaves a point out exactly where one of the two does
+-- a meet leaves a point out exactly if one of the two does
 pub meet_leaves_it_out : (point : ℤ) (a b : Interval)
     → leaves_out (meet_of a b) point ≡ (leaves_out a point || leaves_out b point)
 meet_leaves_it_out point a b = by_test (leaves_out a point)

@@ -21,7 +21,7 @@ same_number : (a b : ℕ) → nat_eq a b ≡ true → a ≡ b
 same_number a b h = grind (arith, nat_tests)
 
 module _ (merit : Sample → ℤ) (server : ℕ) where
-  -- the sample of this number is the server's, where samples are numbered from n on
+  -- the sample of this number is the server's, with samples numbered from n on
   pub record IsOfServer (n : ℕ) (samples : List Sample) (number : ℕ) : Type 0 where
     pub place : ℕ
     pub counted : number ≡ n + place

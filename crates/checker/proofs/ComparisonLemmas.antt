@@ -1,4 +1,4 @@
--- How verdicts compare, where fewer points are admissible.
+-- How verdicts compare if fewer points are admissible.
 use Rattle.std.proofs.Common.{◌≡◌, ℕ, ◌+◌, ◌<◌, ◌≤◌, ℤ, pos, neg_ℤ, ◌≤ℤ◌, Bool, true, false, cond, ◌&&◌, ◌||◌, int_lt, int_le, nat_lt, ◌⊎◌, inl, inr, ⊎_elim, List, [], ◌∷◌, length, Option, Some, None, Result, Ok, Err, refl, sym, ap, ◌∙◌, subst, arith}
 use Rattle.std.specs.List.{AllZip}
 use Rattle.std.specs.Ordering.{int_eq}
@@ -30,7 +30,7 @@ FaultIs P fault = (fault ≡ None) ⊎ ((why : Why) × (fault ≡ Some why) × P
 -- ---- verdicts, piece by piece
 
 module _ (samples : List Sample) (claim other : ClaimData) (P : Why → Type 0) where
-  -- where a piece shows that the error is within the bound, so does another one, or it fails for such a reason
+  -- if a piece shows that the error is within the bound, so does another one, or that one fails for such a reason
   pub record Follows (piece next : PieceData) : Type 0 where
     pub upto : piece.upto ≡ next.upto
     pub fault : (begin : ℤ) → piece_fault samples claim begin piece ≡ None
@@ -61,7 +61,7 @@ module _ (samples : List Sample) (claim other : ClaimData) (P : Why → Type 0) 
   all_follow each [] = tt
   all_follow each (p ∷ pieces) = (each p, all_follow each pieces)
 
-  -- a piece follows where what its entries say does
+  -- a piece follows if what its entries say does
   not_cut : (cut : Bool) (fault next : Option Why) → cond cut (Some Cut) fault ≡ None
       → (fault ≡ None → FaultIs P next) → FaultIs P (cond cut (Some Cut) next)
   not_cut true fault next e follows = absurd cc

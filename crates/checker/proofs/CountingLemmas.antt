@@ -52,7 +52,7 @@ meet_holds a b e n in_a in_b = (
 )
 
 module _ (e : ℤ) (n : ℕ) where
-  -- what is common so far holds the fraction, where there is anything
+  -- what is common so far holds the fraction, if there is anything
   narrowed_holds : (common : Option Interval) (part : Part) → IfSome common (λ i. HoldsFraction i e n)
       → HoldsFraction part.interval e n → IfSome (narrowed common part) (λ i. HoldsFraction i e n)
   narrowed_holds None part so_far holds = holds
@@ -80,7 +80,7 @@ counted r g gs = sum_by-cons _ g gs
 
 module _ (h : ℕ → Option Interval) (q : Interval → Bool) (r : ℕ → Bool)
     (only : (g : ℕ) (i : Interval) → h g ≡ Some i → r g ≡ false → q i ≡ false) where
-  -- where what h gives passes the test q only if its number passes r, no more are counted
+  -- if nothing that h gives passes q unless its number passes r, no more are counted
   one_counted : (g : ℕ) (gs : List ℕ) (o : Option Interval) (b : Bool) → h g ≡ o → r g ≡ b
       → count_by q (filter_map h gs) ≤ count_by r gs
       → count_by q (cons_option o (filter_map h gs)) ≤ cond b 1 0 + count_by r gs
@@ -104,7 +104,7 @@ module _ (h : ℕ → Option Interval) (q : Interval → Bool) (r : ℕ → Bool
 module _ (groups : List ℕ) (parts : List Part) (is_false : ℕ → Bool) (e : ℤ) (n : ℕ)
     (listed : All (λ part. part.server < length groups) parts)
     (hold : All (λ part. is_false part.server ≡ false → HoldsFraction part.interval e n) parts) where
-  -- where a group holds no false server, the intervals of its parts hold the error
+  -- if a group holds no false server, the intervals of its parts hold the error
   parts_of_true_group : (g : ℕ) → holds_false groups is_false g ≡ false
       → All (λ part. (slice_index groups part.server == g) ≡ true → HoldsFraction part.interval e n) parts
   parts_of_true_group g none k d below in_it =

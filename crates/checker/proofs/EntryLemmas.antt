@@ -24,7 +24,7 @@ use Rattle.checker.specs.declared.verdict.Why.TheVariants.{BadSample, MixedServe
 use Rattle.checker.proofs.PartLemmas.{by_test}
 use Rattle.checker.proofs.ComparisonLemmas.{FaultIs, Follows, verdict_follows, all_follow, piece_follows, EveryHull, hull_follows}
 
--- the second, where there is a first, leaves out whatever the first leaves out
+-- if there is a first, there is a second too, and it leaves out whatever the first leaves out
 abbrev pub Narrows : Option Interval → Option Interval → Type 0
 Narrows None next = ⊤
 Narrows (Some i) None = ⊥

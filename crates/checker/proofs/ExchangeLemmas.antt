@@ -11,7 +11,7 @@ use Rattle.sample_interval.specs.Sample.{sample_of, IsLawfulSample}
 use Rattle.sample_interval.proofs.SampleLemmas as sample
 use Rattle.checker.specs.Traceability.{samples_of}
 
--- what is shown by the thing at a place is lawful, where all of it is
+-- what the element at a place shows is lawful, if all that is shown is
 pub lawful_at : {X : Type 0} (shown : X → Exchange) (xs : List X) (servers k : ℕ) (x : X) → slice_get xs k ≡ Some x →
     All (IsLawfulExchange servers) (map shown xs) → IsLawfulExchange servers (shown x)
 lawful_at shown xs servers k x at each =
@@ -20,14 +20,14 @@ lawful_at shown xs servers k x at each =
     (get_or-map shown xs k x (shown x) within ∙ ap shown (get_or_from_slice_get xs k x x at))
     (each k (shown x) (rw (length-map xs shown) within))
 
--- the servers of samples are listed, where those of the exchanges are
+-- the servers of samples are listed, if those of the exchanges are
 pub listed_samples : (xs : List Exchange) (claim : ClaimData) (servers : ℕ) → All (IsLawfulExchange servers) xs →
     All (λ sample. sample.server < servers) (samples_of xs claim)
 listed_samples xs claim servers each =
     All-map (λ sample. sample.server < servers) (λ x. sample_of x claim.reading) xs
     (λ k d within. (each k d within).listed)
 
--- the samples keep their limits, where the exchanges do
+-- the samples keep their limits, if the exchanges do
 pub lawful_samples : (xs : List Exchange) (claim : ClaimData) (servers : ℕ) → IsLawful claim →
     All (IsLawfulExchange servers) xs → All IsLawfulSample (samples_of xs claim)
 lawful_samples xs claim servers lawful each =

@@ -126,7 +126,7 @@ module _ (laws : Laws) (claim : ClaimData) (samples : List Sample) (lawful : IsL
         (laws.reply y claim.reading course.fineness (course.reply b) (course.sent b) windows.1 order.1 near.1)
         (by_reading (course.reply b) drifts.1)
 
-    -- what an entry says holds the error, where its server isn't false
+    -- what an entry says holds the error, if its server isn't false
     pub entry_holds : (j : ℕ) (entry : ℕ × ℕ) (part : Part) → slice_get entries j ≡ Some entry
         → IsSaidBy samples stretch claim.drift_ppb entry part → course.is_false part.server ≡ false → Holds part
     entry_holds j entry part named said true' =

@@ -27,7 +27,7 @@ use Rattle.checker.proofs.ApartLemmas.{IsOfEither, passes, group_passes, counted
 module _ (p : Interval → Bool) (either : IsOfEither p)
     (narrower : (part next : Part) → IsNarrower part next → p part.interval ≡ true → p next.interval ≡ true)
     (groups : List ℕ) (parts next : List Part) (each : AreNarrower parts next) where
-  -- where a group's interval passes, so does its narrower one
+  -- if a group's interval passes, so does its narrower one
   group_still_passes : (g : ℕ) → passes p (group_interval groups parts g) ≡ true
       → passes p (group_interval groups next g) ≡ true
   group_still_passes g holds =

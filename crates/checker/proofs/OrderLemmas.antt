@@ -134,7 +134,7 @@ module _ (samples : List Sample) (claim : ClaimData) (stretch : Stretch) where
   says earlier entry =
       part_from stretch claim.drift_ppb earlier (slice_get samples entry.0) (slice_get samples entry.1)
 
-  -- what an entry says after some parts it says after others, where its server isn't named among them
+  -- what an entry says after some parts it says after others, if its server isn't named among these
   pub record SaysAgain (low high : Option Sample) (earlier : List Part) (part : Part) : Type 0 where
     pub new : names part.server earlier ≡ false
     pub again : (other : List Part) → names part.server other ≡ false

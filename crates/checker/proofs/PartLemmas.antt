@@ -32,7 +32,7 @@ All-slice_get P xs k x all is =
 test_fails : (a b : ℕ) → a ≡ b → not (a == b) ≡ false
 test_fails a b h = grind (arith, nat_tests)
 
--- what is said of two samples of one server that isn't named yet
+-- what two samples say that are of one server that isn't named yet
 pub accepted : (stretch : Stretch) (ppb : ℕ) (earlier : List Part) (low high : Sample) (at_low at_high : Option Sample)
     → at_low ≡ Some low → at_high ≡ Some high → low.server ≡ high.server
     → list_any (λ part. part.server == low.server) earlier ≡ false
@@ -95,7 +95,7 @@ module _ (samples : List Sample) (stretch : Stretch) (ppb : ℕ) (P : Part → T
       → parts_after samples stretch ppb [] entries ≡ Ok parts → All P parts
   all_parts entries parts holds e = parts_kept [] entries parts holds (All-nil P) e
 
--- the servers of what the entries say are listed, where those of the samples are
+-- the servers of what the entries say are listed, if those of the samples are
 pub listed_parts : (samples : List Sample) (stretch : Stretch) (ppb servers : ℕ) (entries : List (ℕ × ℕ))
     (parts : List Part) → All (λ sample. sample.server < servers) samples
     → parts_after samples stretch ppb [] entries ≡ Ok parts → All (λ part. part.server < servers) parts

@@ -37,7 +37,7 @@ all_numbers (suc n) =
 -- ---- few false servers
 
 module _ (claim : ClaimData) (xs : List Exchange) (entries : List (ℕ × ℕ)) (course : Course) where
-  -- where few groups hold a server that counts, and false servers with an entry do, few are false
+  -- if few groups hold a server that counts, and each false server with an entry counts, few are false
   module _ (counts : ℕ → Bool) (few : false_group_count claim.groups counts ≤ claim.false_max)
       (all : OfEachEntry xs entries (λ a x b y. course.is_false x.server ≡ true → counts x.server ≡ true)) where
     group_counts : (server group : ℕ) → slice_get claim.groups server ≡ Some group → counts server ≡ true

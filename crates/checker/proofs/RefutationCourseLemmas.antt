@@ -122,7 +122,7 @@ module _ (xs : List Exchange) (agree : AllPairs SameRequest xs) where
 
 -- ---- the course
 
--- what is said of an exchange, and 0 where there is none
+-- what f says about an exchange, or 0 if there is none
 abbrev of_exchange : (Exchange → ℤ) → Option Exchange → ℤ
 of_exchange f None = pos 0
 of_exchange f (Some x) = f x

@@ -1,4 +1,4 @@
--- What a course that a refutation stands for says of the stamps and of the claim.
+-- What a course that a refutation stands for says about the stamps and the claim.
 use Rattle.std.proofs.Common.{◌≡◌, ℕ, ◌*◌, ◌<◌, ℤ, pos, negsuc, ◌+ℤ◌, ◌-ℤ◌, ◌*ℤ◌, ◌≤ℤ◌, ◌<ℤ◌, unsigned_abs, false, inl, inr, List, Some, refl, sym, ◌∙◌, arith}
 use Rattle.std.specs.Prelude.{slice_get, int_le}
 use Rattle.std.specs.List.{slice_index_or}
@@ -15,7 +15,7 @@ use Rattle.checker.specs.Refutation.{is_liar, AdmitsError, Admits, IsAgainst, Is
 use Rattle.checker.specs.Traceability.{IsObservedIn, IsWithin}
 use Rattle.checker.proofs.PartLemmas.{by_test}
 
--- ---- what a course says of the stamps
+-- ---- what a course says about the stamps
 
 -- n times an order gives the order
 cancel : (a b : ℤ) (n : ℕ) → 0 < n → (a *ℤ pos n) ≤ℤ (b *ℤ pos n) → a ≤ℤ b

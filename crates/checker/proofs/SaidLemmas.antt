@@ -47,7 +47,7 @@ apart_from server earlier none k d below =
     (λ passes. absurd (let any = list_any_at test earlier k d below passes in cc))
     (λ fails. differ (get_or earlier k d).server server fails)
 
--- and so it is, where the list with its part is of parts that are apart
+-- and so it is, if the parts of the whole list are apart
 new_from : (earlier later : List Part) (part : Part) → AllPairs AreApart (earlier ++ part ∷ later)
     → list_any (λ other. other.server == part.server) earlier ≡ false
 new_from earlier later part apart =
@@ -145,7 +145,7 @@ module _ (samples : List Sample) (stretch : Stretch) (ppb : ℕ) where
   no_pairs : AllPairs AreApart []
   no_pairs i j d less below = absurd (omega (arith, below))
 
-  -- what entries say of which none is refused
+  -- what entries say if none of them is refused
   pub said_from : (entries : List (ℕ × ℕ)) (parts : List Part)
       → parts_after samples stretch ppb [] entries ≡ Ok parts
       → AreSaidBy samples stretch ppb entries parts × AllPairs AreApart parts

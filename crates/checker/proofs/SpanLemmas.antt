@@ -49,7 +49,7 @@ same_names server (x ∷ parts) (y ∷ other) zip =
     ap (λ (s : ℕ). (s == server) || names server parts) zip.0.server
     ∙ ap (λ (b : Bool). (y.server == server) || b) (same_names server parts other zip.1)
 
--- where each part has its narrower one, it has one among them
+-- if each part has a narrower one at its place, it has one among them
 narrower_from_zip : (parts next : List Part) → AllZip IsNarrower parts next → AreNarrower parts next
 narrower_from_zip parts next zip k d below =
     let long = length_all_zip IsNarrower parts next zip in
@@ -75,7 +75,7 @@ module _ (laws : PieceLaws) (hulls : EveryHull) (samples : List Sample) (claim :
           is_high.high_window_in_order begin forward end;
     }
 
-    -- what an entry says of the shorter piece, after parts of the same servers
+    -- what an entry says about the shorter piece, after parts of the same servers
     record SaysNarrower (low high : Option Sample) (other : List Part) (part : Part) : Type 0 where
       pub next : Part
       pub said : part_from inner claim.drift_ppb other low high ≡ Ok next
@@ -111,7 +111,7 @@ module _ (laws : PieceLaws) (hulls : EveryHull) (samples : List Sample) (claim :
         (All-slice_get IsLawfulSample samples b high each at_high))
         refl refl e
 
-    -- what entries say of the shorter piece
+    -- what entries say about the shorter piece
     record SayNarrower (other : List Part) (entries : List (ℕ × ℕ)) (parts : List Part) : Type 0 where
       pub next : List Part
       pub said : parts_after samples inner claim.drift_ppb other entries ≡ Ok next

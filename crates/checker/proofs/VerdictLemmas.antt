@@ -1,4 +1,4 @@
--- What a verdict says of the pieces.
+-- What a verdict says about the pieces.
 use Rattle.std.proofs.Common.{◌≡◌, ℕ, suc, ◌+◌, ◌<◌, ℤ, pos, neg_ℤ, ◌≤ℤ◌, Bool, true, false, cond, ◌&&◌, ◌||◌, int_le, int_lt, nat_lt, List, [], ◌∷◌, ◌++◌, length, Option, Some, None, Result, Ok, Err, inl, inr, refl, sym, ap, ◌∙◌, subst, arith}
 use Rattle.std.specs.Prelude.{slice_get}
 use Rattle.std.specs.Ordering.{int_eq}
@@ -39,7 +39,7 @@ both : (a b : Bool) → (a && b) ≡ true → (a ≡ true) × (b ≡ true)
 both true b h = (refl, h)
 both false b h = absurd cc
 
--- a bounded hull gives none exactly where it lies inside the bound
+-- a bounded hull gives no fault exactly if it lies inside the bound
 pub inside_from : (bound lo hi : ℤ) → hull_fault bound (Bounded lo hi) ≡ None
     → (neg_ℤ bound ≤ℤ lo) × (hi ≤ℤ bound)
 inside_from bound lo hi e = by_test (int_le (neg_ℤ bound) lo && int_le hi bound)
@@ -156,7 +156,7 @@ module _ (samples : List Sample) (claim : ClaimData) where
       sym (cond-false (nat_lt 0 k && int_eq begin claim.last) Yes (No k Uncovered) fails) ∙ e in
       cc))
 
-  -- where the verdict is yes, the pieces end with the span
+  -- if the verdict is yes, the pieces end with the span
   pub yes_end : (k : ℕ) (begin : ℤ) (pieces : List PieceData) → verdict_from samples claim k begin pieces ≡ Yes
       → (0 < k + length pieces) × (last_end begin pieces ≡ claim.last)
   yes_end k begin [] e = let parts = covers_test k begin e in (omega (arith, parts.0), parts.1)
@@ -206,7 +206,7 @@ module _ (samples : List Sample) (claim : ClaimData) where
         fails = is ∙ ap Some same;
       }
 
-  -- where it is no for a hull, there is a piece that fails for it
+  -- if it is no for a hull, there is a piece that fails for it
   pub no_at : (first k : ℕ) (begin : ℤ) (pieces : List PieceData) (why : Why) → IsFromHull (Some why)
       → verdict_from samples claim first begin pieces ≡ No k why → FailsAt first k begin pieces why
   no_at first k begin [] why from e = absurd (uncovered_test first k _ why from e)

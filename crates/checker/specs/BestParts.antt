@@ -14,7 +14,7 @@ use Rattle.span_cover.specs.declared.stretch.Stretch.{Stretch}
 abbrev pub said_by : ℕ → Interval → Part
 said_by server interval = record { server = server; interval = interval }
 
--- what a server says, where it has a sample
+-- what a server says, if it has a sample
 abbrev pub best_part : List Sample → Stretch → ℕ → ℕ → Option Part
 best_part samples stretch ppb server =
     option_map (said_by server) (best_interval samples server stretch.begin stretch.end ppb)

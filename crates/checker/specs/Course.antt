@@ -35,7 +35,7 @@ pub record Course : Type 0 where
   -- a moment at which the client's clock is observed
   pub observation : Moment
 
--- a moment of the client: the observation, or one of the requests and replies of so many exchanges
+-- a moment of the client: the observation, or a request or a reply of this many exchanges
 abbrev pub IsClientMoment : Course → ℕ → Moment → Type 0
 IsClientMoment course count moment =
     (moment ≡ course.observation)

@@ -1,6 +1,6 @@
 -- Groups of servers.
 --
--- Servers that hang on one reference are one group: where one is false, all may be. A claim gives
+-- Servers that depend on one reference are one group: if one is false, all may be. A claim gives
 -- each server the number of its group. Without groups each server is a group of its own.
 use Rattle.std.specs.Prelude.{ℕ, ◌==◌, Bool, ◌&&◌, List, length, slice_index, count_by}
 use Rattle.std.specs.List.{list_any}

@@ -6,9 +6,9 @@
 -- of its moments. A clock whose error changes isn't looked for.
 --
 -- Why these six: an exchange has four moments, one after another (RFC 5905, section 8). With an
--- error E, the client sends no sooner than w - E, where w is its least reading then, and receives
--- no later than z - E, where z is its greatest reading then. The server receives within R of T2 and
--- sends within R of T3. Four such moments exist exactly where none of them has to come after one of
+-- error E, the client sends no sooner than w - E, with w for its least reading then, and receives
+-- no later than z - E, with z for its greatest reading then. The server receives within R of T2 and
+-- sends within R of T3. Four such moments exist exactly if none of them has to come after one of
 -- the later ones.
 use Rattle.std.specs.Prelude.{◌≡◌, ◌≢◌, ℕ, ◌<◌, ◌≤◌, ◌==◌, ℤ, pos, ◌+ℤ◌, ◌-ℤ◌, ◌*ℤ◌, ◌≤ℤ◌, ◌<ℤ◌}
 use Rattle.std.specs.Prelude.{unsigned_abs, Bool, false, List, length, Some, slice_get, All, AllPairs}
@@ -94,7 +94,7 @@ abbrev pub HasCourse : ClaimData → List Exchange → RefutationData → Type 0
 HasCourse claim xs refutation = (course : Course) × IsCourseOf claim xs refutation course
 
 -- some course fits exchanges and a claim, and has its observation in the claim's span. So what is
--- said of all such courses isn't said of none.
+-- said about all such courses is said about at least one.
 abbrev pub SomeCourseFits : ClaimData → List Exchange → Type 0
 SomeCourseFits claim xs =
     (course : Course) × Fits claim xs course × IsObservedIn course claim.first claim.last

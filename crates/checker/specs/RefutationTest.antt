@@ -9,12 +9,12 @@ use Rattle.sample_interval.specs.Window.{request_start, reply_end}
 use Rattle.checker.specs.Groups.{false_group_count}
 use Rattle.checker.specs.Refutation.{is_liar}
 
--- the request leaves in time, where it leaves no sooner than this
+-- the request can leave in time, if it leaves no sooner than this
 abbrev pub leaves_in_time : ℤ → ℤ → ℤ → ℤ → Bool
 leaves_in_time leaves receipt_to answer_to arrives =
     int_le leaves receipt_to && int_le leaves answer_to && int_le leaves arrives
 
--- the server receives and answers in time, where the reply arrives no later than this
+-- the server can receive and answer in time, if the reply arrives no later than this
 abbrev pub answers_in_time : ℤ → ℤ → ℤ → ℤ → Bool
 answers_in_time receipt_from answer_from answer_to arrives =
     int_le receipt_from answer_to && int_le receipt_from arrives && int_le answer_from arrives

@@ -1,4 +1,4 @@
--- What a verdict says of every course of events.
+-- What a verdict says about every course of events.
 use Rattle.std.specs.Prelude.{◌≡◌, ℕ, ◌*◌, ◌≤◌, ℤ, pos, ◌*ℤ◌, ◌≤ℤ◌, ◌⊎◌, unsigned_abs, List, [], map, Some, Ok, slice_get, IsSomeAnd}
 use Rattle.era_unfold.specs.Nanoseconds.{nanoseconds_per_second}
 use Rattle.era_unfold.specs.Window.{ticks_per_second}
@@ -104,7 +104,7 @@ IsRefusedByHull claim samples certificate k why =
     (hull : Hull) × (hull_fault claim.bound hull ≡ Some why)
     × HasHull claim samples certificate k hull
 
--- the verdict on a certificate, and what it says of every course
+-- the verdict on a certificate, and what it says about every course
 pub record IsVerdictOn (claim : ClaimData) (samples : List Sample) (certificate : CertificateData)
     (verdict : Verdict) : Type 0 where
   pub exact : verdict ≡ verdict_of samples claim certificate

@@ -42,7 +42,7 @@ part_from stretch ppb earlier (Some low) (Some high) =
     if list_any (λ part. part.server == low.server) earlier then Err RepeatedServer else
     Ok (part_of low high stretch ppb)
 
--- what follows where an entry isn't refused
+-- what follows if an entry isn't refused
 abbrev pub unless_refused :
     Result Part Why → (Part → Result (List Part) Why) → Result (List Part) Why
 unless_refused (Err why) next = Err why
@@ -78,7 +78,7 @@ piece_fault samples claim begin piece =
     if int_lt stretch.end begin || int_lt claim.last stretch.end then Some Cut else
     parts_fault claim (parts_after samples stretch claim.drift_ppb [] piece.entries)
 
--- No with the reason of a piece, where it has one
+-- No with the reason of a piece, if it has one, otherwise the verdict on the rest
 abbrev pub verdict_after : Option Why → ℕ → Verdict → Verdict
 verdict_after None k rest = rest
 verdict_after (Some why) k rest = No k why

@@ -1,4 +1,4 @@
--- Courses that fit, so that what is said of all courses that fit isn't said of none.
+-- Courses that fit, so that what is said about all courses that fit is said about at least one.
 --
 -- One server answers one request. The claim is for one moment, with no drift and no allowance. The
 -- capture's clock counts microseconds, so the windows of its records are 4,295 and 4,296 ticks
@@ -29,7 +29,7 @@ worked_exchange = record {
   reference = 71 ∷ 80 ∷ 83 ∷ 0 ∷ [];
 }
 
--- the clock reads so much, and is off by so much
+-- the clock is off by this error at this reading
 abbrev pub moment_with : ℤ → ℤ → Moment
 moment_with error reading = record { time = reading -ℤ error; reading = reading }
 

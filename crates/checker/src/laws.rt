@@ -61,8 +61,8 @@ use sample_interval::laws::{
 };
 use span_cover::laws::{error_lies_in_the_interval_of_the_piece, piece_inside_another_is_narrower};
 
-/// Where the interval of each server that isn't false holds the error, at most as many groups leave
-/// it out as hold a false server.
+/// If the interval of each server that isn't false holds the error, at most as many groups leave it
+/// out as hold a false server.
 pub fn few_groups_leave_the_error_out()
     ensures { (groups : List ℕ) (parts : List Part) (is_false : ℕ → Bool) (e : ℤ) (n f : ℕ) →
         All (λ part. part.server < length groups) parts →
@@ -78,8 +78,8 @@ pub fn pieces_hold_every_reading()
         SomeHoldsReading (stretches_from begin pieces) n reading }
 {}
 
-/// The wrong groups may be told by a count: if each false server that has an entry counts, and at
-/// most `false_max` groups hold one that counts, few are false.
+/// That few are false may be shown by a count: each false server that has an entry counts, and at
+/// most `false_max` groups hold a server that counts.
 pub fn few_are_false_by_count()
     ensures { (claim : ClaimData) (xs : List Exchange) (entries : List (ℕ × ℕ)) (course : Course)
         (counts : ℕ → Bool) → false_group_count claim.groups counts ≤ claim.false_max →
@@ -126,10 +126,10 @@ pub fn hulls_hold_the_error()
     every_list_has_a_hull();
 }
 
-/// Where the verdict is yes, the error of the client's clock is within the claimed bound at every
+/// If the verdict is yes, the error of the client's clock is within the claimed bound at every
 /// moment whose reading lies in the claimed span, in every course of events that fits exchanges
 /// with these samples: with any delays that aren't negative, any drift within the claimed rate, and
-/// at most the claimed number of groups that hold a false server. Where a piece contradicts itself,
+/// at most the claimed number of groups that hold a false server. If a piece contradicts itself,
 /// no such course has a reading there.
 ///
 /// Piece by piece a course has to fit no more than what the entries of a piece name, so that other
@@ -152,7 +152,7 @@ pub fn bounds_hold_in_nanoseconds()
     nanoseconds_lie_between_their_ticks();
 }
 
-/// The verdict is yes exactly where the certificate is accepted: its pieces share their ends and
+/// The verdict is yes exactly if the certificate is accepted: its pieces share their ends and
 /// are the span, each names samples of one server in an entry and no server twice, and each hull
 /// lies inside the bound.
 pub fn yes_is_acceptance()
@@ -166,7 +166,7 @@ pub fn yes_is_acceptance()
 
 /// Courses that fit are not made up: one server's exchange, of which the capture says that the
 /// clock's error was from -42,949,674 to 42,953,969 ticks, fits a course with no error at all, one
-/// with an error of 42,953,968 ticks, and where the server's clock is off by the tick that it
+/// with an error of 42,953,968 ticks, and, if the server's clock is off by the tick that it
 /// announces, one with each of these two errors. So neither end could be narrower. And a clock that
 /// drifts by half keeps a drift of half, which is counted by true time and not by what it shows.
 pub fn worked_courses_fit()
@@ -216,7 +216,7 @@ pub fn wider_bounds_hold_too()
         verdict_of samples (record claim { bound = wider }) certificate ≡ Yes }
 {}
 
-/// Where fewer groups may be false, a yes stays yes or becomes a contradiction: the bound is no
+/// If fewer groups may be false, a yes stays yes or becomes a contradiction: the bound is no
 /// wider.
 pub fn fewer_false_groups_narrow()
     ensures { (samples : List Sample) (claim : ClaimData) (fewer : ℕ)
@@ -248,10 +248,10 @@ pub fn order_of_entries_changes_no_yes()
         verdict_of samples claim swapped ≡ Yes }
 {}
 
-/// Where groups are taken apart, a yes stays yes or becomes a contradiction: what one group says of
+/// If groups are taken apart, a yes stays yes or becomes a contradiction: what one group says about
 /// a piece is the points that all its servers leave, and apart each of them counts by itself. So
-/// who doubts that servers hang on one reference may count them one by one without fear of a wider
-/// bound.
+/// whoever doubts that servers depend on one reference may count them one by one without fear of a
+/// wider bound.
 pub fn groups_taken_apart_narrow()
     ensures { (samples : List Sample) (claim : ClaimData) (finer : List ℕ)
         (certificate : CertificateData) →
@@ -263,8 +263,8 @@ pub fn groups_taken_apart_narrow()
     every_list_has_a_hull();
 }
 
-/// For a span inside the claim's, the certificate that is cut to it gives yes where the whole one
-/// did for the whole span, or shows a contradiction: a shorter piece has narrower intervals.
+/// If a certificate gives yes for the claim's span, then cut to a span inside that one it gives yes
+/// too, or shows a contradiction: a shorter piece has narrower intervals.
 pub fn spans_inside_narrow()
     ensures { (samples : List Sample) (claim : ClaimData) (certificate : CertificateData)
         (first last : ℕ) → IsLawful claim → All IsLawfulSample samples →
@@ -283,7 +283,7 @@ pub fn parts_are_of_samples()
         All (IsOfSamples samples stretch ppb) parts }
 {}
 
-/// Where the hull over some parts lies in a bound, and each of them has a narrower one among other
+/// If the hull over some parts lies in a bound, and each of them has a narrower one among other
 /// parts, the hull over these is empty or lies in the bound too.
 pub fn narrower_parts_narrow()
     ensures { (groups : List ℕ) (false_max : ℕ) (bound : ℤ) (parts next : List Part) →
@@ -294,7 +294,7 @@ pub fn narrower_parts_narrow()
     every_list_has_a_hull();
 }
 
-/// The verdict goes by the pieces: it is yes exactly where there is one, the last ends with the
+/// The verdict goes by the pieces: it is yes exactly if there is one, the last ends with the
 /// span and none fails a test; and no for the first that fails one.
 pub fn pieces_give_the_verdict()
     ensures yes { (samples : List Sample) (claim : ClaimData) (certificate : CertificateData) →

@@ -20,7 +20,7 @@ use pairing::{Exchange, ToExchange};
 
 /// Whether the exchanges and the refutation refute the claim. It takes no memory.
 ///
-/// It is true exactly where these hold: the refutation's error is beyond the bound to one side or
+/// It is true exactly if these hold: the refutation's error is beyond the bound to one side or
 /// the other; its reading lies in the span; the servers that it names as false are different
 /// numbers of listed servers, of at most `false_max` groups; and each exchange of another server
 /// leaves room for the error, so that its four moments (RFC 5905, section 8) can come one after
@@ -189,7 +189,7 @@ fn answers_in_time(client: Times, receipt: Times, answer: Times) -> bool
 }
 
 /// The first time at which the request can have left and the last at which the reply can have
-/// arrived, where the client's clock is off by the error.
+/// arrived, if the client's clock is off by the error.
 fn client_times(exchange: &Exchange, claim: &Claim, refutation: &Refutation) -> Times
     requires claim { IsLawful (claim_data claim.now) }
     requires exchange { IsLawfulExchange (length claim.now.servers.items) exchange.now }

@@ -41,15 +41,15 @@ pub fn accepted_refutations_have_a_course()
         HasCourse claim xs refutation }
 {}
 
-/// The converse: a refutation whose own words are against the claim is accepted where a course fits
-/// in which just the servers that it names are false and the error is its own throughout.
+/// The converse: a refutation whose own words are against the claim is accepted if a course fits in
+/// which just the servers that it names are false and the error is its own throughout.
 pub fn refutations_with_a_course_are_accepted()
     ensures { (claim : ClaimData) (xs : List Exchange) (refutation : RefutationData)
         (course : Course) → IsAgainst claim refutation → Fits claim xs course →
         IsOffThroughout xs refutation course → IsRefuted claim xs refutation }
 {}
 
-/// For one list of exchanges and one claim there is no certificate with a yes where there is an
+/// For one list of exchanges and one claim there is no certificate with a yes if there is an
 /// accepted refutation.
 pub fn yes_and_refutation_never_meet()
     ensures { (claim : ClaimData) (xs : List Exchange) (certificate : CertificateData)
@@ -63,7 +63,7 @@ pub fn yes_and_refutation_never_meet()
 
 /// Whether a course fits doesn't depend on the bound. So a refutation of the same claim with
 /// another bound, as with none, shows that a course fits the claim itself with a reading of its
-/// span, and a yes for it is said of something.
+/// span, so that a yes for it says something.
 pub fn bound_plays_no_part_in_fitting()
     ensures fits { (claim : ClaimData) (bound : ℤ) (bound_ns : ℕ) (xs : List Exchange)
         (course : Course) →

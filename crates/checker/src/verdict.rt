@@ -91,7 +91,7 @@ pub fn check(samples: &[Sample], claim: &Claim, certificate: &Certificate) -> Ve
 }
 
 /// Whether the certificate shows that of exchanges: `check` of their samples with the claim's
-/// allowance, each made where it is asked for, so that no list of them is kept.
+/// allowance, each made when it is asked for, so that no list of them is kept.
 pub fn check_exchanges<X: ToExchange>(
     exchanges: &[X],
     claim: &Claim,

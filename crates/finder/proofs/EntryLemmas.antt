@@ -46,7 +46,7 @@ module _ (samples : List Sample) (claim : ClaimData) (stretch : Stretch) (P : Pa
   each_part (entry ∷ entries) =
       said_by entry.0 entry.1 _ _ refl refl (parts_named samples claim stretch entries) (each_part entries)
 
--- the servers of what entries say are listed, where those of the samples are
+-- the servers of what entries say are listed, if those of the samples are
 pub listed_parts : (samples : List Sample) (claim : ClaimData) (stretch : Stretch) (entries : List (ℕ × ℕ)) (n : ℕ)
     → All (λ sample. sample.server < n) samples
     → All (λ part. part.server < n) (parts_named samples claim stretch entries)

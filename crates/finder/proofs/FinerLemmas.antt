@@ -90,7 +90,7 @@ module _ (first last : ℤ) (in_order : first ≤ℤ last) (step times k q : ℕ
       omega arith in
       omega (arith, ints, clamps, ticks, same)
 
-  -- there is such a piece, where the other is one
+  -- there is such a piece, if the other is one
   count_more : (few many : ℕ) → IsPieceCount first last (step * times) few → IsPieceCount first last step many
       → 0 < times → k < many → q < few
   count_more few many coarse fine some below = ⊎_elim

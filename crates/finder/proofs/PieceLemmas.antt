@@ -66,7 +66,7 @@ module _ (first last : ℤ) (in_order : first ≤ℤ last) (step : ℕ) where
 
 -- ---- the count
 
--- the last end, where so many steps are no shorter than the span
+-- the last end, if this many steps are no shorter than the span
 reaches : (first last : ℤ) (step n : ℕ) → 0 < n → last ≤ℤ (first +ℤ pos (n * step * ticks_per_second))
     → piece_end_of first last step (n - 1) ≡ last
 reaches first last step n some far =
@@ -146,7 +146,7 @@ module _ (claim : ClaimData) (lawful : IsLawful claim) (step k : ℕ) where
       ap (λ (z : ℤ). to_z w128 (of_z w128 z)) is
       ∙ kept (piece_end_of claim.first claim.last step k) (omega (arith, ints))
 
-  -- also where the code computes it
+  -- also as the code computes it
   pub end_computed : (end : ℤ)
       → end ≡ piece_end_of (to_z w128 (of_z w128 claim.first)) (to_z w128 (of_z w128 claim.last)) step k
       → to_z w128 (of_z w128 end) ≡ piece_end_of claim.first claim.last step k
@@ -164,7 +164,7 @@ module _ (claim : ClaimData) (lawful : IsLawful claim) (step k : ℕ) where
       let to : end <ℤ pos (2 ^ 64) = rw is in_range in
       (yes_non_neg from, record { fits = omega (arith, ints) })
 
--- where piece k begins that isn't the first
+-- where piece k begins, if it isn't the first
 pub begin_later : (first last : ℤ) (step k j : ℕ) → k ≡ suc j
     → piece_begin_of first last step k ≡ piece_end_of first last step j
 begin_later first last step k j is = ap (piece_begin_of first last step) is

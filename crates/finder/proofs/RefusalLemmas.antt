@@ -24,7 +24,7 @@ use Rattle.finder.proofs.NarrowLemmas.{NarrowLaw}
 use Rattle.finder.proofs.PieceLemmas.{piece_of_claim}
 use Rattle.finder.proofs.VerdictLemmas.{contradicts_at, stretch_is_at}
 
--- ---- what a yes says of a piece
+-- ---- what a yes says about a piece
 
 module _ (samples : List Sample) (claim : ClaimData) where
   -- entries pass the tests of a verdict over a stretch

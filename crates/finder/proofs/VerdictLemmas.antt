@@ -1,4 +1,4 @@
--- What the checker says of pieces with the best samples.
+-- What the checker says about pieces with the best samples.
 use Rattle.std.proofs.Common.{◌≡◌, ℕ, zero, suc, ◌+◌, ◌-◌, ◌<◌, ◌≤◌, ℤ, pos, ◌≤ℤ◌, int_lt, nat_lt, unsigned_abs, Bool, true, false, cond, not, ◌&&◌, ◌||◌, List, [], ◌∷◌, ◌++◌, length, Option, Some, None, Result, Ok, refl, sym, ap, ◌∙◌, subst, arith, append_assoc, add-one, add-zero}
 use Rattle.std.specs.Prelude.{slice_get, ◌==◌}
 use Rattle.std.specs.List.{list_any, filter_map, cons_option, range_with_len}
@@ -204,7 +204,7 @@ module _ (law : BestLaw) (samples : List Sample) (claim : ClaimData) (lawful : I
   covered : (k : ℕ) (z : ℤ) → 0 < k → z ≡ claim.last → (nat_lt 0 k && int_eq z claim.last) ≡ true
   covered k z some e = grind (arith, nat_tests, ints)
 
-  -- where all pieces pass, they are accepted
+  -- if all pieces pass, they are accepted
   pub all_accepted : (n : ℕ) → IsPieceCount claim.first claim.last step n
       → ((k : ℕ) → k < n → passes samples claim step k ≡ true)
       → verdict_from samples claim 0 claim.first (pieces_from samples claim step 0 n) ≡ Yes

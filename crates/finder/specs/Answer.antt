@@ -1,4 +1,5 @@
--- What the finder answers to samples of a claim, in pieces of so many seconds, and what that says.
+-- What the finder answers to samples of a claim, in pieces of a given number of seconds, and what
+-- that says.
 use Rattle.std.specs.Prelude.{◌≡◌, ◌≢◌, ◌⊎◌, ◌↔◌, ℕ, ◌<◌, ◌≤◌, List, length}
 use Rattle.std.specs.Prelude.{Result, Ok, Err, IfOk, MatchResult}
 use Rattle.certificate.specs.Certificate.{max_pieces}
@@ -25,7 +26,7 @@ module _ (samples : List Sample) (claim : ClaimData) (step : ℕ) where
     pub exact : MatchResult result
         (λ found. found_of samples claim step ≡ Ok (data_of found))
         (λ fault. (fault ≡ Memory) ⊎ (found_of samples claim step ≡ Err fault))
-    -- the pieces are counted before any memory is taken: this fault is never told as another
+    -- the pieces are counted before any memory is taken: this fault is never reported as another
     pub too_many : (result ≡ Err TooManyPieces) ↔ (max_pieces < count_of claim step)
     -- the checker accepts a certificate that is found
     pub accepted : IfOk result (λ found. IfCertificate found (λ certificate.
@@ -52,7 +53,7 @@ module _ (samples : List Sample) (claim : ClaimData) (step : ℕ) where
     pub exact : MatchResult result
         (λ found. envelope_of samples claim step ≡ Ok (envelope.data_of found))
         (λ fault. (fault ≡ Memory) ⊎ (envelope_of samples claim step ≡ Err fault))
-    -- the pieces are counted before any memory is taken: this fault is never told as another
+    -- the pieces are counted before any memory is taken: this fault is never reported as another
     pub too_many : (result ≡ Err TooManyPieces) ↔ (max_pieces < count_of claim step)
     -- the bound is the least of the hulls of all pieces
     pub least : IfOk result (λ found.

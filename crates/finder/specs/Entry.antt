@@ -15,7 +15,7 @@ use Rattle.span_cover.specs.Part.{part_of}
 use Rattle.span_cover.specs.declared.part.Part.{Part}
 use Rattle.span_cover.specs.declared.stretch.Stretch.{Stretch}
 
--- the best samples of a server over a stretch, where it has a sample
+-- the best samples of a server over a stretch, if it has a sample
 abbrev pub best_over : List Sample → ClaimData → Stretch → ℕ → Option (ℕ × ℕ)
 best_over samples claim stretch server =
     best_of samples server stretch.begin stretch.end claim.drift_ppb
@@ -25,7 +25,7 @@ abbrev pub best_entries : List Sample → ClaimData → Stretch → List (ℕ ×
 best_entries samples claim stretch =
     filter_map (best_over samples claim stretch) (servers_of (length claim.servers))
 
--- entries that name samples, of so many
+-- entries that name samples, out of this many
 abbrev pub AreNamed : ℕ → List (ℕ × ℕ) → Type 0
 AreNamed count entries = All (λ entry. (entry.0 < count) × (entry.1 < count)) entries
 

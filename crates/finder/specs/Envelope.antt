@@ -32,7 +32,7 @@ use Rattle.finder.specs.declared.piece_hull.PieceHull.{PieceHull}
 
 -- ---- the least bound of hulls
 
--- a hull lies inside a bound of so many nanoseconds
+-- a hull lies inside a bound of this many nanoseconds
 abbrev pub IsInside : ℕ → Hull → Type 0
 IsInside n hull = is_inside (pos (ticks_down n)) hull ≡ true
 
@@ -40,7 +40,7 @@ IsInside n hull = is_inside (pos (ticks_down n)) hull ≡ true
 abbrev pub HasNoEnds : Hull → Type 0
 HasNoEnds hull = (hull ≡ Unbounded) ⊎ (hull ≡ Empty)
 
--- of so many pieces, each with its hull
+-- of this many pieces, each with its hull
 module _ (hulls : ℕ → Hull) (count : ℕ) where
   -- all hulls lie inside a bound of n nanoseconds
   abbrev pub AreInside : ℕ → Type 0
@@ -75,11 +75,11 @@ module _ (hulls : ℕ → Hull) (count : ℕ) where
 abbrev pub reach_of : ℤ → ℤ → ℕ
 reach_of lo hi = max (unsigned_abs (int_min lo (pos 0))) (unsigned_abs (int_max hi (pos 0)))
 
--- so many ticks in nanoseconds, rounded up
+-- this many ticks in nanoseconds, rounded up
 abbrev pub nanoseconds_of : ℕ → ℕ
 nanoseconds_of ticks = ceiling_of (ticks * nanoseconds_per_second) ticks_per_second
 
--- the least bound of pieces with that of one more, which has number k and needs so much
+-- the least bound of pieces with that of one more, which has number k and needs this bound
 abbrev pub with_need : ℕ → ℕ → ℕ → ℕ → LeastBound
 with_need n j k needed = if nat_lt n needed then Holds needed k else Holds n j
 
@@ -90,7 +90,7 @@ with_piece (Holds n j) k Unbounded = NoneHolds k
 with_piece (Holds n j) k Empty = NoneHolds k
 with_piece (Holds n j) k (Bounded lo hi) = with_need n j k (nanoseconds_of (reach_of lo hi))
 
--- the least bound of the first so many pieces
+-- the least bound of this many pieces, from the first on
 abbrev pub least_of : (ℕ → Hull) → ℕ → LeastBound
 least_of hulls zero = Holds 0 0
 least_of hulls (suc n) = with_piece (least_of hulls n) n (hulls n)
@@ -175,7 +175,7 @@ IsNotCertified answer = (piece : ℕ) × (hull : Hull) × (answer ≡ Ok (nothin
 
 -- ---- what whoever shows an envelope asks for
 
--- a piece of Unix ticks, with entries that name two of so many samples
+-- a piece of Unix ticks, with entries that name two of this many samples
 pub record IsLawfulPiece (samples : ℕ) (piece : PieceHullData) : Type 0 where
   pub stretch : IsPiece piece.stretch.begin piece.stretch.end
   pub named : AreNamed samples piece.entries

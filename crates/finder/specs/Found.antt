@@ -24,12 +24,12 @@ abbrev pub data_of : Found → FoundData
 data_of (Certificate found) = certificate (certificate_data found)
 data_of (Nothing piece hull) = nothing piece hull
 
--- where it is a certificate, this holds of it
+-- if it is a certificate, this holds of it
 abbrev pub IfCertificate : Found → (CertificateData → Type 0) → Type 0
 IfCertificate (Certificate found) P = P (certificate_data found)
 IfCertificate (Nothing piece hull) P = ⊤
 
--- where it is none, this holds of the piece and its hull
+-- if it is none, this holds of the piece and its hull
 abbrev pub IfNothing : Found → (ℕ → Hull → Type 0) → Type 0
 IfNothing (Certificate found) P = ⊤
 IfNothing (Nothing piece hull) P = P piece hull
@@ -58,7 +58,7 @@ module _ (samples : List Sample) (claim : ClaimData) (step : ℕ) where
   abbrev pub first_failing : Option ℕ
   first_failing = find (λ k. not (passes k)) (range_with_len 0 (count_of claim step))
 
-  -- all pieces where none fails, and else the first that does
+  -- all pieces if none fails, otherwise the first that does
   abbrev pub found_without : Option ℕ → FoundData
   found_without None = certificate (record { pieces = pieces_from 0 (count_of claim step) })
   found_without (Some k) = nothing k (hull_at k)

@@ -1,8 +1,8 @@
 -- The pieces of a span that is cut every so many seconds.
 --
 -- The first piece begins where the span does, each other one where the piece before it ends, and
--- both hold that reading. A piece ends so many seconds after its begin, or with the span. The last
--- piece is the first that ends with the span, so that a span of one moment is one piece.
+-- both hold that reading. A piece ends that many seconds after its begin, or with the span. The
+-- last piece is the first that ends with the span, so that a span of one moment is one piece.
 use Rattle.std.specs.Prelude.{◌≡◌, ℕ, zero, suc, ◌+◌, ◌-◌, ◌*◌, ◌<◌, ◌≤◌, max, ℤ, ◌-ℤ◌, ◌<ℤ◌, unsigned_abs, List, map}
 use Rattle.std.specs.List.{range_with_len}
 use Rattle.era_unfold.specs.Ratio.{ceiling_of}
@@ -16,7 +16,7 @@ pub record IsStep (step : ℕ) : Type 0 where
   pub some : 1 ≤ step
   pub at_most_a_day : step ≤ 86_400
 
--- so many pieces are the span: the last of them ends with it, and each before that one earlier
+-- this many pieces are the span: the last of them ends with it, and each before that one earlier
 pub record IsPieceCount (first last : ℤ) (step n : ℕ) : Type 0 where
   pub some : 0 < n
   pub ends_with_span : piece_end_of first last step (n - 1) ≡ last

@@ -18,7 +18,7 @@ abbrev pub refuses : ℤ → List Exchange → ℤ → ℕ → Bool
 refuses allowance xs error server =
     list_any (λ x. (x.server == server) && not (admits allowance error x)) xs
 
--- an error is a number of at most so many ticks to either side
+-- an error is at most 2^64 ticks to either side of zero
 abbrev pub IsNear : ℤ → Type 0
 IsNear error = unsigned_abs error ≤ 2 ^ 64
 

@@ -1,5 +1,5 @@
--- Which refutation of a claim is found: the one with the error nearest above the bound, or where
--- there is none with the error nearest below it on the other side.
+-- Which refutation of a claim is found: the one with the error nearest above the bound, or, if
+-- there is none, the one with the error nearest below it on the other side.
 --
 -- For one error, the servers that have to be false are those that have an exchange with no room for
 -- it. If these are of few enough groups, then they, the error and the span's first reading are a

@@ -53,7 +53,7 @@ impl LeastBound {
     }
 }
 
-/// The least bound of pieces with that of one more, which needs so many nanoseconds.
+/// The least bound of pieces with that of one more, which needs this many nanoseconds.
 fn with_need(bound_ns: u128, piece: u32, number: u32, needed: u128) -> LeastBound
     requires bound { bound_ns < 2 ^ 127 }
     requires needed { needed < 2 ^ 127 }

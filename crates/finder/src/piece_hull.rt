@@ -1,4 +1,4 @@
-//! A piece of a span, and what the samples say of the clock's error there.
+//! A piece of a span, and what the samples say about the clock's error there.
 
 ghost use Rattle.std.specs.Prelude.{◌≡◌, ◌<◌, ◌≤◌, length, All, slice_get};
 ghost use Rattle.std.specs.List.{filter_map};
@@ -18,7 +18,7 @@ use sample_interval::SampleSource;
 use span_cover::Stretch;
 use span_cover::laws::best_samples_are_the_first_best;
 
-/// A piece of a span, and what the samples say of the clock's error there.
+/// A piece of a span, and what the samples say about the clock's error there.
 #[derive(Debug, Drop)]
 pub struct PieceHull {
     /// Its readings.

@@ -22,10 +22,10 @@ const GREATEST_ERROR: i128 = (1 << 63) - 1;
 /// How far below zero the least error of a refutation is, in ticks.
 const LEAST_ERROR_BELOW: i128 = 1 << 63;
 
-/// Looks for a refutation of a claim: the one with the least error above the bound, or where there
-/// is none with the greatest error below it on the other side. It names just the servers that have
-/// an exchange with no room for that error, in their order, and the first reading of the span. It
-/// takes no memory, and looks once at each exchange.
+/// Looks for a refutation of a claim: the one with the least error above the bound, or, if there is
+/// none, the one with the greatest error below it on the other side. It names just the servers that
+/// have an exchange with no room for that error, in their order, and the first reading of the span.
+/// It takes no memory, and looks once at each exchange.
 pub fn find_refutation<X: ToExchange>(exchanges: &[X], claim: &Claim) -> Option<Refutation>
     requires claim { IsLawful (claim_data claim.now) }
     requires exchanges { All (IsLawfulExchange (length claim.now.servers.items))
@@ -49,7 +49,7 @@ pub fn find_refutation<X: ToExchange>(exchanges: &[X], claim: &Claim) -> Option<
     })
 }
 
-/// The error that is sought, where each server leaves room for just the errors of its interval.
+/// The error that is sought, if each server leaves room for just the errors of its interval.
 fn error_sought(rooms: &[Interval; 32], claim: &Claim) -> Option<i128>
     requires claim { IsLawful (claim_data claim.now) }
     requires low { (server : ℕ) → server < 32 →
@@ -72,8 +72,8 @@ fn error_sought(rooms: &[Interval; 32], claim: &Claim) -> Option<i128>
 /// The first error above the claim's bound, of those up to a limit, that at most `false_max` groups
 /// refuse.
 ///
-/// Where an error has this property, then so has the greatest low end that isn't above it, or the
-/// first error of all: no server refuses that which doesn't refuse the other. So these alone are
+/// If an error has this property, then so has the greatest low end that isn't above it, or the
+/// first error of all: each server that refuses this one refuses the other too. So these alone are
 /// looked at.
 fn nearest(rooms: &[Interval; 32], claim: &Claim, limit: i128) -> Option<i128>
     requires claim { IsLawful (claim_data claim.now) }

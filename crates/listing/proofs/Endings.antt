@@ -32,7 +32,7 @@ first_lines {whole = whole} given = lines-listing whole ∙ given.lines
 concat-one : (done : List (List ℕ)) (text : List ℕ) → concat (done ++ text ∷ []) ≡ concat done ++ text
 concat-one done text = concat-append done (text ∷ []) ∙ ap (λ (t : List ℕ). concat done ++ t) (append-nil text)
 
--- where the bytes are known, with what is known of the records that are left
+-- if the bytes are known, with what is known of the records that are left
 module _ (start now : Option Coming) (done : List (List ℕ)) (records : ℕ) (Q : Coming → Type 0) where
   with_given : HasPassed start now done records →
       ((whole rest : Coming) → HasGiven whole rest done records → Q whole) → IfSome start Q

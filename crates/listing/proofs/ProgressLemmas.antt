@@ -61,7 +61,7 @@ module _ (start old new : Option Coming) (done : List (List ℕ)) (records : ℕ
             (h.0, h.2, given_more h.0 r h.1 given.2)
       ] passed
 
--- the whole report, where the records end whole and where they end with a fault
+-- the whole report, if the records end whole and if they end with a fault
 lines_done : {whole rest : Coming} {done : List (List ℕ)} {records : ℕ} → HasGiven whole rest done records →
     rest.records ≡ [] → (lines_of whole.records ≡ done) × (length whole.records ≡ records)
 unfolding lines_of

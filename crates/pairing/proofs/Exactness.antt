@@ -215,7 +215,7 @@ not_below a b h = grind (arith, nat_tests)
 below : (a b : ℕ) → a < b → nat_lt a b ≡ true
 below a b h = grind (arith, nat_tests)
 
--- a collection, where it isn't too large
+-- a collection, if it isn't too large
 abbrev limited : List Exchange → Counts → Result Collection PairFault
 limited xs counts = if nat_lt most_exchanges (length xs) then Err TooManyExchanges else Ok (record {
   exchanges = xs;

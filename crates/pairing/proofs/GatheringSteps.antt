@@ -53,7 +53,7 @@ gathered_start claim look_up indexed = record {
   warned = refl;
 }
 
--- What a record's message says of its request and its reply.
+-- What a record's message says about its request and its reply.
 pub data Says (head : RecordHead) : Option Message → List Request → List Reply → Type 0 where
   silent : Says head None [] []
   asks : (key : Key) → Says head (Some (Asks key)) (request_at key head ∷ []) []

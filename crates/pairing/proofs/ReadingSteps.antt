@@ -172,7 +172,7 @@ refused-exact claim start before now done fault read step =
     known-fault claim start.remaining before.remaining now.remaining done fault now.lent read.known step.next_is
     (not_failed start before now done fault read step)
 
--- the counts of so many records leave room
+-- the counts of up to `most_records` records leave room
 pub gathered-room : (claim : ClaimData) (done : List Record) (look_up : Key →
     Option Place) (held : List HeldExchange) (counts : Counts) →
     IsGatheredFrom claim done look_up held counts → length done ≤ most_records → HasRoom counts most_records

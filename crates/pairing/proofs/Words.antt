@@ -24,7 +24,7 @@ test_is : (m n : ℕ) (test : Bool) → (test ≡ true → m ≡ n) → (m ≡ n
 test_is m n true same back = grind (arith, nat_tests, same refl)
 test_is m n false same back = grind (arith, nat_tests, back)
 
--- two words are the same where their numbers are
+-- two words are the same exactly if their numbers are
 pub same_words : (a b : List ℕ) → IsWord a → IsWord b →
     (from_be_bytes w32 a == from_be_bytes w32 b) ≡ bytes_eq a b
 same_words a b of_a of_b =

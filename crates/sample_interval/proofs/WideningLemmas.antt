@@ -9,7 +9,7 @@ use Rattle.era_unfold.specs.Ratio.{IsCeiling}
 use Rattle.sample_interval.specs.Widening.{IsRate, IsWidening, widening, billion}
 use Rattle.sample_interval.specs.Moment.{Moment, error_change, DriftsWithin, DriftsWithinByReading}
 
--- where 10^9 is g + ppb: the change of the error by the change of the readings
+-- with g + ppb for 10^9: the change of the error by the change of the readings
 by_reading : (g ppb e t r : ℕ) → t ≤ e + r → (g + ppb) * e ≤ ppb * t → g * e ≤ ppb * r
 by_reading g ppb e t r near h =
     let more : ppb * t ≤ ppb * (e + r) = mul-le-mul_left ppb near in

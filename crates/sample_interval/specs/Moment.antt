@@ -1,7 +1,7 @@
 -- Moments of the client's clock, and how its error drifts.
 --
 -- Moments needn't fall on whole ticks. Their times and readings are whole numbers of 1/n tick, for
--- a fineness n, and a number of ticks is multiplied by n where it is compared with one.
+-- a fineness n, and a number of ticks is multiplied by n before it is compared with one.
 use Rattle.std.specs.Prelude.{ℕ, ◌-◌, ◌*◌, ◌≤◌, ℤ, pos, ◌-ℤ◌, ◌*ℤ◌, ◌≤ℤ◌, unsigned_abs}
 use Rattle.sample_interval.specs.Widening.{billion}
 
@@ -22,7 +22,7 @@ error_change a b = unsigned_abs (error_of b -ℤ error_of a)
 abbrev pub DriftsWithin : ℕ → Moment → Moment → Type 0
 DriftsWithin ppb a b = (billion * error_change a b) ≤ (ppb * unsigned_abs (b.time -ℤ a.time))
 
--- what that says of the readings: at most ppb parts in 10^9 - ppb of the clock's own advance
+-- what that says about the readings: at most ppb parts in 10^9 - ppb of the clock's own advance
 abbrev pub DriftsWithinByReading : ℕ → Moment → Moment → Type 0
 DriftsWithinByReading ppb a b =
     ((billion - ppb) * error_change a b) ≤ (ppb * unsigned_abs (b.reading -ℤ a.reading))

@@ -1,5 +1,4 @@
--- Offset and delay of the on-wire protocol (RFC 5905, section 8), where T1 and T4 are known as
--- windows.
+-- Offset and delay of the on-wire protocol (RFC 5905, section 8), with T1 and T4 known as windows.
 --
 -- Both are least and greatest at ends of the windows. An offset may be half a tick, so its interval
 -- is rounded outwards.

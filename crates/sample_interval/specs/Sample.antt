@@ -1,4 +1,4 @@
--- What an exchange says of the client's error, which is the clock's reading less true time.
+-- What an exchange says about the client's error, which is the clock's reading less true time.
 --
 -- The server received after the request left, and its receive timestamp T2 is off by the root
 -- distance R at most. So the error at the request is at least T1 - T2 - R, with the least reading

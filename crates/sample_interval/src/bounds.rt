@@ -7,8 +7,8 @@ use crate::kinds::Sample;
 use crate::window::{reply_window, request_window};
 use pairing::Exchange;
 
-/// What the exchange says of the client's error if its server isn't false: the least error at the
-/// request and the greatest at the reply, each with the window of the clock's reading there
+/// What the exchange says about the client's error if its server isn't false: the least error at
+/// the request and the greatest at the reply, each with the window of the clock's reading there
 /// (RFC 5905, section 8).
 ///
 /// `reading` is how far a record time may be from the clock's reading: from 0 to 2^32 ticks.

@@ -1,7 +1,7 @@
 //! The types that this crate speaks of.
 
-/// What one exchange says of the client's error, in ticks of 2^-32 s. Error is the clock's reading
-/// less true time.
+/// What one exchange says about the client's error, in ticks of 2^-32 s. Error is the clock's
+/// reading less true time.
 ///
 /// Each number lies from -2^72 to 2^72, and no window ends before it begins.
 #[derive(Clone, Copy, Debug, PartialEq, Eq)]

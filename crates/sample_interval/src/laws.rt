@@ -1,5 +1,5 @@
 //! What holds of the definitions. A law is a function that does nothing: its contract is the law,
-//! for every number. Where a moment may fall between two ticks, times and readings are whole
+//! for every number. If a moment may fall between two ticks, times and readings are whole
 //! numbers of 1/n tick.
 ghost use Rattle.std.specs.Prelude.{◌≡◌, ℕ, ◌<◌, ◌≤◌, ◌*◌, ℤ, pos, ◌+ℤ◌, ◌-ℤ◌, ◌*ℤ◌, ◌≤ℤ◌, ◌↔◌};
 ghost use Rattle.std.specs.Prelude.{◌⊎◌};
@@ -31,7 +31,7 @@ pub fn drift_shows_on_the_clock_itself()
         DriftsWithin ppb a b → DriftsWithinByReading ppb a b }
 {}
 
-/// Where the server isn't false, the client's error at the request is no less than the sample's low
+/// If the server isn't false, the client's error at the request is no less than the sample's low
 /// end: the request left before the server received it, and the server's time of receipt is off by
 /// the root distance at most.
 pub fn error_at_the_request_is_no_less()
@@ -41,7 +41,7 @@ pub fn error_at_the_request_is_no_less()
         (least_error x allowance *ℤ pos n) ≤ℤ error_of request }
 {}
 
-/// Where the server isn't false, the client's error at the reply is no more than the sample's high
+/// If the server isn't false, the client's error at the reply is no more than the sample's high
 /// end.
 pub fn error_at_the_reply_is_no_more()
     ensures { (x : Exchange) (allowance : ℤ) (n : ℕ) (reply : Moment) (sent : ℤ) →
@@ -82,8 +82,7 @@ pub fn widening_is_one_number()
     ratios_are_rounded_as_little_as_can_be();
 }
 
-/// The widening grows with the distance and with the rate, and is zero exactly where one of them
-/// is.
+/// The widening grows with the distance and with the rate, and is zero exactly if one of them is.
 pub fn widening_grows()
     ensures distance { (ppb near far : ℕ) → ppb < billion → near ≤ far →
         widening ppb near ≤ widening ppb far }

@@ -1,11 +1,11 @@
-//! What one exchange with a server says of the client's clock: an interval for its error (RFC 5905,
-//! section 8).
+//! What one exchange with a server says about the client's clock: an interval for its error
+//! (RFC 5905, section 8).
 //!
 //! - [`sample`] gives the least error that the clock can have had at the request and the greatest
-//!   at the reply, where the server isn't false, each with the readings at which it holds.
+//!   at the reply, if the server isn't false, each with the readings at which it holds.
 //! - [`offset`] and [`delay`] give the two numbers of RFC 5905, each as an interval, since the
 //!   client's two times are known as windows.
-//! - [`widen`] gives how far the error can drift while the clock advances by so much.
+//! - [`widen`] gives how far the error can drift while the clock advances by this much.
 //!
 //! Each is exact by its contract, takes no memory and refuses nothing. [`laws`] has what holds of
 //! the definitions.

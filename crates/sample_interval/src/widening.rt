@@ -4,7 +4,7 @@ ghost use Rattle.sample_interval.specs.Widening.{IsRate, IsWidening, widening};
 
 use crate::laws::widening_is_one_number;
 
-/// A rate counts parts of so many: 10^9. It has the width in which ticks are multiplied.
+/// A rate counts parts in 10^9. This number has the width in which ticks are multiplied.
 pub const PARTS: u128 = 1_000_000_000;
 
 /// The most that the error changes, in ticks and rounded up, while the clock advances by `distance`

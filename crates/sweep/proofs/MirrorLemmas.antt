@@ -1,4 +1,4 @@
--- Extremes and stretches where time runs backwards.
+-- Extremes and stretches with time running backwards.
 use Rattle.std.proofs.Common.{◌≡◌, ℕ, ◌+◌, ◌-◌, ◌≤◌, ◌^◌, List, length, Option, Some}
 use Rattle.std.proofs.Common.{map, reverse, arith, sym, ◌∙◌, subst}
 use Rattle.std.specs.List.{slice_get, All}

@@ -1,4 +1,4 @@
--- An extreme reaches a level where it does so as an early one, or as one that is early where time runs
+-- An extreme reaches a level if it does so as an early one, or as one that is early with time running
 -- backwards.
 use Rattle.std.proofs.Common.{◌≡◌, ℕ, ◌+◌, ◌-◌, ◌*◌, ◌<◌, ◌≤◌, List, length, map, arith, sym, ◌∙◌, subst, ap, get_or}
 use Rattle.std.proofs.lemmas.Option.{slice_get-get_or}

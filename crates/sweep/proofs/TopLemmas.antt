@@ -24,7 +24,7 @@ same_top first second (Some top) there back is = record {
   first = λ index reaches. is.first index (back index top.level reaches);
 }
 
--- the same where what the second reaches, an index up to that one reaches in the first
+-- the same if, for each level that an index reaches in the second, an index up to that one reaches it in the first
 pub covering_top : (first second : ℕ → ℕ → Type 0) (top : Option Top) →
     ((index level : ℕ) → first index level → second index level) →
     ((index level : ℕ) → second index level → (other : ℕ) × (other ≤ index) × first other level) →

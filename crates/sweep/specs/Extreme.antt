@@ -54,7 +54,7 @@ pub record AreExtremesOf (side : Side) (samples : List Sample) (server : ℕ)
   pub rising : (i j : ℕ) (a b : Extreme) → i < j → slice_get extremes i ≡ Some a →
       slice_get extremes j ≡ Some b → a.number < b.number
 
--- the same where time runs backwards
+-- the same with time running backwards
 abbrev pub mirrored_extreme : Extreme → Extreme
 mirrored_extreme extreme = record extreme {
   from = 2 ^ 76 - extreme.to;

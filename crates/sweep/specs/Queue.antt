@@ -48,7 +48,7 @@ pub record IsOneOfFirst (queue : List Arrival) (next at_index : ℕ) (height : �
   pub index : arrival.index ≡ at_index
   pub value : height ≡ pos arrival.height
 
--- some index up to this one has a height of at least so much
+-- some index up to this one has a height of at least this much
 pub record IsCovered (held : List (Option ℤ)) (height : ℤ) (index : ℕ) : Type 0 where
   pub other : ℕ
   pub upto : other ≤ index

@@ -24,7 +24,7 @@ pub record AreStretchesOf (first : ℤ) (ends : List ℤ) (stretches : List Stre
   pub adjoin : (k : ℕ) (a b : Stretch) → slice_get stretches k ≡ Some a →
       slice_get stretches (k + 1) ≡ Some b → a.end ≡ b.begin
 
--- the same where time runs backwards
+-- the same with time running backwards
 abbrev pub mirrored_stretch : Stretch → Stretch
 mirrored_stretch stretch = record { begin = 2 ^ 76 - stretch.end; end = 2 ^ 76 - stretch.begin }
 

@@ -2,11 +2,11 @@
 --
 -- An extreme is early for a stretch if the middle of its window isn't after that of the stretch.
 -- Then the greatest distance between the two runs from the window's begin to the stretch's end.
--- Where time runs backwards the others are early. So whether an extreme reaches a level is decided
+-- If time runs backwards, the others are early. So whether an extreme reaches a level is decided
 -- by one number of the extreme and one of the stretch, in one of the two directions.
 --
 -- A level is a whole number. If an index reaches a level, it reaches each lower one. An extreme
--- reaches a level over a stretch where its end, moved down for the stretch, is at least the level.
+-- reaches a level over a stretch if its end, moved down for the stretch, is at least the level.
 use Rattle.std.specs.Prelude.{◌≡◌, ℕ, ◌+◌, ◌-◌, ◌*◌, ◌≤◌, max, ℤ, pos, List}
 use Rattle.std.specs.Prelude.{Option, Some, None, slice_get}
 use Rattle.std.specs.Prelude.{Bool, nat_lt, ◌==◌, ◌&&◌, ◌||◌, if◌then◌else◌, length, map}
@@ -23,7 +23,7 @@ pub record IsTop (reaches : ℕ → ℕ → Type 0) (top : Top) : Type 0 where
   pub highest : (index level : ℕ) → reaches index level → level ≤ top.level
   pub first : (index : ℕ) → reaches index top.level → top.index ≤ index
 
--- none where no level is reached
+-- none if no level is reached
 abbrev pub IsTopOf : (ℕ → ℕ → Type 0) → Option Top → Type 0
 IsTopOf reaches None = (index level : ℕ) → ¬ reaches index level
 IsTopOf reaches (Some top) = IsTop reaches top
@@ -77,7 +77,7 @@ pub record AreEarlyTops (ppb : ℕ) (extremes : List Extreme) (stretches : List 
   pub each : (k : ℕ) (stretch : Stretch) (top : Option Top) → slice_get stretches k ≡ Some stretch →
       slice_get tops k ≡ Some top → IsTopOf (IsEarlyAtLeast ppb extremes stretch) top
 
--- the same of those that are early where time runs backwards: the last stretch comes first
+-- the same for those that are early with time running backwards: the last stretch comes first
 pub record AreLateTops (ppb : ℕ) (extremes : List Extreme) (stretches : List Stretch)
     (tops : List (Option Top)) : Type 0 where
   pub as_many : length tops ≡ length stretches

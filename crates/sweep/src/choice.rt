@@ -41,7 +41,7 @@ pub fn top_numbers(
     Ok(numbers)
 }
 
-// The top of the extremes that are early where time runs backwards: over the last stretch, then
+// The top of the extremes that are early with time running backwards: over the last stretch, then
 // over the one before it, and so on.
 fn late_tops(
     alloc: Global,

@@ -97,7 +97,7 @@ fn extreme_of(number: u32, sample: &Sample, side: Side) -> Extreme
     }
 }
 
-/// The same ends where time runs backwards.
+/// The same ends with time running backwards.
 pub fn mirrored_extremes(alloc: Global, extremes: &[Extreme]) -> Result<Vec<Extreme>, AllocError>
     requires { All IsLawfulExtreme extremes.now }
     ensures { IfOk result (λ mirrored. mirrored.items ≡ map mirrored_extreme extremes.now) }

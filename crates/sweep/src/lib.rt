@@ -8,8 +8,8 @@
 //! from the window's begin to the piece's end, and so the moved end is decided by one number of the
 //! sample and one of the piece. From piece to piece more samples become early in this sense, and
 //! none ceases to be. So a pass over the pieces puts each sample into a ranking when it becomes
-//! early, and asks the ranking for the best. A second pass does the same where time runs backwards,
-//! for the samples that are late. The better of the two is the best of all.
+//! early, and asks the ranking for the best. A second pass does the same with time running
+//! backwards, for the samples that are late. The better of the two is the best of all.
 #![tactic(auto)]
 
 mod choice;

@@ -14,7 +14,7 @@ use std::alloc::{AllocError, Global};
 
 /// The best samples of a server for each of the consecutive pieces that end at `ends`, the first of
 /// which begins at `first`: entry k is what `span_cover::best` gives for the piece from the end
-/// before `ends[k]` to `ends[k]`. None where the server has no sample. Its one error is that it is
+/// before `ends[k]` to `ends[k]`. None if the server has no sample. Its one error is that it is
 /// out of memory.
 ///
 /// `servers` has the server of each sample, as [`servers_of`](crate::servers_of) makes it once for

@@ -33,7 +33,7 @@ pub fn stretches_of(alloc: Global, first: i128, ends: &[i128]) -> Result<Vec<Str
     Ok(stretches)
 }
 
-/// The same pieces where time runs backwards: the last comes first.
+/// The same pieces with time running backwards: the last comes first.
 pub fn mirrored_stretches(alloc: Global, stretches: &[Stretch]) -> Result<Vec<Stretch>, AllocError>
     requires { All IsLawfulStretch stretches.now }
     ensures { IfOk result (λ mirrored.

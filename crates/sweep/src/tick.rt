@@ -15,7 +15,7 @@ pub fn from_origin(ticks: i128) -> u128
     (ticks + ORIGIN) as u128
 }
 
-/// The same tick where time runs backwards through zero.
+/// The same tick with time running backwards through zero.
 pub fn mirrored_tick(tick: u128) -> u128
     requires { tick ≤ 2 ^ 76 }
     ensures { result ≡ 2 ^ 76 - tick }

@@ -60,7 +60,7 @@ fn worked_sample(rt: HostRuntime) -> Result<(), Fail> {
         ),
     ] {
         let claim = read_claim(rt.alloc(), claim_of(rt.alloc(), terms)?.as_bytes())?;
-        // The prover is told that each step of the table is one that `find` takes.
+        // So the prover knows that each step of the table is one that `find` takes.
         let step = u32::max(step, 1).min(86_400);
         let found = find(rt.alloc(), &samples, &claim, step);
         assert_eq!(rt; answer_of(&found), wanted, "{terms:?} {step}");
@@ -86,7 +86,7 @@ fn least_bounds(rt: HostRuntime) -> Result<(), Fail> {
         (LONG_TIGHT, 32, 11_280_627, 1),
     ] {
         let claim = read_claim(rt.alloc(), claim_of(rt.alloc(), terms)?.as_bytes())?;
-        // The prover is told that each step of the table is one that `find_envelope` takes.
+        // So the prover knows that each step of the table is one that `find_envelope` takes.
         let step = u32::max(step, 1).min(86_400);
         let found = find_envelope(rt.alloc(), &samples, &claim, step);
         let wanted = LeastBound::Holds { bound_ns, piece };

@@ -39,7 +39,7 @@ fn at_text(alloc: Global, second: u32, evidence: &Evidence) -> Result<Vec<u8>, A
     hull_text(alloc, claim, parts.as_slice())
 }
 
-/// What each server says of the clock's error at a moment, in Unix seconds, by its best samples,
+/// What each server says about the clock's error at a moment, in Unix seconds, by its best samples,
 /// and the hull over the groups. The moment may lie outside the claimed span.
 pub(crate) fn make_at(alloc: Global, second: u32, evidence: &Evidence) -> Result<Made, RunFault>
     requires { IsLawfulEvidence evidence.now }

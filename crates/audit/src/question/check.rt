@@ -26,7 +26,7 @@ fn outcome_of(verdict: &Verdict) -> Outcome
     }
 }
 
-/// Settles a certificate: `Yes` exactly where its verdict is.
+/// Settles a certificate: `Yes` exactly if its verdict is.
 pub(crate) fn make_check(
     alloc: Global,
     certificate: &Certificate,

@@ -20,7 +20,7 @@ use finder::{FindFault, Found, find_over};
 use report::{Made, Outcome, RunFault};
 use std::alloc::{AllocError, Global};
 
-/// What a run answers where no certificate could be looked for.
+/// What a run answers if no certificate could be looked for.
 pub(crate) fn run_fault_of(fault: FindFault) -> RunFault
     ensures { result ≡ find_run_fault_of fault }
 {

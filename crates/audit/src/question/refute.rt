@@ -23,7 +23,7 @@ fn refuted_outcome(stands: bool) -> Outcome
     if stands { Outcome::Yes } else { Outcome::No }
 }
 
-/// Settles whether a refutation stands: `Yes` exactly where it does.
+/// Settles whether a refutation stands: `Yes` exactly if it does.
 pub(crate) fn make_refute(
     alloc: Global,
     refutation: &Refutation,
