@@ -1,5 +1,4 @@
 pub mod NanosecondLemmas
-pub mod MadeLemmas
 pub mod SampleLemmas
 pub mod CaptureLemmas
 pub mod PartsLemmas
