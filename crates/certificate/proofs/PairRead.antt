@@ -56,7 +56,8 @@ module _ (depth : ℕ) (ts t ts' : List Token) (low : Option ℕ) (going : GoesO
         pub third_refused : next_items depth t'' ≡ None → parse_map pair_of (next_items depth ts) ≡ None
         third_refused is =
             let (v, w, v_is, w_is, read) = both_read in
-            read ∙ ap (parse_map (λ rest. pair_of (item v (item w rest)))) (rw (← going''.1) is)
+            let none : next_items depth ts'' ≡ None = rw (← going''.1) is in
+            read ∙ ap (parse_map (λ rest. pair_of (item v (item w rest)))) none
 
         pub three : (r : List Token) → rest_after (next_items depth t'') ≡ Some r →
             parse_map pair_of (next_items depth ts) ≡ Some (None, r)
