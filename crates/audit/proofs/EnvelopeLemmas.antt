@@ -101,10 +101,9 @@ module _ (law : HullLaw) (step : ℕ) (e : EvidenceData) (lawful : IsLawful e.cl
       }
 
   -- what its outcome shows
-  pub envelope_shows : (samples : List Sample) → samples ≡ samples_in e → AreSamplesOf e.claim samples
+  pub envelope_shows : AreSamplesOf e.claim (samples_in e) → (samples : List Sample) → samples ≡ samples_in e
       → (envelope : Envelope) (outcome : Outcome) → outcome ≡ bound_outcome envelope.least
       → FindsEnvelope samples e.claim step (Ok envelope) → IsEnvelopeOf step outcome e
-  envelope_shows samples same are envelope outcome is finds =
+  envelope_shows are samples same envelope outcome is finds =
       subst (λ (o : Outcome). IsEnvelopeOf step o e) (sym is)
-      (shown (subst (AreSamplesOf e.claim) same are) envelope
-      (subst (λ (s : List Sample). FindsEnvelope s e.claim step (Ok envelope)) same finds))
+      (shown are envelope (subst (λ (s : List Sample). FindsEnvelope s e.claim step (Ok envelope)) same finds))

@@ -17,9 +17,8 @@ pub(crate) fn samples_of<'a>(evidence: &'a Evidence) -> ExchangeSamples<'a, Held
     ensures samples { ⟦<ExchangeSamples<'a, HeldExchange> as SampleSource>⟧.samples result
         ≡ samples_in (evidence_data evidence.now) }
     ensures of_claim { AreSamplesOf (data_of evidence.now.claim)
-        (⟦<ExchangeSamples<'a, HeldExchange> as SampleSource>⟧.samples result) }
-    ensures few { length (⟦<ExchangeSamples<'a, HeldExchange> as SampleSource>⟧.samples result)
-        ≤ 1_000_000 }
+        (samples_in (evidence_data evidence.now)) }
+    ensures few { length (samples_in (evidence_data evidence.now)) ≤ 1_000_000 }
 {
     samples_of_exchanges_keep_limits();
     ExchangeSamples {

@@ -1,4 +1,4 @@
-use Rattle.std.proofs.Common.{◌<◌, List, [], ◌∷◌, All, length, arith}
+use Rattle.std.proofs.Common.{◌<◌, [], ◌∷◌, All, length, arith}
 use Rattle.std.proofs.lemmas.List.Elements.{All-cons, All-nil}
 use Rattle.sample_interval.specs.declared.kinds.Sample.{Sample}
 use Rattle.sample_interval.specs.Sample.{IsLawfulSample}

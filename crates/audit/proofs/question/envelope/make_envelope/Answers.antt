@@ -11,5 +11,5 @@ pub returns-in-Ok-envelope_text-clause-shows : goal.returns-in-Ok-envelope_text-
 returns-in-Ok-envelope_text-clause-shows c =
     let samples = c.samples_of-samples.ensures in
     envelope_shows c.best_hulls_hold_the_error.ensures c.args.step.seconds (evidence_data c.args.evidence.now)
-    c.requires.claim _ samples.samples samples.of_claim c.in-Ok.envelope c.outcome_of.result c.outcome_of.ensures
+    c.requires.claim samples.of_claim _ samples.samples c.in-Ok.envelope c.outcome_of.result c.outcome_of.ensures
     c.in-Ok.ensures
