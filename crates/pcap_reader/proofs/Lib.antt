@@ -13,3 +13,4 @@ pub mod Intake
 pub mod NextRecord
 pub mod Beginning
 pub mod Undecided
+pub mod Shown

@@ -6,6 +6,7 @@ pub mod Limit
 pub mod Remaining
 pub mod Refusal
 pub mod Source
+pub mod Beginning
 pub mod Prefix
 pub mod Broken
 pub mod Buffered

@@ -1,5 +1,5 @@
 -- A source of records, as the crates above see it: its state, and what a call does to it.
-use Rattle.std.specs.Prelude.{◌≡◌, ◌+◌, ◌<◌, ◌≤◌, ◌↔◌, ℕ, List, [], ◌∷◌, length, Option, Some, None, Result, Ok, Err, Bool, true, false, IsTrue, IfOk, IfErr, IfSome, IsErrOf, is_err}
+use Rattle.std.specs.Prelude.{◌≡◌, ◌+◌, ◌<◌, ◌≤◌, ◌↔◌, ◌⊎◌, ℕ, List, [], ◌∷◌, length, Option, Some, None, Result, Ok, Err, Bool, true, false, IsTrue, IfOk, IfErr, IfSome, IsErrOf, is_err}
 use Rattle.std.specs.Io.KnownBytes.{Consumes}
 use Rattle.std.proofs.Common.{◌++◌, arith, length-append}
 use Rattle.std.proofs.KnownBytes.{Consumes-nil, Consumes-trans}
@@ -117,6 +117,12 @@ IsUndecided coming held = elim coming.records [
 abbrev pub IsReadInTime : Result (Option RecordHead) CaptureFault → Coming → ℕ → Type 0
 IsReadInTime (Err Read) coming held = IsUndecided coming held
 IsReadInTime _ coming held = Unit {0}
+
+-- The next answer can be given at once: it's the answer after a fault, no byte more may be taken,
+-- or the bytes that are held show it, where the bytes are known.
+abbrev pub IsNextShown : SourceState → Type 0
+IsNextShown s = IsTrue s.has_failed ⊎ ((s.supply.most ≡ 0)
+    ⊎ IfSome s.remaining (λ coming. ¬ (IsUndecided coming s.held)))
 
 -- whether the fault is the device's
 abbrev pub is_read : CaptureFault → Bool

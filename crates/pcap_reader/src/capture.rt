@@ -5,12 +5,13 @@ ghost use Rattle.std.specs.Option.{option_map};
 ghost use Rattle.byte_stream.specs.Fault.{CountsFault};
 ghost use Rattle.byte_stream.specs.Intake.{TakesAtMost};
 ghost use Rattle.byte_stream.specs.State.{IsReadable};
+ghost use Rattle.pcap_reader.specs.Beginning.{BeginsOver, Refuses};
 ghost use Rattle.pcap_reader.specs.Buffered.{still_has, last_bytes, supply_of};
 ghost use Rattle.pcap_reader.specs.Capture.{most_captured, most_records};
 ghost use Rattle.pcap_reader.specs.Header.{header_of};
 ghost use Rattle.pcap_reader.specs.Refusal.{IsRefusal, most_refused};
 ghost use Rattle.pcap_reader.specs.Remaining.{coming_from};
-ghost use Rattle.pcap_reader.specs.Source.{IsFresh, AllRemains, TakesFrom, IsStep, whole_supply, is_read, read_failed};
+ghost use Rattle.pcap_reader.specs.Source.{TakesFrom, IsStep, read_failed};
 
 use crate::buffered::Buffered;
 use crate::fault::CaptureFault;
@@ -49,26 +50,9 @@ impl<F: Feed> Capture<F> {
     /// refusal hands the feed back.
     pub fn begin(alloc: Global, feed: F) -> Result<Capture<F>, (F, CaptureFault)>
         requires { IsReadable (F.state feed) }
-
-        // Where the bytes are known, they are those of a capture.
-        ensures fresh { IfOk result (λ source.
-            IsFresh (⟦<Capture<F> as RecordSource>⟧.state source)) }
-        ensures known { IfOk result (λ source. IfSome (F.state feed).remaining (λ bytes.
-            AllRemains bytes (⟦<Capture<F> as RecordSource>⟧.state source).remaining)) }
-        ensures unfailed { IfOk result (λ source.
-            (⟦<Capture<F> as RecordSource>⟧.state source).fault_count ≡ (F.state feed).faults) }
-        ensures takes { IfOk result (λ source. TakesFrom (whole_supply (F.state feed).remaining)
-            (⟦<Capture<F> as RecordSource>⟧.state source).supply) }
-
-        // Which faults come, and what they leave.
-        ensures refusal { IfErr result (λ refused. IsRefusal (F.state feed).remaining refused.1) }
-        ensures counts_fault { IfErr result (λ refused.
-            CountsFault (is_read refused.1) (F.state feed).faults (F.state refused.0).faults) }
-        ensures at_most { IfErr result (λ refused.
-            TakesAtMost (most_refused refused.1) (F.state feed).remaining
-            (F.state refused.0).remaining) }
-        ensures memory { IfErr result (λ refused.
-            refused.1 ≡ CaptureFault.Memory → refused.0 ≡ feed) }
+        ensures begins { IfOk result (λ source. BeginsOver (F.state feed)
+            (⟦<Capture<F> as RecordSource>⟧.state source)) }
+        ensures refuses { IfErr result (λ refused. Refuses F.state feed refused.0 refused.1) }
     {
         let mut input = match Buffered::new(alloc, feed) {
             Ok(input) => input,

@@ -1,7 +1,7 @@
 //! A source of records, whatever holds their bytes.
 
-ghost use Rattle.std.specs.Prelude.{◌≡◌, ◌-◌, ◌^◌, ◌<◌};
-ghost use Rattle.pcap_reader.specs.Source.{SourceState, IsStep};
+ghost use Rattle.std.specs.Prelude.{◌≡◌, ◌-◌, ◌^◌, ◌<◌, IsTrue};
+ghost use Rattle.pcap_reader.specs.Source.{SourceState, IsNextShown, IsStep};
 
 use crate::fault::CaptureFault;
 use crate::format::RecordHead;
@@ -28,9 +28,10 @@ pub trait RecordSource {
     fn bytes(&self) -> &[u8]
         ensures { result.now ≡ (state self.now).lent };
 
-    /// Whether the next call needn't wait for the device. It's a hint, of which nothing is
-    /// promised.
-    fn is_ready(&self) -> bool;
+    /// Whether the next call needn't wait for the device: a yes comes only where its answer is
+    /// shown without another byte. A no says nothing, so this is a hint.
+    fn is_ready(&self) -> bool
+        ensures { IsTrue result → IsNextShown (state self.now) };
 
     /// How often the device has failed: 0 where there is none.
     fn faults(&self) -> u64

@@ -13,13 +13,13 @@ use Rattle.audit.proofs.capture_input.read_capture_from.Goals as goal
 pub returns-in-Ok-collected-clause-known : goal.returns-in-Ok-collected-clause-known
 returns-in-Ok-collected-clause-known g c =
     capture_is_read (data_of c.args.claim.now) _ _ c.in-Ok-collected.held
-    c.in-Ok.ensures.known c.in-Ok-collected.ensures.exact
+    c.in-Ok.ensures.begins.known c.in-Ok-collected.ensures.exact
 
 pub returns-in-Ok-collected-clause-at_most : goal.returns-in-Ok-collected-clause-at_most
 returns-in-Ok-collected-clause-at_most g c =
     let before = (g.F.Feed.state c.args.feed).remaining in
     subst (λ (after : Option (List ℕ)). TakesAtMost most_taken before after) (sym c.into_feed-feed.ensures.known)
-    (taken_in_all _ _ _ c.in-Ok.ensures.takes c.collect_held-collected.ensures.leaves.takes)
+    (taken_in_all _ _ _ c.in-Ok.ensures.begins.takes c.collect_held-collected.ensures.leaves.takes)
 
 pub returns-in-Err-collected-clause-known : goal.returns-in-Err-collected-clause-known
 returns-in-Err-collected-clause-known g c =
@@ -27,13 +27,13 @@ returns-in-Err-collected-clause-known g c =
     let claim = data_of c.args.claim.now in
     subst (λ (f : RunFault). IfSome known (λ (b : List ℕ). Reads held_data (capture_read claim b) (Err f)))
     (sym c.run_fault_of.ensures)
-    (capture_unread claim _ _ c.in-Err-collected.fault c.in-Ok.ensures.known c.in-Err-collected.ensures.exact)
+    (capture_unread claim _ _ c.in-Err-collected.fault c.in-Ok.ensures.begins.known c.in-Err-collected.ensures.exact)
 
 pub returns-in-Err-collected-clause-at_most : goal.returns-in-Err-collected-clause-at_most
 returns-in-Err-collected-clause-at_most g c =
     let before = (g.F.Feed.state c.args.feed).remaining in
     subst (λ (after : Option (List ℕ)). TakesAtMost most_taken before after) (sym c.into_feed-feed.ensures.known)
-    (taken_in_all _ _ _ c.in-Ok.ensures.takes c.collect_held-collected.ensures.leaves.takes)
+    (taken_in_all _ _ _ c.in-Ok.ensures.begins.takes c.collect_held-collected.ensures.leaves.takes)
 
 pub returns-in-Err-clause-known : goal.returns-in-Err-clause-known
 returns-in-Err-clause-known g c =
@@ -41,4 +41,4 @@ returns-in-Err-clause-known g c =
     let claim = data_of c.args.claim.now in
     subst (λ (f : RunFault). IfSome known (λ (b : List ℕ). Reads held_data (capture_read claim b) (Err f)))
     (sym c.from.ensures)
-    (capture_refused claim _ c.in-Err.fault c.in-Err.ensures.refusal)
+    (capture_refused claim _ c.in-Err.fault c.in-Err.ensures.refuses.refusal)

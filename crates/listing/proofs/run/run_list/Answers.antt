@@ -7,16 +7,16 @@ returns-in-Err-clause-reports g c = reports_refused_memory _ c.publish.ensures
 
 pub returns-in-Ok-begin-clause-reports : goal.returns-in-Ok-begin-clause-reports
 returns-in-Ok-begin-clause-reports g c =
-    reports_of_bytes _ _ _ c.in-Ok-begin.ensures.known c.in-Ok-begin.ensures.unfailed
+    reports_of_bytes _ _ _ c.in-Ok-begin.ensures.begins.known c.in-Ok-begin.ensures.begins.unfailed
     c.into_feed.ensures.unfailed c.list_from-answer.ensures.reports
 
 pub returns-in-Ok-begin-clause-at_most : goal.returns-in-Ok-begin-clause-at_most
 returns-in-Ok-begin-clause-at_most g c =
     rw c.into_feed.ensures.known (
-    TakesFrom-at_most _ _ (TakesFrom-trans _ _ _ c.in-Ok-begin.ensures.takes c.list_from-answer.ensures.takes))
+    TakesFrom-at_most _ _ (TakesFrom-trans _ _ _ c.in-Ok-begin.ensures.begins.takes c.list_from-answer.ensures.takes))
 
 pub returns-clause-reports : goal.returns-clause-reports
 returns-clause-reports g c =
     let published = rw c.from.ensures at c.publish-answer.ensures in
-    reports_published _ _ (made_refused _ _ c.in-Err-begin.ensures.refusal) published
-    (counts_refused _ _ _ c.in-Err-begin.ensures.counts_fault)
+    reports_published _ _ (made_refused _ _ c.in-Err-begin.ensures.refuses.refusal) published
+    (counts_refused _ _ _ c.in-Err-begin.ensures.refuses.counts_fault)

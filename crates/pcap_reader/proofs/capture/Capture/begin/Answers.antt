@@ -1,18 +1,36 @@
-use Rattle.std.proofs.Common.{subst, IfSome}
-use Rattle.std.specs.Option.{option_map}
+use Rattle.std.proofs.Common.{refl, rules}
 use Rattle.pcap_reader.specs.Buffered.{still_has}
-use Rattle.pcap_reader.specs.Remaining.{coming_from}
-use Rattle.pcap_reader.specs.Source.{AllRemains}
 use Rattle.pcap_reader.proofs.Beginning.{begun}
+use Rattle.pcap_reader.proofs.Intake.{last-none}
 use Rattle.pcap_reader.proofs.capture.Capture.begin.Goals as goal
 
-pub returns-in-Ok-read_header-clause-known : goal.returns-in-Ok-read_header-clause-known
-returns-in-Ok-read_header-clause-known g c =
-    let state = g.F.Feed.state in
-    let r = c.in-Ok-read_header in
+pub returns-in-Ok-read_header-clause-begins : goal.returns-in-Ok-read_header-clause-begins
+returns-in-Ok-read_header-clause-begins g c =
     let input = c.read_header.new.input in
-    let known = begun (state c.in-Ok.input.feed).remaining (still_has state input) r.format input.place r.ensures.place
-    r.ensures.known in
-    subst (λ f. IfSome (state f).remaining (λ bytes. AllRemains bytes (option_map (coming_from r.format 0 input.place)
-    (still_has state input))))
-    c.in-Ok.ensures.feed known
+    let header = c.in-Ok-read_header in
+    rw (← c.in-Ok.ensures.feed) (record {
+      fresh = record { none_given = refl; unfailed = refl; none_lent = last-none input };
+      known = begun _ (still_has g.F.Feed.state input) header.format input.place header.ensures.place
+          header.ensures.known;
+      unfailed = header.ensures.counts_fault;
+      takes = search rules;
+    })
+
+pub returns-in-Err-read_header-clause-refuses : goal.returns-in-Err-read_header-clause-refuses
+returns-in-Err-read_header-clause-refuses g c =
+    let refused = c.in-Err-read_header.ensures in
+    rw (← c.in-Ok.ensures.feed, c.into_feed.ensures) (record {
+      refusal = refused.refusal;
+      counts_fault = refused.counts_fault;
+      at_most = refused.at_most;
+      memory = λ same. absurd (refused.not_memory same);
+    })
+
+pub returns-in-Err-clause-refuses : goal.returns-in-Err-clause-refuses
+returns-in-Err-clause-refuses g c =
+    rw c.in-Err.ensures.refused (record {
+      refusal = tt;
+      counts_fault = refl;
+      at_most = search rules;
+      memory = λ same. refl;
+    })
