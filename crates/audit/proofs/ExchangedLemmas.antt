@@ -290,7 +290,8 @@ module _ (laws : Laws) (claim : ClaimData) (apart : AllPairs (λ a b. a ≢ b) c
         server_listed = listed;
         answers = subst
             (λ (h : List ℕ). HoldsPacket r.bytes server ntp_port claim.client reply.port h) (sym header)
-            (moved r.bytes at_r.packet.header refl at_r.answers'.from_port at_r.answers'.to_client (sym port) at_r.held);
+            (moved r.bytes at_r.packet.header refl at_r.answers'.from_port at_r.answers'.to_client (sym port)
+            at_r.held);
         mode = ap mode_of header ∙ at_r.answers'.mode;
         usable = (laws.usable reply.header).0 accepted;
         asks = record {

@@ -67,8 +67,8 @@ pub record AreGiven (records : List Record) : Type 0 where
   pub each : All IsGiven records
   pub numbered : All (λ r. slice_get records r.head.number ≡ Some r) records
 
--- Where the records are known, the answer is theirs, but for a fault from outside. `shown` is what a
--- value of the program says.
+-- Where the records are known, the answer is theirs, but for a fault from outside. `shown` is what
+-- a value of the program says.
 abbrev pub IsAnswerTo : {X : Type 0} → (X → Collection) → ClaimData → Result X PairFault → Coming →
     Type 0
 IsAnswerTo shown claim result coming =

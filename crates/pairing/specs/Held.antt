@@ -56,4 +56,7 @@ exchange_shown x = shown_with x.request x
 
 -- what a value of the program says
 abbrev pub held_data : Held → Collection
-held_data held = record { exchanges = map exchange_shown held.exchanges.items; counts = held.counts }
+held_data held = record {
+  exchanges = map exchange_shown held.exchanges.items;
+  counts = held.counts;
+}

@@ -33,7 +33,8 @@ fn gather<S: RecordSource>(
     requires fresh { IsFresh (S.state source.old) }
     requires room { (S.state source.old).fault_count < 2 ^ 64 - 1 }
     requires empty { IsGatheredFrom (data_of claim.now) []
-        (get same_key gathering.old.index.places) gathering.old.exchanges.items gathering.old.counts }
+        (get same_key gathering.old.index.places) gathering.old.exchanges.items
+        gathering.old.counts }
     ensures whole { OnOk result (GathersAll (data_of claim.now) (S.state source.old).remaining
         (get same_key gathering.new.index.places) gathering.new.exchanges.items
         gathering.new.counts) }

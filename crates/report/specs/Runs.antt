@@ -60,8 +60,8 @@ pub record Runs {T F : Type 0} (report : Option Report) (most : ℕ)
       IsUnwrittenAt fault before.sink.contents after.sink.contents)
   pub second_untouched : IfErr answer (λ fault. IsBeforeSecond fault → second' ≡ second)
   pub capture_untouched : IfErr answer (λ fault. IsBeforeCapture fault → capture' ≡ capture)
-  pub claim_at_most :
-      TakesAtMost (most_read inputs.Claim max_claim answer) before.claim.remaining after.claim.remaining
+  pub claim_at_most : TakesAtMost (most_read inputs.Claim max_claim answer)
+      before.claim.remaining after.claim.remaining
   pub second_at_most : TakesAtMost most before.second.remaining after.second.remaining
   pub capture_at_most : TakesAtMost most_taken before.capture.remaining after.capture.remaining
   pub claim_memory : answer ≡ Err Memory →

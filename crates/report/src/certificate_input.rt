@@ -48,8 +48,8 @@ pub fn read_certificate_from<T: Feed>(alloc: Global, feed: &mut T) -> Result<Cer
 /// The certificate that a text says.
 ///
 /// The text is cut to a byte before it goes. If a large block is freed as it is, the C library puts
-/// every later block up to that size on its heap, and there the lists that grow side by side while a
-/// capture is read leave their earlier room behind.
+/// every later block up to that size on its heap, and there the lists that grow side by side while
+/// a capture is read leave their earlier room behind.
 fn read_certificate_in(alloc: Global, mut text: Vec<u8>) -> Result<Certificate, CertificateFault>
     ensures exact { Answers result data_of (certificate_of text.items) }
     ensures few { IfOk result (λ certificate. vec_len certificate.pieces ≤ max_pieces) }
