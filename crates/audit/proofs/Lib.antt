@@ -2,7 +2,7 @@ pub mod NanosecondLemmas
 pub mod MadeLemmas
 pub mod SampleLemmas
 pub mod CaptureLemmas
-pub mod MomentLemmas
+pub mod PartsLemmas
 pub mod CheckLemmas
 pub mod FindLemmas
 pub mod RefuteLemmas

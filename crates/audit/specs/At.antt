@@ -12,7 +12,7 @@ use Rattle.report.specs.declared.fault.Outcome.TheVariants.{Yes}
 use Rattle.report.specs.Reports.{Report, whole_text}
 use Rattle.audit_text.specs.Parts.{parts_text}
 use Rattle.audit.specs.Evidence.{EvidenceData, IsEvidenceOf, OfClaimAndCapture, samples_in}
-use Rattle.audit.specs.Moment.{parts_at, tick_of}
+use Rattle.audit.specs.Parts.{parts_at, tick_of}
 
 -- the text for what these servers say, with the hull over the groups
 abbrev pub hull_text : ClaimData → List Part → List ℕ

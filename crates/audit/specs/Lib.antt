@@ -1,7 +1,7 @@
 pub mod CaptureInput
 pub mod Evidence
 pub mod Samples
-pub mod Moment
+pub mod Parts
 pub mod At
 pub mod Check
 pub mod Find

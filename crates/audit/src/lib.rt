@@ -14,7 +14,7 @@ mod commands;
 mod engine;
 mod evidence;
 pub mod laws;
-mod moment;
+mod parts;
 mod question;
 mod sample_list;
 mod step;

@@ -21,7 +21,7 @@ use Rattle.claim_file.specs.Fault.{Answers}
 use Rattle.claim_file.specs.Fields.{FieldsData, fields_of}
 use Rattle.claim_file.specs.Group.{groups_of}
 use Rattle.claim_file.specs.Reading.{NamedData, named_of, is_in_range, claim_with, within_limits, claim_from, claim_of}
-use Rattle.claim_file.specs.Time.{exists, spelling, moment_at, unix_second, time_of, in_u32}
+use Rattle.claim_file.specs.Time.{exists, spelling, date_time_at, unix_second, time_of, in_u32}
 
 neither : (a b : Bool) → (a || b) ≡ false → (a ≡ false) × (b ≡ false)
 neither false b e = (refl, e)
@@ -55,7 +55,7 @@ if_some false o a e = cc
 
 time_of-small : (text : List ℕ) (s : ℕ) → time_of text ≡ Some s → s < 2 ^ 32
 time_of-small text s e =
-    let m = moment_at text in
+    let m = date_time_at text in
     in_u32_small (unix_second m) s (if_some (exists m && bytes_eq text (spelling m)) (in_u32 (unix_second m)) s e)
 
 -- what the tests say

@@ -8,34 +8,34 @@ use Rattle.std.proofs.lemmas.Slice.Eq.{bytes_eq-Decides}
 use Rattle.std.specs.Str.{bytes_eq}
 use Rattle.jiff_core.specs.Calendar.{IsCivilDate, days_in_month}
 use Rattle.claim_file.proofs.Groups.{both_true}
-use Rattle.claim_file.specs.declared.time.Moment.{Moment}
-use Rattle.claim_file.specs.Time.{IsTime, exists, spelling, unix_second, pair_value, moment_at, in_u32, time_of}
+use Rattle.claim_file.specs.declared.time.DateTime.{DateTime}
+use Rattle.claim_file.specs.Time.{IsTime, exists, spelling, unix_second, pair_value, date_time_at, in_u32, time_of}
 
--- a moment that exists: the text is compared with its spelling
+-- a date and time that exist: the text is compared with their spelling
 time_of-there : (text : List ℕ) (second : ℤ) (same : Bool) →
-    Some second ≡ (if exists (moment_at text) then Some (unix_second (moment_at text)) else None) →
-    same ≡ bytes_eq text (spelling (moment_at text)) →
+    Some second ≡ (if exists (date_time_at text) then Some (unix_second (date_time_at text)) else None) →
+    same ≡ bytes_eq text (spelling (date_time_at text)) →
     (if same then in_u32 second else None) ≡ time_of text
 time_of-there text second same found is =
-    at (exists (moment_at text)) found
+    at (exists (date_time_at text)) found
   where
-    at : (there : Bool) → Some second ≡ (if there then Some (unix_second (moment_at text)) else None) →
+    at : (there : Bool) → Some second ≡ (if there then Some (unix_second (date_time_at text)) else None) →
         (if same then in_u32 second else None)
-        ≡ (if there && bytes_eq text (spelling (moment_at text)) then in_u32 (unix_second (moment_at text)) else None)
+        ≡ (if there && bytes_eq text (spelling (date_time_at text)) then in_u32 (unix_second (date_time_at text)) else None)
     at true e = ap (λ o. if same then option_and_then in_u32 o else None) e
-        ∙ ap (λ b. if b then in_u32 (unix_second (moment_at text)) else None) is
+        ∙ ap (λ b. if b then in_u32 (unix_second (date_time_at text)) else None) is
     at false e = cc
 
 -- the same, step by step as it is read
-pub time_of-read : {text bytes slice : List ℕ} {m : Moment} {second : ℤ} {found : Option ℤ} (same : Bool) →
-    bytes ≡ text → m ≡ moment_at bytes →
+pub time_of-read : {text bytes slice : List ℕ} {m : DateTime} {second : ℤ} {found : Option ℤ} (same : Bool) →
+    bytes ≡ text → m ≡ date_time_at bytes →
     found ≡ (if exists m then Some (unix_second m) else None) → found ≡ Some second →
     slice ≡ spelling m → same ≡ bytes_eq bytes slice →
     (if same then in_u32 second else None) ≡ time_of text
 time_of-read {text} {bytes} {slice} {m} {second} {found} same known at unix is spelled test =
-    let there : Some second ≡ (if exists (moment_at bytes) then Some (unix_second (moment_at bytes)) else None) =
-    sym is ∙ unix ∙ ap (λ (v : Moment). if exists v then Some (unix_second v) else None) at in
-    let written : same ≡ bytes_eq bytes (spelling (moment_at bytes)) =
+    let there : Some second ≡ (if exists (date_time_at bytes) then Some (unix_second (date_time_at bytes)) else None) =
+    sym is ∙ unix ∙ ap (λ (v : DateTime). if exists v then Some (unix_second v) else None) at in
+    let written : same ≡ bytes_eq bytes (spelling (date_time_at bytes)) =
     test ∙ ap (bytes_eq bytes) (spelled ∙ ap spelling at) in
     time_of-there bytes second same there written ∙ ap time_of known
 
@@ -43,8 +43,8 @@ time_of-read {text} {bytes} {slice} {m} {second} {found} same known at unix is s
 pair_value-digits : (n : ℕ) → n < 100 → pair_value (48 + n / 10) (48 + n % 10) ≡ n
 pair_value-digits n small = omega arith
 
--- a moment that exists, by its parts
-exists_parts : (m : Moment) → exists m ≡ true →
+-- a date and time that exist, by their parts
+exists_parts : (m : DateTime) → exists m ≡ true →
     IsCivilDate (pos m.year) m.month m.day × (m.hour < 24) × (m.minute < 60) × (m.second < 60)
 exists_parts m there =
     let (e3, second) = both_true _ _ there in
@@ -65,8 +65,8 @@ exists_parts m there =
       ltb-true _ _ second,
     )
 
--- a moment that exists has numbers of as many digits as are written
-small_parts : (m : Moment) → exists m ≡ true →
+-- a date and time that exist have numbers of as many digits as are written
+small_parts : (m : DateTime) → exists m ≡ true →
     (m.year < 10000) × (m.month < 100) × (m.day < 100) × (m.hour < 100) × (m.minute < 100) × (m.second < 100)
 small_parts m there =
     let (date, h, mi, s) = exists_parts m there in
@@ -77,8 +77,8 @@ small_parts m there =
     (omega (arith, ints, y), omega arith, omega arith, omega arith, omega arith, omega arith)
 
 -- what was written is read again
-pub moment_at-spelling : (m : Moment) → exists m ≡ true → moment_at (spelling m) ≡ m
-moment_at-spelling m there =
+pub date_time_at-spelling : (m : DateTime) → exists m ≡ true → date_time_at (spelling m) ≡ m
+date_time_at-spelling m there =
     let (y, mo, d, h, mi, s) = small_parts m there in
     λ i. record {
       year = year_again m.year y i;
@@ -127,13 +127,13 @@ unsaid true true z second e =
 unsaid true false z second e = cc
 unsaid false same z second e = cc
 
--- ---- moments by their parts
+-- ---- dates and times by their parts
 
 passes : (a b : ℕ) → a ≤ b → nat_le a b ≡ true
 passes a b less = grind (arith, nat_tests)
 
--- a moment exists if the calendar has its day, and the day its time
-exists_from : (m : Moment) → IsCivilDate (pos m.year) m.month m.day → m.hour < 24 → m.minute < 60 → m.second < 60 →
+-- a date and time exist if the calendar has the day, and the day the time
+exists_from : (m : DateTime) → IsCivilDate (pos m.year) m.month m.day → m.hour < 24 → m.minute < 60 → m.second < 60 →
     exists m ≡ true
 exists_from m date hour minute second =
     let year : nat_lt m.year 10000 ≡ true = (let d = date.0.1 in
@@ -148,10 +148,10 @@ exists_from m date hour minute second =
     let s : nat_lt m.second 60 ≡ true = (Decides-ltb m.second 60).1 second in
     rw (year, first_month, last_month, first_day, last_day, h, mi, s) refl
 
--- a text that writes a moment says its second
+-- a text that writes a date and time says their second
 pub time_of-IsTime : (text : List ℕ) (second : ℕ) → IsTime text second → time_of text ≡ Some second
 time_of-IsTime text second time =
-    let m : Moment = record {
+    let m : DateTime = record {
       year = time.year;
       month = time.month;
       day = time.day;
@@ -160,15 +160,15 @@ time_of-IsTime text second time =
       second = time.second_of_minute;
     } in
     let there = exists_from m time.date time.time_of_day.0 time.time_of_day.1 time.time_of_day.2 in
-    let same : moment_at text ≡ m = ap moment_at time.spelled ∙ moment_at-spelling m there in
+    let same : date_time_at text ≡ m = ap date_time_at time.spelled ∙ date_time_at-spelling m there in
     said _ _ _ second (ap exists same ∙ there)
-    ((bytes_eq-Decides text (spelling (moment_at text))).1 (time.spelled ∙ ap spelling (sym same)))
+    ((bytes_eq-Decides text (spelling (date_time_at text))).1 (time.spelled ∙ ap spelling (sym same)))
     (ap unix_second same ∙ time.counted) time.in_range
 
--- a text that says a second writes a moment
+-- a text that says a second writes a date and time
 pub IsTime-time_of : (text : List ℕ) (second : ℕ) → time_of text ≡ Some second → IsTime text second
 IsTime-time_of text second says =
-    let m = moment_at text in
+    let m = date_time_at text in
     let parts = unsaid (exists m) (bytes_eq text (spelling m)) (unix_second m) second says in
     let (date, hour, minute, second') = exists_parts m parts.is_there in
     record {

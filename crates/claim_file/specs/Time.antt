@@ -1,14 +1,13 @@
--- A moment in UTC, and the text that writes it.
+-- A date and time of day in UTC, and the text that writes it.
 --
--- A moment is a date and a time of day. It is written `YYYY-MM-DDTHH:MM:SSZ`, the profile of ISO
--- 8601 that RFC 3339 has, with capital letters, without a fraction and always in UTC. Its Unix
--- second is the number of its day, counted from 1970-01-01 in the Gregorian calendar, times 86400,
--- and the time of day.
+-- It is written `YYYY-MM-DDTHH:MM:SSZ`, the date-time of RFC 3339 (a profile of ISO 8601), with
+-- capital letters, without a fraction and always in UTC. Its Unix second is the number of its day,
+-- counted from 1970-01-01 in the Gregorian calendar, times 86400, and the time of day.
 use Rattle.std.specs.Prelude.{◌≡◌, ℕ, ◌+◌, ◌-◌, ◌*◌, ◌/◌, ◌%◌, ◌^◌, ◌<◌, ℤ, pos, negsuc, ◌+ℤ◌, ◌*ℤ◌, Bool, ◌&&◌}
 use Rattle.std.specs.Prelude.{List, [], ◌∷◌, ◌++◌, slice_index, codes, nat_lt, nat_le, Option, Some, None, if◌then◌else◌}
 use Rattle.std.specs.Str.{bytes_eq}
 use Rattle.jiff_core.specs.Calendar.{IsCivilDate, days_in_month, days_from_civil}
-use Rattle.claim_file.specs.declared.time.Moment.{Moment}
+use Rattle.claim_file.specs.declared.time.DateTime.{DateTime}
 
 -- the calendar has this day, in a year of four digits
 abbrev pub is_date : ℕ → ℕ → ℕ → Bool
@@ -16,13 +15,13 @@ is_date year month day =
     nat_lt year 10000 && nat_le 1 month && nat_le month 12
     && nat_le 1 day && nat_le day (days_in_month (pos year) month)
 
--- the moment exists: its day does, and the day has this hour, minute and second
-abbrev pub exists : Moment → Bool
+-- it exists: its day does, and the day has this hour, minute and second
+abbrev pub exists : DateTime → Bool
 exists m =
     is_date m.year m.month m.day && nat_lt m.hour 24 && nat_lt m.minute 60 && nat_lt m.second 60
 
--- the second of the moment, counted from 1970-01-01T00:00:00Z
-abbrev pub unix_second : Moment → ℤ
+-- its second, counted from 1970-01-01T00:00:00Z
+abbrev pub unix_second : DateTime → ℤ
 unix_second m =
     days_from_civil (pos m.year) m.month m.day *ℤ pos 86400
     +ℤ pos (m.hour * 3600 + m.minute * 60 + m.second)
@@ -34,14 +33,14 @@ two_digits n = (48 + n / 10) ∷ (48 + n % 10) ∷ []
 abbrev pub four_digits : ℕ → List ℕ
 four_digits n = two_digits (n / 100) ++ two_digits (n % 100)
 
--- the text that writes a moment
-abbrev pub spelling : Moment → List ℕ
+-- the text that writes it
+abbrev pub spelling : DateTime → List ℕ
 spelling m =
     four_digits m.year ++ codes "-" ++ two_digits m.month ++ codes "-" ++ two_digits m.day
     ++ codes "T" ++ two_digits m.hour ++ codes ":" ++ two_digits m.minute ++ codes ":"
     ++ two_digits m.second ++ codes "Z"
 
--- the text writes a moment of UTC that exists, and the moment has this number among the 2^32
+-- the text writes a date and time in UTC that exist, and this is their number among the 2^32
 -- seconds from 1970-01-01T00:00:00Z on
 pub record IsTime (text : List ℕ) (second : ℕ) : Type 0 where
   pub year : ℕ
@@ -63,9 +62,9 @@ pub record IsTime (text : List ℕ) (second : ℕ) : Type 0 where
 abbrev pub pair_value : ℕ → ℕ → ℕ
 pair_value tens ones = (tens - 48) * 10 + (ones - 48)
 
--- the moment that the digits of a text say, whatever else stands there
-abbrev pub moment_at : List ℕ → Moment
-moment_at text = record {
+-- the date and time that the digits of a text say, whatever else stands there
+abbrev pub date_time_at : List ℕ → DateTime
+date_time_at text = record {
   year = pair_value (slice_index text 0) (slice_index text 1) * 100
       + pair_value (slice_index text 2) (slice_index text 3);
   month = pair_value (slice_index text 5) (slice_index text 6);
@@ -80,8 +79,8 @@ abbrev pub in_u32 : ℤ → Option ℕ
 in_u32 (pos n) = if nat_lt n (2 ^ 32) then Some n else None
 in_u32 (negsuc n) = None
 
--- the Unix second that a text says: it says one where it is the very text that writes its moment
+-- the Unix second that a text says: it says one if it is the very text that writes what it says
 abbrev pub time_of : List ℕ → Option ℕ
 time_of text =
-    let m = moment_at text in
+    let m = date_time_at text in
     if exists m && bytes_eq text (spelling m) then in_u32 (unix_second m) else None

@@ -5,7 +5,7 @@ ghost use Rattle.std.specs.Prelude.{◌≡◌, ℕ, pos, ◌<◌, ◌≤◌, ◌
 ghost use Rattle.std.specs.Prelude.{true, IsTrue, codes, Ok, Some, slice_index};
 ghost use Rattle.std.specs.List.{concat, list_any, slice_index_or};
 ghost use Rattle.std.specs.Net.Grammar.{IsDotted};
-ghost use Rattle.claim_file.specs.declared.time.Moment.{Moment};
+ghost use Rattle.claim_file.specs.declared.time.DateTime.{DateTime};
 ghost use Rattle.claim_file.specs.Address.{address_of};
 ghost use Rattle.claim_file.specs.Claim.{ClaimData, IsLawful, IsWithoutGap, group_count};
 ghost use Rattle.era_unfold.specs.Nanoseconds.{ticks_down, ticks_up};
@@ -37,14 +37,14 @@ pub fn worked_claim_is_read()
     ensures { claim_of worked_text ≡ Ok worked_claim }
 {}
 
-/// A text says a time exactly where it is the text that writes a moment which exists.
+/// A text says a time exactly if it is the text that writes a date and time that exist.
 pub fn times_are_spelled()
     ensures { (text : List ℕ) (second : ℕ) → (time_of text ≡ Some second) ↔ IsTime text second }
 {}
 
-/// No two moments are written by one text.
-pub fn moments_have_one_spelling()
-    ensures { (m n : Moment) → exists m ≡ true → exists n ≡ true → spelling m ≡ spelling n → m ≡ n }
+/// No two dates and times are written by one text.
+pub fn date_times_have_one_spelling()
+    ensures { (m n : DateTime) → exists m ≡ true → exists n ≡ true → spelling m ≡ spelling n → m ≡ n }
 {}
 
 /// The first time is second 0 and the last second 2^32 - 1.

@@ -1,4 +1,4 @@
-//! A moment in UTC, and the text that writes it.
+//! A date and time of day in UTC, and the text that writes it.
 
 ghost use Rattle.std.specs.Prelude.{◌≡◌, ◌<◌, true, pos, if◌then◌else◌, length, Some, None};
 ghost use Rattle.jiff_core.specs.Calendar.{days_from_civil};
@@ -10,7 +10,7 @@ const SECONDS_PER_DAY: i64 = 86_400;
 
 /// A date and a time of day, in UTC.
 #[derive(Clone, Copy)]
-struct Moment {
+struct DateTime {
     year: u32,
     month: u32,
     day: u32,
@@ -30,9 +30,9 @@ pub fn read_time(text: &str) -> Option<u32>
     if bytes.len() != 20 {
         return None;
     }
-    let moment = moment_at(bytes);
-    let second = moment.unix_second()?;
-    if bytes == moment.spelling().as_slice() {
+    let date_time = date_time_at(bytes);
+    let second = date_time.unix_second()?;
+    if bytes == date_time.spelling().as_slice() {
         in_u32(second)
     } else {
         None
@@ -50,12 +50,12 @@ fn in_u32(second: i64) -> Option<u32>
     }
 }
 
-/// The moment that the digits of a text say, whatever else stands there.
-fn moment_at(text: &[u8]) -> Moment
+/// The date and time that the digits of a text say, whatever else stands there.
+fn date_time_at(text: &[u8]) -> DateTime
     requires { length text.now ≡ 20 }
-    ensures { result ≡ spec.moment_at text.now }
+    ensures { result ≡ spec.date_time_at text.now }
 {
-    Moment {
+    DateTime {
         year: pair(text[0], text[1]) * 100 + pair(text[2], text[3]),
         month: pair(text[5], text[6]),
         day: pair(text[8], text[9]),
@@ -85,8 +85,8 @@ fn day_number(year: u32, month: u32, day: u32) -> Option<i32>
     Some(date.to_plain().to_unix_epoch_day())
 }
 
-impl Moment {
-    /// The second of a moment that exists, counted from 1970.
+impl DateTime {
+    /// Its second, counted from 1970, where the date exists and the day has the time.
     fn unix_second(&self) -> Option<i64>
         ensures { result
             ≡ (if spec.exists self.now then Some (spec.unix_second self.now) else None) }
@@ -100,7 +100,7 @@ impl Moment {
         }
     }
 
-    /// The text that writes a moment.
+    /// The text that writes it.
     fn spelling(&self) -> [u8; 20]
         requires { spec.exists self.now ≡ true }
         ensures { result ≡ spec.spelling self.now }

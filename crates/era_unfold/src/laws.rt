@@ -6,15 +6,18 @@ ghost use Rattle.era_unfold.specs.declared.unit.Unit.{Unit as SubsecondUnit};
 ghost use Rattle.era_unfold.specs.Ratio.{IsFloor, IsCeiling, IsSignedFloor, IsSignedCeiling, floor_of, ceiling_of};
 ghost use Rattle.era_unfold.specs.Window.{per_second, ticks_per_second, window_low, window_high};
 ghost use Rattle.era_unfold.specs.Nanoseconds.{ticks_down, ticks_up, nanoseconds_per_second};
-ghost use Rattle.era_unfold.specs.Stamp.{StandsFor, IsUnfolded, unfolded};
+ghost use Rattle.era_unfold.specs.Stamp.{StandsFor, IsUnfolded, unfolded, era};
 
 use crate::nanoseconds::TICKS_PER_SECOND;
+use crate::stamp::ERA;
 use crate::unit::NANOSECONDS_PER_SECOND;
 
-/// The program's ticks and nanoseconds to the second are those of the definitions.
+/// The program's ticks and nanoseconds to the second, and its ticks to the era, are those of the
+/// definitions.
 pub fn constants_are_those_of_the_definitions()
     ensures ticks { TICKS_PER_SECOND ≡ ticks_per_second }
     ensures nanoseconds { NANOSECONDS_PER_SECOND ≡ nanoseconds_per_second }
+    ensures era { ERA ≡ pos era }
 {}
 
 /// `floor_of` gives the greatest whole number that is not above a ratio, and `ceiling_of` the least

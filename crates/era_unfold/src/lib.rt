@@ -17,6 +17,6 @@ mod unit;
 mod window;
 
 pub use nanoseconds::{TICKS_PER_SECOND, ns_down, ns_up};
-pub use stamp::unfold;
+pub use stamp::{ERA, unfold};
 pub use unit::{NANOSECONDS_PER_SECOND, Unit};
 pub use window::{high, low};

@@ -3,7 +3,8 @@
 ghost use Rattle.std.specs.Prelude.{◌≡◌, ◌%◌, pos, ◌+ℤ◌, ◌≤ℤ◌, unsigned_abs};
 ghost use Rattle.era_unfold.specs.Stamp.{StandsFor, IsUnfolded, unfolded, era};
 
-const ERA: i128 = 1 << 64;
+/// How many ticks of 2^-32 second an era of NTP timestamps has: 2^64 (RFC 5905, section 6).
+pub const ERA: i128 = 1 << 64;
 
 const HALF_ERA: u64 = 1 << 63;
 

@@ -19,7 +19,7 @@ use Rattle.report.specs.Fault.{run_fault_of}
 use Rattle.report.specs.Output.{OutputState, Puts, fresh_output, put_count}
 use Rattle.report.specs.Reports.{Report, GetsText}
 use Rattle.listing.specs.Listing.{lines_of, closing_line, listing}
-use Rattle.listing.specs.Progress.{HasGiven, HasPassed, IsUnderWay, HasListed, Lists, moment, most_line}
+use Rattle.listing.specs.Progress.{HasGiven, HasPassed, IsUnderWay, HasListed, Lists, progress, most_line}
 use Rattle.listing.proofs.Devices.{closed_counts}
 use Rattle.listing.proofs.ProgressLemmas.{at_some, lines-listing, cut_in_lines, listing-whole, listing-broken}
 use Rattle.listing.proofs.UnderWay.{ready_after}
@@ -51,16 +51,16 @@ module _ (start now : Option Coming) (done : List (List ℕ)) (records : ℕ) (Q
 module _ {start : SourceState} {sink : SinkState} where
   -- the sink failed in what was gathered
   pub listed_short : {s s' : SourceState} {o o' : OutputState} {packets : ℕ} {added : List (List ℕ)}
-      {fault : RunFault} → IsUnderWay start sink (moment s o) packets →
+      {fault : RunFault} → IsUnderWay start sink (progress s o) packets →
       s'.fault_count ≡ s.fault_count → TakesFrom s.supply s'.supply →
-      Puts o o' added (Err fault) → HasListed start sink (moment s' o') (Err fault)
+      Puts o o' added (Err fault) → HasListed start sink (progress s' o') (Err fault)
   listed_short {s = s} {s' = s'} {o' = o'} u same takes puts =
       let stop = puts.texts sink.contents u.done u.put in
       let text = with_given start.remaining s.remaining u.done s.given
       (λ c. HasRun (listing c) sink.contents o' (Err (faults.Write stop.sent))) u.passed
       (λ whole rest given.
       cut_in_lines (listing whole) u.done (lines_of rest.records) (first_lines given) stop.cut) in
-      subst (λ (f : RunFault). HasListed start sink (moment s' o') (Err f)) (sym stop.fault_is) (record {
+      subst (λ (f : RunFault). HasListed start sink (progress s' o') (Err f)) (sym stop.fault_is) (record {
         text = text;
         can_close = puts.is_open;
         stops = omega (arith, puts.faults, u.sink_faults);
@@ -71,9 +71,9 @@ module _ {start : SourceState} {sink : SinkState} where
 
   -- the records end whole, and the closing line was put
   pub listed_whole : {s s' : SourceState} {o o' : OutputState} {packets : ℕ} →
-      IsUnderWay start sink (moment s o) packets → IsStep s (Ok None) s' →
+      IsUnderWay start sink (progress s o) packets → IsStep s (Ok None) s' →
       Puts o o' (closing_line s.given packets ∷ []) (Ok tt) → put_count o' ≤ (put_count o + most_line) →
-      HasListed start sink (moment s' o') (Ok outcomes.Yes)
+      HasListed start sink (progress s' o') (Ok outcomes.Yes)
   listed_whole {s = s} {s' = s'} {o' = o'} {packets = packets} u step puts short =
       let closing = closing_line s.given packets in
       let put = puts.texts sink.contents u.done u.put in
@@ -97,9 +97,9 @@ module _ {start : SourceState} {sink : SinkState} where
 
   -- a fault of the bytes stands after the records
   listed_broken : {s s' : SourceState} {o : OutputState} {packets : ℕ} (fault : CaptureFault) →
-      IsUnderWay start sink (moment s o) packets → IfSome s.remaining (λ c. c ≡ broken_end fault) →
+      IsUnderWay start sink (progress s o) packets → IfSome s.remaining (λ c. c ≡ broken_end fault) →
       s'.fault_count ≡ s.fault_count → TakesFrom s.supply s'.supply →
-      HasListed start sink (moment s' o) (Err (faults.Capture fault))
+      HasListed start sink (progress s' o) (Err (faults.Capture fault))
   listed_broken {s = s} {s' = s'} {o = o} fault u next same takes =
       let answer : Result Outcome RunFault = Err (faults.Capture fault) in
       let broken_text = λ (whole rest : Coming) (end : rest ≡ broken_end fault)
@@ -118,8 +118,8 @@ module _ {start : SourceState} {sink : SinkState} where
       }
 
   -- the source's device failed
-  listed_device : {s s' : SourceState} {o : OutputState} {packets : ℕ} → IsUnderWay start sink (moment s o) packets →
-      IsStep s (Err captures.Read) s' → HasListed start sink (moment s' o) (Err (faults.Device inputs.Capture))
+  listed_device : {s s' : SourceState} {o : OutputState} {packets : ℕ} → IsUnderWay start sink (progress s o) packets →
+      IsStep s (Err captures.Read) s' → HasListed start sink (progress s' o) (Err (faults.Device inputs.Capture))
   listed_device {s = s} {s' = s'} {o = o} u step = record {
     text = with_given start.remaining s.remaining u.done s.given
         (λ c. HasRun (listing c) sink.contents o (Err (faults.Device inputs.Capture))) u.passed
@@ -133,8 +133,8 @@ module _ {start : SourceState} {sink : SinkState} where
 
   -- the source answered a fault
   pub listed_refused : {s s' : SourceState} {o : OutputState} {packets : ℕ} (fault : CaptureFault) →
-      IsUnderWay start sink (moment s o) packets → IsStep s (Err fault) s' →
-      HasListed start sink (moment s' o) (Err (run_fault_of fault))
+      IsUnderWay start sink (progress s o) packets → IsStep s (Err fault) s' →
+      HasListed start sink (progress s' o) (Err (run_fault_of fault))
   listed_refused captures.Read u step = listed_device u step
   listed_refused captures.Failed u step = absurd (true≢false (sym (step.failed_iff.0 refl) ∙ u.unfailed))
   listed_refused (captures.TornRecord p) u step =
@@ -179,7 +179,7 @@ module _ {o : OutputState} {after : SinkState} {ran answer : Result Outcome RunF
 
 module _ {start end : SourceState} {sink after : SinkState} {o : OutputState}
     {ran answer : Result Outcome RunFault} where
-  lists_closed : HasListed start sink (moment end o) ran → Closes o after ran answer → Lists start end sink after answer
+  lists_closed : HasListed start sink (progress end o) ran → Closes o after ran answer → Lists start end sink after answer
   lists_closed listed closes =
       let device = closed_counts closes.device listed.device in
       record {
@@ -196,8 +196,8 @@ module _ {start end : SourceState} {sink after : SinkState} {o : OutputState}
       }
 
   -- a listing whose output began over this sink
-  pub lists_over : {first : OutputState} → first ≡ fresh_output sink → HasListed start first.sink (moment end o) ran →
+  pub lists_over : {first : OutputState} → first ≡ fresh_output sink → HasListed start first.sink (progress end o) ran →
       Closes o after ran answer → Lists start end sink after answer
   lists_over fresh listed closes =
       let same = ap (λ (x : OutputState). x.sink) fresh in
-      lists_closed (subst (λ (s : SinkState). HasListed start s (moment end o) ran) same listed) closes
+      lists_closed (subst (λ (s : SinkState). HasListed start s (progress end o) ran) same listed) closes

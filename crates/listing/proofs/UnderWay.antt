@@ -6,7 +6,7 @@ use Rattle.pcap_reader.specs.Source.{SourceState, IsFresh, IsStep, TakesFrom-non
 use Rattle.byte_stream.specs.State.{SinkState}
 use Rattle.report.specs.Output.{OutputState, HasPut, IsReady, Puts, fresh_output, put_count}
 use Rattle.listing.specs.PacketLine.{line_of}
-use Rattle.listing.specs.Progress.{HasPassed, IsUnderWay, PutsLine, moment, most_line, texts_of}
+use Rattle.listing.specs.Progress.{HasPassed, IsUnderWay, PutsLine, progress, most_line, texts_of}
 use Rattle.listing.proofs.ProgressLemmas.{passed_start, passed_more}
 
 -- an output that has just taken texts may take more
@@ -23,7 +23,7 @@ texts_few (Some line) = omega arith
 
 module _ {start : SourceState} {sink : SinkState} where
   pub under_way_start : {o : OutputState} → IsFresh start → IsReady o → o ≡ fresh_output sink →
-      IsUnderWay start sink (moment start o) 0
+      IsUnderWay start sink (progress start o) 0
   under_way_start {o = o} fresh ready empty = record {
     ready = ready;
     unfailed = fresh.unfailed;
@@ -48,7 +48,7 @@ module _ {start : SourceState} {sink : SinkState} where
 
   -- what is gathered went out
   pub under_way_flushed : {s : SourceState} {o o' : OutputState} {packets : ℕ} →
-      IsUnderWay start sink (moment s o) packets → Puts o o' [] (Ok tt) → IsUnderWay start sink (moment s o') packets
+      IsUnderWay start sink (progress s o) packets → Puts o o' [] (Ok tt) → IsUnderWay start sink (progress s o') packets
   under_way_flushed {o' = o'} u puts = record {
     ready = ready_after u.ready puts (omega (arith, puts.count, u.ready.few));
     unfailed = u.unfailed;
@@ -67,9 +67,9 @@ module _ {start : SourceState} {sink : SinkState} where
 
   -- a record was given, and its line was put
   pub under_way_more : {s s' : SourceState} {o o' : OutputState} {packets count : ℕ} (head : RecordHead) →
-      IsUnderWay start sink (moment s o) packets → IsStep s (Ok (Some head)) s' →
+      IsUnderWay start sink (progress s o) packets → IsStep s (Ok (Some head)) s' →
       PutsLine (line_of (record { head = head; bytes = s'.lent })) o o' (Ok count) →
-      put_count o' ≤ (put_count o + most_line) → IsUnderWay start sink (moment s' o') (packets + count)
+      put_count o' ≤ (put_count o + most_line) → IsUnderWay start sink (progress s' o') (packets + count)
   under_way_more {s = s} {s' = s'} head u step (count_is, puts) short =
       let line = texts_of (line_of (record { head = head; bytes = s'.lent })) in
       let one = texts_few (line_of (record { head = head; bytes = s'.lent })) in

@@ -36,13 +36,13 @@ abbrev pub HasPassed : Option Coming → Option Coming → List (List ℕ) → �
 HasPassed start now done records =
     IfSome start (λ whole. (rest : Coming) × (now ≡ Some rest) × HasGiven whole rest done records)
 
--- a source and an output at one moment
-pub record Moment : Type 0 where
+-- how far it has come: what its source and its output are then
+pub record Progress : Type 0 where
   pub source : SourceState
   pub output : OutputState
 
-abbrev pub moment : SourceState → OutputState → Moment
-moment source output = record { source = source; output = output }
+abbrev pub progress : SourceState → OutputState → Progress
+progress source output = record { source = source; output = output }
 
 -- more bytes than a line of a listing has
 abbrev pub most_line : ℕ
@@ -61,7 +61,7 @@ PutsLine line old new (Err fault) = Puts old new (texts_of line) (Err fault)
 
 -- A listing under way: so many records were given, of which so many hold an NTP packet, and the
 -- lines of these were put.
-pub record IsUnderWay (start : SourceState) (sink : SinkState) (now : Moment) (packets : ℕ)
+pub record IsUnderWay (start : SourceState) (sink : SinkState) (now : Progress) (packets : ℕ)
     : Type 0 where
   pub ready : IsReady now.output
   pub unfailed : now.source.has_failed ≡ false
@@ -84,7 +84,7 @@ pub record CountsCapture (ran : Result Outcome RunFault) (before after : ℕ) : 
   pub capture : CountsFault (is_device is_capture ran) before after
 
 -- A listing that came to this answer and is still to be closed.
-pub record HasListed (start : SourceState) (sink : SinkState) (now : Moment)
+pub record HasListed (start : SourceState) (sink : SinkState) (now : Progress)
     (ran : Result Outcome RunFault) : Type 0 where
   pub text : IfSome start.remaining (λ coming. HasRun (listing coming) sink.contents now.output ran)
   pub can_close : CanClose now.output ran

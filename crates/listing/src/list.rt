@@ -6,7 +6,7 @@ ghost use Rattle.report.specs.declared.output.TheConstants.{OUTPUT_CAPACITY};
 ghost use Rattle.report.specs.Output.{IsReady, Puts, put_count, fresh_output};
 ghost use Rattle.report.specs.State.{output_state, sink_name};
 ghost use Rattle.listing.specs.Listing.{closing_line};
-ghost use Rattle.listing.specs.Progress.{CanList, HasListed, Lists, moment, most_line};
+ghost use Rattle.listing.specs.Progress.{CanList, HasListed, Lists, progress, most_line};
 
 use crate::record::list_record;
 use byte_stream::Sink;
@@ -74,7 +74,7 @@ fn list_records<R: RecordSource, S: Sink>(
     ensures same_sink { sink_name out.new ≡ sink_name out.old }
     ensures listed { HasListed (R.state source.old)
         (output_state S.state out.old).sink
-        (moment (R.state source.new)
+        (progress (R.state source.new)
         (output_state S.state out.new)) result }
 {
     let mut line = Line::new();

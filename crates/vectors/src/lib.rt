@@ -21,7 +21,13 @@ pub const V1: [u8; 236] = [
     0x02, 0x8f, 0x5c, 0x29, 0xbf, 0x45, 0x48, 0x80, 0x02, 0x8f, 0x5c, 0x29,
 ];
 
-/// A claim on `V1`: one server, one moment, no drift.
+/// The Unix second of `V1`, 2001-09-09T01:46:40Z.
+pub const SECOND: u32 = 1_000_000_000;
+
+/// The tick of 2^-32 second at which the second of `V1` begins.
+pub const TICK: i128 = 4_294_967_296_000_000_000;
+
+/// A claim on `V1`: one server, one second, no drift.
 pub const C1: &str = "{\"client\":\"192.0.2.10\",\"servers\":[\"192.0.2.1\"],\"false_max\":0,\
     \"from\":\"2001-09-09T01:46:40Z\",\"to\":\"2001-09-09T01:46:40Z\",\
     \"bound_ns\":10001001,\"drift_ppb\":0,\"reading_ns\":0}";

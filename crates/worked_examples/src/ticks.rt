@@ -1,8 +1,6 @@
 //! Windows, timestamps and nanoseconds in ticks, by hand.
 
-use era_unfold::{Unit, high, low, ns_down, ns_up, unfold};
-
-const ERA: i128 = 1 << 64;
+use era_unfold::{ERA, Unit, high, low, ns_down, ns_up, unfold};
 
 #[test]
 fn windows_of_microseconds(rt: HostRuntime) {

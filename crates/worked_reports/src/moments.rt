@@ -5,10 +5,7 @@ use crate::trial::{Command, Inputs, gives};
 use Command::{At, Samples};
 use report::Outcome;
 use std::test::Fail;
-use vectors::{C1, V1};
-
-/// The second of `C1`.
-const SECOND: u32 = 1_000_000_000;
+use vectors::{C1, SECOND, V1};
 
 const SAMPLE: &str = "0 192.0.2.1 0 1 offset -4295 1 delay 85895050 85903641 \
     low -42949674 high 42953969\n";

@@ -8,10 +8,7 @@ use claim_file::ClaimFault;
 use pcap_reader::CaptureFault;
 use report::{Input, RunFault};
 use std::test::Fail;
-use vectors::{C1, K1, V1};
-
-/// The second of `C1`.
-const SECOND: u32 = 1_000_000_000;
+use vectors::{C1, K1, SECOND, V1};
 
 /// A refused capture is told as what it is by every engine, and never as being out of memory.
 #[test]

@@ -2,14 +2,11 @@
 ghost use Rattle.std.specs.Prelude.{◌≡◌, ◌<◌, ◌≤◌, ◌^◌, unsigned_abs};
 ghost use Rattle.sample_interval.specs.Sample.{IsLawfulSample};
 
+use era_unfold::TICKS_PER_SECOND;
 use intersection::kinds::Interval;
 use sample_interval::kinds::Sample;
 use span_cover::{best, piece_end, piece_interval};
-
-// 2001-09-09T01:46:40Z, the second 1,000,000,000.
-const SECOND: i128 = 4_294_967_296_000_000_000;
-
-const TICKS_PER_SECOND: i128 = 4_294_967_296;
+use vectors::TICK;
 
 // The sample of an exchange of 20 ms at the second, in microseconds.
 pub(crate) fn twenty_milliseconds() -> Sample
@@ -19,11 +16,11 @@ pub(crate) fn twenty_milliseconds() -> Sample
     Sample {
         server: 0,
         low: -42_949_674,
-        low_from: SECOND,
-        low_to: SECOND + 4295,
+        low_from: TICK,
+        low_to: TICK + 4295,
         high: 42_953_969,
-        high_from: SECOND + 85_899_345,
-        high_to: SECOND + 85_903_641,
+        high_from: TICK + 85_899_345,
+        high_to: TICK + 85_903_641,
     }
 }
 
@@ -35,9 +32,9 @@ fn intervals_of_pieces(rt: HostRuntime) {
         (32, 20_000, -45_698_509, 45_701_086),
         (64, 20_000, -48_447_343, 48_449_920),
     ] {
-        let end = SECOND + seconds * TICKS_PER_SECOND;
+        let end = TICK + seconds * TICKS_PER_SECOND as i128;
         assert_eq!(rt;
-            piece_interval(&sample, &sample, SECOND, end, rate),
+            piece_interval(&sample, &sample, TICK, end, rate),
             Interval { lo, hi },
             "{seconds} seconds"
         );
@@ -48,17 +45,17 @@ fn intervals_of_pieces(rt: HostRuntime) {
 fn best_samples(rt: HostRuntime) {
     for (server, chosen) in [(0, Some((0, 0))), (1, None)] {
         let samples = [twenty_milliseconds()];
-        assert_eq!(rt; best(&samples, server, SECOND, SECOND, 0), chosen);
+        assert_eq!(rt; best(&samples, server, TICK, TICK, 0), chosen);
     }
 }
 
 #[test]
 fn ends_of_pieces(rt: HostRuntime) {
-    let minute = SECOND + 64 * TICKS_PER_SECOND;
-    assert_eq!(rt; piece_end(SECOND, minute, 64, 0), 4_294_967_570_877_906_944);
-    assert_eq!(rt; piece_end(SECOND, minute, 32, 0), 4_294_967_433_438_953_472);
-    assert_eq!(rt; piece_end(SECOND, minute, 32, 1), 4_294_967_570_877_906_944);
-    assert_eq!(rt; piece_end(SECOND, minute, 48, 1), minute);
+    let minute = TICK + 64 * TICKS_PER_SECOND as i128;
+    assert_eq!(rt; piece_end(TICK, minute, 64, 0), 4_294_967_570_877_906_944);
+    assert_eq!(rt; piece_end(TICK, minute, 32, 0), 4_294_967_433_438_953_472);
+    assert_eq!(rt; piece_end(TICK, minute, 32, 1), 4_294_967_570_877_906_944);
+    assert_eq!(rt; piece_end(TICK, minute, 48, 1), minute);
     let day = 4_295_396_792_729_600_000;
-    assert_eq!(rt; piece_end(SECOND, day, 1, 99_999), day);
+    assert_eq!(rt; piece_end(TICK, day, 1, 99_999), day);
 }

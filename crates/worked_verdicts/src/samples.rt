@@ -5,9 +5,7 @@ use crate::pieces::twenty_milliseconds;
 use pairing::Exchange;
 use sample_interval::kinds::Sample;
 use sample_interval::{delay, offset, sample, widen};
-
-// 2001-09-09T01:46:40Z, the second 1,000,000,000.
-const SECOND: i128 = 4_294_967_296_000_000_000;
+use vectors::TICK;
 
 // A request at the second, in microseconds, its reply 20 ms later, and both timestamps half way.
 fn exchange() -> Exchange
@@ -17,12 +15,12 @@ fn exchange() -> Exchange
         server: 0,
         request: 0,
         reply: 1,
-        t1_low: SECOND,
-        t1_high: SECOND + 4295,
-        t4_low: SECOND + 85_899_345,
-        t4_high: SECOND + 85_903_641,
-        t2: SECOND + 42_949_673,
-        t3: SECOND + 42_949_673,
+        t1_low: TICK,
+        t1_high: TICK + 4295,
+        t4_low: TICK + 85_899_345,
+        t4_high: TICK + 85_903_641,
+        t2: TICK + 42_949_673,
+        t3: TICK + 42_949_673,
         distance: 1,
         leap: 0,
         stratum: 1,
@@ -59,11 +57,11 @@ fn readings_within_a_microsecond(rt: HostRuntime) {
     let expected = Sample {
         server: 0,
         low: -42_953_969,
-        low_from: SECOND - 4295,
-        low_to: SECOND + 8590,
+        low_from: TICK - 4295,
+        low_to: TICK + 8590,
         high: 42_958_264,
-        high_from: SECOND + 85_895_050,
-        high_to: SECOND + 85_907_936,
+        high_from: TICK + 85_895_050,
+        high_to: TICK + 85_907_936,
     };
     assert_eq!(rt; sample(&x, 4295), expected);
 }

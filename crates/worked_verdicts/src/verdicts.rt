@@ -11,10 +11,7 @@ use sample_interval::kinds::Sample;
 use std::alloc::{AllocError, Global};
 use std::process::Abort;
 use std::test::Fail;
-use vectors::{C1, K1};
-
-// 2001-09-09T01:46:40Z, the second 1,000,000,000.
-const SECOND: i128 = 4_294_967_296_000_000_000;
+use vectors::{C1, K1, TICK};
 
 // What a server says at the second: its number, and the ends of the error in ticks.
 fn sample_of(server: u8, low: i32, high: i32) -> Sample
@@ -24,11 +21,11 @@ fn sample_of(server: u8, low: i32, high: i32) -> Sample
     Sample {
         server,
         low: i128::from(low),
-        low_from: SECOND,
-        low_to: SECOND,
+        low_from: TICK,
+        low_to: TICK,
         high: i128::from(high),
-        high_from: SECOND,
-        high_to: SECOND,
+        high_from: TICK,
+        high_to: TICK,
     }
 }
 

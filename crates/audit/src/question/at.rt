@@ -10,7 +10,7 @@ ghost use Rattle.audit.specs.Question.{ShowsOf, show_at};
 ghost use Rattle.audit.specs.Report.{IsOfMaking};
 
 use crate::evidence::Evidence;
-use crate::moment::{parts_at, tick_of};
+use crate::parts::{parts_at, tick_of};
 use audit_text::parts_text;
 use checker::laws::hulls_hold_the_error;
 use claim_file::Claim;

@@ -7,12 +7,12 @@ pub returns-then-eq : goal.returns-then-eq
 returns-then-eq c =
     let fits : FitsSigned w64 c.in_ok-second.second = search rules in
     (simp to_z-of_z at c.in_u32.ensures)
-    ∙ time_of-read true c.as_bytes-bytes.ensures.value c.moment_at-moment.ensures c.unix_second.ensures
+    ∙ time_of-read true c.as_bytes-bytes.ensures.value c.date_time_at-date_time.ensures c.unix_second.ensures
     c.in_ok-second.was
     (c.as_slice.ensures ∙ c.spelling.ensures) (sym c.if-eq.true ∙ c.eq.ensures)
 
 pub returns-else-eq : goal.returns-else-eq
 returns-else-eq c =
-    time_of-read false c.as_bytes-bytes.ensures.value c.moment_at-moment.ensures c.unix_second.ensures
+    time_of-read false c.as_bytes-bytes.ensures.value c.date_time_at-date_time.ensures c.unix_second.ensures
     c.in_ok-second.was
     (c.as_slice.ensures ∙ c.spelling.ensures) (sym c.if-eq.false ∙ c.eq.ensures)

@@ -1,7 +1,7 @@
 use Rattle.std.proofs.Common.{◌≡◌, ◌-◌}
 use Rattle.pcap_reader.specs.Capture.{most_records}
 use Rattle.report.specs.State.{output_state, sink_name}
-use Rattle.listing.specs.Progress.{IsUnderWay, moment}
+use Rattle.listing.specs.Progress.{IsUnderWay, progress}
 use Rattle.listing.proofs.list.list_records.Given as goal
 
 abbrev pub invariant-records : goal.invariant-records
@@ -11,7 +11,7 @@ invariant-records g l =
       same_sink : sink_name l.out ≡ sink_name l.fn.out;
       given : l.records ≡ (g.R.RecordSource.state l.source).given;
       under_way : IsUnderWay (g.R.RecordSource.state l.fn.source) (state l.fn.out).sink
-          (moment (g.R.RecordSource.state l.source) (state l.out)) l.packets;
+          (progress (g.R.RecordSource.state l.source) (state l.out)) l.packets;
     }
 
 abbrev pub decreases-records : goal.decreases-records

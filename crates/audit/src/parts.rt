@@ -1,4 +1,4 @@
-//! What exchanges say of the clock's error at one moment.
+//! What each server says of the clock's error at one reading of the clock, a tick.
 
 ghost use Rattle.std.specs.Prelude.{◌≡◌, ◌<◌, ℕ, ℤ, List, IfSome, length, map, All};
 ghost use Rattle.claim_file.specs.Claim.{IsLawful, data_of};
@@ -8,7 +8,7 @@ ghost use Rattle.sample_interval.specs.declared.kinds.Sample.{Sample as TheSampl
 ghost use Rattle.span_cover.specs.Gathering.{Gathered};
 ghost use Rattle.span_cover.specs.Piece.{IsPiece};
 ghost use Rattle.checker.specs.Traceability.{samples_of};
-ghost use Rattle.audit.specs.Moment as spec;
+ghost use Rattle.audit.specs.Parts as spec;
 
 use arrayvec::ArrayVec;
 use claim_file::Claim;

@@ -1,6 +1,6 @@
--- What samples say of the clock's error at one moment, a reading of the clock.
+-- What each server says of the clock's error at one reading of the clock, a tick.
 --
--- A moment is a piece of the span that begins where it ends. Each server with a sample gives the
+-- A tick is a piece of the span that begins where it ends. Each server with a sample gives the
 -- interval of its best samples for that piece. The hull is taken over the groups of servers, as in
 -- a certificate's piece.
 use Rattle.std.specs.Prelude.{ℕ, ◌*◌, ◌^◌, ℤ, pos, List, length, filter_map, Option}

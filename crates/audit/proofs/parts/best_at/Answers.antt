@@ -6,8 +6,8 @@ use Rattle.pairing.specs.Held.{exchange_shown}
 use Rattle.sample_interval.specs.declared.kinds.Sample.{Sample}
 use Rattle.sample_interval.specs.Sample.{sample_of}
 use Rattle.audit_text.proofs.ShownLemmas.{is_inside, keeps_limits, stands_at}
-use Rattle.audit.proofs.MomentLemmas.{taken_more}
-use Rattle.audit.proofs.moment.best_at.Goals as goal
+use Rattle.audit.proofs.PartsLemmas.{taken_more}
+use Rattle.audit.proofs.parts.best_at.Goals as goal
 
 pub sample-requires-clause-exchange : goal.sample-requires-clause-exchange
 sample-requires-clause-exchange c = record {

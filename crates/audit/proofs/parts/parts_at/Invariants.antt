@@ -2,9 +2,9 @@ use Rattle.std.proofs.Common.{length, map}
 use Rattle.claim_file.specs.Claim.{data_of}
 use Rattle.pairing.specs.Held.{exchange_shown}
 use Rattle.checker.specs.Traceability.{samples_of}
-use Rattle.audit.specs.Moment.{part_at}
-use Rattle.audit.proofs.MomentLemmas.{StandsFor}
-use Rattle.audit.proofs.moment.parts_at.Given as goal
+use Rattle.audit.specs.Parts.{part_at}
+use Rattle.audit.proofs.PartsLemmas.{StandsFor}
+use Rattle.audit.proofs.parts.parts_at.Given as goal
 
 abbrev pub invariant-loop-server : goal.invariant-loop-server
 invariant-loop-server l =

@@ -3,10 +3,10 @@ use mir.Syntax.{w128}
 use Rattle.claim_file.specs.Claim.{data_of}
 use Rattle.pairing.specs.Held.{exchange_shown}
 use Rattle.checker.specs.Traceability.{samples_of}
-use Rattle.audit.specs.Moment.{part_at}
-use Rattle.audit.proofs.MomentLemmas.{one_stands, none_stands}
-use Rattle.audit.proofs.moment.parts_at.Goals as goal
-use Rattle.audit.proofs.moment.parts_at.Goals.{in-Some, in_default}
+use Rattle.audit.specs.Parts.{part_at}
+use Rattle.audit.proofs.PartsLemmas.{one_stands, none_stands}
+use Rattle.audit.proofs.parts.parts_at.Goals as goal
+use Rattle.audit.proofs.parts.parts_at.Goals.{in-Some, in_default}
 
 pub loop-server-preserved : goal.loop-server-preserved
 loop-server-preserved c =

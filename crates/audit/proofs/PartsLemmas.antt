@@ -1,4 +1,4 @@
--- What servers say at one moment, one server after another.
+-- What servers say at one reading of the clock, one server after another.
 use Rattle.std.proofs.Common.{◌≡◌, ◌∙◌, ◌+◌, ◌<◌, ◌≤◌, ◌++◌, ℕ, ℤ, List, [], ◌∷◌, length, take, get_or, Option, Some, None, refl, sym, ap, subst, add-one, append-nil, arith, length-append}
 use Rattle.std.specs.Prelude.{filter_map, All}
 use Rattle.std.specs.List.{cons_option}

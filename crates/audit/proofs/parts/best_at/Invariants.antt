@@ -3,7 +3,7 @@ use Rattle.claim_file.specs.Claim.{data_of}
 use Rattle.pairing.specs.Held.{exchange_shown}
 use Rattle.span_cover.specs.Gathering.{Gathered}
 use Rattle.checker.specs.Traceability.{samples_of}
-use Rattle.audit.proofs.moment.best_at.Given as goal
+use Rattle.audit.proofs.parts.best_at.Given as goal
 
 abbrev pub invariant-loop-held : goal.invariant-loop-held
 invariant-loop-held l =
