@@ -12,6 +12,7 @@ ghost use Rattle.audit_text.specs.Second.{second_of};
 ghost use Rattle.audit_text.specs.Envelope as spec;
 ghost use Rattle.audit_text.specs.Envelope.{hull_fields, lines_from, place_fields, server_lines};
 
+use crate::interval_line::write_interval_line;
 use crate::sample_line::put_interval;
 use crate::second::second_of;
 use claim_file::Claim;
@@ -76,14 +77,12 @@ fn write_piece_line(line: &mut Line, number: u32, piece: &PieceHull)
 }
 
 /// Writes the line of a server in place of what `line` held.
+#[tactic(auto, unfolding(crate::specs::Envelope::server_line))]
 fn write_server_line(line: &mut Line, claim: &Claim, number: u32, part: &Part)
     requires { part.now.server < length claim.now.servers.items }
     ensures { line.new ≡ spec.server_line (data_of claim.now) number part.now }
 {
-    line.clear();
-    line.put_byte(b'\n');
-    put_interval(line, " ", part.interval.lo, part.interval.hi);
-    line.put_address(&claim.servers[usize::from(part.server)]);
+    write_interval_line(line, claim, part);
     line.put_byte(b' ');
     line.put_number(number);
 }
@@ -118,7 +117,8 @@ fn add_servers<S: SampleSource>(
 ) -> Result<(), AllocError>
     requires claim { IsLawful (data_of claim.now) }
     requires samples { All IsLawfulSample (S.samples samples) }
-    requires listed { All (λ sample. sample.server < length claim.now.servers.items) (S.samples samples) }
+    requires listed { All (λ sample. sample.server < length claim.now.servers.items)
+        (S.samples samples) }
     requires piece { IsLawfulPiece (length (S.samples samples)) (piece_data piece.now) }
     ensures { IfOk result (λ _. text.new.items ≡ text.old.items
         ++ server_lines (S.samples samples) (data_of claim.now) number (piece_data piece.now)) }
@@ -160,12 +160,13 @@ fn add_pieces<S: SampleSource>(
 ) -> Result<(), AllocError>
     requires claim { IsLawful (data_of claim.now) }
     requires samples { All IsLawfulSample (S.samples samples) }
-    requires listed { All (λ sample. sample.server < length claim.now.servers.items) (S.samples samples) }
+    requires listed { All (λ sample. sample.server < length claim.now.servers.items)
+        (S.samples samples) }
     requires few { length pieces.now ≤ 100_000 }
     requires pieces { All (λ piece. IsLawfulPiece (length (S.samples samples)) (piece_data piece))
         pieces.now }
-    ensures { IfOk result (λ _. text.new.items ≡ text.old.items
-        ++ lines_from (S.samples samples) (data_of claim.now) servers 0 (map piece_data pieces.now)) }
+    ensures { IfOk result (λ _. text.new.items ≡ text.old.items ++ lines_from
+        (S.samples samples) (data_of claim.now) servers 0 (map piece_data pieces.now)) }
 {
     for (number, piece) in pieces.iter().enumerate() {
         if servers {
@@ -194,11 +195,12 @@ pub fn envelope_text<S: SampleSource>(
 ) -> Result<Vec<u8>, AllocError>
     requires claim { IsLawful (data_of claim.now) }
     requires samples { All IsLawfulSample (S.samples samples) }
-    requires listed { All (λ sample. sample.server < length claim.now.servers.items) (S.samples samples) }
+    requires listed { All (λ sample. sample.server < length claim.now.servers.items)
+        (S.samples samples) }
     requires few { length envelope.now.pieces.items ≤ 100_000 }
     requires envelope { IsLawfulEnvelope (length (S.samples samples)) envelope.now }
-    ensures { IfOk result (λ text. text.items ≡
-        spec.envelope_text (S.samples samples) (data_of claim.now) servers (envelope_data envelope.now)) }
+    ensures { IfOk result (λ text. text.items ≡ spec.envelope_text (S.samples samples)
+        (data_of claim.now) servers (envelope_data envelope.now)) }
 {
     let mut text = Vec::new(alloc);
     let mut line = Line::new();

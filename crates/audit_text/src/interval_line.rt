@@ -1,6 +1,6 @@
 //! The line of a server's interval.
 
-ghost use Rattle.std.specs.Prelude.{◌≡◌, ◌<◌, length};
+ghost use Rattle.std.specs.Prelude.{◌≡◌, ◌<◌, ◌≤◌, length};
 ghost use Rattle.claim_file.specs.Claim.{data_of};
 ghost use Rattle.audit_text.specs.IntervalLine as spec;
 
@@ -13,7 +13,8 @@ use span_cover::Part;
 #[tactic(auto, unfolding(crate::specs::IntervalLine::interval_line))]
 pub(crate) fn write_interval_line(line: &mut Line, claim: &Claim, part: &Part)
     requires { part.now.server < length claim.now.servers.items }
-    ensures { line.new ≡ spec.interval_line (data_of claim.now) part.now }
+    ensures text { line.new ≡ spec.interval_line (data_of claim.now) part.now }
+    ensures at_most { length line.new ≤ 98 }
 {
     line.clear();
     line.put_byte(b'\n');

@@ -5,7 +5,7 @@ use Rattle.serde_json.specs.Data.{Data, Items, no_items, item}
 use Rattle.serde_json.specs.Events.{items_len}
 use Rattle.json.specs.Json.{parse_map, after_end_array}
 use Rattle.json.specs.Token.{Token}
-use Rattle.json_text.proofs.NextMapped.{mapped_same, element_read, goes_on}
+use Rattle.json_text.proofs.NextMapped.{mapped_same, array_ends, element_read, goes_on}
 use Rattle.json_text.specs.Next.{next_value, next_items, rest_after}
 use Rattle.json_text.specs.Step.{given, asked}
 use Rattle.certificate.specs.declared.fault.CertificateFault.{CertificateFault}
@@ -60,7 +60,7 @@ nothing_more : (found : Option (List (ℕ × ℕ))) → and_more found (Some [])
 nothing_more None = refl
 nothing_more (Some es) = ap Some (append-nil es)
 
-pub entries_last : (number count : ℕ) (found : Option (List (ℕ × ℕ))) → count ≤ max_entries →
+entries_last : (number count : ℕ) (found : Option (List (ℕ × ℕ))) → count ≤ max_entries →
     entries_after number count found no_items ≡ given (Shape number) found Ok
 entries_last number count found few =
     let fits : nat_le (count + 0) max_entries ≡ true = grind (arith, nat_tests) in
@@ -102,3 +102,11 @@ module _ (number count : ℕ) (found : Option (List (ℕ × ℕ))) (depth : ℕ)
       let (v, same, more) = element_read (entries_after number count found) depth ts entry_of entry r going is in
       more ∙ mapped_same _ _ (entries_next number count found v) (next_items depth r)
       ∙ ap (λ e. parse_map (entries_after number (count + 1) (and_one found e)) (next_items depth r)) same
+
+-- the last turn
+pub none_there : (number count : ℕ) (found : Option (List (ℕ × ℕ))) (depth : ℕ) (ts r : List Token) →
+    after_end_array ts ≡ Some r → count ≤ max_entries →
+    parse_map (entries_after number count found) (next_items depth ts) ≡ Some (given (Shape number) found Ok, r)
+none_there number count found depth ts r over few =
+    array_ends (entries_after number count found) depth ts r over
+    ∙ ap (λ e. Some (e, r)) (entries_last number count found few)

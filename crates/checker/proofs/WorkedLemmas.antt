@@ -13,7 +13,8 @@ use Rattle.pairing.specs.Pairing.{requests_of, replies_of, exchanges_of}
 use Rattle.pairing.specs.Refusal.{refusal_of}
 use Rattle.pcap_reader.specs.Capture.{IsRecordAt, IsCapture}
 use Rattle.checker.specs.WorkedCapture.{request_frame, reply_frame, worked_capture, worked_format, worked_records}
-use Rattle.checker.specs.WorkedCourse.{worked_claim, worked_exchange}
+use Rattle.claim_file.specs.Worked.{worked_claim}
+use Rattle.checker.specs.WorkedCourse.{worked_exchange}
 
 -- what unfolds to compute the packets of frames, and their headers
 unfoldable packets_unfold : ⊤

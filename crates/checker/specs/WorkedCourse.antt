@@ -5,31 +5,13 @@
 -- long.
 use Rattle.std.specs.Prelude.{ℕ, ◌+◌, ◌-◌, ◌*◌, ◌^◌, ◌==◌, ℤ, pos, ◌-ℤ◌, false, [], ◌∷◌, if◌then◌else◌}
 use Rattle.claim_file.specs.Claim.{ClaimData}
+use Rattle.claim_file.specs.Worked.{worked_second, worked_claim}
 use Rattle.pairing.specs.declared.exchange.Exchange.{Exchange}
 use Rattle.sample_interval.specs.Moment.{Moment}
 use Rattle.checker.specs.Course.{Course}
 
--- 2001-09-09T01:46:40Z in Unix ticks
-abbrev pub worked_second : ℕ
-worked_second = 1000000000 * 2 ^ 32
-
--- the claim: the clock was within 10,001,001 ns of UTC at that second
-abbrev pub worked_claim : ClaimData
-worked_claim = record {
-  client = 192 ∷ 0 ∷ 2 ∷ 10 ∷ [];
-  servers = (192 ∷ 0 ∷ 2 ∷ 1 ∷ []) ∷ [];
-  groups = 0 ∷ [];
-  false_max = 0;
-  first = pos worked_second;
-  last = pos worked_second;
-  bound = pos 42953972;
-  bound_ns = 10001001;
-  drift_ppb = 0;
-  reading = pos 0;
-  reading_ns = 0;
-}
-
--- the exchange: sent at that second, answered 10 ms later, received 20 ms later
+-- the exchange under the worked claim: sent at its second, answered 10 ms later, received 20 ms
+-- later
 abbrev pub worked_exchange : Exchange
 worked_exchange = record {
   server = 0;

@@ -7,7 +7,8 @@ use Rattle.std.specs.Prelude.{ℕ, ℤ, pos, List, [], ◌∷◌}
 use Rattle.certificate.specs.Refutation.{RefutationData}
 use Rattle.claim_file.specs.Claim.{ClaimData}
 use Rattle.checker.specs.Refutation.{IsRefuted}
-use Rattle.checker.specs.WorkedCourse.{worked_second, worked_claim, worked_exchange}
+use Rattle.claim_file.specs.Worked.{worked_second, worked_claim}
+use Rattle.checker.specs.WorkedCourse.{worked_exchange}
 
 -- the worked claim with such a bound, where so many groups may be false
 abbrev pub claim_with : ℕ → ℕ → ClaimData

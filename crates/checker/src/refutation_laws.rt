@@ -12,7 +12,8 @@ ghost use Rattle.checker.specs.Refutation.{Admits, HasCourse, SomeCourseFits};
 ghost use Rattle.checker.specs.RefutationTest.{admits, is_refuted};
 ghost use Rattle.checker.specs.Traceability.{samples_of, IsObservedIn, IsWithin};
 ghost use Rattle.checker.specs.Verdict.{verdict_of};
-ghost use Rattle.checker.specs.WorkedCourse.{worked_second, worked_exchange};
+ghost use Rattle.claim_file.specs.Worked.{worked_second};
+ghost use Rattle.checker.specs.WorkedCourse.{worked_exchange};
 ghost use Rattle.checker.specs.WorkedRefutation.{Refutes, claim_with, refutation_with};
 ghost use Rattle.checker.specs.declared.verdict.Verdict.TheVariants.{Yes};
 

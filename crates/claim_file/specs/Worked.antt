@@ -3,6 +3,10 @@
 use Rattle.std.specs.Prelude.{ℕ, ◌*◌, ◌^◌, pos, List, [], ◌∷◌, ◌++◌, codes}
 use Rattle.claim_file.specs.Claim.{ClaimData}
 
+-- 2001-09-09T01:46:40Z in Unix ticks
+abbrev pub worked_second : ℕ
+worked_second = 1000000000 * 2 ^ 32
+
 -- the text
 abbrev pub worked_text : List ℕ
 worked_text =
@@ -17,8 +21,8 @@ worked_claim = record {
   servers = (192 ∷ 0 ∷ 2 ∷ 1 ∷ []) ∷ [];
   groups = 0 ∷ [];
   false_max = 0;
-  first = pos (1000000000 * 2 ^ 32);
-  last = pos (1000000000 * 2 ^ 32);
+  first = pos worked_second;
+  last = pos worked_second;
   bound = pos 42953972;
   bound_ns = 10001001;
   drift_ppb = 0;

@@ -7,9 +7,9 @@ use Rattle.audit_text.specs.IntervalLine.{interval_line}
 use Rattle.audit_text.specs.SampleLine.{server_of}
 use Rattle.audit_text.proofs.interval_line.write_interval_line.Goals as goal
 
-pub returns : goal.returns
+pub returns-clause-text : goal.returns-clause-text
 unfolding interval_line
-returns c =
+returns-clause-text c =
     let claim = c.args.claim.now in
     let part = c.args.part.now in
     let at = slice_get-get_or claim.servers.items part.server c.index.result.now c.requires in

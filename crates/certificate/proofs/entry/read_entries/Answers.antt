@@ -1,11 +1,11 @@
 use Rattle.std.proofs.Common.{◌≡◌, ◌+◌, ◌≤◌, length, Some, None, Ok, sym, ap, ◌∙◌, arith, length-append}
 use Rattle.json.specs.Json.{parse_map, after_end_array}
-use Rattle.json_text.proofs.NextMapped.{mapped_same, mapped-shorter, array_ends, element_refused}
+use Rattle.json_text.proofs.NextMapped.{mapped_same, mapped-shorter, element_refused}
 use Rattle.json_text.specs.Next.{next_items}
 use Rattle.json_text.specs.Step.{given}
 use Rattle.certificate.specs.Reading.{entry_of}
 use Rattle.certificate.specs.declared.fault.CertificateFault.TheVariants.{Shape}
-use Rattle.certificate.proofs.EntriesRead.{so_far, and_one, entries_after, entries_first, entries_last, too_many_there, one_more_there, pushed_one, pushed_none}
+use Rattle.certificate.proofs.EntriesRead.{so_far, and_one, entries_after, entries_first, too_many_there, one_more_there, none_there, pushed_one, pushed_none}
 use Rattle.certificate.proofs.entry.read_entries.Goals as goal
 use Rattle.certificate.proofs.entry.read_entries.Goals.{Joined-branch-3, in-Some, in-None}
 
@@ -88,18 +88,16 @@ pub returns-then-are_pairs : goal.returns-then-are_pairs
 returns-then-are_pairs c =
     let l = c.entries in
     let r = c.take_end_array.new.self in
-    let over : after_end_array l.reader ≡ Some r = grind arith in
-    let found = so_far l.are_pairs l.entries.items in
-    l.invariant.read ∙ array_ends (entries_after c.args.number l.count found) c.args.depth l.reader r over
-    ∙ ap (λ e. Some (e, r)) (entries_last c.args.number l.count found l.invariant.few)
+    l.invariant.read
+    ∙ none_there c.args.number l.count (so_far l.are_pairs l.entries.items) c.args.depth l.reader r (grind arith)
+    l.invariant.few
     ∙ ap (λ b. Some (given (Shape c.args.number) (so_far b l.entries.items) Ok, r)) c.if-are_pairs.true
 
 pub returns-else-are_pairs : goal.returns-else-are_pairs
 returns-else-are_pairs c =
     let l = c.entries in
     let r = c.take_end_array.new.self in
-    let over : after_end_array l.reader ≡ Some r = grind arith in
-    let found = so_far l.are_pairs l.entries.items in
-    l.invariant.read ∙ array_ends (entries_after c.args.number l.count found) c.args.depth l.reader r over
-    ∙ ap (λ e. Some (e, r)) (entries_last c.args.number l.count found l.invariant.few)
+    l.invariant.read
+    ∙ none_there c.args.number l.count (so_far l.are_pairs l.entries.items) c.args.depth l.reader r (grind arith)
+    l.invariant.few
     ∙ ap (λ b. Some (given (Shape c.args.number) (so_far b l.entries.items) Ok, r)) c.if-are_pairs.false

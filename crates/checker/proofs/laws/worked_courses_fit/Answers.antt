@@ -1,6 +1,6 @@
 use Rattle.std.proofs.Common.{◌+◌, pos, neg_ℤ, arith}
 use Rattle.std.proofs.lemmas.Int.{ints}
-use Rattle.checker.specs.WorkedCourse.{worked_second}
+use Rattle.claim_file.specs.Worked.{worked_second}
 use Rattle.checker.proofs.CourseLemmas.{worked_fits, slow_fits}
 use Rattle.checker.proofs.laws.worked_courses_fit.Goals as goal
 

@@ -1,5 +1,6 @@
 use Rattle.std.proofs.Common.{◌+◌, pos, neg_ℤ, [], ◌∷◌, refl}
-use Rattle.checker.specs.WorkedCourse.{worked_second, worked_exchange}
+use Rattle.claim_file.specs.Worked.{worked_second}
+use Rattle.checker.specs.WorkedCourse.{worked_exchange}
 use Rattle.checker.specs.WorkedRefutation.{claim_with, refutation_with}
 use Rattle.checker.proofs.RefutationLemmas.{refused_by_test}
 use Rattle.checker.proofs.refutation_laws.other_worked_refutations_fall.Goals as goal
