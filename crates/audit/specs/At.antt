@@ -1,5 +1,5 @@
--- The report of `at`: what each server says of the clock's error at one moment, and the hull over
--- the groups, which holds the error.
+-- The report of `at`: what each server says about the clock's error at one moment, and the hull
+-- over the groups, which holds the error.
 use Rattle.std.specs.Prelude.{ℕ, List}
 use Rattle.byte_stream.specs.State.{FeedState}
 use Rattle.claim_file.specs.Claim.{ClaimData}
@@ -41,12 +41,12 @@ hull_at second e =
 abbrev pub IsHeldAt : ℕ → EvidenceData → Type 0
 IsHeldAt second e = HoldsError e.claim (samples_in e) (stretch_at second) (hull_at second e)
 
--- The bytes of claim and capture give evidence of which that holds.
+-- The bytes of claim and capture give evidence for which that holds.
 pub record IsHeldOf (second : ℕ) (claim capture : List ℕ) : Type 0 where
   pub evidence : EvidenceData
   pub evidence_is : IsEvidenceOf claim capture evidence
   pub held : IsHeldAt second evidence
 
--- The hull holds the error, where these bytes are known.
+-- The hull holds the error, if these bytes are known.
 abbrev pub IsHeld : ℕ → FeedState → FeedState → Type 0
 IsHeld second claim capture = OfClaimAndCapture claim capture (IsHeldOf second)

@@ -12,7 +12,7 @@ use Rattle.report.specs.declared.fault.RunFault.{RunFault}
 use Rattle.report.specs.declared.fault.RunFault.TheVariants.{Capture, Exchanges, Device, Memory}
 use Rattle.report.specs.Fault.{run_fault_of}
 
--- what a run answers where exchanges can't be collected for this reason
+-- what a run answers if exchanges can't be collected for this reason
 abbrev pub pair_run_fault_of : PairFault → RunFault
 pair_run_fault_of (pairs.Capture fault) = run_fault_of fault
 pair_run_fault_of pairs.TooManyExchanges = Exchanges

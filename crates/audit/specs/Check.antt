@@ -1,4 +1,4 @@
--- The report of `check`, and what its outcome says of every course of events.
+-- The report of `check`, and what its outcome says about every course of events.
 use Rattle.std.specs.Prelude.{◌≡◌, ℕ, List, length, Some, Ok, slice_get, IfSome, IsSomeAnd}
 use Rattle.byte_stream.specs.Bytes.{IsBytes}
 use Rattle.byte_stream.specs.State.{FeedState}
@@ -49,9 +49,9 @@ pub record HasVerdictYes (certificate : CertificateData) (e : EvidenceData) : Ty
   pub whole : IsTraceable e.claim (samples_in e)
   pub by_pieces : IsTraceableByPieces e.claim (samples_in e) certificate
 
--- The verdict is no, for a piece and a reason, which the report names. Where the piece contradicts
--- itself, no course of events that fits the exchanges has its reading there. Where the reason is
--- its hull, the error lies in that hull, in every course that fits what the piece names.
+-- The verdict is no, for a piece and a reason, which the report names. If the piece contradicts
+-- itself, no course of events that fits the exchanges has its reading there. If the reason is its
+-- hull, the error lies in that hull, in every course that fits what the piece names.
 pub record HasVerdictNo (certificate : CertificateData) (e : EvidenceData) : Type 0 where
   pub piece : ℕ
   pub why : Why
@@ -98,16 +98,16 @@ pub record IsDenied (claim_bytes certificate_bytes capture_bytes : List ℕ) : T
   pub evidence_is : IsEvidenceOf claim_bytes capture_bytes evidence
   pub verdict : HasVerdictNo certificate evidence
 
--- At a yes the clock is traced to UTC by claim and capture, where their bytes are known, and where
--- those of the certificate are too, piece by piece. And it is said in relations alone, of a capture
--- that is bytes: numbers below 256.
+-- At a yes the clock is traced to UTC by claim and capture, if their bytes are known, and if those
+-- of the certificate are too, piece by piece. And it is said in relations alone, of a capture that
+-- is bytes: numbers below 256.
 pub record IsTraced (claim second capture : FeedState) : Type 0 where
   pub whole : OfClaimAndCapture claim capture IsTracedTo
   pub shown : OfClaimAndCapture claim capture (λ c f. IsBytes f → IsShown c f)
   pub by_pieces : IfSome second.remaining
       (λ s. OfClaimAndCapture claim capture (λ c. IsTracedByPieces c s))
 
--- At a no the verdict is no, where the bytes of all three are known.
+-- At a no the verdict is no, if the bytes of all three are known.
 abbrev pub IsNotTraced : FeedState → FeedState → FeedState → Type 0
 IsNotTraced claim second capture =
     IfSome second.remaining (λ s. OfClaimAndCapture claim capture (λ c. IsDenied c s))

@@ -1,5 +1,5 @@
 -- The report of `envelope`: the hull of each piece, and the least bound that holds; and what it
--- says of every course of events.
+-- says about every course of events.
 use Rattle.std.specs.Prelude.{◌≡◌, ℕ, All, Bool, Result, Ok, Err}
 use Rattle.byte_stream.specs.State.{FeedState}
 use Rattle.checker.specs.Traceability.{HoldsError, IsContradicted}
@@ -29,7 +29,7 @@ report_of servers e (Ok envelope) =
     (bound_outcome envelope.least)
 report_of servers e (Err fault) = refused (find_run_fault_of fault)
 
--- the envelope of the samples of a capture, in pieces of so many seconds
+-- the envelope of the samples of a capture, in pieces of this many seconds
 abbrev pub envelope_in : ℕ → EvidenceData → Result EnvelopeData FindFault
 envelope_in step e = envelope_of (samples_in e) e.claim step
 
@@ -37,10 +37,10 @@ envelope_in step e = envelope_of (samples_in e) e.claim step
 abbrev pub envelope_report : ℕ → Bool → EvidenceData → Report
 envelope_report step servers e = report_of servers e (envelope_in step e)
 
--- This evidence has an envelope, of which the outcome is this. In every course of events that fits
--- the exchanges, whenever the clock reads a time of a piece, its error lies in the piece's hull; if
--- the hull is empty, then in no such course does it read a time of that piece. The least bound is
--- the least inside which every hull lies, or there is none.
+-- This evidence has an envelope, with this outcome. In every course of events that fits the
+-- exchanges, whenever the clock reads a time of a piece, its error lies in the piece's hull; if the
+-- hull is empty, then in no such course does it read a time of that piece. The least bound is the
+-- least inside which every hull lies, or there is none.
 pub record IsEnvelopeOf (step : ℕ) (outcome : Outcome) (e : EvidenceData) : Type 0 where
   pub envelope : EnvelopeData
   pub envelope_is : envelope_in step e ≡ Ok envelope
@@ -52,7 +52,7 @@ pub record IsEnvelopeOf (step : ℕ) (outcome : Outcome) (e : EvidenceData) : Ty
   pub least : IsLeast (hull_at (samples_in e) e.claim step) (count_of e.claim step) envelope.least
   pub outcome_is : bound_outcome envelope.least ≡ outcome
 
--- The bytes of claim and capture give evidence with such an envelope, where they are known.
+-- The bytes of claim and capture give evidence with such an envelope, if they are known.
 abbrev pub IsEnveloped : ℕ → Outcome → FeedState → FeedState → Type 0
 IsEnveloped step outcome claim capture =
     OfClaimAndCapture claim capture (GiveEvidence (IsEnvelopeOf step outcome))

@@ -37,13 +37,13 @@ pub record IsEvidenceOf (claim capture : List ℕ) (e : EvidenceData) : Type 0 w
   pub claim_is : claim_read claim ≡ Ok e.claim
   pub collection_is : capture_read e.claim capture ≡ Ok e.collection
 
--- These bytes give evidence of which this holds.
+-- These bytes give evidence for which this holds.
 pub record GiveEvidence (P : EvidenceData → Type 0) (claim capture : List ℕ) : Type 0 where
   pub evidence : EvidenceData
   pub evidence_is : IsEvidenceOf claim capture evidence
   pub holds : P evidence
 
--- where the bytes of claim and capture are known, this holds of them
+-- if the bytes of claim and capture are known, this holds of them
 abbrev pub OfClaimAndCapture : FeedState → FeedState → (List ℕ → List ℕ → Type 0) → Type 0
 OfClaimAndCapture claim capture P =
     IfSome claim.remaining (λ c. IfSome capture.remaining (P c))

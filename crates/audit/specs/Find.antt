@@ -28,12 +28,12 @@ unfoldable pub found_text : FoundData → List ℕ
 found_text (certificate c) = certificate_text c ++ codes "\n"
 found_text (nothing piece hull) = nothing_text piece hull
 
--- the outcome: yes where there is a certificate
+-- the outcome: yes if there is a certificate
 abbrev pub found_outcome : FoundData → Outcome
 found_outcome (certificate c) = outcomes.Yes
 found_outcome (nothing piece hull) = outcomes.No
 
--- what a run answers where no certificate could be looked for
+-- what a run answers if no certificate could be looked for
 abbrev pub find_run_fault_of : FindFault → RunFault
 find_run_fault_of finds.TooManyPieces = Pieces
 find_run_fault_of finds.Memory = Memory
@@ -43,7 +43,7 @@ abbrev pub found_report : Result FoundData FindFault → Report
 found_report (Ok found) = whole_text (found_text found) (found_outcome found)
 found_report (Err fault) = refused (find_run_fault_of fault)
 
--- what is found in the samples of a capture, for pieces of so many seconds
+-- what is found in the samples of a capture, for pieces of this many seconds
 abbrev pub found_in : ℕ → EvidenceData → Result FoundData FindFault
 found_in step e = found_of (samples_in e) e.claim step
 
@@ -57,7 +57,7 @@ pub record IsFoundOf (step : ℕ) (e : EvidenceData) : Type 0 where
   pub found_is : found_in step e ≡ Ok (certificate found)
   pub accepted : verdict_on found e ≡ verdicts.Yes
 
--- Nothing is found of this evidence: a piece fails, which the report names with its hull. Where the
+-- Nothing is found in this evidence: a piece fails, which the report names with its hull. If the
 -- hull is empty, no course of events that fits the exchanges has its reading in that piece, and
 -- else no certificate is accepted that has a piece over the whole of it. In every course that fits,
 -- the error lies in the hull at every moment whose reading lies in the piece.
@@ -71,11 +71,11 @@ pub record IsNothingOf (step : ℕ) (e : EvidenceData) : Type 0 where
       NoneIsAcceptedOver (samples_in e) e.claim (stretch_at e.claim step piece)
   pub held : HoldsError e.claim (samples_in e) (stretch_at e.claim step piece) hull
 
--- At a yes a certificate is found and accepted, where the bytes of claim and capture are known: a
+-- At a yes a certificate is found and accepted, if the bytes of claim and capture are known: a
 -- check of the three says yes.
 abbrev pub IsAccepted : ℕ → FeedState → FeedState → Type 0
 IsAccepted step claim capture = OfClaimAndCapture claim capture (GiveEvidence (IsFoundOf step))
 
--- At a no nothing is found, where these bytes are known.
+-- At a no nothing is found, if these bytes are known.
 abbrev pub IsNotFound : ℕ → FeedState → FeedState → Type 0
 IsNotFound step claim capture = OfClaimAndCapture claim capture (GiveEvidence (IsNothingOf step))

@@ -20,7 +20,7 @@ use Rattle.audit.specs.Claimed.{IsClaimText}
 use Rattle.audit.specs.Exchanged.{IsExchangeIn}
 
 -- The claim's bytes are the text of a claim, and the capture's bytes are a capture of frames. There
--- are exchanges in these frames of which this holds: for each reading of the span, a whole number
+-- are exchanges in these frames for which this holds: for each reading of the span, a whole number
 -- of 1/n tick, there are entries such that in every course of events that fits what they name of
 -- the exchanges, and in which the client's clock reads that, its error is within the bound.
 pub record IsShown (claim_bytes capture_bytes : List ℕ) : Type 0 where
@@ -38,8 +38,8 @@ pub record IsShown (claim_bytes capture_bytes : List ℕ) : Type 0 where
       → course.observation.reading ≡ reading → FitsPiece claim exchanges entries course
       → IsWithinNanoseconds course claim.bound_ns)
 
--- where the bytes of a claim and of a capture are read, and the verdict on some certificate is yes,
--- that is shown of them; a byte is below 256
+-- if the bytes of a claim and of a capture are read, and the verdict on some certificate is yes,
+-- that is shown for them; a byte is below 256
 abbrev pub ShowsHeadline : Type 0
 ShowsHeadline = (claim_bytes capture_bytes : List ℕ) (claim : ClaimData) (collection : Collection)
     (certificate : CertificateData) → IsBytes capture_bytes → claim_read claim_bytes ≡ Ok claim

@@ -1,4 +1,4 @@
--- What each server says of the clock's error at one reading of the clock, a tick.
+-- What each server says about the clock's error at one reading of the clock, a tick.
 --
 -- A tick is a piece of the span that begins where it ends. Each server with a sample gives the
 -- interval of its best samples for that piece. The hull is taken over the groups of servers, as in
@@ -20,7 +20,7 @@ tick_of second = pos (second * 2 ^ 32)
 abbrev pub part_of : ℕ → Interval → Part
 part_of server interval = record { server = server; interval = interval }
 
--- what a server says by its best samples, where it has one
+-- what a server says by its best samples, if it has one
 abbrev pub part_at : List Sample → ℕ → ℤ → ℕ → Option Part
 part_at samples ppb tick server =
     option_map (part_of server) (best_interval samples server tick tick ppb)

@@ -106,12 +106,12 @@ IsTaskOf refute task = (refutation : RefutationData) × (task ≡ refute_by refu
 IsTaskOf (envelope step servers) task = task ≡ show_envelope step servers
 IsTaskOf seek task = task ≡ seek_refutation
 
--- The bytes of the second input, where they are known, say what the question asks for.
+-- The bytes of the second input, if they are known, say what the question asks for.
 abbrev pub HasSecond : QuestionData → Option (List ℕ) → Type 0
 HasSecond question known = IfSome (task_read question known) IsOk
 
--- how many bytes are taken of the second input at most in a run that comes to this answer: one
--- past the limit only where the answer is that this input is too big
+-- how many bytes are taken of the second input at most in a run that comes to this answer: one past
+-- the limit only if the answer is that this input is too big
 abbrev pub most_second : {A : Type 0} → QuestionData → Result A RunFault → ℕ
 most_second check answer = most_read inputs.Certificate max_certificate answer
 most_second refute answer = most_read inputs.Refutation max_refutation answer

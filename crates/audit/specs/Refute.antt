@@ -39,7 +39,7 @@ pub record IsStanding (refutation : RefutationData) (e : EvidenceData) : Type 0 
 abbrev pub IsFallen : RefutationData → EvidenceData → Type 0
 IsFallen refutation e = ¬ (IsRefuted e.claim e.collection.exchanges refutation)
 
--- A refutation, the one that its bytes say where they are known, and the evidence that the bytes of
+-- A refutation, the one that its bytes say if they are known, and the evidence that the bytes of
 -- claim and capture give are such that this holds of them.
 pub record GiveRefutation (P : RefutationData → EvidenceData → Type 0)
     (refutation_bytes : Option (List ℕ)) (claim capture : List ℕ) : Type 0 where
@@ -47,12 +47,12 @@ pub record GiveRefutation (P : RefutationData → EvidenceData → Type 0)
   pub refutation_is : IfSome refutation_bytes (λ bytes. refutation_read bytes ≡ Ok refutation)
   pub evidence : GiveEvidence (P refutation) claim capture
 
--- At a yes the refutation stands, where the bytes of claim and capture are known.
+-- At a yes the refutation stands, if the bytes of claim and capture are known.
 abbrev pub IsContested : FeedState → FeedState → FeedState → Type 0
 IsContested claim second capture =
     OfClaimAndCapture claim capture (GiveRefutation IsStanding second.remaining)
 
--- At a no it falls, where these bytes are known.
+-- At a no it falls, if these bytes are known.
 abbrev pub IsUncontested : FeedState → FeedState → FeedState → Type 0
 IsUncontested claim second capture =
     OfClaimAndCapture claim capture (GiveRefutation IsFallen second.remaining)

@@ -31,14 +31,14 @@ abbrev pub RunsAlone : {F : Type 0} → QuestionData → RunState → RunState �
 RunsAlone question before after capture capture' answer =
     RunsFor {T = Unit {0}} question before after (tt {0}) (tt {0}) capture capture' answer
 
--- What a caller of a whole command sees: all that a run promises, and its answer, told by a line
--- and a status.
+-- What a caller of a whole command sees: all that a run promises, and its answer, reported by a
+-- line and a status.
 abbrev pub AnswersFor : {T F : Type 0} → QuestionData → RunState → RunState → T → T → F → F →
     SinkState → SinkState → ℕ → Type 0
 AnswersFor question before after second second' capture capture' err err' status =
     IsTold (RunsFor question before after second second' capture capture') err err' status
 
--- what the exit status of a run shows, by the outcome that it tells
+-- what the exit status of a run shows, by the outcome that it reports
 abbrev pub ShowsAt : ℕ → QuestionData → FeedState → FeedState → FeedState → Type 0
 ShowsAt status question claim second capture =
     (outcome : Outcome) → status ≡ status_of (Ok outcome)

@@ -43,10 +43,10 @@ pub record IsSoughtInVain (e : EvidenceData) : Type 0 where
   pub found_is : sought_in e ≡ None
   pub none_accepted : NoneIsRefuted e.claim e.collection.exchanges
 
--- At a yes a refutation is found, which stands, where the bytes of claim and capture are known.
+-- At a yes a refutation is found, which stands, if the bytes of claim and capture are known.
 abbrev pub IsRefutable : FeedState → FeedState → Type 0
 IsRefutable claim capture = OfClaimAndCapture claim capture (GiveEvidence IsSoughtOf)
 
--- At a no none is accepted, where these bytes are known.
+-- At a no none is accepted, if these bytes are known.
 abbrev pub IsIrrefutable : FeedState → FeedState → Type 0
 IsIrrefutable claim capture = OfClaimAndCapture claim capture (GiveEvidence IsSoughtInVain)

@@ -21,7 +21,7 @@ use report::RunFault;
 use std::alloc::Global;
 use std::hash::BuildHasher;
 
-/// What a run answers where exchanges can't be collected for this reason.
+/// What a run answers if exchanges can't be collected for this reason.
 fn run_fault_of(fault: PairFault) -> RunFault
     ensures { result ≡ pair_run_fault_of fault }
 {
@@ -34,11 +34,10 @@ fn run_fault_of(fault: PairFault) -> RunFault
 
 /// Collects the exchanges of a capture under a claim. The feed is handed back beside them.
 ///
-/// `Capture` comes where it isn't a capture or ends too early, `Exchanges` where it has over
-/// 1,000,000 of them, `Device` where the feed failed. `Memory` comes before the first byte is
-/// taken, or where the capture begins with a lawful header. The hash of the index of requests is
-/// keyed by two numbers of `hasher`: who doesn't trust the capture's writer passes one with a
-/// random key.
+/// `Capture` comes if it isn't a capture or ends too early, `Exchanges` if it has over 1,000,000 of
+/// them, `Device` if the feed failed. `Memory` comes before the first byte is taken, or if the
+/// capture begins with a lawful header. The hash of the index of requests is keyed by two numbers
+/// of `hasher`: who doesn't trust the capture's writer passes one with a random key.
 pub(crate) fn read_capture_from<F: Feed, H: BuildHasher + Drop>(
     alloc: Global,
     feed: F,

@@ -20,8 +20,8 @@ use std::alloc::Global;
 use std::hash::{BuildHasherDefault, FoldHasher};
 use std::io;
 
-/// Shows what each exchange of a capture says of the clock of the claim's client: a line for each
-/// sample, and the counts.
+/// Shows what each exchange of a capture says about the clock of the claim's client: a line for
+/// each sample, and the counts.
 pub fn run_samples<C: Feed, F: Feed, S: Sink>(
     alloc: Global,
     claim: &mut C,
@@ -40,8 +40,8 @@ pub fn run_samples<C: Feed, F: Feed, S: Sink>(
     run(alloc, question, claim, &mut none, capture, out, hasher)
 }
 
-/// Shows what each server says of the clock of the claim's client at one moment, by its best
-/// samples, and what is known of the clock's error then, where as many groups of servers may be
+/// Shows what each server says about the clock of the claim's client at one moment, by its best
+/// samples, and what is known about the clock's error then, if as many groups of servers may be
 /// false as the claim grants. `second` is a time of the clock in Unix seconds; it may lie outside
 /// the claimed span.
 pub fn run_at<C: Feed, F: Feed, S: Sink>(
@@ -67,7 +67,7 @@ pub fn run_at<C: Feed, F: Feed, S: Sink>(
 
 /// Settles whether a certificate shows that the clock of the claim's client stayed within the
 /// claimed bound of UTC over the claimed span, by the exchanges of a capture. The answer is `Yes`
-/// exactly where the verdict is.
+/// exactly if the verdict is.
 pub fn run_check<C: Feed, F: Feed, T: Feed, S: Sink>(
     alloc: Global,
     claim: &mut C,
@@ -94,8 +94,8 @@ pub fn run_check<C: Feed, F: Feed, T: Feed, S: Sink>(
 
 /// Settles whether a refutation stands against the claim: whether the clock of the claim's client
 /// may have been off by its error, beyond the claimed bound, at its reading, which lies in the
-/// claimed span, where just the servers that it names are false. The answer is `Yes` exactly where
-/// it stands.
+/// claimed span, if just the servers that it names are false. The answer is `Yes` exactly if it
+/// stands.
 pub fn run_refute<C: Feed, F: Feed, T: Feed, S: Sink>(
     alloc: Global,
     claim: &mut C,
@@ -124,7 +124,7 @@ pub fn run_refute<C: Feed, F: Feed, T: Feed, S: Sink>(
 /// is `Yes` with the certificate, which `check` accepts, or `No` with the first piece for which the
 /// samples don't show that the error is within the bound, and the hull there.
 ///
-/// `Pieces` comes where the span has over 100,000 pieces of that length, after every other refusal.
+/// `Pieces` comes if the span has over 100,000 pieces of that length, after every other refusal.
 pub fn run_find<C: Feed, F: Feed, S: Sink>(
     alloc: Global,
     claim: &mut C,
@@ -176,10 +176,10 @@ pub fn run_seek<C: Feed, F: Feed, S: Sink>(
 
 /// Shows how far off the clock of the claim's client may have been in each piece of `step_s`
 /// seconds, from 1 to 86,400, and the least bound in nanoseconds that holds over the span; with
-/// `servers` also what each server says of each piece. The answer is `Yes` if there is such a
+/// `servers` also what each server says about each piece. The answer is `Yes` if there is such a
 /// bound.
 ///
-/// `Pieces` comes where the span has over 100,000 pieces of that length, after every other refusal.
+/// `Pieces` comes if the span has over 100,000 pieces of that length, after every other refusal.
 pub fn run_envelope<C: Feed, F: Feed, S: Sink>(
     alloc: Global,
     claim: &mut C,

@@ -33,7 +33,7 @@ use report::{Made, Outcome, RunFault, publish, read_claim_from, tell};
 use std::alloc::Global;
 use std::hash::BuildHasher;
 
-/// Where a command writes: its report, and the line that tells a fault.
+/// Where a command writes: its report, and the line of a fault.
 #[derive(Debug, Drop)]
 pub struct Outputs<S, E> {
     /// The report's sink.
@@ -108,10 +108,10 @@ fn make_report<T: Feed, F: Feed, H: BuildHasher + Drop>(
 /// `second`.
 ///
 /// The claim is read first, then the second input, then the capture; what stands later isn't read
-/// after a refusal. Nothing is written before all of it is made. `Device` comes where a feed
-/// failed, and `Write(n)` where the sink failed after exactly n bytes of the text. The hash of the
-/// index of requests is keyed by two numbers of `hasher`: who doesn't trust the capture's writer
-/// passes one with a random key.
+/// after a refusal. Nothing is written before all of it is made. `Device` comes if a feed failed,
+/// and `Write(n)` if the sink failed after exactly n bytes of the text. The hash of the index of
+/// requests is keyed by two numbers of `hasher`: who doesn't trust the capture's writer passes one
+/// with a random key.
 pub fn run<C: Feed, T: Feed, F: Feed, S: Sink, H: BuildHasher + Drop>(
     alloc: Global,
     question: Question,
@@ -139,7 +139,7 @@ pub fn run<C: Feed, T: Feed, F: Feed, S: Sink, H: BuildHasher + Drop>(
     (capture, answer)
 }
 
-/// Answers a question as `run` does, with the text on `to.out`, and tells a fault on `to.err`.
+/// Answers a question as `run` does, with the text on `to.out`, and reports a fault on `to.err`.
 /// Beside the capture's feed stands the exit status.
 ///
 /// Status 0 of a check is the theorem: in every course of events that fits the exchanges of the

@@ -42,7 +42,7 @@ pub fn bounds_of_bytes_hold_in_nanoseconds()
     bounds_hold_in_nanoseconds();
 }
 
-/// A frame gives an NTP packet exactly where it holds it, its layers joined from Ethernet to NTP.
+/// A frame gives an NTP packet exactly if it holds it, its layers joined from Ethernet to NTP.
 pub fn packet_is_given_where_held()
     ensures given { (frame : List ℕ) (p : Packet) → IsBytes frame → packet_of frame ≡ Some p →
         HoldsShown frame p }
@@ -56,7 +56,7 @@ pub fn packet_is_given_where_held()
     given_where_held();
 }
 
-/// A reply's own header refuses it exactly where it isn't usable.
+/// A reply's own header refuses it exactly if it isn't usable.
 pub fn usable_replies_are_not_refused()
     ensures { (header : List ℕ) → (refusal_of header ≡ None) ↔ IsUsable header }
 {}
@@ -105,8 +105,8 @@ pub fn texts_say_one_claim()
     addresses_are_dotted();
 }
 
-/// Where a claim and a capture are read, and the verdict on some certificate is yes, the theorem
-/// holds of their bytes, said in relations alone.
+/// If a claim and a capture are read, and the verdict on some certificate is yes, the theorem holds
+/// of their bytes, said in relations alone.
 pub fn yes_shows_the_headline()
     ensures { ShowsHeadline }
 {

@@ -1,12 +1,12 @@
 //! What a capture shows of a claim: one engine for every question.
 //!
-//! [`run`] reads the claim, then the question's second input where it has one, and then the
-//! capture, makes its whole text, and writes it; [`answer`] does the same and tells the answer by
-//! an exit status. What is asked stands in `question`, a small module for each command; how a text
-//! is shown is said by audit_text. `specs/Run` says what a run needs and promises, `specs/Report`
-//! what it writes, and `specs/Question` what an outcome means. [`run_samples`], [`run_at`],
-//! [`run_check`], [`run_find`], [`run_refute`], [`run_seek`] and [`run_envelope`] are the engines
-//! of the commands, with a hasher of a fixed key.
+//! [`run`] reads the claim, then the question's second input if it has one, and then the capture,
+//! makes its whole text, and writes it; [`answer`] does the same and reports the answer by an exit
+//! status. What is asked stands in `question`, a small module for each command; how a text is shown
+//! is said by audit_text. `specs/Run` says what a run needs and promises, `specs/Report` what it
+//! writes, and `specs/Question` what an outcome means. [`run_samples`], [`run_at`], [`run_check`],
+//! [`run_find`], [`run_refute`], [`run_seek`] and [`run_envelope`] are the engines of the commands,
+//! with a hasher of a fixed key.
 #![tactic(auto)]
 
 mod capture_input;

@@ -1,4 +1,4 @@
-//! What each server says of the clock's error at one reading of the clock, a tick.
+//! What each server says about the clock's error at one reading of the clock, a tick.
 
 ghost use Rattle.std.specs.Prelude.{◌≡◌, ◌<◌, ℕ, ℤ, List, IfSome, length, map, All};
 ghost use Rattle.claim_file.specs.Claim.{IsLawful, data_of};
@@ -41,7 +41,7 @@ fn best_at(claim: &Claim, exchanges: &[HeldExchange], tick: i128) -> BestSamples
     best
 }
 
-/// What a server says at a tick by its best samples there, where it has one.
+/// What a server says at a tick by its best samples there, if it has one.
 fn part_of(best: &BestSamples, server: u8) -> Option<Part>
     requires { server < 32 }
     ensures exact { (samples : List TheSample) (tick : ℤ) (ppb : ℕ) →

@@ -12,7 +12,7 @@ pub struct Step {
 }
 
 impl Step {
-    /// A step of so many seconds; none where they aren't from 1 to 86,400.
+    /// A step of this many seconds; none if they aren't from 1 to 86,400.
     pub fn new(seconds: u32) -> Option<Step>
         ensures range { IsSome result ↔ ((1 ≤ seconds) × (seconds ≤ 86400)) }
         ensures value { IfSome result (λ step. step.seconds ≡ seconds) }

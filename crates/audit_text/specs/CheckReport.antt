@@ -16,7 +16,7 @@ use Rattle.checker.specs.declared.verdict.Why.TheVariants.{Cut, BadSample, Mixed
 use Rattle.audit_text.specs.Second.{second_of}
 use Rattle.audit_text.specs.CountsLine.{counts_line}
 
--- how many groups there are, where one holds several servers
+-- how many groups there are, if one holds several servers
 unfoldable pub groups_field : ℕ → ℕ → List ℕ
 groups_field groups servers =
     if nat_lt groups servers then codes " groups " ++ decimal groups else []
@@ -51,13 +51,13 @@ source_count xs (suc server) = source_count xs server + is_source xs server
 abbrev pub enough_sources : ℕ
 enough_sources = 4
 
--- the advice to ask more servers, where few have a sample
+-- the advice to ask more servers, if few have a sample
 unfoldable pub sources_advice : ℕ → List ℕ
 sources_advice count =
     if nat_lt count enough_sources then codes "advice sources " ++ decimal count ++ codes "\n"
     else []
 
--- the advice that all servers name one reference identifier: they may all hang on one clock
+-- the advice that all servers name one reference identifier: they may all depend on one clock
 unfoldable pub reference_advice : List Exchange → List ℕ
 reference_advice [] = []
 reference_advice (x ∷ xs) =
@@ -98,7 +98,7 @@ claim_lines claim = client_line claim ++ span_line claim
 unfoldable pub verdict_lines : ℕ → Verdict → List ℕ
 verdict_lines pieces verdict = pieces_line pieces ++ verdict_line verdict
 
--- the whole text, for a certificate of so many pieces
+-- the whole text, for a certificate of this many pieces
 unfoldable pub check_text : ClaimData → Collection → ℕ → Verdict → List ℕ
 check_text claim collection pieces verdict =
     claim_lines claim ++ counts_line collection.counts (length collection.exchanges) ++

@@ -32,7 +32,7 @@ hull_fields (Bounded lo hi) = interval_fields (codes " ") lo hi ++ codes "\n"
 unfoldable pub piece_line : ℕ → PieceHullData → List ℕ
 piece_line number piece = place_fields number piece.stretch ++ hull_fields piece.hull
 
--- what a server says of the error in the piece of this number
+-- what a server says about the error in the piece of this number
 unfoldable pub server_line : ClaimData → ℕ → Part → List ℕ
 server_line claim number part = decimal number ++ codes " " ++ interval_line claim part
 
@@ -41,7 +41,7 @@ abbrev pub server_lines : List Sample → ClaimData → ℕ → PieceHullData �
 server_lines samples claim number piece =
     flat_map (server_line claim number) (parts_named samples claim piece.stretch piece.entries)
 
--- the lines of a piece, with those of its servers where they are asked for
+-- the lines of a piece, with those of its servers if they are asked for
 abbrev pub piece_lines : List Sample → ClaimData → Bool → ℕ → PieceHullData → List ℕ
 piece_lines samples claim servers number piece =
     (if servers then server_lines samples claim number piece else []) ++ piece_line number piece

@@ -1,4 +1,4 @@
--- The text of `find` where no certificate is found.
+-- The text of `find` if no certificate is found.
 use Rattle.std.specs.Prelude.{ℕ, List, ◌++◌, codes}
 use Rattle.std.specs.Fmt.{decimal}
 use Rattle.intersection.specs.declared.kinds.Hull.{Hull}

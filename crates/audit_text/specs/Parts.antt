@@ -1,4 +1,4 @@
--- The text of `at`: what each server says of the clock's error at one moment, and the hull.
+-- The text of `at`: what each server says about the clock's error at one moment, and the hull.
 use Rattle.std.specs.Prelude.{ℕ, List, ◌++◌, flat_map}
 use Rattle.claim_file.specs.Claim.{ClaimData}
 use Rattle.span_cover.specs.declared.part.Part.{Part}

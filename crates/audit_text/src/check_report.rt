@@ -32,7 +32,7 @@ fn group_count(groups: &[u8]) -> u32
     }
 }
 
-/// How many groups there are, where one holds several servers.
+/// How many groups there are, if one holds several servers.
 #[tactic(auto, unfolding(crate::specs::CheckReport::groups_field))]
 fn put_groups(line: &mut Line, groups: u32, servers: u32)
     requires { length line.old + 18 ≤ CAPACITY }
@@ -238,7 +238,7 @@ fn add_verdict(
 }
 
 /// The text of `check`: what is claimed, what became of the capture's records, what is advised, and
-/// the verdict on a certificate of so many pieces.
+/// the verdict on a certificate of this many pieces.
 #[tactic(auto, unfolding(crate::specs::CheckReport::check_text))]
 pub fn check_text(
     alloc: Global,

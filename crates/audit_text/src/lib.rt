@@ -1,6 +1,6 @@
 //! The texts of the commands that hold a capture against a claim.
 //!
-//! [`samples_text`] shows the samples of a capture, [`parts_text`] what each server says of the
+//! [`samples_text`] shows the samples of a capture, [`parts_text`] what each server says about the
 //! clock at one moment, [`check_text`] a verdict and what it stands on, [`nothing_text`] a piece
 //! for which no certificate was found, [`envelope_text`] what is known of the error in each piece
 //! and the least bound that holds, and [`refuted_text`] whether a refutation is accepted. Each

@@ -12,8 +12,8 @@ use line_writer::Line;
 use span_cover::Part;
 use std::alloc::{AllocError, Global};
 
-/// The text of `at`: a line for what each of these servers says of the clock's error at a moment,
-/// in ticks of 2^-32 s, and the line of the hull.
+/// The text of `at`: a line for what each of these servers says about the clock's error at a
+/// moment, in ticks of 2^-32 s, and the line of the hull.
 #[tactic(auto, unfolding(crate::specs::Parts::parts_text))]
 pub fn parts_text(
     alloc: Global,

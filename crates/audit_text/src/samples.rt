@@ -35,7 +35,7 @@ fn add_samples(
 }
 
 /// The text of `samples`: a line for each exchange, numbered from 0 in their order, with what it
-/// says of the clock, and the counts.
+/// says about the clock, and the counts.
 #[tactic(auto, unfolding(crate::specs::Samples::samples_text))]
 pub fn samples_text(alloc: Global, claim: &Claim, held: &Held) -> Result<Vec<u8>, AllocError>
     requires lawful { IsLawful (data_of claim.now) }

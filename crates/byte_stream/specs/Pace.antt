@@ -4,8 +4,8 @@ use Rattle.byte_stream.specs.declared.pace.Pace.{Pace}
 use Rattle.byte_stream.specs.declared.pace.Cut.{Cut}
 use Rattle.byte_stream.specs.declared.pace.Cut.TheVariants.{Fixed, Growing}
 
--- The first call takes what `cut` says. The failing one is counted from 1; none where it's left
--- out or 0.
+-- The first call takes what `cut` says. The failing one is counted from 1; none if it's left out or
+-- 0.
 abbrev pub pace_of : Cut → Option ℕ → Pace
 pace_of (Fixed count) failing = record {
   share = count;

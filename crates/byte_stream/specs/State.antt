@@ -1,12 +1,12 @@
 -- What a feed and a sink are to their callers: a state, which each call changes.
 use Rattle.std.specs.Prelude.{◌-◌, ◌^◌, ◌<◌, ℕ, List, Option, Bool, IsTrue}
 
--- a feed at one moment: the bytes still to come, where they are known, and how often it has failed
+-- a feed at one moment: the bytes still to come, if they are known, and how often it has failed
 pub record FeedState : Type 0 where
   pub remaining : Option (List ℕ)
   pub faults : ℕ
 
--- a sink at one moment: the bytes that it holds, where they are known, whether it's open, and how
+-- a sink at one moment: the bytes that it holds, if they are known, whether it's open, and how
 -- often it has failed
 pub record SinkState : Type 0 where
   pub contents : Option (List ℕ)

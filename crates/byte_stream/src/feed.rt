@@ -16,7 +16,7 @@ pub struct FeedFault;
 ///
 /// A pull needs the feed's count of faults below `u64::MAX`.
 pub trait Feed {
-    /// The bytes still to come, where they are known, and how many pulls have failed.
+    /// The bytes still to come, if they are known, and how many pulls have failed.
     ghost state: { Self → FeedState };
 
     /// Puts the next bytes at the front of `into` and answers how many they are. What stands

@@ -1,6 +1,6 @@
 //! How bytes come and go: feeds, from which they are pulled, and sinks, to which they are pushed.
 //!
-//! What a call does with bytes is said where these are known, as in memory; how it counts the
+//! What a call does with bytes is said for known ones, as those in memory are; how it counts the
 //! faults of its device is said always. A reader and a writer make a feed and a sink that repeat
 //! nothing that failed. Two doubles for tests cut and fail as their contracts say.
 #![tactic(auto)]

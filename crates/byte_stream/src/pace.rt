@@ -37,7 +37,7 @@ impl Pace {
         }
     }
 
-    /// One more call: how many bytes it takes at most, or `None` where it fails.
+    /// One more call: how many bytes it takes at most, or `None` if it fails.
     pub(crate) fn advance(&mut self) -> Option<usize>
         ensures share { result ≡ (if is_failing self.old then None else Some (most_of self.old)) }
         ensures some { IfSome result (λ most. 0 < most) }

@@ -5,7 +5,7 @@ ghost use Rattle.std.specs.Vec.{vec_capacity};
 
 use std::alloc::{AllocError, Global};
 
-/// Bytes, and room for so many more.
+/// Bytes, and room for some more.
 #[derive(Debug, Drop)]
 pub(crate) struct Reserved {
     pub(crate) bytes: Vec<u8>,
@@ -14,7 +14,7 @@ pub(crate) struct Reserved {
 }
 
 impl Reserved {
-    /// No bytes, and room for so many.
+    /// No bytes, and room for this many.
     pub(crate) fn new(alloc: Global, room: usize) -> Result<Reserved, AllocError>
         ensures empty { IfOk result (λ list. list.bytes.items ≡ []) }
         ensures room { IfOk result (λ list. list.room ≡ room) }
@@ -25,7 +25,7 @@ impl Reserved {
         })
     }
 
-    /// Appends the bytes where there is room for all of them, and answers whether there is.
+    /// Appends the bytes if there is room for all of them, and answers whether there is.
     pub(crate) fn put(&mut self, more: &[u8]) -> bool
         ensures fits { result ≡ nat_le (length more.now) self.old.room }
         ensures appended { result ≡ true →

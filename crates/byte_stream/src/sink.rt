@@ -17,12 +17,12 @@ pub struct SinkFault;
 /// It's open until it's finished or a push has failed, and takes no call of `push` or `finish`
 /// after that. Such a call needs the sink's count of faults below `u64::MAX`.
 pub trait Sink {
-    /// The bytes that the sink holds, where they are known, whether it may still be pushed to and
+    /// The bytes that the sink holds, if they are known, whether it may still be pushed to and
     /// finished, and how often it has failed.
     ghost state: { Self → SinkState };
 
-    /// Appends bytes from the front of `bytes`, at least one where there is one, and answers how
-    /// many. At an `Err` it has appended none, and is closed.
+    /// Appends bytes from the front of `bytes`, at least one if there is one, and answers how many.
+    /// At an `Err` it has appended none, and is closed.
     fn push(&mut self, bytes: &[u8]) -> Result<usize, SinkFault>
         requires { IsWritable (state self.old) }
         ensures within { IfOk result (λ n. n ≤ length bytes.now) }

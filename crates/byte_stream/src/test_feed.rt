@@ -19,7 +19,7 @@ pub struct TestFeed<'a> {
 }
 
 impl<'a> TestFeed<'a> {
-    /// A feed of these bytes, of which each pull gives as many as `cut` says, as far as there are
+    /// A feed of these bytes. Each pull gives as many of them as `cut` says, as far as there are
     /// bytes and room. The pull with the number `failing` fails, the first being number 1, and no
     /// other does.
     pub fn new(bytes: &'a [u8], cut: Cut, failing: Option<u64>) -> TestFeed<'a>

@@ -13,8 +13,8 @@ use crate::reserved::Reserved;
 use crate::sink::{Sink, SinkFault};
 use std::alloc::{AllocError, Global};
 
-/// A sink in memory that takes a few bytes with each push and fails where it's asked to: for
-/// tests. Its room is reserved when it's made, and a push that finds none left fails.
+/// A sink in memory that takes a few bytes with each push and fails when it's asked to: for tests.
+/// Its room is reserved when it's made, and a push that finds none left fails.
 #[derive(Debug, Drop)]
 pub struct TestSink {
     held: Reserved,
@@ -25,10 +25,10 @@ pub struct TestSink {
 }
 
 impl TestSink {
-    /// An open sink with room for so many bytes, that takes at most `most` of them with each
-    /// push, or one where `most` is 0. The push with the number `failing` fails, the first being
-    /// number 1, and no other does while there is room; `finish_fails` says whether `finish`
-    /// fails. Only being out of memory is an error.
+    /// An open sink with room for `room` bytes, that takes at most `most` of them with each push,
+    /// or one if `most` is 0. The push with the number `failing` fails, the first being number 1,
+    /// and no other does while there is room; `finish_fails` says whether `finish` fails. Only
+    /// being out of memory is an error.
     pub fn new(
         alloc: Global,
         room: usize,

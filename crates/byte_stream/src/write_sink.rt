@@ -33,7 +33,7 @@ impl<W: Write> WriteSink<W> {
     }
 }
 
-/// Writes some of the bytes, at least one, or nothing where the writer fails.
+/// Writes some of the bytes, at least one, or nothing if the writer fails.
 fn write_some<W: Write>(writer: &mut W, bytes: &[u8]) -> Option<usize>
     requires { 0 < length bytes.now }
     ensures { MatchOption result (Keeps (W.contents writer.old) (W.contents writer.new))

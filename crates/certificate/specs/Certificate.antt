@@ -1,8 +1,8 @@
 -- What a certificate says.
 --
--- It cuts a span into pieces, each of which ends where the next begins. For a piece it names,
--- server by server, the sample whose low end and the sample whose high end it relies on. Samples
--- are numbered from 0 in the order of the exchanges.
+-- It cuts a span into pieces; each ends where the next begins. For a piece it names, server by
+-- server, the sample whose low end and the sample whose high end it relies on. Samples are numbered
+-- from 0 in the order of the exchanges.
 use Rattle.std.specs.Prelude.{ℕ, ◌^◌, ◌<◌, ◌≤◌, List, length, map, All}
 use Rattle.certificate.specs.declared.certificate.Certificate.{Certificate}
 use Rattle.certificate.specs.declared.certificate.Piece.{Piece}
@@ -28,7 +28,7 @@ pub record NamesSamples (entry : ℕ × ℕ) : Type 0 where
   pub low : entry.0 < 2 ^ 32
   pub high : entry.1 < 2 ^ 32
 
--- a piece that can be read: few entries, each of which names two samples
+-- a piece that can be read: few entries, and each names two samples
 pub record IsReadable (piece : PieceData) : Type 0 where
   pub few : length piece.entries ≤ 32
   pub named : All NamesSamples piece.entries

@@ -16,7 +16,7 @@ abbrev pub judged : {A B : Type 0} → (A → B) → Result A CertificateFault �
 judged shown (Ok value) = Ok (shown value)
 judged shown (Err fault) = Err fault
 
--- what is known of the members of an object, where one more of this name is read
+-- what is known of the members of an object, if one more of this name is read
 abbrev pub AddsMember : {A : Type 0} → (Members → A) → List ℕ → Data → A → A → Type 0
 AddsMember known name value before now =
     (found : Members) → before ≡ known found → now ≡ known (put name value found)

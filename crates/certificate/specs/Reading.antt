@@ -47,7 +47,7 @@ piece_of number value =
     given (Shape number) (entries_of items) λ entries.
     Ok (record { entries = entries; upto = upto }))
 
--- the pieces, the first of which has this number
+-- the pieces, counted from this number on
 abbrev pub pieces_from : ℕ → Items → Result (List PieceData) CertificateFault
 pieces_from number no_items = Ok []
 pieces_from number (item value rest) =

@@ -1,4 +1,4 @@
--- What a refutation says: an error by which the clock may have been off at a reading, where some
+-- What a refutation says: an error by which the clock may have been off at a reading, if some
 -- servers are false.
 use Rattle.std.specs.Prelude.{ℕ, ◌-◌, ◌^◌, ◌<◌, ◌≤◌, ℤ, pos, negsuc, ◌≤ℤ◌, ◌<ℤ◌, List, length, All}
 use Rattle.certificate.specs.declared.refutation.Refutation.{Refutation}

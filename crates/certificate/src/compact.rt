@@ -14,8 +14,8 @@ use crate::scanner::Scanner;
 use arrayvec::ArrayVec;
 use std::alloc::{AllocError, Global};
 
-/// The certificate that a text says, where the text is the one that `write_certificate` writes of
-/// it, with or without a line feed after it. None leaves open what the text says.
+/// The certificate that a text says, if the text is the one that `write_certificate` writes of it,
+/// with or without a line feed after it. None leaves open what the text says.
 pub(crate) fn read_compact(alloc: Global, text: &[u8]) -> Result<Option<Certificate>, AllocError>
     ensures exact { IfOk result (λ found. IfSome found (λ certificate.
         certificate_of text.now ≡ Ok (data_of certificate))) }

@@ -45,7 +45,7 @@ pub(crate) fn read_entries(
     }
 }
 
-/// A pair of sample numbers, None where the next value is none.
+/// A pair of sample numbers, None if the next value is none.
 fn read_entry(reader: &mut Reader<'_>, depth: usize) -> Result<Option<(u32, u32)>, Invalid>
     ensures { Reads result (λ entry. entry)
         (parse_map spec.entry_of (next_value depth reader.old)) reader.new }
@@ -57,7 +57,7 @@ fn read_entry(reader: &mut Reader<'_>, depth: usize) -> Result<Option<(u32, u32)
     }
 }
 
-/// The two sample numbers that are left of an array, None where anything else is.
+/// The two sample numbers that are left of an array, None if anything else is.
 fn read_pair(reader: &mut Reader<'_>, depth: usize) -> Result<Option<(u32, u32)>, Invalid>
     ensures { Reads result (λ pair. pair)
         (parse_map spec.pair_of (next_items depth reader.old)) reader.new }
@@ -84,7 +84,7 @@ fn pair_of(low: Option<u32>, high: Option<u32>) -> Option<(u32, u32)>
     Some((low?, high?))
 }
 
-/// The number of a sample, None where the next value is none.
+/// The number of a sample, None if the next value is none.
 fn read_sample(reader: &mut Reader<'_>, depth: usize) -> Result<Option<u32>, Invalid>
     ensures { Reads result (λ number. number)
         (parse_map spec.sample_of (next_value depth reader.old)) reader.new }

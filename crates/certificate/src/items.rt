@@ -6,7 +6,7 @@ ghost use Rattle.serde_json.specs.View.{items_view};
 
 use serde_json::Value;
 
-/// Whether an array has at most so many elements.
+/// Whether an array has at most `most` elements.
 pub(crate) fn is_at_most(items: &[Value], most: usize) -> bool
     ensures exact { result ≡ nat_le (items_len (items_view items.now)) most }
     ensures few { IsTrue result → length items.now ≤ most }

@@ -21,9 +21,9 @@ use json_text::{next_unsigned, open_array, open_object, pass_value};
 pub(crate) struct Parts {
     /// Whether every name so far is one of a piece.
     is_known: bool,
-    /// The end, where it is an integer below 2^64.
+    /// The end, if it is an integer below 2^64.
     upto: Option<u64>,
-    /// The entries or their first fault, where they are an array.
+    /// The entries or their first fault, if they are an array.
     entries: Option<Judged<Entries>>,
 }
 
@@ -43,7 +43,7 @@ pub(crate) fn read_piece(
     }
 }
 
-/// What the members that are left of an object say of the piece with this number.
+/// What the members that are left of an object say about the piece with this number.
 fn read_parts(reader: &mut Reader<'_>, depth: usize, number: u32) -> Result<Parts, Invalid>
     ensures { Reads result parts_data
         (parse_map (parts_of number) (next_members depth no_members reader.old)) reader.new }
@@ -98,7 +98,7 @@ impl Parts {
     }
 }
 
-/// The entries of the piece with this number or their first fault, None where the next value is no
+/// The entries of the piece with this number or their first fault, None if the next value is no
 /// array.
 fn read_listed(
     reader: &mut Reader<'_>,

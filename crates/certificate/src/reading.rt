@@ -81,7 +81,7 @@ fn read_value(
 pub(crate) struct Whole {
     /// Whether every name so far is the one of the pieces.
     is_known: bool,
-    /// The pieces or their first fault, where they are an array.
+    /// The pieces or their first fault, if they are an array.
     pieces: Option<Judged<Vec<Piece>>>,
 }
 
@@ -141,7 +141,7 @@ impl Whole {
     }
 }
 
-/// The pieces or their first fault, None where the next value is no array.
+/// The pieces or their first fault, None if the next value is no array.
 fn read_listed(
     alloc: Global,
     reader: &mut Reader<'_>,

@@ -41,7 +41,7 @@ fn read_value(value: &Value) -> Result<Refutation, RefutationFault>
     })
 }
 
-/// The numbers of servers, None where one isn't the number of a server.
+/// The numbers of servers, None if one isn't the number of a server.
 fn read_servers(items: &[Value]) -> Option<ArrayVec<u8, 32>>
     requires { length items.now ≤ 32 }
     ensures { option_map (λ v. v.items) result ≡ spec.servers_of (items_view items.now) }

@@ -6,8 +6,8 @@ use std::marker::Model;
 
 /// The bytes of a text that are still to be read.
 ///
-/// Where a reading is refused with None, some of the bytes may have gone, unless a function says
-/// that none has.
+/// If a reading is refused with None, some of the bytes may have gone, unless a function says that
+/// none has.
 #[derive(Debug, Drop)]
 pub(crate) struct Scanner<'t> {
     rest: &'t [u8],
@@ -69,7 +69,7 @@ impl<'t> Scanner<'t> {
         Some(())
     }
 
-    /// Reads a digit, and gives its value. Where none comes next, nothing is read.
+    /// Reads a digit, and gives its value. If none comes next, nothing is read.
     #[inline]
     fn digit(&mut self) -> Option<u8>
         ensures digit { IfSome result (λ digit. digit < 10) }

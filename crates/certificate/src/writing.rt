@@ -14,7 +14,7 @@ use std::alloc::{AllocError, Global};
 
 /// The text of a certificate: compact, with `entries` before `upto` and numbers in decimal.
 ///
-/// It reads again as the same certificate, where that has at most 100,000 pieces.
+/// It reads again as the same certificate, if that has at most 100,000 pieces.
 pub fn write_certificate(alloc: Global, certificate: &Certificate) -> Result<String, AllocError>
     ensures text { IfOk result (λ text. string_bytes text
         ≡ spec.certificate_text (data_of certificate.now)) }

@@ -21,7 +21,8 @@ time_of-there text second same found is =
   where
     at : (there : Bool) → Some second ≡ (if there then Some (unix_second (date_time_at text)) else None) →
         (if same then in_u32 second else None)
-        ≡ (if there && bytes_eq text (spelling (date_time_at text)) then in_u32 (unix_second (date_time_at text)) else None)
+        ≡ (if there && bytes_eq text (spelling (date_time_at text)) then in_u32 (unix_second (date_time_at text))
+        else None)
     at true e = ap (λ o. if same then option_and_then in_u32 o else None) e
         ∙ ap (λ b. if b then in_u32 (unix_second (date_time_at text)) else None) is
     at false e = cc

@@ -5,7 +5,7 @@ use Rattle.std.specs.List.{list_any}
 use Rattle.std.specs.Net.Reader.{read_ipv4}
 use Rattle.std.specs.Str.{bytes_eq}
 
--- what was read, where nothing follows it
+-- what was read, if nothing follows it
 abbrev pub whole : {A : Type 0} → A × List ℕ → Option A
 whole (value, []) = Some value
 whole (value, (byte ∷ rest)) = None
@@ -14,7 +14,7 @@ whole (value, (byte ∷ rest)) = None
 abbrev pub address_of : List ℕ → Option (List ℕ)
 address_of text = option_and_then whole (read_ipv4 text)
 
--- the addresses that texts write, where each writes one
+-- the addresses that texts write, if each writes one
 abbrev pub addresses_of : List (List ℕ) → Option (List (List ℕ))
 addresses_of [] = Some []
 addresses_of (text ∷ texts) =

@@ -1,9 +1,9 @@
 -- What a claim says.
 --
 -- A claim names a client and 1 to 32 servers, each by its IPv4 address, and says that the client's
--- clock stayed within a bound of UTC over a span, provided that at most so many groups of servers
--- are false. The number of a server is its place in the list. Servers that hang on one reference
--- are one group.
+-- clock stayed within a bound of UTC over a span, provided that at most a given number of groups of
+-- servers are false. The number of a server is its place in the list. Servers that depend on one
+-- reference are one group.
 use Rattle.std.specs.Prelude.{◌≡◌, ◌≢◌, ℕ, ◌+◌, ◌*◌, ◌^◌, ◌<◌, ◌≤◌, ℤ, pos, ◌≤ℤ◌, ◌<ℤ◌}
 use Rattle.std.specs.Prelude.{List, [], ◌∷◌, length, max, All, AllPairs, Contains}
 use Rattle.claim_file.specs.declared.claim.Claim.{Claim}
@@ -88,7 +88,7 @@ pub record IsLawful (c : ClaimData) : Type 0 where
   pub reading_in_range : c.reading ≤ℤ pos max_reading
   pub reading_ns_in_range : c.reading_ns ≤ max_reading_ns
 
--- one more than the greatest number of a group: how many groups there are, where none is empty
+-- one more than the greatest number of a group: how many groups there are, if none is empty
 abbrev pub group_count : List ℕ → ℕ
 group_count [] = 0
 group_count (g ∷ groups) = max (g + 1) (group_count groups)

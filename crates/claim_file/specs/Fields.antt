@@ -28,7 +28,7 @@ claim_names =
     codes "client" ∷ codes "servers" ∷ codes "false_max" ∷ codes "from" ∷ codes "to"
     ∷ codes "bound_ns" ∷ codes "drift_ppb" ∷ codes "reading_ns" ∷ codes "groups" ∷ []
 
--- the elements of an array, where each has a kind
+-- the elements of an array, if each is of this kind
 abbrev pub all_of : {A : Type 0} → (Data → Option A) → Items → Option (List A)
 all_of kind no_items = Some []
 all_of kind (item value rest) =

@@ -33,7 +33,7 @@ groups_of n None = Some (servers_of n)
 groups_of n (Some groups) =
     if is_grouping n groups then Some (map (group_of groups) (servers_of n)) else None
 
--- A server is in a group: in the group with this number, which lists it, or, where no groups are
+-- A server is in a group: in the group with this number, which lists it, or, if no groups are
 -- listed, alone in the group of its own number.
 abbrev pub IsInGroup : ℕ → Option (List (List ℕ)) → ℕ → ℕ → Type 0
 IsInGroup n None server group = (server < n) × (group ≡ server)

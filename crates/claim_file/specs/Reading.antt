@@ -57,7 +57,7 @@ claim_with f named groups = record {
   reading_ns = f.reading_ns;
 }
 
--- that claim, where it is within its limits
+-- that claim, if it is within its limits
 abbrev pub within_limits : FieldsData → NamedData → Result ClaimData ClaimFault
 within_limits f named =
     asked Range (is_in_range f named) (

@@ -16,7 +16,7 @@ pub(crate) fn read_address(text: &str) -> Option<[u8; 4]>
     }
 }
 
-/// The addresses that texts write, None where one writes none.
+/// The addresses that texts write, None if one writes none.
 pub(crate) fn read_addresses(
     alloc: Global,
     texts: &[&str],

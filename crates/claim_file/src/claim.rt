@@ -1,6 +1,6 @@
 //! A claim.
 
-/// A claim: the client's clock stayed within a bound of UTC over a span, where at most so many
+/// A claim: the client's clock stayed within a bound of UTC over a span, if at most `false_max`
 /// groups of servers are false.
 #[derive(Debug, Drop)]
 pub struct Claim {

@@ -1,4 +1,4 @@
-//! The elements of a JSON array, where each is of one kind.
+//! The elements of a JSON array that are all of one kind.
 
 ghost use Rattle.std.specs.Prelude.{◌≡◌, IfOk, codes, map, option_map, option_and_then};
 ghost use Rattle.serde_json.specs.Find.{get};
@@ -10,7 +10,7 @@ use json_text::{items_at, unsigned_of};
 use serde_json::Value;
 use std::alloc::{AllocError, Global};
 
-/// The texts of an array, None where an element isn't one.
+/// The texts of an array, None if an element isn't one.
 fn texts<'v>(alloc: Global, items: &'v [Value]) -> Result<Option<Vec<&'v str>>, AllocError>
     ensures { IfOk result (λ found.
         option_map (λ v. map (λ text. text.now) v.items) found ≡ texts_of (items_view items.now)) }
@@ -25,7 +25,7 @@ fn texts<'v>(alloc: Global, items: &'v [Value]) -> Result<Option<Vec<&'v str>>, 
     Ok(Some(found))
 }
 
-/// The member of that name, where it is an array of texts.
+/// The member of that name, if it is an array of texts.
 pub(crate) fn texts_at<'v>(
     alloc: Global,
     value: &'v Value,
@@ -40,7 +40,7 @@ pub(crate) fn texts_at<'v>(
     }
 }
 
-/// The integers of an array, None where an element isn't one.
+/// The integers of an array, None if an element isn't one.
 fn integers(alloc: Global, items: &[Value]) -> Result<Option<Vec<u64>>, AllocError>
     ensures { IfOk result (λ found.
         option_map (λ v. v.items) found ≡ all_of json.unsigned_of (items_view items.now)) }
@@ -55,7 +55,7 @@ fn integers(alloc: Global, items: &[Value]) -> Result<Option<Vec<u64>>, AllocErr
     Ok(Some(found))
 }
 
-/// The integers of a value that is an array of them, None where it isn't.
+/// The integers of a value that is an array of them, None if it isn't.
 fn integers_of(alloc: Global, value: &Value) -> Result<Option<Vec<u64>>, AllocError>
     ensures { IfOk result (λ found.
         option_map (λ v. v.items) found ≡ numbers_of (view value.now)) }
@@ -66,7 +66,7 @@ fn integers_of(alloc: Global, value: &Value) -> Result<Option<Vec<u64>>, AllocEr
     }
 }
 
-/// The arrays of integers of an array, None where an element isn't one.
+/// The arrays of integers of an array, None if an element isn't one.
 fn integer_lists(alloc: Global, items: &[Value]) -> Result<Option<Vec<Vec<u64>>>, AllocError>
     ensures { IfOk result (λ found.
         option_map (λ v. map (λ list. list.items) v.items) found
@@ -82,7 +82,7 @@ fn integer_lists(alloc: Global, items: &[Value]) -> Result<Option<Vec<Vec<u64>>>
     Ok(Some(found))
 }
 
-/// The arrays of integers of a value that is an array of them, None where it isn't.
+/// The arrays of integers of a value that is an array of them, None if it isn't.
 fn integer_lists_of(alloc: Global, value: &Value) -> Result<Option<Vec<Vec<u64>>>, AllocError>
     ensures { IfOk result (λ found.
         option_map (λ v. map (λ list. list.items) v.items) found
@@ -94,7 +94,7 @@ fn integer_lists_of(alloc: Global, value: &Value) -> Result<Option<Vec<Vec<u64>>
     }
 }
 
-/// The groups of a claim: Some(None) where there are none, and None where they are of another kind.
+/// The groups of a claim: Some(None) if there are none, and None if they are of another kind.
 pub(crate) fn groups_at(
     alloc: Global,
     value: &Value,

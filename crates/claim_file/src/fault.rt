@@ -13,7 +13,7 @@ pub enum ClaimFault {
     /// The bytes are no JSON text in UTF-8.
     #[error("the claim is no JSON text")]
     Json,
-    /// The value is no object or has an unknown name, where the code is 0. Otherwise the member of
+    /// If the code is 0, the value is no object or has an unknown name. Otherwise the member of
     /// that code is absent or of another kind: 1 `client`, 2 `servers`, 3 `false_max`, 4 `from`,
     /// 5 `to`, 6 `bound_ns`, 7 `drift_ppb`, 8 `reading_ns`, 9 `groups`, which may be absent.
     #[error("field {0} of the claim is absent or of another kind")]

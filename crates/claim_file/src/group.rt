@@ -10,7 +10,7 @@ ghost use Rattle.claim_file.specs.Group as spec;
 use crate::fault::ClaimFault;
 use std::alloc::{AllocError, Global};
 
-/// For each of `count` servers the number of its group: its own where none are listed.
+/// For each of `count` servers the number of its group: its own if none are listed.
 pub(crate) fn read_groups(
     alloc: Global,
     count: usize,
@@ -125,7 +125,7 @@ fn group_numbers(alloc: Global, groups: &[Vec<u64>], count: usize) -> Result<Vec
     Ok(numbers)
 }
 
-/// The number of the first group that holds a server, 0 where none does.
+/// The number of the first group that holds a server, 0 if none does.
 fn group_of(groups: &[Vec<u64>], server: u64) -> usize
     ensures exact { result ≡ spec.group_of (map (λ list. list.items) groups.now) server }
     ensures small { result ≤ length groups.now }

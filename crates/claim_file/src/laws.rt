@@ -44,7 +44,8 @@ pub fn times_are_spelled()
 
 /// No two dates and times are written by one text.
 pub fn date_times_have_one_spelling()
-    ensures { (m n : DateTime) → exists m ≡ true → exists n ≡ true → spelling m ≡ spelling n → m ≡ n }
+    ensures { (m n : DateTime) → exists m ≡ true → exists n ≡ true →
+        spelling m ≡ spelling n → m ≡ n }
 {}
 
 /// The first time is second 0 and the last second 2^32 - 1.
@@ -53,7 +54,7 @@ pub fn first_and_last_time()
     ensures last { time_of (codes "2106-02-07T06:28:15Z") ≡ Some 4294967295 }
 {}
 
-/// A text says an address exactly where it is four decimal numbers below 256 without leading zeros,
+/// A text says an address exactly if it is four decimal numbers below 256 without leading zeros,
 /// with dots between them.
 pub fn addresses_are_dotted()
     ensures { (text address : List ℕ) → (address_of text ≡ Some address) ↔ IsDotted text address }
@@ -68,7 +69,7 @@ pub fn servers_are_in_their_groups()
         (slice_get groups server ≡ Some group) ↔ IsInGroup n listed server group }
 {}
 
-/// Where groups are listed, each server stands in them once and nothing else does, the number of a
+/// If groups are listed, each server stands in them once and nothing else does, the number of a
 /// server is that of the group which holds it, and there are as many groups as are listed.
 pub fn groups_hold_each_server_once()
     ensures once { (n : ℕ) (listed : List (List ℕ)) (groups : List ℕ) →

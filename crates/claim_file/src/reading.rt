@@ -73,7 +73,7 @@ fn read_named(alloc: Global, fields: &Fields<'_>) -> Result<Named, ClaimFault>
     })
 }
 
-/// The claim of these members, where it is within its limits.
+/// The claim of these members, if it is within its limits.
 fn within_limits(alloc: Global, fields: &Fields<'_>, named: Named) -> Result<Claim, ClaimFault>
     ensures exact { Answers result data_of
         (spec.within_limits (fields_data fields.now) (spec.named_data named)) }

@@ -39,7 +39,7 @@ pub fn read_time(text: &str) -> Option<u32>
     }
 }
 
-/// The second, where it is one of the 2^32 from 1970 on.
+/// The second, if it is one of the 2^32 from 1970 on.
 fn in_u32(second: i64) -> Option<u32>
     ensures { result ≡ spec.in_u32 second }
 {
@@ -73,7 +73,7 @@ fn pair(tens: u8, ones: u8) -> u32
     tens.saturating_sub(b'0') as u32 * 10 + ones.saturating_sub(b'0') as u32
 }
 
-/// The number of a day, 0 for 1970-01-01, where the calendar has it.
+/// The number of a day, 0 for 1970-01-01, if the calendar has it.
 fn day_number(year: u32, month: u32, day: u32) -> Option<i32>
     ensures { result ≡ (if spec.is_date year month day
         then Some (days_from_civil (pos year) month day) else None) }
@@ -86,7 +86,7 @@ fn day_number(year: u32, month: u32, day: u32) -> Option<i32>
 }
 
 impl DateTime {
-    /// Its second, counted from 1970, where the date exists and the day has the time.
+    /// Its second, counted from 1970, if the date exists and the day has the time.
     fn unix_second(&self) -> Option<i64>
         ensures { result
             ≡ (if spec.exists self.now then Some (spec.unix_second self.now) else None) }

@@ -1,5 +1,5 @@
--- A number of nanoseconds as whole ticks of 2^-32 second, rounded down where the number is a bound
--- that is to be kept, and up where it is an allowance that is granted.
+-- A number of nanoseconds as whole ticks of 2^-32 second, rounded down if the number is a bound
+-- that is to be kept, and up if it is an allowance that is granted.
 use Rattle.std.specs.Prelude.{ℕ, ◌*◌}
 use Rattle.era_unfold.specs.Ratio.{floor_of, ceiling_of}
 use Rattle.era_unfold.specs.Window.{ticks_per_second}

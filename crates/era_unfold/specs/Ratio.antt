@@ -16,12 +16,12 @@ pub record IsCeiling (n d q : ℕ) : Type 0 where
   pub not_below : n ≤ q * d
   pub least : (m : ℕ) → n ≤ m * d → q ≤ m
 
--- the same of e / n, where e may be below zero: the floor is the greatest whole number not above it
+-- the same of e / n, in which e may be below zero: the greatest whole number not above it
 abbrev pub IsSignedFloor : ℤ → ℤ → ℕ → Type 0
 IsSignedFloor floor e n =
     ((floor *ℤ pos n) ≤ℤ e) × ((whole : ℤ) → (whole *ℤ pos n) ≤ℤ e → whole ≤ℤ floor)
 
--- and the ceiling is the least whole number not below it
+-- and the least whole number not below it
 abbrev pub IsSignedCeiling : ℤ → ℤ → ℕ → Type 0
 IsSignedCeiling ceiling e n =
     (e ≤ℤ (ceiling *ℤ pos n)) × ((whole : ℤ) → e ≤ℤ (whole *ℤ pos n) → ceiling ≤ℤ whole)

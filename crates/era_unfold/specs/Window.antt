@@ -23,7 +23,7 @@ abbrev pub per_second : SubsecondUnit → ℕ
 per_second Micro = 1000000
 per_second Nano = 1000000000
 
--- the first tick of the window of a record at so many seconds and units
+-- the first tick of the window of a record at these seconds and units
 unfoldable pub window_low : SubsecondUnit → ℕ → ℕ → ℕ
 window_low unit sec sub =
     floor_of ((sec * per_second unit + sub) * ticks_per_second) (per_second unit)

@@ -19,7 +19,7 @@ pub record Fields : Type 0 where
   pub destination_port : ℕ
   pub payload : List ℕ
 
--- a `Datagram` without where its payload lies in memory
+-- a `Datagram` without the place of its payload in memory
 abbrev pub fields_of : Datagram → Fields
 fields_of d = record {
   source = d.source;
@@ -33,7 +33,7 @@ fields_of d = record {
 
 -- what a frame has beside the fields of its datagram
 pub record Parts : Type 0 where
-  -- the two Ethernet addresses, and the control information of the tag, where there is one
+  -- the two Ethernet addresses, and the control information of the tag, if there is one
   pub ethernet_addresses : List ℕ
   pub tag : Option ℕ
   -- the IPv4 header: its length in words of four bytes, and the two flags beside more-fragments

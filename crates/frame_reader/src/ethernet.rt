@@ -12,7 +12,7 @@ const TAG: u16 = 0x8100;
 /// The type of IPv4 (RFC 894).
 const IPV4: u16 = 0x0800;
 
-/// What stands after the type, where that is IPv4.
+/// What stands after the type, if that is IPv4.
 #[inline(always)]
 #[tactic(auto, unfolding(crate::specs::Frame::link_skip, crate::specs::Frame::packet_of))]
 pub fn packet(frame: &[u8]) -> Result<&[u8], Skip>

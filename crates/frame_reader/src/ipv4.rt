@@ -11,7 +11,7 @@ const FRAGMENT: u16 = 0x3fff;
 /// The protocol number of UDP.
 const UDP: u8 = 17;
 
-/// What stands after the header up to the total length, where that is an unfragmented UDP datagram.
+/// What stands after the header up to the total length, if that is an unfragmented UDP datagram.
 #[inline(always)]
 #[tactic(auto, unfolding(crate::specs::Frame::packet_skip, crate::specs::Frame::segment_of))]
 pub fn segment(packet: &[u8]) -> Result<&[u8], Skip>

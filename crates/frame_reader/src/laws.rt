@@ -1,4 +1,4 @@
-//! What the definitions say of every frame: what a frame gives is what it holds.
+//! What the definitions say about every frame: what a frame gives is what it holds.
 
 ghost use Rattle.std.specs.Prelude.{◌≡◌, ◌↔◌, ℕ, ◌+◌, ◌<◌, List, ◌++◌, length, take, Ok, Err, Some, IsSome};
 ghost use Rattle.frame_reader.specs.declared.skip.Skip.{Skip};
@@ -6,15 +6,14 @@ ghost use Rattle.frame_reader.specs.declared.skip.Skip.TheVariants.{Short};
 ghost use Rattle.byte_stream.specs.Bytes.{IsBytes};
 ghost use Rattle.frame_reader.specs.Frame.{Fields, HoldsDatagram, skip_of, datagram_of};
 
-/// A frame gives a datagram exactly where it is the joined list of that datagram's parts: Ethernet
+/// A frame gives a datagram exactly if it is the joined list of that datagram's parts: Ethernet
 /// addresses, at most one tag, IPv4 header, UDP header, payload and padding.
 pub fn given_where_held()
     ensures { (frame : List ℕ) (d : Fields) → IsBytes frame →
         (datagram_of frame ≡ Ok d) ↔ HoldsDatagram frame d }
 {}
 
-/// A frame gives no datagram exactly where it has a reason to be skipped, and then gives that
-/// reason.
+/// A frame gives no datagram exactly if it has a reason to be skipped, and then gives that reason.
 pub fn refused_where_skipped()
     ensures { (frame : List ℕ) (s : Skip) → (datagram_of frame ≡ Err s) ↔ (skip_of frame ≡ Some s) }
 {}
@@ -25,7 +24,7 @@ pub fn holds_one_at_most()
         → d ≡ e }
 {}
 
-/// A frame has a reason to be skipped exactly where it holds no datagram.
+/// A frame has a reason to be skipped exactly if it holds no datagram.
 pub fn skipped_where_none_is_held()
     ensures { (frame : List ℕ) → IsBytes frame →
         IsSome (skip_of frame) ↔ ((d : Fields) → ¬ HoldsDatagram frame d) }

@@ -7,7 +7,7 @@ use crate::bytes::{address_at, word_at};
 use crate::kinds::Datagram;
 use crate::skip::Skip;
 
-/// The UDP datagram in a segment of this packet, where its length fits (RFC 768).
+/// The UDP datagram in a segment of this packet, if its length fits (RFC 768).
 #[inline(always)]
 #[tactic(auto, unfolding(crate::specs::Frame::segment_skip, crate::specs::Frame::fields_at))]
 pub fn segment_datagram<'a>(packet: &'a [u8], segment: &'a [u8]) -> Result<Datagram<'a>, Skip>

@@ -26,7 +26,7 @@ fn next_random(state: u64) -> u64 {
         .wrapping_add(1442695040888963407)
 }
 
-/// A list of so many intervals that mostly share points, and the last of the numbers that made it.
+/// A list of `length` intervals that mostly share points, and the last of the numbers that made it.
 fn list_of(seed: u64, length: u64) -> (ArrayVec<Interval, 32>, u64) {
     let mut state = seed;
     let mut list = ArrayVec::new();
@@ -74,7 +74,7 @@ fn plain_hull(list: &ArrayVec<Interval, 32>, f: u8) -> Hull {
     hull
 }
 
-/// The hull of a list of which a quarter may be wrong.
+/// The hull of a list, if a quarter of it may be wrong.
 fn hull_by(way: Way, list: &ArrayVec<Interval, 32>) -> Hull {
     let f = (list.len() / 4).min(255) as u8;
     match way {
@@ -84,7 +84,7 @@ fn hull_by(way: Way, list: &ArrayVec<Interval, 32>) -> Hull {
     }
 }
 
-/// A sum over the hulls of so many lists.
+/// A sum over the hulls of `rounds` lists.
 fn work(way: Way, length: u64, rounds: u64) -> u64 {
     let mut state = 1;
     let mut sum = 0u64;

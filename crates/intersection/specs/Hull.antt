@@ -30,8 +30,8 @@ abbrev pub IsGreatestAdmissible : List Interval → ℕ → ℤ → Type 0
 IsGreatestAdmissible list f hi =
     IsAdmissible list f hi × ((point : ℤ) → IsAdmissible list f point → point ≤ℤ hi)
 
--- Unbounded where every interval may be wrong; else Empty where no point is admissible; else from
--- the least admissible point to the greatest
+-- Unbounded if every interval may be wrong; else Empty if no point is admissible; else from the
+-- least admissible point to the greatest
 abbrev pub IsHull : List Interval → ℕ → Hull → Type 0
 IsHull list f Unbounded = length list ≤ f
 IsHull list f Empty = (f < length list) × ((point : ℤ) → ¬ (IsAdmissible list f point))
@@ -44,7 +44,7 @@ HullHolds Unbounded point = ⊤
 HullHolds Empty point = ⊥
 HullHolds (Bounded lo hi) point = (lo ≤ℤ point) × (point ≤ℤ hi)
 
--- where the hull is bounded, this holds of its ends
+-- if the hull is bounded, this holds of its ends
 abbrev pub IfBounded : Hull → (ℤ → ℤ → Type 0) → Type 0
 IfBounded Unbounded P = ⊤
 IfBounded Empty P = ⊤
@@ -64,13 +64,13 @@ abbrev pub range_of : List ℤ → Hull
 range_of [] = Empty
 range_of (point ∷ points) = Bounded (fold int_min point points) (fold int_max point points)
 
--- the hull as a value: where a point is admissible, so is an end below it and one above it, and so
--- the ends alone decide
+-- the hull as a value: if a point is admissible, so is an end below it and one above it, and so the
+-- ends alone decide
 unfoldable pub hull_of : List Interval → ℕ → Hull
 hull_of list f =
     if nat_le (length list) f then Unbounded else range_of (admissible_ends list f)
 
--- what the hull of a list says of it, each fact by a name
+-- what the hull of a list says about it, each fact by a name
 pub record DescribesHull (list : List Interval) (f : ℕ) (answer : Hull) : Type 0 where
   pub hull : IsHull list f answer
   pub unbounded : (answer ≡ Unbounded) ↔ (length list ≤ f)

@@ -7,7 +7,7 @@ use Rattle.intersection.specs.declared.ends.End.{End}
 use Rattle.intersection.specs.declared.ends.Side.{Side}
 
 -- Where a walk stops: at the first end by which `needed` more intervals were entered than left.
--- Before these ends it entered and left so many.
+-- Before these ends it entered `entered` and left `left`.
 abbrev pub first_reached : Side → ℕ → ℕ → ℕ → List End → Option ℤ
 first_reached entrance needed entered left [] = None
 first_reached entrance needed entered left (end ∷ ends) =

@@ -7,7 +7,7 @@ use crate::kinds::Interval;
 
 /// The points that both intervals have: from the greatest low end to the least high end.
 ///
-/// Where they have none in common, `lo` is above `hi` in the result.
+/// If they have none in common, `lo` is above `hi` in the result.
 pub fn meet(a: Interval, b: Interval) -> Interval
     ensures lo { result.lo ≡ int_max a.lo b.lo }
     ensures hi { result.hi ≡ int_min a.hi b.hi }

@@ -1,6 +1,6 @@
 //! The types that this crate speaks of.
 
-/// A closed interval of whole points, with both its ends: in ticks of 2^-32 s where it bounds a
+/// A closed interval of whole points, with both its ends: in ticks of 2^-32 s if it bounds a
 /// clock's error.
 ///
 /// An interval with `lo` above `hi` has no point.
@@ -12,7 +12,7 @@ pub struct Interval {
     pub hi: i128,
 }
 
-/// What is known of a point that at most so many intervals of a list leave out.
+/// What is known about a point that at most f intervals of a list leave out.
 #[derive(Clone, Copy, Debug, PartialEq, Eq)]
 pub enum Hull {
     /// Nothing: every interval of the list may be wrong.

@@ -33,8 +33,8 @@ pub fn hull_is_one_answer()
         → IsHull list f second → first ≡ second }
 {}
 
-/// Every list has a hull: where a point is admissible, so are an end not above it and an end not
-/// below it, and so the admissible ends give it.
+/// Every list has a hull: if a point is admissible, so are an end not above it and an end not below
+/// it, and so the admissible ends give it.
 pub fn every_list_has_a_hull()
     ensures { (list : List Interval) (f : ℕ) → IsHull list f (hull_of list f) }
 {}
@@ -60,9 +60,9 @@ pub fn fractions_have_whole_neighbors()
     ensures ceiling { (e : ℤ) (n : ℕ) → 0 < n → (ceiling : ℤ) × IsSignedCeiling ceiling e n }
 {}
 
-/// Whole points are fine enough: where a fraction lies in an interval with whole ends, so do its
-/// floor and its ceiling. For a fraction that at most `f` intervals leave out both are admissible,
-/// and so the fraction lies in the hull.
+/// Whole points are fine enough: if a fraction lies in an interval with whole ends, so do its floor
+/// and its ceiling. For a fraction that at most `f` intervals leave out both are admissible, and so
+/// the fraction lies in the hull.
 pub fn whole_points_are_fine_enough()
     ensures floor { (interval : Interval) (e floor : ℤ) (n : ℕ) → 0 < n
         → HoldsFraction interval e n → IsSignedFloor floor e n → (interval.lo ≤ℤ floor)
@@ -79,7 +79,7 @@ pub fn whole_points_are_fine_enough()
         → IsAdmissibleFraction list f e n → IsHull list f hull → HullHoldsFraction hull e n }
 {}
 
-/// A fraction too is left out by the meet of two intervals exactly where one of them leaves it out.
+/// A fraction too is left out by the meet of two intervals exactly if one of them leaves it out.
 pub fn meet_keeps_common_fractions()
     ensures { (a b both : Interval) (e : ℤ) (n : ℕ) → both.lo ≡ int_max a.lo b.lo
         → both.hi ≡ int_min a.hi b.hi → LeavesFractionOut both e n

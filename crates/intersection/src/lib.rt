@@ -1,7 +1,7 @@
 //! What a list of closed intervals has in common when a few of them may be wrong.
 //!
 //! Servers answer with correctness intervals, and up to `f` of the servers may be false tickers
-//! (RFC 5905, section 11.2.1). A point is admissible where at most `f` intervals leave it out, and
+//! (RFC 5905, section 11.2.1). A point is admissible if at most `f` intervals leave it out, and
 //! [`hull`] is the least range that holds every admissible point. [`hull_walk`] says also how many
 //! ends of intervals were looked at, and [`meet`] narrows two intervals to one. Nothing here
 //! allocates.

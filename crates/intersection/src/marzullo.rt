@@ -20,7 +20,7 @@ pub fn hull(list: &ArrayVec<Interval, 32>, f: u8) -> Hull
 /// The hull, and the number of ends that were looked at to find it.
 ///
 /// The ends of the intervals that have a point are put in order. A walk upward stops at the least
-/// admissible point, and where there is one a walk downward stops at the greatest.
+/// admissible point, and if there is one, a walk downward stops at the greatest.
 pub fn hull_walk(list: &ArrayVec<Interval, 32>, f: u8) -> (Hull, u32)
     ensures described { DescribesHull list.now.items f result.0 }
     ensures looked { result.1 ≤ 4 * length list.now.items }
@@ -59,7 +59,7 @@ fn walk_both_ways<const ENDS: usize>(list: &[Interval], f: u8) -> (Hull, u32)
     }
 }
 
-/// Walks along the ends, and stops at the first where `needed` more intervals were entered than
+/// Walks along the ends, and stops at the first at which `needed` more intervals were entered than
 /// left.
 ///
 /// An interval is entered at its end of the side `entrance`, and left at the other. The second

@@ -17,15 +17,15 @@ members_among names value =
     option_and_then (λ members. if has_only names members then Some members else None)
     (as_object value)
 
--- the value where it is a whole number from 0 to 2^64 - 1, without sign, fraction or exponent
+-- the value if it is a whole number from 0 to 2^64 - 1, without sign, fraction or exponent
 abbrev pub unsigned_of : Data → Option ℕ
 unsigned_of value = option_and_then as_u64 (as_number value)
 
--- the value where it is a whole number from -2^63 to 2^63 - 1, without fraction or exponent
+-- the value if it is a whole number from -2^63 to 2^63 - 1, without fraction or exponent
 abbrev pub signed_of : Data → Option ℤ
 signed_of value = option_and_then as_i64 (as_number value)
 
--- the member of a name, where it is a text, an array, or such a number
+-- the member of a name, if it is a text, an array, or such a number
 abbrev pub text_at : List ℕ → Data → Option (List ℕ)
 text_at name value = option_and_then as_str (get name value)
 

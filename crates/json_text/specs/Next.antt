@@ -1,7 +1,7 @@
 -- A JSON text read token by token: the value that comes next, the elements that are left of an
 -- array, and the members that are left of an object, each with the tokens after it.
 --
--- What they say together is what `parsed` says of a whole text. The depth is how deep arrays and
+-- What they say together is what `parsed` says about a whole text. The depth is how deep arrays and
 -- objects may still nest.
 use Rattle.std.specs.Prelude.{◌≡◌, ℕ, ◌-◌, ◌<◌, List, length, Option, Some, None, option_map, Result, MatchResult}
 use Rattle.json.specs.Json.{value, items, members, parse_map}
@@ -20,12 +20,12 @@ next_value depth ts = converted of_json (value depth ts)
 unfoldable pub next_items : ℕ → List Token → Option (Items × List Token)
 next_items depth ts = converted of_items (items (value depth) (length ts) ts)
 
--- up to the brace that closes the object, where these members came before
+-- up to the brace that closes the object, if these members came before
 unfoldable pub next_members : ℕ → Members → List Token → Option (Members × List Token)
 next_members depth found ts =
     converted (λ ms. of_members ms found) (members (value depth) (length ts) ts)
 
--- the tokens after what is read, where it can be read
+-- the tokens after what is read, if it can be read
 abbrev pub rest_after : {A : Type 0} → Option (A × List Token) → Option (List Token)
 rest_after read = option_map (λ p. p.1) read
 

@@ -1,12 +1,12 @@
--- Readings in steps, where the first step that fails gives the fault.
+-- Readings in steps: the first step that fails gives the fault.
 use Rattle.std.specs.Prelude.{◌≡◌, ◌⊎◌, Bool, true, false, Option, Some, None, Result, Ok, Err, MatchResult}
 
--- the rest of a reading, where this value is there; this fault where it isn't
+-- the rest of a reading, if this value is there; this fault if it isn't
 abbrev pub given : {A B E : Type 0} → E → Option A → (A → Result B E) → Result B E
 given fault None rest = Err fault
 given fault (Some value) rest = rest value
 
--- the rest of a reading, where this holds; this fault where it doesn't
+-- the rest of a reading, if this holds; this fault if it doesn't
 abbrev pub asked : {B E : Type 0} → E → Bool → Result B E → Result B E
 asked fault false rest = Err fault
 asked fault true rest = rest

@@ -31,14 +31,14 @@ fn has_only(members: &Map<String, Value>, names: &[&str]) -> bool
     members.keys().all(|name| names.contains(&name.as_str()))
 }
 
-/// The member of that name, where it is a text.
+/// The member of that name, if it is a text.
 pub fn text_at<'v>(value: &'v Value, name: &str) -> Option<&'v str>
     ensures { option_map (λ text. text.now) result ≡ spec.text_at name.now (view value.now) }
 {
     value.get(name)?.as_str()
 }
 
-/// The member of that name, where it is an array.
+/// The member of that name, if it is an array.
 pub fn items_at<'v>(value: &'v Value, name: &str) -> Option<&'v Vec<Value>>
     ensures { option_map (λ list. items_view list.now.items) result
         ≡ spec.items_at name.now (view value.now) }
@@ -46,7 +46,7 @@ pub fn items_at<'v>(value: &'v Value, name: &str) -> Option<&'v Vec<Value>>
     value.get(name)?.as_array()
 }
 
-/// The value, where it is a whole number from 0 to 2^64 - 1, written without sign, fraction or
+/// The value, if it is a whole number from 0 to 2^64 - 1, written without sign, fraction or
 /// exponent.
 pub fn unsigned_of(value: &Value) -> Option<u64>
     ensures { result ≡ spec.unsigned_of (view value.now) }
@@ -54,14 +54,14 @@ pub fn unsigned_of(value: &Value) -> Option<u64>
     value.as_u64()
 }
 
-/// The member of that name, where it is such a number.
+/// The member of that name, if it is such a number.
 pub fn unsigned_at(value: &Value, name: &str) -> Option<u64>
     ensures { result ≡ spec.unsigned_at name.now (view value.now) }
 {
     value.get(name)?.as_u64()
 }
 
-/// The member of that name, where it is a whole number from -2^63 to 2^63 - 1, written without
+/// The member of that name, if it is a whole number from -2^63 to 2^63 - 1, written without
 /// fraction or exponent.
 pub fn signed_at(value: &Value, name: &str) -> Option<i64>
     ensures { result ≡ spec.signed_at name.now (view value.now) }

@@ -27,8 +27,8 @@ pub(crate) enum Opening {
     Other,
 }
 
-/// How the next value begins. Invalid exactly where none does: what is after the beginning of an
-/// array or an object is not looked at.
+/// How the next value begins. Invalid exactly if none does: what is after the beginning of an array
+/// or an object is not looked at.
 #[inline(always)]
 fn open_value(reader: &mut Reader<'_>, depth: usize) -> Result<Opening, Invalid>
     ensures opened { MatchResult result (λ opening. Opens opening depth reader.old reader.new)
@@ -61,8 +61,8 @@ fn open_value(reader: &mut Reader<'_>, depth: usize) -> Result<Opening, Invalid>
     }
 }
 
-/// The next value, where it is an integer from 0 to 2^64 - 1, written without sign, fraction or
-/// exponent, and None where it is another. Invalid exactly where there is no value.
+/// The next value, if it is an integer from 0 to 2^64 - 1, written without sign, fraction or
+/// exponent, and None if it is another. Invalid exactly if there is no value.
 pub fn next_unsigned(reader: &mut Reader<'_>, depth: usize) -> Result<Option<u64>, Invalid>
     ensures { Reads result (λ n. n) (parse_map unsigned_of (next_value depth reader.old))
         reader.new }
@@ -82,7 +82,7 @@ pub fn next_unsigned(reader: &mut Reader<'_>, depth: usize) -> Result<Option<u64
 }
 
 /// Whether the next value is an array. Its elements come next then, and else the value is passed.
-/// Invalid exactly where neither an array begins nor another value comes whole.
+/// Invalid exactly if neither an array begins nor another value comes whole.
 pub fn open_array(reader: &mut Reader<'_>, depth: usize) -> Result<bool, Invalid>
     ensures { MatchResult result (λ opened. MatchBool opened
         ((0 < depth) × (next_value depth reader.old
@@ -102,7 +102,7 @@ pub fn open_array(reader: &mut Reader<'_>, depth: usize) -> Result<bool, Invalid
 }
 
 /// Whether the next value is an object. Its members come next then, and else the value is passed.
-/// Invalid exactly where neither an object begins nor another value comes whole.
+/// Invalid exactly if neither an object begins nor another value comes whole.
 pub fn open_object(reader: &mut Reader<'_>, depth: usize) -> Result<bool, Invalid>
     ensures { MatchResult result (λ opened. MatchBool opened
         ((0 < depth) × (next_value depth reader.old
@@ -121,7 +121,7 @@ pub fn open_object(reader: &mut Reader<'_>, depth: usize) -> Result<bool, Invali
     }
 }
 
-/// Passes over the next value. Invalid exactly where there is none.
+/// Passes over the next value. Invalid exactly if there is none.
 #[cycle(pass)]
 #[inline(always)]
 pub fn pass_value(reader: &mut Reader<'_>, depth: usize) -> Result<(), Invalid>
@@ -138,8 +138,8 @@ pub fn pass_value(reader: &mut Reader<'_>, depth: usize) -> Result<(), Invalid>
     }
 }
 
-/// Passes over the elements that are left of an array, and its bracket. Invalid exactly where one
-/// of them is no value, or the array doesn't end.
+/// Passes over the elements that are left of an array, and its bracket. Invalid exactly if one of
+/// them is no value, or the array doesn't end.
 #[cycle(pass)]
 #[inline(never)]
 pub fn pass_items(reader: &mut Reader<'_>, depth: usize) -> Result<(), Invalid>
@@ -154,7 +154,7 @@ pub fn pass_items(reader: &mut Reader<'_>, depth: usize) -> Result<(), Invalid>
     Ok(())
 }
 
-/// Passes over the members that are left of an object, and its brace. Invalid exactly where one of
+/// Passes over the members that are left of an object, and its brace. Invalid exactly if one of
 /// them has no name or no value, or the object doesn't end.
 #[cycle(pass)]
 #[inline(never)]

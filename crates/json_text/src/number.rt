@@ -7,9 +7,8 @@ ghost use Rattle.serde_json.specs.Read.{number_of, number_from, float_of};
 
 use fast_float::{Numeral, parse_u64};
 
-/// For the text of a number: the number, where it is a whole number from 0 to 2^64 - 1, written
-/// without sign, fraction or exponent; Some(None) where it is another; None where no float holds
-/// it.
+/// For the text of a number: the number, if it is a whole number from 0 to 2^64 - 1, written
+/// without sign, fraction or exponent; Some(None) if it is another; None if no float holds it.
 pub(crate) fn unsigned_in(text: &str) -> Option<Option<u64>>
     ensures { result ≡ option_map as_u64 (number_of text.now) }
 {
@@ -33,8 +32,8 @@ fn other_in(text: &[u8]) -> Option<Option<u64>>
     }
 }
 
-/// The number that digits alone write, where it is below 2^64. Most numbers are such, and this way
-/// is the short one.
+/// The number that digits alone write, if it is below 2^64. Most numbers are such, and this way is
+/// the short one.
 fn digits_in(bytes: &[u8]) -> Option<u64>
     ensures numeral { IfSome result (λ _. IsNumeral 10 bytes.now) }
     ensures value { IfSome result (λ number. number ≡ digits_value 10 bytes.now) }
@@ -89,7 +88,7 @@ fn negative(numeral: &Numeral<'_>) -> Option<Option<u64>>
     float(true, numeral)
 }
 
-/// The same where no sign comes first.
+/// The same if no sign comes first.
 fn positive(numeral: &Numeral<'_>) -> Option<Option<u64>>
     ensures { result ≡ option_map as_u64 (number_from false numeral.now) }
 {
@@ -99,7 +98,7 @@ fn positive(numeral: &Numeral<'_>) -> Option<Option<u64>>
     }
 }
 
-/// The same where it is kept as a float.
+/// The same if it is kept as a float.
 fn float(is_negative: bool, numeral: &Numeral<'_>) -> Option<Option<u64>>
     ensures { result ≡ option_map as_u64 (float_of is_negative numeral.now) }
 {

@@ -18,6 +18,6 @@ address bytes =
 abbrev pub endpoint : List ℕ → ℕ → List ℕ
 endpoint bytes port = address bytes ++ codes ":" ++ decimal port
 
--- a number of so many bytes in hexadecimal, two digits a byte, the highest first
+-- a number of `width` bytes in hexadecimal, two digits a byte, the highest first
 abbrev pub hexadecimal : ℕ → ℕ → List ℕ
 hexadecimal width n = encode_lower (big_bytes width n)

@@ -7,7 +7,7 @@ use crate::line::{CAPACITY, Line};
 
 /// A number that a line may have, in decimal.
 pub trait Number: Copy {
-    /// Its digits, after a minus sign where it is below zero.
+    /// Its digits, after a minus sign if it is below zero.
     ghost text: { Self → List ℕ };
 
     /// How many bytes the longest text has.

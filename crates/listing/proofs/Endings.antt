@@ -179,7 +179,8 @@ module _ {o : OutputState} {after : SinkState} {ran answer : Result Outcome RunF
 
 module _ {start end : SourceState} {sink after : SinkState} {o : OutputState}
     {ran answer : Result Outcome RunFault} where
-  lists_closed : HasListed start sink (progress end o) ran → Closes o after ran answer → Lists start end sink after answer
+  lists_closed : HasListed start sink (progress end o) ran → Closes o after ran answer →
+      Lists start end sink after answer
   lists_closed listed closes =
       let device = closed_counts closes.device listed.device in
       record {

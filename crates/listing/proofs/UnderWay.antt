@@ -48,7 +48,8 @@ module _ {start : SourceState} {sink : SinkState} where
 
   -- what is gathered went out
   pub under_way_flushed : {s : SourceState} {o o' : OutputState} {packets : ℕ} →
-      IsUnderWay start sink (progress s o) packets → Puts o o' [] (Ok tt) → IsUnderWay start sink (progress s o') packets
+      IsUnderWay start sink (progress s o) packets → Puts o o' [] (Ok tt) →
+      IsUnderWay start sink (progress s o') packets
   under_way_flushed {o' = o'} u puts = record {
     ready = ready_after u.ready puts (omega (arith, puts.count, u.ready.few));
     unfailed = u.unfailed;

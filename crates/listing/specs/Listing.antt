@@ -1,4 +1,4 @@
--- The whole text of `list`: a line for each NTP packet, and a closing line where the capture ends
+-- The whole text of `list`: a line for each NTP packet, and a closing line if the capture ends
 -- whole.
 use Rattle.std.specs.Prelude.{ℕ, List, [], ◌++◌, length, codes, Option, Some, None, Result, Ok, Err}
 use Rattle.std.specs.Fmt.{decimal}

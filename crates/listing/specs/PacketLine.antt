@@ -85,7 +85,7 @@ packet_line head packet =
     root_fields packet.header ++ stamp_fields packet.header ++
     tick_fields head packet.header ++ codes "\n"
 
--- the line of a record, where it holds an NTP packet
+-- the line of a record, if it holds an NTP packet
 unfoldable pub line_of : Record → Option (List ℕ)
 line_of r = option_map (packet_line r.head) (packet_of r.bytes)
 

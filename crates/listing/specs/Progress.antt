@@ -31,7 +31,7 @@ pub record HasGiven (whole rest : Coming) (done : List (List ℕ)) (records : �
   pub fault : whole.fault ≡ rest.fault
   pub given : length whole.records ≡ records + length rest.records
 
--- the same where the bytes of the capture are known
+-- the same if the bytes of the capture are known
 abbrev pub HasPassed : Option Coming → Option Coming → List (List ℕ) → ℕ → Type 0
 HasPassed start now done records =
     IfSome start (λ whole. (rest : Coming) × (now ≡ Some rest) × HasGiven whole rest done records)
@@ -53,14 +53,14 @@ abbrev pub texts_of : Option (List ℕ) → List (List ℕ)
 texts_of None = []
 texts_of (Some line) = line ∷ []
 
--- A record's line was put, where it has one, and so many lines were.
+-- A record's line was put, if it has one, and this is how many lines that are.
 abbrev pub PutsLine : Option (List ℕ) → OutputState → OutputState → Result ℕ RunFault → Type 0
 PutsLine line old new (Ok count) =
     (count ≡ length (texts_of line)) × Puts old new (texts_of line) (Ok tt)
 PutsLine line old new (Err fault) = Puts old new (texts_of line) (Err fault)
 
--- A listing under way: so many records were given, of which so many hold an NTP packet, and the
--- lines of these were put.
+-- A listing under way: some records were given, `packets` of them hold an NTP packet, and the lines
+-- of these were put.
 pub record IsUnderWay (start : SourceState) (sink : SinkState) (now : Progress) (packets : ℕ)
     : Type 0 where
   pub ready : IsReady now.output
@@ -76,7 +76,7 @@ pub record IsUnderWay (start : SourceState) (sink : SinkState) (now : Progress) 
   pub put : HasPut sink.contents now.output done
   pub passed : HasPassed start.remaining now.source.remaining done now.source.given
 
--- The capture's device failed in the run exactly where the answer says so, and it says so of no
+-- The capture's device failed in the run exactly if the answer says so, and it says so about no
 -- other input.
 pub record CountsCapture (ran : Result Outcome RunFault) (before after : ℕ) : Type 0 where
   pub claim : is_device is_claim ran ≡ false

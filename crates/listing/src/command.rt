@@ -1,4 +1,4 @@
-//! The listing as a whole command: its answer, told.
+//! The listing as a whole command, with its answer reported.
 
 ghost use Rattle.std.specs.Option.{option_map};
 ghost use Rattle.byte_stream.specs.State.{IsReadable, IsWritable};
@@ -11,8 +11,8 @@ use byte_stream::{Feed, Sink};
 use report::tell;
 use std::alloc::Global;
 
-/// Lists a capture on `out` as `run_list` does, and tells a fault on `err`. Beside the feed stands
-/// the exit status.
+/// Lists a capture on `out` as `run_list` does, and reports a fault on `err`. Beside the feed
+/// stands the exit status.
 pub fn answer_list<F: Feed, S: Sink, E: Sink>(
     alloc: Global,
     capture: F,

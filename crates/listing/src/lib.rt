@@ -1,4 +1,4 @@
-//! The listing of a capture: a line for each NTP packet, and a closing line where the capture ends
+//! The listing of a capture: a line for each NTP packet, and a closing line if the capture ends
 //! whole.
 //!
 //! `run_list` lists what a feed gives, `list_from` what is to come of any source of records. Both

@@ -47,8 +47,8 @@ fn close_list<S: Sink>(
     out.put(line.as_bytes())
 }
 
-/// Pushes what is gathered where the source would wait for its device, so that a capture that is
-/// still being made is listed as far as it has come.
+/// Pushes what is gathered if the source would wait for its device, so that a capture that is still
+/// being made is listed as far as it has come.
 fn catch_up<R: RecordSource, S: Sink>(source: &R, out: &mut Output<'_, S>) -> Result<(), RunFault>
     requires { IsReady (output_state S.state out.old) }
     ensures same_sink { sink_name out.new ≡ sink_name out.old }
@@ -106,9 +106,9 @@ fn list_records<R: RecordSource, S: Sink>(
 /// Lists what is to come of a source that has given nothing, gathering in this buffer. It takes no
 /// memory.
 ///
-/// `Device` comes where the source's device failed, with some first lines gone out, whole; a fault
-/// of the capture's bytes with the lines of the records before it, and no closing line; `Write(n)`
-/// where the sink failed, and exactly the first n bytes of the text have gone out then. The sink is
+/// `Device` comes if the source's device failed, with some first lines gone out, whole; a fault of
+/// the capture's bytes with the lines of the records before it, and no closing line; `Write(n)` if
+/// the sink failed, and exactly the first n bytes of the text have gone out then. The sink is
 /// closed with each answer.
 pub fn list_from<R: RecordSource, S: Sink>(
     source: &mut R,

@@ -111,7 +111,7 @@ fn put_stamps(line: &mut Line, header: &NtpView<'_>)
     line.put_byte(b' ');
 }
 
-/// A timestamp unfolded near the record's time, or a dash where it's unknown.
+/// A timestamp unfolded near the record's time, or a dash if it's unknown.
 #[tactic(auto, unfolding(crate::specs::PacketLine::unfolded_text))]
 #[inline]
 fn put_unfolded(line: &mut Line, stamp: u64, near: i128)

@@ -1,4 +1,4 @@
-//! What a listing says of one record.
+//! What a listing says about one record.
 
 ghost use Rattle.std.specs.Prelude.{◌≡◌, ◌+◌, ◌<◌, ◌≤◌, Some, None, OnOk, if◌then◌else◌};
 ghost use Rattle.era_unfold.specs.Window.{per_second};
@@ -31,7 +31,7 @@ fn write_line(line: &mut Line, head: &RecordHead, bytes: &[u8]) -> bool
     }
 }
 
-/// Puts the line of a record, where it has one, and answers how many lines that are.
+/// Puts the line of a record, if it has one, and answers how many lines that are.
 pub(crate) fn list_record<S: Sink>(
     line: &mut Line,
     out: &mut Output<'_, S>,

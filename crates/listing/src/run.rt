@@ -22,12 +22,12 @@ use std::alloc::Global;
 ///
 /// All memory is taken before the first byte is: at `Memory` the feed is as it was, and the sink
 /// holds what it held. A capture that is refused gives `Capture`, and the lines of the records
-/// before the fault have gone out then, without the closing line. `Device` comes where the feed
-/// failed, with some first lines gone out, whole; `Write(n)` where the sink failed, and exactly
-/// the first n bytes of the text have gone out then. The sink is closed with each answer.
+/// before the fault have gone out then, without the closing line. `Device` comes if the feed
+/// failed, with some first lines gone out, whole; `Write(n)` if the sink failed, and exactly the
+/// first n bytes of the text have gone out then. The sink is closed with each answer.
 ///
-/// Of a feed whose bytes are known at most 1,048,640,000,025 are taken, and where they begin with
-/// no lawful header at most one buffer.
+/// Of a feed whose bytes are known at most 1,048,640,000,025 are taken, and if they begin with no
+/// lawful header, at most one buffer.
 pub fn run_list<F: Feed, S: Sink>(
     alloc: Global,
     capture: F,

@@ -76,8 +76,8 @@ receive_of bytes = field 32 8 bytes
 abbrev pub transmit_of : List ℕ → ℕ
 transmit_of bytes = field 40 8 bytes
 
--- A precision p in ticks: 2^(32 + p), and one tick where p is -32 or less. Below 0 p is -(n + 1),
--- so 32 + p is 31 - n, which stops at 0.
+-- A precision p in ticks: 2^(32 + p), and one tick if p is -32 or less. Below 0 p is -(n + 1), so
+-- 32 + p is 31 - n, which stops at 0.
 abbrev pub precision_ticks_of : ℤ → ℕ
 precision_ticks_of (pos p) = 2 ^ (32 + p)
 precision_ticks_of (negsuc n) = 2 ^ (31 - n)

@@ -26,7 +26,7 @@ is_ntp d =
     (d.source_port == ntp_port || d.destination_port == ntp_port)
     && nat_le header_bytes (length d.payload)
 
--- the NTP packet of a frame, where it holds one
+-- the NTP packet of a frame, if it holds one
 unfoldable pub packet_of : List ℕ → Option Packet
 packet_of frame =
     elim (datagram_of frame) [
@@ -35,6 +35,6 @@ packet_of frame =
       | Err skip ↦ None
     ]
 
--- a packet as it's read, without where its bytes lie in memory
+-- a packet as it's read, without the place of its bytes in memory
 abbrev pub packet_shown : PacketView → Packet
 packet_shown p = record { datagram = fields_of p.datagram; header = p.header }

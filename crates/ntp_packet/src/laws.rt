@@ -15,7 +15,7 @@ pub fn first_byte_parts()
     ensures mode { (bytes : List ℕ) → mode_of bytes < 8 }
 {}
 
-/// A field of some bytes is a number of so many bytes.
+/// A field of some bytes is a number of as many bytes.
 pub fn field_range()
     ensures { (first width : ℕ) (bytes : List ℕ) → IsBytes bytes →
         field first width bytes < 256 ^ width }

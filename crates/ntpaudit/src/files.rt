@@ -13,14 +13,14 @@ use std::fs::File;
 pub(crate) struct Inputs {
     /// The claim.
     pub(crate) claim: ReadFeed<File>,
-    /// The second input, where the question has one.
+    /// The second input, if the question has one.
     pub(crate) second: Option<ReadFeed<File>>,
     /// The capture.
     pub(crate) capture: ReadFeed<File>,
 }
 
-/// Opens the file of an input, which hasn't failed yet. Where it can't be opened, that's the fault
-/// of the input's device.
+/// Opens the file of an input, which hasn't failed yet. If it can't be opened, that's the fault of
+/// the input's device.
 pub(crate) fn open(rt: &HostRuntime, path: &str, which: Input) -> Result<ReadFeed<File>, RunFault>
     ensures { IfOk result (λ feed. (⟦<ReadFeed<File> as Feed>⟧.state feed).faults ≡ 0) }
 {
@@ -30,7 +30,7 @@ pub(crate) fn open(rt: &HostRuntime, path: &str, which: Input) -> Result<ReadFee
     }
 }
 
-/// Opens the second input, where there is one.
+/// Opens the second input, if there is one.
 fn open_second(
     rt: &HostRuntime,
     second: &Option<SecondPath>,

@@ -17,7 +17,7 @@ pub(crate) struct SecondPath {
 pub(crate) struct Paths {
     /// The claim's.
     pub(crate) claim: String,
-    /// That of the second input, where the question has one.
+    /// That of the second input, if the question has one.
     pub(crate) second: Option<SecondPath>,
     /// The capture's.
     pub(crate) capture: String,

@@ -1,8 +1,8 @@
 //! ntpaudit: what a packet capture of NTP shows of a clock.
 //!
 //! The program reads its command line, opens its files and calls the engine of its command. What an
-//! engine writes and answers is said by its contract in its own crate, and how that is told by the
-//! contracts of `audit::answer`, `listing::answer_list` and the crate report.
+//! engine writes and answers is said by its contract in its own crate, and how that is reported by
+//! the contracts of `audit::answer`, `listing::answer_list` and the crate report.
 #![tactic(auto)]
 
 ghost use Rattle.byte_stream.specs.State.{IsWritable};
@@ -91,8 +91,8 @@ fn main(rt: HostRuntime) -> ExitCode {
         err: WriteSink::new(rt.stderr()),
     };
     let code = match read_command_line(&rt) {
-        // A random key, so that nobody can write a capture whose packets collide. Where the system
-        // has no random bytes a fixed key has to do: it slows such a capture down, no more.
+        // A random key, so that nobody can write a capture whose packets collide. If the system has
+        // no random bytes a fixed key has to do: it slows such a capture down, no more.
         Ok(invocation) => match RandomState::new(&rt) {
             Ok(hasher) => respond(&rt, invocation, &mut outputs, hasher),
             Err(_) => {

@@ -24,7 +24,7 @@ unless_broken (Some fault) collection = Err (Capture fault)
 unfoldable pub answer_of : ClaimData → Coming → Result Collection PairFault
 answer_of claim coming = unless_broken coming.fault (collection_of claim coming.records)
 
--- a fault that says nothing of the records: out of memory, or the device's
+-- a fault that says nothing about the records: out of memory, or the device's
 abbrev pub IsFromOutside : PairFault → Type 0
 IsFromOutside Memory = Unit {0}
 IsFromOutside (Capture Read) = Unit {0}
@@ -47,7 +47,7 @@ abbrev pub capture_failed : {X : Type 0} → Result X PairFault → Bool
 capture_failed (Err (Capture fault)) = true
 capture_failed _ = false
 
--- How an answer leaves the source. `Read` comes exactly where its device failed, and no fault was
+-- How an answer leaves the source. `Read` comes exactly if its device failed, and no fault was
 -- answered before.
 pub record LeavesSource {X : Type 0} (old : SourceState) (result : Result X PairFault)
     (new : SourceState) : Type 0 where
@@ -67,8 +67,8 @@ pub record AreGiven (records : List Record) : Type 0 where
   pub each : All IsGiven records
   pub numbered : All (λ r. slice_get records r.head.number ≡ Some r) records
 
--- Where the records are known, the answer is theirs, but for a fault from outside. `shown` is what
--- a value of the program says.
+-- If the records are known, the answer is theirs, but for a fault from outside. `shown` is what a
+-- value of the program says.
 abbrev pub IsAnswerTo : {X : Type 0} → (X → Collection) → ClaimData → Result X PairFault → Coming →
     Type 0
 IsAnswerTo shown claim result coming =
@@ -77,7 +77,7 @@ IsAnswerTo shown claim result coming =
     (λ fault. IsFromOutside fault ⊎ (answer_of claim coming ≡ Err fault))
 
 -- What collecting a source answers and how it leaves the source. What is given keeps every limit,
--- also where the records aren't known.
+-- also if the records aren't known.
 pub record Collects {X : Type 0} (shown : X → Collection) (claim : ClaimData) (old : SourceState)
     (result : Result X PairFault) (new : SourceState) : Type 0 where
   pub exact : IfSome old.remaining (IsAnswerTo shown claim result)

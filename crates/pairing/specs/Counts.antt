@@ -65,7 +65,7 @@ pub record IsJoined (start : Counts) (outcomes : List (Result Exchange Refusal))
   pub same_requests : counts.requests ≡ start.requests
   pub same_replies : counts.replies ≡ start.replies
 
--- so many more of each can be counted
+-- `more` of each can still be counted
 pub record HasRoom (counts : Counts) (more : ℕ) : Type 0 where
   pub records : counts.records + more < 2 ^ 32
   pub requests : counts.requests + more < 2 ^ 32

@@ -11,7 +11,7 @@ pub record IsInRange (tick : ℤ) : Type 0 where
   pub least : negsuc (2 ^ 70 - 1) ≤ℤ tick
   pub greatest : tick ≤ℤ pos (2 ^ 70)
 
--- one exchange, of a claim with so many servers
+-- one exchange, of a claim with this many servers
 pub record IsLawful (servers : ℕ) (x : Exchange) : Type 0 where
   pub listed : x.server < servers
   pub t1_low : IsInRange x.t1_low
@@ -29,7 +29,7 @@ pub record IsLawful (servers : ℕ) (x : Exchange) : Type 0 where
 abbrev pub SameRequest : Exchange → Exchange → Type 0
 SameRequest x y = x.request ≡ y.request → (x.t1_low ≡ y.t1_low) × (x.t1_high ≡ y.t1_high)
 
--- the exchanges of a capture, of a claim with so many servers
+-- the exchanges of a capture, of a claim with this many servers
 pub record AreLawful (servers : ℕ) (xs : List Exchange) : Type 0 where
   pub few : length xs ≤ most_exchanges
   pub each : All (IsLawful servers) xs

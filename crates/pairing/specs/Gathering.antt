@@ -33,7 +33,7 @@ abbrev pub requests_in : Option Message → RecordHead → List Request
 requests_in (Some (Asks key)) head = request_at key head ∷ []
 requests_in _ head = []
 
--- the reply of a record that says this, where it is held
+-- the reply of a record that says this, if it is held
 abbrev pub held_in : Option Message → List HeldExchange
 held_in (Some (Waits reply)) = reply ∷ []
 held_in _ = []
@@ -50,7 +50,7 @@ is_early reason reply = is_for reason (refusal_of reply.header)
 abbrev pub is_accepted : Reply → Bool
 is_accepted reply = is_none (refusal_of reply.header)
 
--- An index, a list of replies that are held, and counts are those of so many records with these
+-- An index, a list of replies that are held, and counts are those of this many records with these
 -- requests and replies.
 pub record IsGathered (records : ℕ) (requests : List Request) (replies : List Reply)
     (look_up : Key → Option Place) (held : List HeldExchange) (counts : Counts) : Type 0 where

@@ -27,7 +27,7 @@ held_of reply = record {
   request = Named reply.port (origin_of reply.header);
 }
 
--- with a request of this record, whose window begins at this tick and is so many ticks long
+-- with a request of this record, whose window begins at this tick and is `width` ticks long
 abbrev pub exchange_with : ℕ → ℕ → ℕ → HeldExchange → Exchange
 exchange_with width number low x = record {
   server = x.server;

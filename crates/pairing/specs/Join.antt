@@ -11,7 +11,7 @@ use Rattle.pairing.specs.declared.refusal.Refusal.{Refusal}
 use Rattle.pairing.specs.declared.refusal.Refusal.TheVariants.{NoRequest, Ambiguous}
 use Rattle.pairing.specs.Held.{shown_with}
 
--- the one and only request, where the index has this at its key
+-- the one and only request, if the index has this at its key
 abbrev pub request_at : Option Place → Result HeldRequest Refusal
 request_at None = Err NoRequest
 request_at (Some (One width number low)) = Ok (Found width number low)

@@ -48,7 +48,7 @@ low_of head = pos (window_low head.unit head.sec head.sub)
 abbrev pub high_of : RecordHead → ℤ
 high_of head = pos (window_high head.unit head.sec head.sub)
 
--- the root distance that a reply announces; one is always announced where its precision is accepted
+-- the root distance that a reply announces; one is always announced if its precision is accepted
 abbrev pub distance_of : List ℕ → ℤ
 distance_of header = unwrap_or (root_distance_of header) (pos 0)
 

@@ -14,7 +14,7 @@ use Rattle.pairing.specs.Index.{key_of}
 use Rattle.pairing.specs.Message.{Reply, request_in, reply_in}
 use Rattle.pairing.specs.Refusal.{refusal_of}
 
--- a reply, where its header gives this reason to refuse it
+-- a reply, if its header gives this reason to refuse it
 abbrev pub judged_by : Option Refusal → Reply → Message
 judged_by None reply = Waits (held_of reply)
 judged_by (Some refusal) reply = Refused refusal

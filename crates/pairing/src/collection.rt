@@ -61,9 +61,8 @@ fn gather<S: RecordSource>(
 /// hasher with a random key.
 ///
 /// The source has given nothing and answered no fault, and the claim keeps its limits. `Capture`
-/// comes where the source ends with a fault, `TooManyExchanges` where it ends whole with over
-/// 1,000,000 exchanges, and `Memory` where no memory was left. After a fault the source is used no
-/// further.
+/// comes if the source ends with a fault, `TooManyExchanges` if it ends whole with over 1,000,000
+/// exchanges, and `Memory` if no memory was left. After a fault the source is used no further.
 pub fn collect_held<S: RecordSource, H: BuildHasher + Drop>(
     alloc: Global,
     source: &mut S,

@@ -131,7 +131,7 @@ impl HeldExchange {
 impl ToExchange for HeldExchange {
     ghost shown = { exchange_shown };
 
-    /// The exchange. Where the request is still sought, it stands at record 0 and tick 0.
+    /// The exchange. If the request is still sought, it stands at record 0 and tick 0.
     #[inline(always)]
     #[tactic(auto, unfolding(crate::specs::Held::exchange_shown))]
     fn to_exchange(&self) -> Exchange {

@@ -50,7 +50,7 @@ fn find_request(
 /// Joins each reply with its request, in place: those with a request come first, in their order,
 /// and the answer is how many they are. The counts grow by what becomes of the replies.
 ///
-/// `TooManyExchanges` comes where over 1,000,000 have a request.
+/// `TooManyExchanges` comes if over 1,000,000 have a request.
 pub(crate) fn join(
     index: &Index,
     exchanges: &mut [HeldExchange],

@@ -43,7 +43,7 @@ pub fn exchanges_are_those_of_the_pairs()
         IsPair claim records q reply → Contains (exchanges_of claim records) (exchange_of q reply) }
 {}
 
-/// The exchanges of the records that a source gives keep every limit, where they aren't too many.
+/// The exchanges of the records that a source gives keep every limit, if they aren't too many.
 pub fn exchanges_keep_their_limits()
     ensures { (claim : ClaimData) (records : List Record) → AreGiven records →
         length (exchanges_of claim records) ≤ most_exchanges →
@@ -55,7 +55,7 @@ pub fn exchanges_keep_their_limits()
     root_distance_range();
 }
 
-/// No two exchanges have one reply, where records have different numbers.
+/// No two exchanges have one reply, if records have different numbers.
 pub fn no_reply_gives_two_exchanges()
     ensures { (claim : ClaimData) (records : List Record) →
         AllPairs (λ a b. a.head.number ≢ b.head.number) records →

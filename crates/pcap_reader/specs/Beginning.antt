@@ -12,7 +12,7 @@ use Rattle.pcap_reader.specs.Source.{SourceState, IsFresh, AllRemains, TakesFrom
 pub record BeginsOver (feed : FeedState) (source : SourceState) : Type 0 where
   -- nothing was given, and no fault answered
   pub fresh : IsFresh source
-  -- where the bytes are known, they are those of a capture, and all of it is still to come
+  -- if the bytes are known, they are those of a capture, and all of it is still to come
   pub known : IfSome feed.remaining (λ bytes. AllRemains bytes source.remaining)
   -- the device hasn't failed
   pub unfailed : source.fault_count ≡ feed.faults
@@ -22,9 +22,9 @@ pub record BeginsOver (feed : FeedState) (source : SourceState) : Type 0 where
 -- A feed is refused with this fault, and handed back.
 pub record Refuses {F : Type 0} (state : F → FeedState) (before after : F) (fault : CaptureFault) :
     Type 0 where
-  -- the fault is that of the header, where it isn't the device's or want of memory
+  -- the fault is that of the header, if it isn't the device's or want of memory
   pub refusal : IsRefusal (state before).remaining fault
-  -- it's the device's exactly where the feed failed
+  -- it's the device's exactly if the feed failed
   pub counts_fault : CountsFault (is_read fault) (state before).faults (state after).faults
   -- nothing was taken after a header that is there
   pub at_most : TakesAtMost (most_refused fault) (state before).remaining (state after).remaining

@@ -16,7 +16,7 @@ held_bytes b = slice_range b.buffer.items b.start b.end
 abbrev pub last_bytes : {F : Type 0} → Buffered F → ℕ → List ℕ
 last_bytes b count = slice_range b.buffer.items (b.start - count) b.start
 
--- what it still has, where the feed's bytes are known
+-- what it still has, if the feed's bytes are known
 abbrev pub still_has : {F : Type 0} → (F → FeedState) → Buffered F → Option (List ℕ)
 still_has state b = prepend_known (held_bytes b) (state b.feed).remaining
 
@@ -31,7 +31,7 @@ pub record Pulls (before after : FeedState) (held held' : List ℕ) : Type 0 whe
   pub consumed : Consumes before.remaining after.remaining pulled
   pub joined : held' ≡ held ++ pulled
 
--- Bytes were pulled until so many are held or the feed is at its end. It failed only before that.
+-- Bytes were pulled until `wanted` are held or the feed is at its end. It failed only before that.
 pub record Refills {F : Type 0} (state : F → FeedState) (wanted : ℕ) (old : Buffered F)
     (result : Result (Unit {0}) FeedFault) (new : Buffered F) : Type 0 where
   pub pulls : Pulls (state old.feed) (state new.feed) (held_bytes old) (held_bytes new)

@@ -17,7 +17,7 @@ pub record Record : Type 0 where
   pub head : RecordHead
   pub bytes : List ℕ
 
--- the magic number, which tells the unit of the sub-second fields
+-- the magic number, which says what unit the sub-second fields have
 abbrev pub magic_of : TimeUnit → ℕ
 magic_of Micro = 0xa1b2c3d4
 magic_of Nano = 0xa1b23c4d

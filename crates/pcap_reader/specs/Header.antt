@@ -8,7 +8,7 @@ use Rattle.pcap_reader.specs.declared.format.Format.{Format}
 use Rattle.pcap_reader.specs.Field.{number_in}
 use Rattle.pcap_reader.specs.Capture.{magic_of}
 
--- the format that the first four bytes tell, in one byte order or the other
+-- the format that the first four bytes name, in one byte order or the other
 abbrev pub format_of : List ℕ → Option Format
 format_of bytes =
     if number_in Big 4 bytes == magic_of Micro then Some (record { order = Big; unit = Micro })

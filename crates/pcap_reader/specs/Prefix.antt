@@ -12,8 +12,8 @@ ShowsHead format number place bytes head =
     (rest : List ℕ) → (head_fault format place (bytes ++ rest) ≡ None)
     × (head ≡ head_at format number place (bytes ++ rest))
 
--- No record stands there, for this fault: where a record may follow and fewer than 16 bytes are
--- there, they are the last.
+-- No record stands there, for this fault: if a record may follow and fewer than 16 bytes are there,
+-- they are the last.
 abbrev pub ShowsFault : Format → ℕ → ℕ → List ℕ → CaptureFault → Type 0
 ShowsFault format number place bytes fault =
     (rest : List ℕ) → (number < most_records → length bytes < 16 → rest ≡ [])

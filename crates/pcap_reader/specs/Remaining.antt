@@ -11,7 +11,7 @@ use Rattle.pcap_reader.specs.Field.{number_in}
 use Rattle.pcap_reader.specs.Capture.{Record, most_captured, most_records}
 use Rattle.pcap_reader.specs.Header.{header_of}
 
--- records still to be given, and the fault after them: None where the end is whole
+-- records still to be given, and the fault after them: None if the end is whole
 pub record Coming : Type 0 where
   pub records : List Record
   pub fault : Option CaptureFault
@@ -62,7 +62,7 @@ head_fault format place bytes =
     else (if nat_le (per_second format.unit) (sub_in format.order bytes)
     then Some (BadFraction place) else None)
 
--- the first fault at a place where at least one byte stands: None where a record stands there
+-- the first fault at a place where at least one byte stands: None if a record stands there
 unfoldable pub fault_at : Format → ℕ → ℕ → List ℕ → Option CaptureFault
 fault_at format number place bytes =
     if nat_le most_records number then Some TooMany
@@ -81,9 +81,8 @@ record_at format number place bytes =
       bytes = take (captured_in format.order bytes) (drop 16 bytes);
     }
 
--- What is still to come of these bytes, at this place of the file, where so many records stand
--- before it. The first argument counts the records that may still come: it's what the recursion
--- goes by.
+-- What is still to come of these bytes, at this place of the file, with `number` records before it.
+-- The first argument counts the records that may still come: it's what the recursion goes by.
 unfoldable pub coming_within : ℕ → Format → ℕ → ℕ → List ℕ → Coming
 coming_within left format number place [] = whole_end
 coming_within zero format number place (byte ∷ bytes) = broken_end TooMany

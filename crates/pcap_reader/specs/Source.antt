@@ -13,8 +13,8 @@ use Rattle.pcap_reader.specs.Fault.{MayAnswer}
 use Rattle.pcap_reader.specs.Limit.{most_taken}
 use Rattle.pcap_reader.specs.Remaining.{Coming, whole_end, broken_end, then_coming, capture_of}
 
--- The bytes of a feed that a source hasn't taken, where they are known, and how many of them it
--- takes at most from here on.
+-- The bytes of a feed that a source hasn't taken, if they are known, and how many of them it takes
+-- at most from here on.
 pub record Supply : Type 0 where
   pub unread : Option (List ℕ)
   pub most : ℕ
@@ -44,14 +44,14 @@ pub TakesFrom-at_most : (before after : Supply) → TakesFrom before after →
     TakesAtMost before.most before.unread after.unread
 TakesFrom-at_most before after p = (p.taken, p.consumed, omega (arith, p.at_most))
 
--- a feed of which a whole capture may be taken
+-- a feed from which a whole capture may be taken
 abbrev pub whole_supply : Option (List ℕ) → Supply
 whole_supply unread = record { unread = unread; most = most_taken }
 
--- What a source shows: the records still to be given, and then an end, whole or a fault, where
--- the bytes are known; how many records were given; whether a fault was answered; the bytes of
--- the record given last, none at other times; how often the device has failed; what its feed
--- still has; how many bytes were taken of it and are held for later calls.
+-- What a source shows: the records still to be given, and then an end, whole or a fault, if the
+-- bytes are known; how many records were given; whether a fault was answered; the bytes of the
+-- record given last, none at other times; how often the device has failed; what its feed still has;
+-- how many bytes were taken of it and are held for later calls.
 pub record SourceState : Type 0 where
   pub remaining : Option Coming
   pub given : ℕ
@@ -71,9 +71,9 @@ pub record IsFresh (s : SourceState) : Type 0 where
 abbrev pub AllRemains : List ℕ → Option Coming → Type 0
 AllRemains bytes remaining = (c : Coming) × (capture_of bytes ≡ Ok c) × (remaining ≡ Some c)
 
--- What an answer says of what was still to come, with the bytes lent: a record is the first on
+-- What an answer says about what was still to come, with the bytes lent: a record is the first on
 -- the list, None comes at a whole end, and a fault is the one at the list's end. A device's fault
--- and the answer after a fault say nothing of it.
+-- and the answer after a fault say nothing about it.
 abbrev pub IsNext : Coming → Result (Option RecordHead) CaptureFault → Option Coming → List ℕ →
     Type 0
 IsNext coming (Ok (Some head)) after lent =
@@ -90,19 +90,19 @@ Numbers (Ok (Some head)) before after = (head.number ≡ before) × (after ≡ b
 Numbers (Ok None) before after = after ≡ before
 Numbers (Err fault) before after = after ≡ before
 
--- The bytes lent are those of the record given, and none where there is none.
+-- The bytes lent are those of the record given, and none if there is none.
 abbrev pub Lends : Result (Option RecordHead) CaptureFault → List ℕ → Type 0
 Lends (Ok (Some head)) lent = length lent ≡ head.captured
 Lends (Ok None) lent = lent ≡ []
 Lends (Err fault) lent = lent ≡ []
 
--- how many bytes show this fault of a record; one more than there are where only the end does
+-- how many bytes show this fault of a record; one more than there are if only the end shows it
 abbrev pub shown_by : CaptureFault → ℕ → ℕ
 shown_by TooMany held = 1
 shown_by (TornRecord place) held = held + 1
 shown_by _ held = 16
 
--- So many bytes at the front of what is still to come don't show the next answer: they are fewer
+-- This many bytes at the front of what is still to come don't show the next answer: they are fewer
 -- than the next record has, or than show its fault. Only the end shows that a record is torn.
 abbrev pub IsUndecided : Coming → ℕ → Type 0
 IsUndecided coming held = elim coming.records [
@@ -113,13 +113,13 @@ IsUndecided coming held = elim coming.records [
   | r ∷ rs ↦ held < 16 + r.head.captured
 ]
 
--- The device's fault comes only where the bytes taken before it don't show the answer.
+-- The device's fault comes only if the bytes taken before it don't show the answer.
 abbrev pub IsReadInTime : Result (Option RecordHead) CaptureFault → Coming → ℕ → Type 0
 IsReadInTime (Err Read) coming held = IsUndecided coming held
 IsReadInTime _ coming held = Unit {0}
 
 -- The next answer can be given at once: it's the answer after a fault, no byte more may be taken,
--- or the bytes that are held show it, where the bytes are known.
+-- or the bytes that are held show it, if the bytes are known.
 abbrev pub IsNextShown : SourceState → Type 0
 IsNextShown s = IsTrue s.has_failed ⊎ ((s.supply.most ≡ 0)
     ⊎ IfSome s.remaining (λ coming. ¬ (IsUndecided coming s.held)))
@@ -134,9 +134,9 @@ abbrev pub read_failed : {X : Type 0} → Result X CaptureFault → Bool
 read_failed (Ok x) = false
 read_failed (Err fault) = is_read fault
 
--- One call of next_record. A record is lawful. `Read` comes exactly where the device failed in
--- this call, before the answer was shown by the bytes taken, and `Failed` exactly where a fault
--- was answered before; after a fault each answer is one.
+-- One call of next_record. A record is lawful. `Read` comes exactly if the device failed in this
+-- call, before the answer was shown by the bytes taken, and `Failed` exactly if a fault was
+-- answered before; after a fault each answer is one.
 pub record IsStep (old : SourceState) (result : Result (Option RecordHead) CaptureFault)
     (new : SourceState) : Type 0 where
   pub lawful : IfOk result (λ next. IfSome next IsLawfulHead)

@@ -24,8 +24,8 @@ pub(crate) struct Buffered<F> {
 }
 
 impl<F> Buffered<F> {
-    /// Nothing pulled yet. The buffer is made here, and where there is no memory for it the feed
-    /// comes back.
+    /// Nothing pulled yet. The buffer is made here, and if there is no memory for it the feed comes
+    /// back.
     pub(crate) fn new(alloc: Global, feed: F) -> Result<Buffered<F>, F>
         ensures feed { IfOk result (λ b. b.feed ≡ feed) }
         ensures none_held { IfOk result (λ b. (b.start ≡ 0) × (b.end ≡ 0)) }

@@ -43,11 +43,11 @@ pub struct Capture<F> {
 impl<F: Feed> Capture<F> {
     /// The source of the records that the feed's bytes spell.
     ///
-    /// Its one buffer is made before the first byte is taken: `Memory` comes where there is no
-    /// memory for it, and then the feed is as it was. `Read` comes exactly where the feed failed,
-    /// and else `TornHeader`, `Magic`, `Version` or `Link`, the first that applies, where the
-    /// bytes begin with no lawful header. Nothing is taken after a header that is there. A
-    /// refusal hands the feed back.
+    /// Its one buffer is made before the first byte is taken: `Memory` comes if there is no memory
+    /// for it, and then the feed is as it was. `Read` comes exactly if the feed failed, and else
+    /// `TornHeader`, `Magic`, `Version` or `Link`, the first that applies, if the bytes begin with
+    /// no lawful header. Nothing is taken after a header that is there. A refusal hands the feed
+    /// back.
     pub fn begin(alloc: Global, feed: F) -> Result<Capture<F>, (F, CaptureFault)>
         requires { IsReadable (F.state feed) }
         ensures begins { IfOk result (λ source. BeginsOver (F.state feed)

@@ -15,7 +15,7 @@ const MICRO_MAGIC: u32 = 0xa1b2_c3d4;
 
 const NANO_MAGIC: u32 = 0xa1b2_3c4d;
 
-/// The format that the first four bytes tell.
+/// The format that the first four bytes name.
 fn format_in(bytes: &[u8]) -> Option<Format>
     requires { 4 ≤ length bytes.now }
     ensures { result ≡ format_of bytes.now }

@@ -16,7 +16,7 @@ pub fn capture_is_read()
         capture_of bytes ≡ Ok (record { records = records; fault = None }) }
 {}
 
-/// Bytes of which records are read, and then a whole end, are a capture of these records.
+/// Bytes from which records are read, and then a whole end, are a capture of these records.
 pub fn what_is_read_is_a_capture()
     ensures { (bytes : List ℕ) (records : List Record) → IsBytes bytes →
         capture_of bytes ≡ Ok (record { records = records; fault = None }) →
@@ -30,8 +30,8 @@ pub fn one_reading()
         (format ≡ other_format) × (records ≡ others) }
 {}
 
-/// Records are read, and then a fault, exactly where the bytes begin with these records and with
-/// no longer list, something is left, and the fault is the first that applies to it.
+/// Records are read, and then a fault, exactly if the bytes begin with these records and with no
+/// longer list, something is left, and the fault is the first that applies to it.
 pub fn fault_is_the_first()
     ensures { (bytes : List ℕ) (records : List Record) (fault : CaptureFault) → IsBytes bytes →
         (capture_of bytes ≡ Ok (record { records = records; fault = Some fault }))

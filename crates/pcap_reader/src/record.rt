@@ -100,7 +100,7 @@ pub(crate) fn record_size(head: &RecordHead) -> usize
     RECORD_HEADER + head.captured as usize
 }
 
-/// Whether so many bytes hold the record with this header, or it's cut off.
+/// Whether `held` bytes hold the record with this header, or it's cut off.
 pub(crate) fn check_whole(head: &RecordHead, held: usize) -> Result<(), CaptureFault>
     ensures whole { OnOk result (16 + head.now.captured ≤ held) }
     ensures cut_off { IfErr result (λ fault. held < 16 + head.now.captured) }

@@ -15,8 +15,8 @@ use byte_stream::{Feed, FeedFault};
 const MOST_TAKEN: u64 = 1_048_640_000_025;
 
 impl<F: Feed> Buffered<F> {
-    /// Pulls until at least `wanted` bytes are held or the feed is at its end. Where they are
-    /// held already it pulls nothing and moves nothing.
+    /// Pulls until at least `wanted` bytes are held or the feed is at its end. If they are held
+    /// already it pulls nothing and moves nothing.
     #[inline(always)]
     pub(crate) fn hold(&mut self, wanted: usize) -> Result<(), FeedFault>
         requires fits { wanted ≤ buffer_size }
@@ -31,7 +31,7 @@ impl<F: Feed> Buffered<F> {
         }
     }
 
-    /// Pulls until so many are held, of which some lack, or the feed is at its end.
+    /// Pulls until `wanted` bytes are held, more than there are now, or the feed is at its end.
     #[cold]
     #[inline(never)]
     fn fill(&mut self, wanted: usize) -> Result<(), FeedFault>
@@ -66,7 +66,7 @@ fn move_to_front(buffer: &mut [u8], start: usize, end: usize)
     buffer.copy_within(start..end, 0);
 }
 
-/// How much of a buffer may be filled, where so many bytes were consumed.
+/// How much of a buffer may be filled after `place` bytes were consumed.
 fn room(place: u64, length: usize) -> usize
     requires { place ≤ most_taken }
     ensures { result ≡ min length (most_taken - place) }

@@ -25,8 +25,8 @@ pub struct Whole<'a> {
 impl<'a> Whole<'a> {
     /// The source of the records of these bytes, the whole of a file.
     ///
-    /// It answers `TornHeader`, `Magic`, `Version` or `Link`, the first that applies, where the
-    /// bytes begin with no lawful header, and nothing else.
+    /// It answers `TornHeader`, `Magic`, `Version` or `Link`, the first that applies, if the bytes
+    /// begin with no lawful header, and nothing else.
     pub fn begin(bytes: &'a [u8]) -> Result<Whole<'a>, CaptureFault>
         ensures fresh { IfOk result (λ source.
             IsFresh (⟦<Whole<'a> as RecordSource>⟧.state source)) }

@@ -1,6 +1,6 @@
 -- What a ranking remembers beside its tree: the first of the numbers that have the greatest value,
--- and a bound on what the numbers before it have. Where more than the bound is asked for, and not
--- more than the greatest value, that number is the least that has so much.
+-- and a bound on what the numbers before it have. If more than the bound is asked for, and not more
+-- than the greatest value, that number is the least whose value is large enough.
 use Rattle.std.specs.Prelude.{ℕ, ◌<◌, ℤ, ◌≤ℤ◌, ◌<ℤ◌, List, Option}
 use Rattle.ranking.specs.Ranking.{IsHeld, IsGreatest, HasAtLeast}
 use Rattle.ranking.specs.Tree.{IsTree, entries_of}
@@ -14,7 +14,7 @@ pub record IsLead (held : List (Option ℤ)) (lead : Lead) : Type 0 where
   pub before : (number : ℕ) (value : ℤ) → number < lead.number → IsHeld held number value →
       value ≤ℤ lead.rival
 
--- the greatest value, or none where there is no value
+-- the greatest value, or none if there is no value
 pub record IsBoundOf (held : List (Option ℤ)) (greatest : ℤ) : Type 0 where
   pub at_most : (number : ℕ) (value : ℤ) → IsHeld held number value → value ≤ℤ greatest
   pub reached : NOTHING <ℤ greatest → IsGreatest held greatest

@@ -19,23 +19,23 @@ pub record IsGreatest (held : List (Option ℤ)) (greatest : ℤ) : Type 0 where
   pub reached : (number : ℕ) × IsHeld held number greatest
   pub at_most : (number : ℕ) (value : ℤ) → IsHeld held number value → value ≤ℤ greatest
 
--- the value of this number is at least so much
+-- the value of this number is at least `least`
 pub record HasAtLeast (held : List (Option ℤ)) (least : ℤ) (number : ℕ) : Type 0 where
   pub value : ℤ
   pub is_held : IsHeld held number value
   pub at_least : least ≤ℤ value
 
--- a number before this one has a value of at least so much
+-- a number before this one has a value of at least `least`
 pub record HasBefore (held : List (Option ℤ)) (least : ℤ) (number : ℕ) : Type 0 where
   pub other : ℕ
   pub earlier : other < number
   pub has : HasAtLeast held least other
 
--- no number has a value of at least so much
+-- no number has a value of at least `least`
 abbrev pub AllBelow : List (Option ℤ) → ℤ → Type 0
 AllBelow held least = (number : ℕ) → ¬ HasAtLeast held least number
 
--- the least of the numbers that have a value of at least so much
+-- the least of the numbers that have a value of at least `least`
 pub record IsLeastNumber (held : List (Option ℤ)) (least : ℤ) (number : ℕ) : Type 0 where
   pub reaches : HasAtLeast held least number
   pub first : (other : ℕ) → other < number → ¬ HasAtLeast held least other

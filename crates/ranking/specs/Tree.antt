@@ -24,7 +24,7 @@ pub record IsGreatestChild (nodes : List ℤ) (node : ℕ) (greatest : ℤ) : Ty
 abbrev pub IsParent : List ℤ → ℕ → Type 0
 IsParent nodes node = IsGreatestChild nodes node (value_of nodes node)
 
--- the first of the nodes that lie so many levels below a node
+-- the first of the nodes that lie this many levels below a node
 abbrev pub first_below : ℕ → ℕ → ℕ
 first_below zero node = node
 first_below (suc levels) node = 4 * first_below levels node + 1

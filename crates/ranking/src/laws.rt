@@ -27,7 +27,7 @@ pub fn put_adds_one_value()
         other ≢ number → IsFree held other → IsFree (slice_set held number (Some value)) other }
 {}
 
-/// There is one greatest value, and one least number with at least so much.
+/// There is one greatest value, and one least number whose value is at least a given one.
 pub fn answers_are_determined()
     ensures greatest { (held : List (Option ℤ)) (a b : ℤ) →
         IsGreatest held a → IsGreatest held b → a ≡ b }
@@ -35,7 +35,7 @@ pub fn answers_are_determined()
         IsLeastNumber held least a → IsLeastNumber held least b → a ≡ b }
 {}
 
-/// A number has at least so much exactly where the greatest value is at least so much.
+/// A number has a value of at least `least` exactly if the greatest value is at least `least`.
 pub fn greatest_decides_whether_there_is_a_number()
     ensures some { (held : List (Option ℤ)) (greatest least : ℤ) → IsGreatest held greatest →
         least ≤ℤ greatest → ¬ AllBelow held least }

@@ -15,8 +15,8 @@ pub(crate) struct Lead {
 }
 
 impl Lead {
-    /// Takes in a value that is put at a number that had none, where `greatest` was the greatest
-    /// value before.
+    /// Takes in a value that is put at a number that had none; `greatest` was the greatest value
+    /// before.
     #[inline(always)]
     pub(crate) fn take_in(&mut self, number: u32, value: i128, greatest: i128)
         requires { NOTHING <ℤ value }

@@ -1,4 +1,4 @@
-//! Values under numbers, asked for the greatest and for the first that is at least so much.
+//! Values under numbers, asked for the greatest and for the first that is at least a given one.
 //!
 //! A [`Ranking`] only grows: a number gets a value once. To put a value and to find a number takes
 //! a number of steps that grows with the logarithm of the size, the greatest value takes one, and

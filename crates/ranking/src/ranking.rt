@@ -35,7 +35,7 @@ impl Model for Ranking {
 }
 
 impl Ranking {
-    /// A ranking of so many numbers, none with a value. The only error is that there is no memory.
+    /// A ranking of `size` numbers, none with a value. The only error is that there is no memory.
     pub fn new(alloc: Global, size: u32) -> Result<Ranking, AllocError>
         ensures { IfOk result (λ ranking. ranking ≡ replicate size None) }
     {
@@ -80,7 +80,7 @@ impl Ranking {
         self.put(number, value);
     }
 
-    /// The greatest value, or none where there is no value.
+    /// The greatest value, or none if there is no value.
     pub fn greatest(&self) -> Option<i128>
         ensures none { IfNone result (HoldsNothing self.now) }
         ensures greatest { IfSome result (IsGreatest self.now) }
@@ -89,17 +89,17 @@ impl Ranking {
         if root > NOTHING { Some(root) } else { None }
     }
 
-    /// The least number that has a value of at least so much, or none where no number has.
+    /// The least number that has a value of `at_least` or more, or none if no number has.
     pub fn least_number(&self, at_least: i128) -> Option<u32>
         ensures none { IfNone result (AllBelow self.now at_least) }
         ensures least { IfSome result (IsLeastNumber self.now at_least) }
     {
-        // No entry without a value is at least so much.
+        // No entry without a value is at least this.
         let at_least = at_least.max(NOTHING + 1);
         if tree::root(&self.nodes) < at_least {
             return None;
         }
-        // Mostly no number before the lead has so much, and then the tree need not be gone down.
+        // Mostly no number before the lead has that much, and then the tree need not be gone down.
         if self.lead.rival < at_least {
             return Some(self.lead.number);
         }

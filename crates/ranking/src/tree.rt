@@ -7,7 +7,7 @@ ghost use Rattle.ranking.specs.Tree.{IsChild, IsParent, IsFirstLeaf, IsTree, val
 /// Less than every value that is put.
 pub(crate) const NOTHING: i128 = i128::MIN;
 
-/// The first leaf of the least tree that has room for so many leaves.
+/// The first leaf of the least tree that has room for `size` leaves.
 pub(crate) fn first_leaf(size: u32) -> usize
     ensures level { IsFirstLeaf result }
     ensures room { size ≤ 3 * result + 1 }
@@ -49,7 +49,7 @@ pub(crate) fn root(nodes: &[i128]) -> i128
     nodes[0]
 }
 
-/// The first child of a node that has at least so much, where the node has.
+/// The first child of a node that has `at_least` or more, if the node has.
 fn first_child(nodes: &[i128], node: usize, at_least: i128) -> usize
     requires parent { IsParent nodes.now node }
     requires limit { node < 2 ^ 33 }
@@ -67,7 +67,7 @@ fn first_child(nodes: &[i128], node: usize, at_least: i128) -> usize
     child
 }
 
-/// The first number whose leaf has at least so much, where the root has.
+/// The first number whose leaf has `at_least` or more, if the root has.
 pub(crate) fn first_number(nodes: &[i128], leaves: usize, at_least: i128) -> usize
     requires is_tree { IsTree nodes.now leaves }
     requires something { NOTHING <ℤ at_least }

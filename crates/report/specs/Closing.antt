@@ -15,8 +15,8 @@ IsPut report before now =
     (texts : List (List ℕ)) × (concat texts ≡ text_of report) × HasPut before now texts
 
 -- What a run has put that comes to this answer, of the report that it's to give: all of it, but
--- nothing where memory was refused and some first lines where a device failed. Where the sink
--- failed it has got a part of it.
+-- nothing if memory was refused and some first lines if a device failed. If the sink failed it has
+-- got a part of it.
 abbrev pub HasRun : Report → Option (List ℕ) → OutputState → Result Outcome RunFault → Type 0
 HasRun report before now (Err Memory) = HasPut before now []
 HasRun report before now (Err (Device input)) =
@@ -25,8 +25,8 @@ HasRun report before now (Err (Write sent)) = IsCut (text_of report) before now.
 HasRun report before now answer =
     (answer ≡ report.answer) × IsPut report before now
 
--- A run that came to this answer may be ended: its sink is closed where it has failed, and else may
--- be used further.
+-- A run that came to this answer may be ended: its sink is closed if it has failed, and else may be
+-- used further.
 abbrev pub CanClose : OutputState → Result Outcome RunFault → Type 0
 CanClose now (Err (Write sent)) = now.sink.is_open ≡ false
 CanClose now answer = IsReady now

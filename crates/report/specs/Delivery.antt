@@ -4,13 +4,13 @@ use Rattle.std.specs.Io.KnownBytes.{Appends}
 use Rattle.byte_stream.specs.Fault.{CountsFault}
 use Rattle.byte_stream.specs.State.{SinkState}
 
--- what a sink gets of a text: all of it, or so many bytes where it fails
+-- what a sink gets of a text: all of it, or a number of first bytes if it fails
 abbrev pub delivered : List ℕ → Result (Unit {0}) ℕ → List ℕ
 delivered text (Ok done) = text
 delivered text (Err sent) = take sent text
 
--- The sink has got the whole text and was finished, or it failed, once, and has got so many of the
--- first bytes: all of them where it failed as it was finished. It's closed then.
+-- The sink has got the whole text and was finished, or it failed, once, and has got a number of the
+-- first bytes: all of them if it failed as it was finished. It's closed then.
 pub record Delivers (text : List ℕ) (before after : SinkState)
     (result : Result (Unit {0}) ℕ) : Type 0 where
   pub went : Appends before.contents after.contents (delivered text result)

@@ -1,4 +1,4 @@
--- The line that tells a fault of a run, without its line feed.
+-- The line of a run's fault, without its line feed.
 use Rattle.std.specs.Prelude.{ℕ, List, [], ◌++◌, codes}
 use Rattle.std.specs.Fmt.{decimal}
 use Rattle.pcap_reader.specs.Fault.{number_of as capture_number}

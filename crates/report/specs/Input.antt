@@ -6,14 +6,14 @@ use Rattle.report.specs.declared.fault.RunFault.{RunFault}
 use Rattle.report.specs.declared.fault.RunFault.TheVariants.{TooBig, Device, Memory}
 
 -- All bytes were read, no more than the limit, or the input is too big: it has more. That a device
--- failed and that memory was refused say nothing of its bytes.
+-- failed and that memory was refused say nothing about its bytes.
 abbrev pub ReadsWhole : List ℕ → ℕ → Result (List ℕ) RunFault → Type 0
 ReadsWhole bytes limit (Ok read) = (read ≡ bytes) × (length bytes ≤ limit)
 ReadsWhole bytes limit (Err (TooBig input)) = limit < length bytes
 ReadsWhole bytes limit (Err fault) = Unit {0}
 
--- how many bytes past its limit are taken of the first input where the second one is too big: one
--- where they are the same
+-- how many bytes past its limit are taken of the first input if the second one is too big: one if
+-- they are the same
 abbrev pub bytes_past : Input → Input → ℕ
 bytes_past inputs.Claim inputs.Claim = 1
 bytes_past inputs.Capture inputs.Capture = 1
@@ -21,8 +21,8 @@ bytes_past inputs.Certificate inputs.Certificate = 1
 bytes_past inputs.Refutation inputs.Refutation = 1
 bytes_past which input = 0
 
--- how many bytes are taken at most of an input that may have so many: one more only where the
--- answer is that this input is too big
+-- how many bytes are taken at most of an input that may have this many: one more only if the answer
+-- is that this input is too big
 abbrev pub most_read : {X : Type 0} → Input → ℕ → Result X RunFault → ℕ
 most_read which limit (Err (TooBig input)) = limit + bytes_past which input
 most_read which limit result = limit

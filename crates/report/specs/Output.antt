@@ -42,7 +42,7 @@ pub record HasPut (before : Option (List ℕ)) (now : OutputState)
   pub went : Appends before now.sink.contents (concat gone)
   pub counted : now.sent ≡ length (concat gone)
 
--- A text was cut short: exactly so many of its bytes have gone out, and not all.
+-- A text was cut short: exactly `sent` of its bytes have gone out, and not all.
 pub record IsCut (text : List ℕ) (before after : Option (List ℕ)) (sent : ℕ) : Type 0 where
   pub short : sent < length text
   pub went : Appends before after (take sent text)

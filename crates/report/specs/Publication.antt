@@ -9,8 +9,8 @@ use Rattle.report.specs.declared.publication.Made.{Made}
 use Rattle.report.specs.Reports.{Report, text_of, GetsText, CountsSink, is_device}
 
 -- What was made is what the report calls for: its whole text and outcome, or its refusal, which has
--- no text. That a device failed and that memory was refused say nothing of the report, and no run
--- finds before its text is written that this failed.
+-- no text. That a device failed and that memory was refused say nothing about the report, and no
+-- run finds before its text is written that this failed.
 abbrev pub IsMadeFor : Report → Result Made RunFault → Type 0
 IsMadeFor report (Ok made) = (text_of report ≡ made.text.items) × (report.answer ≡ Ok made.outcome)
 IsMadeFor report (Err Memory) = Unit {0}

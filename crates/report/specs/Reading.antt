@@ -4,13 +4,13 @@ use Rattle.report.specs.declared.fault.Input.{Input}
 use Rattle.report.specs.declared.fault.RunFault.{RunFault}
 use Rattle.report.specs.declared.fault.RunFault.TheVariants.{TooBig, Device, Memory}
 
--- what the bytes of an input give that is read whole, where so many mean this
+-- what the bytes of an input give that is read whole, with this limit and this meaning
 unfoldable pub whole_read : {A : Type 0} → ℕ → Input → (List ℕ → Result A RunFault) → List ℕ →
     Result A RunFault
 whole_read limit input meaning bytes =
     if nat_lt limit (length bytes) then Err (TooBig input) else meaning bytes
 
--- a fault that says nothing of the inputs' bytes
+-- a fault that says nothing about the inputs' bytes
 abbrev pub IsFromOutside : RunFault → Type 0
 IsFromOutside Memory = Unit {0}
 IsFromOutside (Device input) = Unit {0}

@@ -25,7 +25,7 @@ text_of report = concat report.lines ++ report.closing
 abbrev pub whole_text : List ℕ → Outcome → Report
 whole_text text outcome = record { lines = []; closing = text; answer = Ok outcome }
 
--- the report where an input is refused before any line: no text
+-- the report if an input is refused before any line: no text
 abbrev pub refused : RunFault → Report
 refused fault = record { lines = []; closing = []; answer = Err fault }
 
@@ -35,16 +35,16 @@ GetsLines report before after =
     (first others : List (List ℕ)) × (report.lines ≡ first ++ others)
     × Appends before after (concat first)
 
--- The sink may fail after so many bytes of a report: while its text goes out, or, where it has an
+-- The sink may fail after this many bytes of a report: while its text goes out, or, if it has an
 -- outcome, as the whole of it is finished. A refusal stays, whatever `finish` gives.
 abbrev pub MayStop : Report → ℕ → Type 0
 MayStop report sent =
     (sent < length (text_of report))
     ⊎ ((sent ≡ length (text_of report)) × IsOk report.answer)
 
--- What the sink has got at each answer: nothing where memory was refused, some first lines where a
--- device failed, and at a failed write exactly as many bytes of the text as it says. Any other
--- answer is the report's, and comes with the whole text.
+-- What the sink has got at each answer: nothing if memory was refused, some first lines if a device
+-- failed, and at a failed write exactly as many bytes of the text as it says. Any other answer is
+-- the report's, and comes with the whole text.
 abbrev pub GetsText : Report → Option (List ℕ) → Option (List ℕ) → Result Outcome RunFault → Type 0
 GetsText report before after (Err Memory) = Keeps before after
 GetsText report before after (Err (Device input)) = GetsLines report before after
@@ -53,9 +53,9 @@ GetsText report before after (Err (Write sent)) =
 GetsText report before after answer =
     (answer ≡ report.answer) × Appends before after (text_of report)
 
--- How the sink's faults are counted: one more where the answer is `Write`, and none where it's an
+-- How the sink's faults are counted: one more if the answer is `Write`, and none if it's an
 -- outcome. At any other fault the sink may have failed as it was finished, which the answer doesn't
--- tell.
+-- report.
 abbrev pub CountsSink : Result Outcome RunFault → ℕ → ℕ → Type 0
 CountsSink (Ok outcome) before after = CountsFault false before after
 CountsSink (Err (Write sent)) before after = CountsFault true before after
@@ -81,8 +81,8 @@ is_device which (Err (Device input)) = which input
 is_device which answer = false
 
 -- What an engine promises of its answer and of its devices, for the report that its inputs' bytes
--- call for, where they are known. The sink is closed in the end: after the last byte it was
--- finished, unless a push failed.
+-- call for, if they are known. The sink is closed in the end: after the last byte it was finished,
+-- unless a push failed.
 pub record Reports (report : Option Report) (before after : RunState)
     (answer : Result Outcome RunFault) : Type 0 where
   pub text : IfSome report (λ r. GetsText r before.sink.contents after.sink.contents answer)

@@ -32,25 +32,25 @@ IsBeforeCapture (Device inputs.Certificate) = Unit {0}
 IsBeforeCapture (Device inputs.Refutation) = Unit {0}
 IsBeforeCapture _ = ⊥
 
--- But for a fault of the sink itself, nothing is written where a run is given up.
+-- But for a fault of the sink itself, nothing is written if a run is given up.
 abbrev pub IsUnwrittenAt : RunFault → Option (List ℕ) → Option (List ℕ) → Type 0
 IsUnwrittenAt fault before after = IsWrite fault ⊎ Keeps before after
 
--- The bytes, where they are known, say a claim.
+-- The bytes, if they are known, say a claim.
 abbrev pub HasClaim : Option (List ℕ) → Type 0
 HasClaim known = IfSome known (λ bytes. IsOk (claim_read bytes))
 
--- The bytes, where they are known, begin with a lawful header of a capture.
+-- The bytes, if they are known, begin with a lawful header of a capture.
 abbrev pub HasLawfulHeader : Option (List ℕ) → Type 0
 HasLawfulHeader known = IfSome known (λ bytes. IsOk (capture_of bytes))
 
--- What an engine promises for the report that its inputs' bytes call for, where at most so many
--- bytes are taken of the second input, which is lawful if `HasSecond` holds of its bytes: its text
--- and answer, and each device's failures (`reports`); that nothing is written where it is given up
+-- What an engine promises for the report that its inputs' bytes call for, if at most `most` bytes
+-- are taken of the second input, which is lawful if `HasSecond` holds of its bytes: its text and
+-- answer, and each device's failures (`reports`); that nothing is written if it is given up
 -- (`unwritten`); that the feeds of later inputs are as they were after an earlier refusal; and that
--- no more than the limits is taken of each input, of the claim one byte past its limit only where
--- the answer is that it's too big. Nor is a refusal told as being out of memory once more was read:
--- then the claim was lawful (`claim_memory`), the second input too (`second_memory`), and so is the
+-- no more than the limits is taken of each input, of the claim one byte past its limit only if the
+-- answer is that it's too big. Nor is a refusal reported as out of memory once more was read: then
+-- the claim was lawful (`claim_memory`), the second input too (`second_memory`), and so is the
 -- capture's header (`capture_memory`).
 pub record Runs {T F : Type 0} (report : Option Report) (most : ℕ)
     (HasSecond : Option (List ℕ) → Type 0) (before after : RunState) (second second' : T)

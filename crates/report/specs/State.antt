@@ -1,4 +1,4 @@
--- The state of an output over a sink, from what a sink says of itself.
+-- The state of an output over a sink, from what a sink says about itself.
 use Rattle.std.specs.Prelude.{ℕ}
 use Rattle.byte_stream.specs.State.{SinkState}
 use Rattle.report.specs.declared.output.Output.{Output}

@@ -1,4 +1,4 @@
--- How an answer is told beside its status: a fault by its line, and an outcome by nothing.
+-- How an answer is reported beside its status: a fault by its line, and an outcome by nothing.
 use Rattle.std.specs.Prelude.{◌≡◌, ℕ, List, [], ◌++◌, codes, Option, Result, Ok, Err}
 use Rattle.byte_stream.specs.State.{SinkState}
 use Rattle.report.specs.declared.fault.Outcome.{Outcome}
@@ -9,18 +9,18 @@ use Rattle.report.specs.FaultText.{fault_text}
 use Rattle.report.specs.Run.{RunState}
 use Rattle.report.specs.Reports.{Report, Reports}
 
--- the line that tells an answer, with its line feed: none for an outcome
+-- the line that reports an answer, with its line feed: none for an outcome
 abbrev pub told_text : Result Outcome RunFault → List ℕ
 told_text (Ok outcome) = []
 told_text (Err fault) = fault_text fault ++ codes "\n"
 
--- The sink was told the answer: it has got the whole line and was finished, or it failed, and has
--- got a first part of it. For want of memory no line is left out.
+-- The answer was reported on the sink: it has got the whole line and was finished, or it failed,
+-- and has got a first part of it. For want of memory no line is left out.
 abbrev pub Tells : Result Outcome RunFault → SinkState → SinkState → Type 0
 Tells answer before after = IsDelivered (told_text answer) before after
 
--- What a caller of a whole command sees: there is one answer, of which a promise holds, the fault's
--- line stands in the sink for errors, and the status in the result.
+-- What a caller of a whole command sees: there is one answer for which a promise holds; the line of
+-- its fault stands in the sink for errors, and its status in the result.
 pub record IsTold (Promise : Result Outcome RunFault → Type 0) (err err' : SinkState)
     (status : ℕ) : Type 0 where
   pub answer : Result Outcome RunFault
@@ -28,7 +28,7 @@ pub record IsTold (Promise : Result Outcome RunFault → Type 0) (err err' : Sin
   pub tells : Tells answer err err'
   pub status_is : status ≡ status_of answer
 
--- the same of a command of which this report is promised in the output's sink
+-- the same of a command that promises this report in the output's sink
 abbrev pub Answers :
     Option Report → RunState → RunState → SinkState → SinkState → ℕ → Type 0
 Answers report before after err err' status = IsTold (Reports report before after) err err' status

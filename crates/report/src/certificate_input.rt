@@ -21,10 +21,10 @@ use std::alloc::Global;
 /// The greatest length of a certificate, in bytes.
 const MAX_CERTIFICATE: u64 = 134_217_728;
 
-/// Reads a certificate whole: at most 134,217,728 bytes, and one more where there are more.
+/// Reads a certificate whole: at most 134,217,728 bytes, and one more if there are more.
 ///
-/// `TooBig` comes where there are more, `Certificate` where they aren't a certificate, `Device`
-/// where the feed failed.
+/// `TooBig` comes if there are more, `Certificate` if they aren't a certificate, `Device` if the
+/// feed failed.
 pub fn read_certificate_from<T: Feed>(alloc: Global, feed: &mut T) -> Result<Certificate, RunFault>
     requires { IsReadable (T.state feed.old) }
     ensures known { IfSome (T.state feed.old).remaining (λ bytes.

@@ -19,10 +19,9 @@ use std::alloc::Global;
 /// The greatest length of a claim, in bytes.
 const MAX_CLAIM: u64 = 65536;
 
-/// Reads a claim whole: at most 65,536 bytes, and one more where there are more.
+/// Reads a claim whole: at most 65,536 bytes, and one more if there are more.
 ///
-/// `TooBig` comes where there are more, `Claim` where they aren't a claim, `Device` where the feed
-/// failed.
+/// `TooBig` comes if there are more, `Claim` if they aren't a claim, `Device` if the feed failed.
 pub fn read_claim_from<C: Feed>(alloc: Global, feed: &mut C) -> Result<Claim, RunFault>
     requires { IsReadable (C.state feed.old) }
     ensures known { IfSome (C.state feed.old).remaining (λ bytes.

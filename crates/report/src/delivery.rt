@@ -32,7 +32,7 @@ pub(crate) fn push_all<S: Sink>(out: &mut S, bytes: &[u8]) -> Result<(), usize>
 }
 
 /// Pushes a text whole and finishes the sink, or answers how many bytes went out before the sink
-/// failed: all of them where only `finish` failed. It takes no memory.
+/// failed: all of them if only `finish` failed. It takes no memory.
 pub fn deliver<S: Sink>(text: &[u8], out: &mut S) -> Result<(), usize>
     requires { IsWritable (S.state out.old) }
     ensures { Delivers text.now (S.state out.old) (S.state out.new) result }

@@ -59,7 +59,7 @@ pub enum RunFault {
     /// The device of an input failed.
     #[error("the device of an input failed")]
     Device(Input),
-    /// The output failed after so many bytes of the text had gone out.
+    /// The output failed after this many bytes of the text had gone out.
     #[error("the output failed after {0} bytes")]
     Write(u64),
     /// Out of memory.

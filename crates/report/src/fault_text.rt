@@ -1,4 +1,4 @@
-//! The line that tells a fault.
+//! The line of a fault.
 
 ghost use Rattle.std.specs.Prelude.{◌≡◌, ◌+◌, ◌≤◌, ◌++◌, length, IfOk, string_bytes};
 ghost use Rattle.std.specs.Fmt.{decimal};
@@ -156,8 +156,8 @@ fn put_input(line: &mut Line, input: &Input)
     }
 }
 
-/// Writes the line that tells a fault before what stands in `line`, with no line feed. It has at
-/// most 69 bytes, and no memory is taken for it.
+/// Writes the line of a fault before what stands in `line`, with no line feed. It has at most 69
+/// bytes, and no memory is taken for it.
 pub(crate) fn put_fault(line: &mut Line, fault: &RunFault)
     requires { length line.old + 69 ≤ CAPACITY }
     ensures { line.new ≡ fault_text fault.now ++ line.old }
@@ -182,7 +182,7 @@ pub(crate) fn put_fault(line: &mut Line, fault: &RunFault)
     }
 }
 
-/// The line that tells a fault, without its line feed. Its only error is that memory was refused.
+/// The line of a fault, without its line feed. Its only error is that memory was refused.
 pub fn fault_line(alloc: Global, fault: &RunFault) -> Result<String, AllocError>
     ensures { IfOk result (λ line. string_bytes line ≡ fault_text fault.now) }
 {

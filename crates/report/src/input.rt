@@ -13,11 +13,11 @@ use std::alloc::{AllocError, Global};
 /// How many bytes are asked for at once.
 const CHUNK: usize = 65536;
 
-/// All bytes of an input, where they are no more than `limit`.
+/// All bytes of an input, if they are no more than `limit`.
 ///
-/// `TooBig(which)` comes where there are more, after one byte past the limit; `Device(which)`
-/// exactly where the feed failed, and `Memory` where memory was refused. At these two no byte past
-/// the limit was taken.
+/// `TooBig(which)` comes if there are more, after one byte past the limit; `Device(which)` exactly
+/// if the feed failed, and `Memory` if memory was refused. At these two no byte past the limit was
+/// taken.
 pub fn read_input<F: Feed>(
     alloc: Global,
     feed: &mut F,

@@ -9,8 +9,8 @@ ghost use Rattle.report.specs.declared.fault.RunFault.TheVariants.{Write};
 ghost use Rattle.report.specs.Reports.{Reports, refused};
 ghost use Rattle.report.specs.Run.{RunState};
 
-/// Where an input is refused before any line, nothing is written, and no fault of the sink is
-/// answered: not even where `finish` fails.
+/// If an input is refused before any line, nothing is written, and no fault of the sink is
+/// answered: not even if `finish` fails.
 pub fn refusal_stays()
     ensures unwritten { (fault : RunFault) (before after : RunState)
         (answer : Result Outcome RunFault) → Reports (Some (refused fault)) before after answer →

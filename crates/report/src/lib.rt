@@ -1,5 +1,5 @@
-//! What every engine shares: its answer and how that is told, its text on the way to a sink, the
-//! inputs that it reads whole, and the words for what it promises.
+//! What every engine shares: its answer and how that is reported, its text on the way to a sink,
+//! the inputs that it reads whole, and the words for what it promises.
 //!
 //! `specs/Reports` says for each answer of an engine what its sink has got and how often its
 //! devices have failed, and `specs/Runs` what is left of its inputs. An `Output` is the way of a

@@ -13,7 +13,7 @@ pub const OUTPUT_CAPACITY: usize = 65536;
 /// Texts on their way to a sink: they are gathered, and pushed many at a time. No call takes
 /// memory.
 ///
-/// It borrows its sink and the buffer that it gathers in, and hands both back where it's dropped.
+/// It borrows its sink and the buffer that it gathers in, and hands both back if it's dropped.
 pub struct Output<'a, S> {
     sink: &'a mut S,
     text: &'a mut Vec<u8>,
@@ -63,7 +63,7 @@ impl<'a, S: Sink> Output<'a, S> {
 
     /// Pushes what is gathered.
     ///
-    /// The answer is `Write(n)` where the sink failed after exactly n bytes of all that was put.
+    /// The answer is `Write(n)` if the sink failed after exactly n bytes of all that was put.
     pub fn flush(&mut self) -> Result<(), RunFault>
         requires { IsReady (output_state S.state self.old) }
         ensures same_sink { sink_name self.new ≡ sink_name self.old }
@@ -82,9 +82,9 @@ impl<'a, S: Sink> Output<'a, S> {
         }
     }
 
-    /// Gathers a text, after it has pushed what is gathered where there isn't room for both.
+    /// Gathers a text, after it has pushed what is gathered if there isn't room for both.
     ///
-    /// The answer is `Write(n)` where the sink failed after exactly n bytes of what was put before.
+    /// The answer is `Write(n)` if the sink failed after exactly n bytes of what was put before.
     pub fn put(&mut self, text: &[u8]) -> Result<(), RunFault>
         requires ready { IsReady (output_state S.state self.old) }
         requires fits { length text.now ≤ OUTPUT_CAPACITY }
@@ -112,11 +112,11 @@ impl<'a, S: Sink> Output<'a, S> {
         self.text.extend_from_slice(text).unwrap();
     }
 
-    /// Ends a run that came to this answer: pushes what is gathered and finishes the sink, but
-    /// where the sink has failed. Where a device failed or memory was refused, what is gathered
-    /// isn't pushed.
+    /// Ends a run that came to this answer: pushes what is gathered and finishes the sink, unless
+    /// the sink has failed. If a device failed or memory was refused, what is gathered isn't
+    /// pushed.
     ///
-    /// The answer stays, but where a push fails, or `finish` fails after an outcome: then it's
+    /// The answer stays, unless a push fails, or `finish` fails after an outcome: then it's
     /// `Write`.
     pub fn close(&mut self, ran: Result<Outcome, RunFault>) -> Result<Outcome, RunFault>
         requires { CanClose (output_state S.state self.old) ran }

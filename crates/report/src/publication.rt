@@ -16,11 +16,11 @@ pub struct Made {
     pub outcome: Outcome,
 }
 
-/// Pushes the text that was made and finishes the sink. Where none was made it only finishes the
-/// sink, and answers the fault whatever `finish` gives.
+/// Pushes the text that was made and finishes the sink. If none was made it only finishes the sink,
+/// and answers the fault whatever `finish` gives.
 ///
-/// `Write(n)` comes where the sink failed after exactly n bytes of the text; n is the whole length
-/// where only `finish` failed.
+/// `Write(n)` comes if the sink failed after exactly n bytes of the text; n is the whole length if
+/// only `finish` failed.
 pub fn publish<S: Sink>(out: &mut S, made: &Result<Made, RunFault>) -> Result<Outcome, RunFault>
     requires writable { IsWritable (S.state out.old) }
     requires unwritten { IsUnwritten made.now }

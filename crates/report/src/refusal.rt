@@ -1,4 +1,4 @@
-//! A refused command line, told.
+//! A refused command line, reported.
 
 ghost use Rattle.std.specs.Prelude.{◌≡◌, codes, string_bytes};
 ghost use Rattle.byte_stream.specs.State.{IsWritable};

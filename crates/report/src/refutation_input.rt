@@ -19,10 +19,10 @@ use std::alloc::Global;
 /// The greatest length of a refutation, in bytes.
 const MAX_REFUTATION: u64 = 65536;
 
-/// Reads a refutation whole: at most 65,536 bytes, and one more where there are more.
+/// Reads a refutation whole: at most 65,536 bytes, and one more if there are more.
 ///
-/// `TooBig` comes where there are more, `Refutation` where they aren't a refutation, `Device` where
-/// the feed failed.
+/// `TooBig` comes if there are more, `Refutation` if they aren't a refutation, `Device` if the feed
+/// failed.
 pub fn read_refutation_from<T: Feed>(alloc: Global, feed: &mut T) -> Result<Refutation, RunFault>
     requires { IsReadable (T.state feed.old) }
     ensures known { IfSome (T.state feed.old).remaining (λ bytes.

@@ -1,4 +1,4 @@
-//! How an answer is told.
+//! How an answer is reported.
 
 ghost use Rattle.std.specs.Prelude.{◌≡◌, ◌+◌, ◌≤◌, ◌++◌, length};
 ghost use Rattle.line_writer.specs.declared.line.TheConstants.{CAPACITY};
@@ -13,7 +13,7 @@ use crate::fault_text::put_fault;
 use byte_stream::Sink;
 use line_writer::Line;
 
-/// Writes the line that tells an answer, with its line feed: none for an outcome.
+/// Writes the line that reports an answer, with its line feed: none for an outcome.
 fn put_answer(line: &mut Line, answer: &Result<Outcome, RunFault>)
     requires { length line.old + 70 ≤ CAPACITY }
     ensures { line.new ≡ told_text answer.now ++ line.old }
@@ -24,10 +24,10 @@ fn put_answer(line: &mut Line, answer: &Result<Outcome, RunFault>)
     }
 }
 
-/// Tells an answer: a fault by its line and a line feed, an outcome by nothing, and finishes the
+/// Reports an answer: a fault by its line and a line feed, an outcome by nothing, and finishes the
 /// sink. The result is the answer's exit status, whatever the sink does.
 ///
-/// It takes no memory, so that a run that is out of memory is told too.
+/// It takes no memory, so that a run that is out of memory is reported too.
 pub fn tell<E: Sink>(answer: &Result<Outcome, RunFault>, err: &mut E) -> u8
     requires { IsWritable (E.state err.old) }
     ensures tells { Tells answer.now (E.state err.old) (E.state err.new) }

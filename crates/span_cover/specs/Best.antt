@@ -15,7 +15,7 @@ abbrev pub HasNoSample : List Sample → ℕ → Type 0
 HasNoSample samples server =
     (i : ℕ) (s : Sample) → slice_get samples i ≡ Some s → s.server ≢ server
 
--- number k is the first of the server's samples of which none has more merit
+-- number k is the first of the server's samples than which none has more merit
 pub record IsFirstBest (merit : Sample → ℤ) (samples : List Sample) (server k : ℕ) : Type 0 where
   pub sample : Sample
   pub stands : slice_get samples k ≡ Some sample
@@ -56,7 +56,7 @@ abbrev pub merit : Side → Sample → ℤ → ℤ → ℕ → ℤ
 merit Low sample p q ppb = moved_low sample p q ppb
 merit High sample p q ppb = neg_ℤ (moved_high sample p q ppb)
 
--- both numbers, where the server has a sample
+-- both numbers, if the server has a sample
 abbrev pub pair_of : Option ℕ → Option ℕ → Option (ℕ × ℕ)
 pair_of (Some low) (Some high) = Some (low, high)
 pair_of (Some low) None = None

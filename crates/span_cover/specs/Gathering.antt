@@ -7,20 +7,20 @@ use Rattle.sample_interval.specs.declared.kinds.Sample.{Sample}
 use Rattle.span_cover.specs.Best.{best_of}
 use Rattle.span_cover.specs.Piece.{IsPiece, piece_interval_of}
 
--- the interval of the piece, where there is a sample for each end
+-- the interval of the piece, if there is a sample for each end
 abbrev pub interval_between : Option Sample → Option Sample → ℤ → ℤ → ℕ → Option Interval
 interval_between (Some low) (Some high) p q ppb = Some (piece_interval_of low high p q ppb)
 interval_between (Some low) None p q ppb = None
 interval_between None high p q ppb = None
 
--- the interval of a server's best samples, where it has a sample
+-- the interval of a server's best samples, if it has a sample
 abbrev pub best_interval : List Sample → ℕ → ℤ → ℤ → ℕ → Option Interval
 best_interval samples server p q ppb =
     option_and_then
     (λ best. interval_between (slice_get samples best.0) (slice_get samples best.1) p q ppb)
     (best_of samples server p q ppb)
 
--- a piece, a rate, and an entry for each server: its interval, where it has a sample
+-- a piece, a rate, and an entry for each server: its interval, if it has a sample
 pub record Gathering : Type 0 where
   pub p : ℤ
   pub q : ℤ

@@ -2,8 +2,8 @@
 --
 -- Each server that says something has an interval. Those of one group give the interval of the
 -- group: the greatest of their low ends and the least of their high ends, since all of them hold
--- the error if no server of the group is false. The hull is taken over the groups of which a server
--- says something.
+-- the error if no server of the group is false. The hull is taken over the groups with a server
+-- that says something.
 use Rattle.std.specs.Prelude.{ℕ, zero, suc, ◌==◌, ℤ, neg_ℤ, int_le, ◌&&◌, Bool, false}
 use Rattle.std.specs.Prelude.{List, [], ◌∷◌, ◌++◌, length, slice_index, fold, filter, filter_map}
 use Rattle.std.specs.Prelude.{Option, Some, None}
@@ -14,7 +14,7 @@ use Rattle.intersection.specs.declared.kinds.Hull.{Hull}
 use Rattle.intersection.specs.declared.kinds.Hull.TheVariants.{Unbounded, Empty, Bounded}
 use Rattle.span_cover.specs.declared.part.Part.{Part}
 
--- the numbers from 0 on, so many of them
+-- the numbers from 0 on, as many as this says
 abbrev pub numbers_below : ℕ → List ℕ
 numbers_below zero = []
 numbers_below (suc n) = numbers_below n ++ n ∷ []
@@ -38,7 +38,7 @@ abbrev pub group_intervals : List ℕ → List Part → List Interval
 group_intervals groups parts =
     filter_map (group_interval groups parts) (numbers_below (length groups))
 
--- the hull over these, if so many groups may be false
+-- the hull over these, if `false_max` groups may be false
 abbrev pub piece_hull : List ℕ → ℕ → List Part → Hull
 piece_hull groups false_max parts = hull_of (group_intervals groups parts) false_max
 

@@ -1,4 +1,4 @@
--- What a server's samples say of the client's error throughout a piece of the span.
+-- What a server's samples say about the client's error throughout a piece of the span.
 --
 -- A piece runs from one reading of the clock to another, both included. A sample bounds the error
 -- at a reading in its window. At a reading of the piece the error differs from

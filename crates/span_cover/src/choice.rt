@@ -12,7 +12,7 @@ use sample_interval::kinds::Sample;
 
 /// The numbers of the samples of a server that make its interval over the piece `p` to `q`
 /// narrowest: the one with the greatest moved low and the one with the least moved high, the least
-/// number where several agree. None where the server has no sample.
+/// number if several agree. None if the server has no sample.
 ///
 /// `p` and `q` are Unix ticks, from 0 to below 2^64. The rate is up to 500,000,000 parts in 10^9,
 /// and the samples are at most 1,000,000.

@@ -78,7 +78,7 @@ impl BestSamples {
         self.intervals[server] = Some(interval);
     }
 
-    /// The interval of a server's best samples, none where no sample of it was taken.
+    /// The interval of a server's best samples, none if no sample of it was taken.
     pub fn interval_of(&self, server: u8) -> Option<Interval>
         requires { server < 32 }
         ensures { (samples : List TheSample) (p q : ℤ) (ppb : ℕ) →

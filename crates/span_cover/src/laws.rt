@@ -11,7 +11,7 @@ ghost use Rattle.span_cover.specs.Piece.{farthest, moved_low, moved_high, piece_
 
 use sample_interval::laws::{widening_grows, widening_is_one_number};
 
-/// At a reading inside the piece, the client's error lies in the piece's interval, where its clock
+/// At a reading inside the piece, the client's error lies in the piece's interval, if its clock
 /// drifts within the rate and the two samples bound the error at their own moments.
 pub fn error_lies_in_the_interval_of_the_piece()
     ensures { (n ppb : ℕ) (low high : Sample) (p q : ℤ) (request reply observed : Moment) →

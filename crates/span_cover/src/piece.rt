@@ -10,8 +10,8 @@ use sample_interval::kinds::Sample;
 use sample_interval::widen;
 
 /// The interval in which the client's error lies throughout the piece of the readings `p` to `q`,
-/// where the samples' server isn't false: the low end of `low` and the high end of `high`, each
-/// moved outwards by the widening of the greatest distance between its window and the piece.
+/// if the samples' server isn't false: the low end of `low` and the high end of `high`, each moved
+/// outwards by the widening of the greatest distance between its window and the piece.
 ///
 /// `p` and `q` are Unix ticks, from 0 to below 2^64. The rate is up to 500,000,000 parts in 10^9.
 pub fn piece_interval(low: &Sample, high: &Sample, p: i128, q: i128, drift_ppb: u32) -> Interval

@@ -21,7 +21,7 @@ const SAME: (&str, &str) = ("10001001", "10001001");
 const NONE: &str = "bound_ns none piece 0\n";
 
 /// A moment, with the server's line and without it; with a bound of nothing, which plays no part;
-/// where no reply came, and where the one server may be wrong.
+/// with no reply; and with the one server allowed to be wrong.
 #[test]
 fn moments(rt: HostRuntime) -> Result<(), Fail> {
     let alloc = rt.alloc();

@@ -36,7 +36,7 @@ pub(crate) fn edited(edits: &[(usize, &[u8])]) -> [u8; 236] {
     file
 }
 
-/// The first so many bytes of a file, or all where it has fewer.
+/// The first `length` bytes of a file, or all if it has fewer.
 pub(crate) fn first_of(file: &[u8], length: usize) -> &[u8] {
     file.get(..length).unwrap_or(file)
 }
@@ -50,7 +50,7 @@ pub(crate) fn joined(alloc: Global, parts: &[&[u8]]) -> Result<Vec<u8>, AllocErr
     Ok(file)
 }
 
-/// A text and then blanks, so many bytes in all.
+/// A text and then blanks, `length` bytes in all.
 pub(crate) fn padded(alloc: Global, text: &str, length: usize) -> Result<Vec<u8>, AllocError> {
     let mut bytes = text.as_bytes().to_vec(alloc)?;
     for _ in text.len()..length {

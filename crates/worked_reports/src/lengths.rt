@@ -10,7 +10,7 @@ use vectors::{C1, K1, V1};
 /// The greatest length of a certificate, in bytes.
 const MOST: u64 = 134_217_728;
 
-/// A text and then so many blanks.
+/// A text and then blanks.
 #[derive(Drop)]
 struct Padded<'a> {
     text: &'a [u8],

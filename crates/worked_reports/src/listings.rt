@@ -123,9 +123,9 @@ fn lists_each_prefix(rt: HostRuntime) -> Result<(), Fail> {
     Ok(())
 }
 
-/// Each pull fails in turn, until a run meets none that does. No closing line goes out then, and
-/// where each pull gives one byte the lines of all records that were whole have: a capture is shown
-/// as it comes.
+/// Each pull fails in turn, until a run meets none that does. No closing line goes out then. If
+/// each pull gives one byte, the lines of all records that were whole have gone out: a capture is
+/// shown as it comes.
 #[test]
 fn pulls_that_fail(rt: HostRuntime) -> Result<(), Fail> {
     let lines = [LINE_0, LINE_1, CLOSING];

@@ -10,7 +10,7 @@ use report::{Input, RunFault};
 use std::test::Fail;
 use vectors::{C1, K1, SECOND, V1};
 
-/// A refused capture is told as what it is by every engine, and never as being out of memory.
+/// A refused capture is reported as what it is by every engine, and never as out of memory.
 #[test]
 fn captures(rt: HostRuntime) -> Result<(), Fail> {
     let long = edited(&[(32, b"\x01\x00\x04\x00")]);

@@ -1,4 +1,4 @@
-//! Answers told, and texts on their way to a sink.
+//! Answers reported, and texts on their way to a sink.
 
 use byte_stream::TestSink;
 use report::{Input, Made, Outcome, RunFault, fault_line, publish, status};

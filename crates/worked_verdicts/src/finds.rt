@@ -10,7 +10,7 @@ use std::test::Fail;
 /// What the finder answers of the worked sample.
 #[derive(Clone, Copy, Debug, PartialEq, Eq)]
 enum Answer {
-    /// A certificate of so many pieces, with this end.
+    /// A certificate of this many pieces, with this end.
     Pieces(usize, u64),
     /// The first piece that isn't shown, and the ends of its hull.
     Nothing(u32, i128, i128),

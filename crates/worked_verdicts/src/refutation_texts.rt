@@ -4,7 +4,7 @@ use certificate::{RefutationFault, read_refutation, write_refutation};
 use std::alloc::{AllocError, Global};
 use std::test::Fail;
 
-/// What is answered, and a text: `same` where the refutation that it says is written as that text,
+/// What is answered, and a text: `same` if the refutation that it says is written as that text,
 /// else what is written of it.
 const TEXTS: &str = r#"same | {"error":42953968,"false":[],"reading":4294967296000000000}
 same | {"error":42953973,"false":[0],"reading":4294967296000000000}

@@ -90,7 +90,7 @@ fn one_piece(rt: HostRuntime) -> Result<(), Fail> {
     Ok(())
 }
 
-/// The verdict on a piece with samples of three servers, of which one may be false: in these
+/// The verdict on a piece with samples of three servers, one of which may be false: in these
 /// groups, and with this bound in ticks.
 fn verdict_of_three(
     rt: &impl Abort,
