@@ -169,8 +169,8 @@ module _ (laws : BytesLaws) (claim second capture : FeedState) (c : ClaimData) (
   from_bytes : (question : QuestionData) (outcome : Outcome) →
       ShowsAfter question c second.remaining capture.remaining outcome → Shows question claim second capture outcome
   from_bytes samples outcome after = tt
-  from_bytes (at moment) outcome after =
-      held c moment claim.remaining second.remaining capture.remaining outcome is after
+  from_bytes (at unix_second) outcome after =
+      held c unix_second claim.remaining second.remaining capture.remaining outcome is after
   from_bytes (find step) outcomes.Yes after =
       alone (IsFoundOf step) (find step) outcomes.Yes after
       (of_task _ outcomes.Yes after.task _ after.is_task after.shows)

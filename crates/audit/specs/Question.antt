@@ -27,7 +27,7 @@ use Rattle.audit.specs.declared.question.Question.TheVariants as questions
 use Rattle.audit.specs.declared.question.Task.{Task}
 use Rattle.audit.specs.declared.question.Task.TheVariants as tasks
 
--- a question, as numbers: a moment in Unix seconds, the length of a piece in seconds; and whether
+-- a question, as numbers: a time in Unix seconds, the length of a piece in seconds; and whether
 -- it is shown what each server says
 pub data QuestionData : Type 0 where
   samples : QuestionData
@@ -89,7 +89,7 @@ refute_read (Err fault) = Err fault
 -- an input it becomes itself
 abbrev pub task_read : QuestionData → Option (List ℕ) → Option (Result TaskData RunFault)
 task_read samples second = Some (Ok show_samples)
-task_read (at moment) second = Some (Ok (show_at moment))
+task_read (at unix_second) second = Some (Ok (show_at unix_second))
 task_read (find step) second = Some (Ok (find_with step))
 task_read check second = option_map (λ bytes. check_read (certificate_read bytes)) second
 task_read refute second = option_map (λ bytes. refute_read (refutation_read bytes)) second
@@ -99,7 +99,7 @@ task_read seek second = Some (Ok seek_refutation)
 -- this is what a question became
 abbrev pub IsTaskOf : QuestionData → TaskData → Type 0
 IsTaskOf samples task = task ≡ show_samples
-IsTaskOf (at moment) task = task ≡ show_at moment
+IsTaskOf (at unix_second) task = task ≡ show_at unix_second
 IsTaskOf (find step) task = task ≡ find_with step
 IsTaskOf check task = (certificate : CertificateData) × (task ≡ check_of certificate)
 IsTaskOf refute task = (refutation : RefutationData) × (task ≡ refute_by refutation)
@@ -162,7 +162,7 @@ ShowsOf _ e outcome = Unit {0}
 
 -- what the outcome of a run shows whose claim, second input and capture begin so
 abbrev pub Shows : QuestionData → FeedState → FeedState → FeedState → Outcome → Type 0
-Shows (at moment) claim second capture outcome = IsHeld moment claim capture
+Shows (at unix_second) claim second capture outcome = IsHeld unix_second claim capture
 Shows (find step) claim second capture Yes = IsAccepted step claim capture
 Shows (find step) claim second capture No = IsNotFound step claim capture
 Shows check claim second capture Yes = IsTraced claim second capture
