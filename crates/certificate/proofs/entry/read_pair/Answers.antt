@@ -1,5 +1,4 @@
-use Rattle.std.proofs.Common.{◌≡◌, Some, None, sym, ap, ◌∙◌, arith}
-use Rattle.json.specs.Json.{after_end_array}
+use Rattle.std.proofs.Common.{Some, sym, ap, ◌∙◌, arith}
 use Rattle.json_text.proofs.NextMapped.{array_ends, element_refused}
 use Rattle.certificate.specs.Reading.{sample_of, pair_of}
 use Rattle.certificate.proofs.PairRead.{GoesOn, one_alone, high_refused, pair_read, third_refused, three}
