@@ -1,8 +1,7 @@
 -- What is found, and what that says.
-use Rattle.std.proofs.Common.{◌≡◌, ℕ, ◌<◌, ◌≤◌, nat_lt, Bool, true, false, not, length, Option, Some, None, Ok, Err, inl, inr, refl, sym, ap, ◌∙◌, subst, arith}
+use Rattle.std.proofs.Common.{◌≡◌, ℕ, ◌<◌, ◌≤◌, nat_lt, true, not, length, Option, Some, None, Ok, Err, inl, inr, refl, sym, ap, ◌∙◌, subst, arith}
 use Rattle.std.specs.Prelude.{◌⊎◌, ◌↔◌, List, Result, IsErrAnd}
 use Rattle.std.proofs.lemmas.Bool.{cond-true, cond-false}
-use Rattle.std.proofs.lemmas.Bool.Decides.{nat_tests}
 use Rattle.std.proofs.lemmas.List.FromFn.{length-map-range_with_len}
 use Rattle.certificate.specs.Certificate.{CertificateData, data_of as certificate_data, max_pieces}
 use Rattle.claim_file.specs.Claim.{ClaimData, IsLawful}
@@ -20,33 +19,20 @@ use Rattle.finder.specs.declared.fault.FindFault.{FindFault}
 use Rattle.finder.specs.declared.fault.FindFault.TheVariants.{TooManyPieces, Memory}
 use Rattle.finder.specs.declared.found.Found.{Found}
 use Rattle.finder.specs.declared.found.Found.TheVariants.{Certificate, Nothing}
-use Rattle.finder.proofs.ListLemmas.{find_is_first, find_is_none}
+use Rattle.finder.proofs.ListLemmas.{find_is_first, find_is_none, was, was_not}
+use Rattle.finder.proofs.PieceLemmas.{is_few, is_many}
 use Rattle.finder.proofs.RefusalLemmas.{Laws, contradicted, none_accepted}
 use Rattle.finder.proofs.VerdictLemmas.{all_accepted}
-
-too_many : (n : ℕ) → max_pieces < n → nat_lt max_pieces n ≡ true
-too_many n h = grind (arith, nat_tests)
-
-few : (n : ℕ) → n ≤ max_pieces → nat_lt max_pieces n ≡ false
-few n h = grind (arith, nat_tests)
-
-was_not : (b : Bool) → not b ≡ false → b ≡ true
-was_not true e = refl
-was_not false e = absurd cc
-
-was : (b : Bool) → not b ≡ true → b ≡ false
-was true e = absurd cc
-was false e = refl
 
 module _ (samples : List Sample) (claim : ClaimData) (step : ℕ) where
   found_of_many : max_pieces < count_of claim step → found_of samples claim step ≡ Err TooManyPieces
   unfolding found_of
-  found_of_many many = cond-true (nat_lt max_pieces (count_of claim step)) _ _ (too_many _ many)
+  found_of_many many = cond-true (nat_lt max_pieces (count_of claim step)) _ _ (is_many _ many)
 
   pub found_of_few : count_of claim step ≤ max_pieces
       → found_of samples claim step ≡ Ok (found_without samples claim step (first_failing samples claim step))
   unfolding found_of
-  found_of_few h = cond-false (nat_lt max_pieces (count_of claim step)) _ _ (few _ h)
+  found_of_few h = cond-false (nat_lt max_pieces (count_of claim step)) _ _ (is_few _ h)
 
   -- ---- a fault
 

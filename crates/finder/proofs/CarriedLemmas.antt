@@ -1,5 +1,5 @@
 -- What is found with other bounds.
-use Rattle.std.proofs.Common.{◌≡◌, ℕ, ◌<◌, ◌≤◌, pos, Bool, true, false, not, List, Option, Some, None, Ok, Err, refl, sym, ap, ◌∙◌, ⊎_elim, arith}
+use Rattle.std.proofs.Common.{◌≡◌, ℕ, ◌<◌, ◌≤◌, pos, not, List, Option, Some, None, Ok, Err, refl, sym, ap, ◌∙◌, ⊎_elim, arith}
 use Rattle.std.proofs.lemmas.Bool.{cases_lt}
 use Rattle.era_unfold.specs.Nanoseconds.{ticks_down}
 use Rattle.certificate.specs.Certificate.{max_pieces}
@@ -15,11 +15,7 @@ use Rattle.finder.specs.declared.least.LeastBound.TheVariants.{Holds, NoneHolds}
 use Rattle.finder.proofs.AnswerLemmas.{found_of_few}
 use Rattle.finder.proofs.BoundLemmas.{Roundings, least_is_least, none_inside, wider}
 use Rattle.finder.proofs.EnvelopeLemmas.{envelope_of_few, envelope_of_many}
-use Rattle.finder.proofs.ListLemmas.{find_none, find_is_none}
-
-was_not : (b : Bool) → not b ≡ false → b ≡ true
-was_not true e = refl
-was_not false e = absurd cc
+use Rattle.finder.proofs.ListLemmas.{find_none, find_is_none, was_not}
 
 module _ (samples : List Sample) (claim : ClaimData) (step m : ℕ) where
   -- the bound plays no part in the hulls

@@ -1,9 +1,8 @@
 -- The pieces of an envelope, one after another.
-use Rattle.std.proofs.Common.{◌≡◌, ℕ, zero, suc, ◌+◌, ◌<◌, ◌≤◌, nat_lt, true, false, List, [], ◌∷◌, ◌++◌, length, map, Ok, Err, inl, inr, refl, sym, ap, ◌∙◌, arith, add-one, subst}
+use Rattle.std.proofs.Common.{◌≡◌, ℕ, zero, suc, ◌+◌, ◌<◌, ◌≤◌, nat_lt, List, [], ◌∷◌, ◌++◌, length, map, Ok, Err, inl, inr, refl, sym, ap, ◌∙◌, arith, add-one, subst}
 use Rattle.std.specs.Prelude.{All, Result, ◌⊎◌, ◌↔◌, IsErrAnd}
 use Rattle.std.specs.List.{range_with_len}
 use Rattle.std.proofs.lemmas.Bool.{cond-true, cond-false}
-use Rattle.std.proofs.lemmas.Bool.Decides.{nat_tests}
 use Rattle.std.proofs.lemmas.List.{get_or-map, length-map}
 use Rattle.std.proofs.lemmas.List.Elements.{All-nil, All-cons}
 use Rattle.std.proofs.lemmas.List.FromFn.{map-range_with_len_more}
@@ -25,13 +24,7 @@ use Rattle.finder.specs.declared.least.LeastBound.{LeastBound}
 use Rattle.finder.proofs.BestLemmas.{BestLaw}
 use Rattle.finder.proofs.EntryLemmas.{entries_there}
 use Rattle.finder.proofs.FoundLemmas.{hull_is}
-use Rattle.finder.proofs.PieceLemmas.{piece_of_claim}
-
-too_many : (n : ℕ) → max_pieces < n → nat_lt max_pieces n ≡ true
-too_many n h = grind (arith, nat_tests)
-
-few : (n : ℕ) → n ≤ max_pieces → nat_lt max_pieces n ≡ false
-few n h = grind (arith, nat_tests)
+use Rattle.finder.proofs.PieceLemmas.{is_few, is_many, piece_of_claim}
 
 -- what holds of what f gives of each holds of each
 pub All-from_map : {X Y : Type 0} (P : Y → Type 0) (f : X → Y) (xs : List X) → All P (map f xs)
@@ -43,12 +36,12 @@ All-from_map P f xs all k d within =
 module _ (samples : List Sample) (claim : ClaimData) (step : ℕ) where
   pub envelope_of_many : max_pieces < count_of claim step → envelope_of samples claim step ≡ Err TooManyPieces
   unfolding envelope_of
-  envelope_of_many many = cond-true (nat_lt max_pieces (count_of claim step)) _ _ (too_many _ many)
+  envelope_of_many many = cond-true (nat_lt max_pieces (count_of claim step)) _ _ (is_many _ many)
 
   pub envelope_of_few : count_of claim step ≤ max_pieces
       → envelope_of samples claim step ≡ Ok (envelope_to samples claim step (count_of claim step))
   unfolding envelope_of
-  envelope_of_few h = cond-false (nat_lt max_pieces (count_of claim step)) _ _ (few _ h)
+  envelope_of_few h = cond-false (nat_lt max_pieces (count_of claim step)) _ _ (is_few _ h)
 
   -- a piece that the code makes
   pub piece_hull_is : (k : ℕ) (stretch : Stretch) (entries : List (ℕ × ℕ)) (hull : Hull)

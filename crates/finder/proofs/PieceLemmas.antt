@@ -1,8 +1,9 @@
 -- The pieces of a span.
-use Rattle.std.proofs.Common.{◌≡◌, ℕ, zero, suc, ◌+◌, ◌-◌, ◌*◌, ◌/◌, ◌%◌, ◌<◌, ◌≤◌, min, max, ◌^◌, ℤ, pos, ◌+ℤ◌, ◌-ℤ◌, ◌≤ℤ◌, ◌<ℤ◌, unsigned_abs, List, [], ◌∷◌, ◌++◌, sym, ap, ◌∙◌, ⊎_elim, arith, to_z, of_z, Fits, w64}
+use Rattle.std.proofs.Common.{◌≡◌, ℕ, zero, suc, ◌+◌, ◌-◌, ◌*◌, ◌/◌, ◌%◌, ◌<◌, ◌≤◌, min, max, ◌^◌, ℤ, pos, ◌+ℤ◌, ◌-ℤ◌, ◌≤ℤ◌, ◌<ℤ◌, nat_lt, true, false, unsigned_abs, List, [], ◌∷◌, ◌++◌, sym, ap, ◌∙◌, ⊎_elim, arith, to_z, of_z, Fits, w64}
 use mir.Syntax.{w128}
 use Rattle.std.proofs.Math.Nat.{mul-le-mul_right}
 use Rattle.std.proofs.lemmas.Bool.{cases_lt}
+use Rattle.std.proofs.lemmas.Bool.Decides.{nat_tests}
 use Rattle.std.proofs.lemmas.Grind.{div_ceil_times}
 use Rattle.std.proofs.lemmas.Int.{ints, clamps}
 use Rattle.std.proofs.lemmas.List.FromFn.{map-range_with_len_more}
@@ -10,6 +11,7 @@ use Rattle.std.proofs.lemmas.Nat.{div-mul-add}
 use Rattle.std.specs.Int.{div_ceil}
 use Rattle.std.specs.Int.Signed.{non_neg, yes_non_neg}
 use Rattle.std.proofs.Math.Dec.{T}
+use Rattle.certificate.specs.Certificate.{max_pieces}
 use Rattle.claim_file.specs.Claim.{ClaimData, IsLawful}
 use Rattle.era_unfold.specs.Ratio.{IsCeiling, ceiling_of}
 use Rattle.era_unfold.specs.Window.{ticks_per_second}
@@ -115,6 +117,13 @@ count_from first last step from length q count some a b e f =
     rw (← a, ← b) (e ∙ div_ceil-ceiling_of length (from * ticks_per_second) (omega arith)) in
     let turned : max q 1 ≡ max 1 q = omega arith in
     f ∙ turned ∙ ap (λ (n : ℕ). max 1 n) whole
+
+-- more than a certificate may have, or no more
+pub is_many : (n : ℕ) → max_pieces < n → nat_lt max_pieces n ≡ true
+is_many n h = grind (arith, nat_tests)
+
+pub is_few : (n : ℕ) → n ≤ max_pieces → nat_lt max_pieces n ≡ false
+is_few n h = grind (arith, nat_tests)
 
 -- ---- a list of the ends
 

@@ -128,14 +128,12 @@ pub fn find_carries_the_least_bound()
 pub fn finer_pieces_need_no_wider_bound()
     ensures holds { (samples : List Sample) (claim : ClaimData) (step times n j m k : ℕ)
         (coarse fine : EnvelopeData) → IsLawful claim → AreSamplesOf claim samples →
-        0 < step → 0 < times →
-        envelope_of samples claim (step * times) ≡ Ok coarse →
+        0 < step → 0 < times → envelope_of samples claim (step * times) ≡ Ok coarse →
         coarse.least ≡ LeastBound.Holds n j → envelope_of samples claim step ≡ Ok fine →
         fine.least ≡ LeastBound.Holds m k → m ≤ n }
     ensures contradiction { (samples : List Sample) (claim : ClaimData) (step times n j k : ℕ)
         (coarse fine : EnvelopeData) → IsLawful claim → AreSamplesOf claim samples →
-        0 < step → 0 < times →
-        envelope_of samples claim (step * times) ≡ Ok coarse →
+        0 < step → 0 < times → envelope_of samples claim (step * times) ≡ Ok coarse →
         coarse.least ≡ LeastBound.Holds n j → envelope_of samples claim step ≡ Ok fine →
         fine.least ≡ LeastBound.NoneHolds k → hull_at samples claim step k ≡ Hull.Empty }
 {
