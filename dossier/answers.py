@@ -1,7 +1,7 @@
 """What the program prints, taken apart word by word. A number stays the number that was printed."""
 from __future__ import annotations
 
-from dataclasses import dataclass
+from typing import NamedTuple
 
 Hull = tuple[int, int] | str
 """Two ends in ticks, or one of the words `unbounded` and `empty`."""
@@ -17,8 +17,7 @@ def read_counts(line: str) -> dict[str, int]:
     return {name: int(number) for name, number in zip(words[::2], words[1::2])}
 
 
-@dataclass(frozen=True)
-class Nothing:
+class Nothing(NamedTuple):
     """What `find` says if it finds nothing: the first piece that fails, and its hull."""
 
     piece: int
@@ -30,30 +29,24 @@ def read_nothing(text: bytes) -> Nothing:
     return Nothing(int(words[2]), read_hull(words[4:]))
 
 
-@dataclass(frozen=True)
-class Report:
-    """The report of `check`: its advice, how many pieces, and the verdict; at a no the piece and the reason."""
+class Report(NamedTuple):
+    """The report of `check`: its advice, and at a no the piece and the reason."""
 
     sources: int | None
     reference: str | None
-    pieces: int
-    is_yes: bool
     piece: int | None = None
     why: str | None = None
 
 
 def read_report(text: bytes) -> Report:
     lines = [line.split() for line in text.decode("ascii").splitlines()]
-    named = {" ".join(words[:-1]): words[-1] for words in lines}
-    verdict = lines[-1]
-    is_yes = verdict == ["verdict", "yes"]
-    sources = named.get("advice sources")
-    return Report(int(sources) if sources else None, named.get("advice reference"), int(named["pieces"]), is_yes,
-                  None if is_yes else int(verdict[3]), None if is_yes else verdict[4])
+    advice = {words[1]: words[2] for words in lines if words[0] == "advice"}
+    sources, reference = advice.get("sources"), advice.get("reference")
+    fails = lines[-1][3:]
+    return Report(int(sources) if sources else None, reference, *([int(fails[0]), fails[1]] if fails else []))
 
 
-@dataclass(frozen=True)
-class Envelope:
+class Envelope(NamedTuple):
     """The envelope, in columns: begins and ends in Unix seconds, hulls, and of each server by its address the low ends
     and the high ends of its intervals, in ticks."""
 

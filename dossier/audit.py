@@ -5,8 +5,7 @@ import json
 import os
 import time
 from collections.abc import Iterator
-from dataclasses import dataclass
-from typing import Any
+from typing import Any, NamedTuple
 
 from . import folder as files
 from .entry import REFUSED, Entry, Record, read_record, record_text
@@ -17,8 +16,7 @@ from .settling import CLAIM, Part, Settling
 from .units import DAY, civil, day_of, seconds_of
 
 
-@dataclass(frozen=True)
-class Options:
+class Options(NamedTuple):
     step: int | None = None
     days: bool = False
     again: bool = False
@@ -38,19 +36,20 @@ def audit_folder(folder: str, options: Options, program: Program) -> tuple[Recor
     record = Record(program={"version": program.version, "sha256": program.sha256}, options=options.kept, inputs={},
                     capture="", entries=[], made=now(), seconds=0)
     try:
-        record.inputs = sums(folder, files.inputs(folder))
+        record = record._replace(inputs=sums(folder, files.inputs(folder)))
         if old and not options.again and is_unchanged(folder, old, record):
             return old, True
         files.sweep_parts(folder)
-        record.capture = take_capture(folder, record)
-        record.entries = audit_parts(folder, record.capture, options, program)
+        record = record._replace(capture=take_capture(folder, record))
+        record = record._replace(entries=audit_parts(folder, record.capture, options, program))
     except Fault as fault:
         if not os.path.isdir(folder):
             raise
-        record.entries = [Entry(part=".", verdict=REFUSED, fault={"line": fault.line, "status": fault.status})]
+        refused = Entry(part=".", verdict=REFUSED, fault={"line": fault.line, "status": fault.status})
+        record = record._replace(entries=[refused])
     if old:
         remove_files(folder, old.outputs.keys() - record.outputs.keys() - set(record.inputs))
-    record.seconds = round(time.monotonic() - begun, 3)
+    record = record._replace(seconds=round(time.monotonic() - begun, 3))
     write_beside(folder, files.AUDIT, record_text(record))
     return record, False
 
@@ -79,7 +78,8 @@ def take_capture(folder: str, record: Record) -> str:
     names = [name for name in record.inputs if name != files.CLAIM]
     if len(names) == 1:
         return names[0]
-    files.join(folder, names)
+    from .joining import join
+    join(folder, names)
     return files.JOINED
 
 

@@ -11,6 +11,7 @@ from typing import Any
 
 from . import folder as files
 from .answers import read_envelope
+from .joining import join
 from .program import Fault, Operand, Program, Word
 from .recording import SECOND, Recording, read_recording
 from .settling import envelope_step_of
@@ -134,11 +135,11 @@ class Draft:
             own = Operand(str(Path(place) / files.CLAIM))
             Path(own.name).write_bytes(files.compact(claim))
             recording = read_recording(self.program, self.folder, own, self.capture)
-            if recording.first_request is None or recording.last_reply is None:
+            if recording.first_request is None:
                 self.remark(f"None of {client}'s servers gave a sample: {counted(recording.counts)}.")
                 return None
             self.name_servers(claim, recording, {server: seen.references[client, server] for server in servers})
-            first, last = span_of(recording.first_request, recording.last_reply, wanted.whole_days)
+            first, last = span_of(recording.first_request, recording.times[-1], wanted.whole_days)
             claim |= {"from": civil(first), "to": civil(last)}
             Path(own.name).write_bytes(files.compact(claim))
             self.take_bound(claim, own, last - first)
@@ -233,7 +234,7 @@ def draft(program: Program, captures: list[str], wanted: Wanted) -> tuple[dict[s
                 (Path(place) / f"{number:06}.pcap").symlink_to(Path(capture).resolve(strict=True))
             except OSError:
                 raise Fault("ntpaudit: device capture", files.DEVICE) from None
-        files.join(place, [f"{number:06}.pcap" for number in range(len(captures))])
+        join(place, [f"{number:06}.pcap" for number in range(len(captures))])
         drafting = Draft(program, place, Operand(files.JOINED))
         claim = drafting.claim(wanted)
         drafting.remarks.insert(0, f"{len(captures)} captures were joined in order of time.")

@@ -13,10 +13,11 @@ from collections.abc import Callable, Collection
 from .answers import Envelope, read_envelope
 from .cells import Cell, cells_of
 from .judgement import is_beyond
+from .markup import html, minus
 from .program import Operand, Program
 from .scale import ms_marks, time_marks
 from .style import PICTURE
-from .text import count, html, minus
+from .text import count
 from .units import bound_ticks, ns_ms, range_ms, shown_time
 
 WIDTH, HEIGHT, TOP, STRIP, FOOT = 10_000, 300, 10, 12, 40

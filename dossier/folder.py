@@ -4,7 +4,6 @@ from __future__ import annotations
 import json
 import os
 import re
-import subprocess
 
 from .program import Fault
 
@@ -24,8 +23,7 @@ CAPTURE = re.compile(r".*\.(pcap|pcapng|cap)[0-9]*", re.DOTALL)
 PART = re.compile(r"\..*\.(\d+)\.part", re.DOTALL)
 """Names of files that are being written, with the number of the process that writes."""
 
-MICROSECONDS = {bytes.fromhex("d4c3b2a1"), bytes.fromhex("a1b2c3d4")}
-NANOSECONDS = {bytes.fromhex("4d3cb2a1"), bytes.fromhex("a1b23c4d")}
+COMPACT = json.JSONEncoder(separators=(",", ":"))
 DEVICE = 4
 
 
@@ -63,15 +61,22 @@ def write_beside(folder: str, name: str, data: bytes) -> None:
     part = part_of(folder, name)
     try:
         try:
-            with open(part, "wb", buffering=0) as opened:
-                while data:
-                    data = data[opened.write(data) :]
+            write(part, data)
             os.replace(part, f"{folder}/{name}")
         except BaseException:
             remove(part)
             raise
     except OSError as error:
         raise Fault(f"ntpaudit-dossier: {name} can't be written ({error.strerror})", DEVICE) from None
+
+
+def write(path: str, data: bytes) -> None:
+    file = os.open(path, os.O_WRONLY | os.O_CREAT | os.O_TRUNC, 0o666)
+    try:
+        while data:
+            data = data[os.write(file, data) :]
+    finally:
+        os.close(file)
 
 
 def remove(path: str) -> None:
@@ -90,37 +95,6 @@ def sweep_parts(folder: str) -> None:
             remove(f"{folder}/{name}")
 
 
-def is_nano(path: str) -> bool | None:
-    """Whether a capture's times are in nanoseconds; None if it is no classic capture."""
-    with open(path, "rb") as opened:
-        magic = opened.read(4)
-    return True if magic in NANOSECONDS else False if magic in MICROSECONDS else None
-
-
-def join(folder: str, names: list[str]) -> None:
-    """Joins captures in order of time. Nanoseconds stay nanoseconds if all have them; else they are cut to
-    microseconds, which only widens the windows of the records."""
-    units = [is_nano(f"{folder}/{name}") for name in names]
-    for name, unit in zip(names, units):
-        if unit is None:
-            raise Fault(f"ntpaudit-dossier: {name} is no classic capture, so it can't be joined with the others", 2)
-    form = "nsecpcap" if all(units) else "pcap"
-    part = part_of(folder, JOINED)
-    try:
-        ran = subprocess.run(["mergecap", "-F", form, "-w", os.path.basename(part), *(f"./{name}" for name in names)],
-                             cwd=folder, stdin=subprocess.DEVNULL, capture_output=True)
-        if ran.returncode:
-            said = ran.stderr.decode("utf-8", "replace").splitlines() or [f"status {ran.returncode}"]
-            raise Fault(f"ntpaudit-dossier: the captures can't be joined ({said[0]})", 2)
-        os.replace(part, f"{folder}/{JOINED}")
-    except FileNotFoundError:
-        raise Fault("ntpaudit-dossier: several captures, and mergecap isn't installed to join them", 70) from None
-    except OSError as error:
-        raise Fault(f"ntpaudit-dossier: {JOINED} can't be written ({error.strerror})", DEVICE) from None
-    finally:
-        remove(part)
-
-
 def read(path: str) -> bytes:
     with open(path, "rb", buffering=0) as opened:
         return opened.readall()
@@ -135,4 +109,4 @@ def read_json(path: str) -> object:
 
 
 def compact(value: object) -> bytes:
-    return json.dumps(value, separators=(",", ":")).encode() + b"\n"
+    return COMPACT.encode(value).encode() + b"\n"

@@ -10,10 +10,11 @@ from dataclasses import dataclass
 from .article import article
 from .entry import MANGLED, NEITHER, NO, REFUSED, YES, Record
 from .folder import write_beside
+from .markup import html, minus, with_code
 from .program import now
 from .style import PAGE
 from .table import Row, as_csv, as_json, not_audited, records_of, row_of, rows_of
-from .text import count, html, minus, with_code
+from .text import count
 from .units import ns_ms, ns_up_ms
 
 SYMBOLS = {YES: "\u2713", NO: "\u2717", NEITHER: "?", REFUSED: "!"}

@@ -2,8 +2,7 @@
 from __future__ import annotations
 
 import os
-from dataclasses import dataclass, replace
-from typing import Any
+from typing import Any, NamedTuple
 
 from . import folder as files
 from .answers import read_nothing
@@ -28,8 +27,7 @@ REFUTATION = Operand(files.REFUTATION)
 CLAIM_OF_0 = Operand(files.CLAIM_OF_0)
 
 
-@dataclass(frozen=True)
-class Part:
+class Part(NamedTuple):
     """A claim to be settled, and the folder in which its files are: `.`, or one of a day."""
 
     name: str
@@ -65,9 +63,7 @@ class Settling:
         except OSError as error:
             raise Fault(f"ntpaudit-dossier: the folder can't be written ({error.strerror})", files.DEVICE) from None
         texts = self.seek(self.measure(self.decide(step), step))
-        entry = judge(self.part.name, self.part.claim, recording, texts)
-        entry.outputs = self.left
-        return entry
+        return judge(self.part.name, self.part.claim, recording, texts)._replace(outputs=self.left)
 
     def call(self, *words: str | Operand) -> Ran:
         return self.program.run(list(words), self.place)
@@ -110,7 +106,7 @@ class Settling:
         step = step or envelope_step_of(self.part.claim, texts.step)
         text = self.call("envelope", CLAIM, self.capture, "--servers", "--step", str(step)).text
         self.leave(files.ENVELOPE, text)
-        return replace(texts, envelope_step=step, envelope=text)
+        return texts._replace(envelope_step=step, envelope=text)
 
     def seek(self, texts: Texts) -> Texts:
         """Looks for a refutation: at a no of the claim, and at a yes of the same claim with the bound 0, which shows
@@ -124,7 +120,7 @@ class Settling:
             return texts
         self.leave(files.REFUTATION, found.text)
         refute = self.call("refute", claim, self.capture, REFUTATION).text
-        return replace(texts, refutation=found.text, refute=refute)
+        return texts._replace(refutation=found.text, refute=refute)
 
 
 def envelope_step_of(claim: dict[str, Any], step: int) -> int:

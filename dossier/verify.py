@@ -2,7 +2,6 @@
 from __future__ import annotations
 
 import json
-from dataclasses import replace
 from typing import Any
 
 from . import folder as files
@@ -110,7 +109,7 @@ class Again:
             return texts
         claim = CLAIM_OF_0 if texts.is_yes else CLAIM
         refute = self.program.run(["refute", claim, self.capture, REFUTATION], self.place).text
-        return replace(texts, refutation=self.kept(files.REFUTATION), refute=refute)
+        return texts._replace(refutation=self.kept(files.REFUTATION), refute=refute)
 
     def findings(self, claim: dict[str, Any], recording: Recording) -> list[str]:
         """What differs: an answer from its file, or audit.json from what the answers come to."""
