@@ -63,16 +63,19 @@ class Envelope(NamedTuple):
 
 
 def read_envelope(text: bytes) -> Envelope:
-    """Takes the text of `envelope --servers` apart. Each piece has as many lines as the first: one for each server with
-    a sample, and then the hull's, which alone has no address in it."""
-    *lines, closing = text.decode("ascii").splitlines()
-    width = next(k for k, line in enumerate(lines) if "." not in line)
-    hulls = [line.split() for line in lines[width :: width + 1]]
-    servers = {}
-    for place in range(width):
-        words = " ".join(lines[place :: width + 1]).split(" ")
-        servers[words[1]] = list(map(int, words[2::4])), list(map(int, words[3::4]))
+    """Takes the text of `envelope --servers` apart. Each piece has a line of four words for each server with a sample,
+    and then the hull's of five: number, from, to, and two ends. A hull that is one word gets it twice, so that all
+    pieces have as many words."""
+    lines, closing = text.decode("ascii").rstrip("\n").rsplit("\n", 1)
+    words = lines.replace("unbounded", "unbounded unbounded").replace("empty", "empty empty").split()
+    width = next(k for k in range(0, len(words), 4) if "." not in words[k + 1])
+    piece = width + 5
+
+    def column(place: int) -> list[int]:
+        return list(map(int, words[place::piece]))
+    ends = zip(words[width + 3 :: piece], words[width + 4 :: piece])
+    hulls = [low if low in ("unbounded", "empty") else (int(low), int(high)) for low, high in ends]
+    servers = {words[k + 1]: (column(k + 2), column(k + 3)) for k in range(0, width, 4)}
     _, least, _, worst = closing.split()
-    begins, ends = [int(words[1]) for words in hulls], [int(words[2]) for words in hulls]
-    least_ns = None if least == "none" else int(least)
-    return Envelope(begins, ends, [read_hull(words[3:]) for words in hulls], servers, least_ns, int(worst))
+    return Envelope(column(width + 1), column(width + 2), hulls, servers, None if least == "none" else int(least),
+                    int(worst))

@@ -32,24 +32,24 @@ def audit_folder(folder: str, options: Options, program: Program) -> tuple[Recor
 
     A refusal is an audit too, and is written down. A fault is raised only if that isn't possible.
     """
-    begun, old = time.monotonic(), read_record(folder)
-    record = Record(program={"version": program.version, "sha256": program.sha256}, options=options.kept, inputs={},
-                    capture="", entries=[], made=now(), seconds=0)
+    begun, made, old = time.monotonic(), now(), read_record(folder)
+    by, kept = {"version": program.version, "sha256": program.sha256}, options.kept
+    inputs: dict[str, str] = {}
+    capture = ""
     try:
-        record = record._replace(inputs=sums(folder, files.inputs(folder)))
-        if old and not options.again and is_unchanged(folder, old, record):
+        inputs = sums(folder, files.inputs(folder))
+        if old and not options.again and (old.inputs, old.options, old.program) == (inputs, kept, by) and is_whole(folder, old):
             return old, True
         files.sweep_parts(folder)
-        record = record._replace(capture=take_capture(folder, record))
-        record = record._replace(entries=audit_parts(folder, record.capture, options, program))
+        capture = take_capture(folder, inputs)
+        entries = audit_parts(folder, capture, options, program)
     except Fault as fault:
         if not os.path.isdir(folder):
             raise
-        refused = Entry(part=".", verdict=REFUSED, fault={"line": fault.line, "status": fault.status})
-        record = record._replace(entries=[refused])
+        entries = [Entry(part=".", verdict=REFUSED, fault={"line": fault.line, "status": fault.status})]
+    record = Record(by, kept, inputs, capture, entries, made, round(time.monotonic() - begun, 3))
     if old:
-        remove_files(folder, old.outputs.keys() - record.outputs.keys() - set(record.inputs))
-    record = record._replace(seconds=round(time.monotonic() - begun, 3))
+        remove_files(folder, old.outputs.keys() - record.outputs.keys() - inputs.keys())
     write_beside(folder, files.AUDIT, record_text(record))
     return record, False
 
@@ -61,12 +61,9 @@ def sums(folder: str, names: list[str]) -> dict[str, str]:
         raise Fault(f"ntpaudit-dossier: an input can't be read ({error.strerror})", files.DEVICE) from None
 
 
-def is_unchanged(folder: str, old: Record, new: Record) -> bool:
-    """Whether a record stands for what an audit would give: the same inputs, program and options, and all its files
-    there as they were left. What was refused is tried again."""
-    if (old.inputs, old.options, old.program) != (new.inputs, new.options, new.program) or not old.entries:
-        return False
-    if any(entry.verdict == REFUSED for entry in old.entries):
+def is_whole(folder: str, old: Record) -> bool:
+    """Whether a record has verdicts, and all its files are there as they were left. What was refused is tried again."""
+    if not old.entries or any(entry.verdict == REFUSED for entry in old.entries):
         return False
     try:
         return all(sum_of_file(f"{folder}/{name}") == sum_ for name, sum_ in old.outputs.items())
@@ -74,8 +71,9 @@ def is_unchanged(folder: str, old: Record, new: Record) -> bool:
         return False
 
 
-def take_capture(folder: str, record: Record) -> str:
-    names = [name for name in record.inputs if name != files.CLAIM]
+def take_capture(folder: str, inputs: dict[str, str]) -> str:
+    """The name of the one capture, or of what several are joined to."""
+    names = [name for name in inputs if name != files.CLAIM]
     if len(names) == 1:
         return names[0]
     from .joining import join
@@ -86,13 +84,9 @@ def take_capture(folder: str, record: Record) -> str:
 def audit_parts(folder: str, capture: str, options: Options, program: Program) -> list[Entry]:
     recording = read_recording(program, folder, CLAIM, Operand(capture))
     claim = json.loads(read(f"{folder}/{files.CLAIM}"))
-    entries = []
-    for part in parts_of(claim, options.days):
-        entry = Settling(folder, part, capture, program).settle(recording, options.step)
-        if capture == files.JOINED:
-            entry.outputs[files.JOINED] = sum_of_file(f"{folder}/{files.JOINED}")
-        entries.append(entry)
-    return entries
+    joined = {files.JOINED: sum_of_file(f"{folder}/{files.JOINED}")} if capture == files.JOINED else {}
+    return [Settling(folder, part, capture, program, joined).settle(recording, options.step)
+            for part in parts_of(claim, options.days)]
 
 
 def parts_of(claim: dict[str, Any], days: bool) -> Iterator[Part]:

@@ -25,14 +25,14 @@ HOME = os.open(".", os.O_PATH | os.O_DIRECTORY)
 
 
 class Caller:
-    """Calls programs. What they print goes into files in memory that the next call writes over, so each process has a
-    caller of its own."""
+    """Calls programs, each in a folder and with a file on its standard input. What they print goes into files in memory
+    that the next call writes over, so each process has a caller of its own."""
 
     def __init__(self) -> None:
         self.output, self.error = os.memfd_create("output"), os.memfd_create("error")
         self.is_limited = resource.getrlimit(resource.RLIMIT_FSIZE)[0] != resource.RLIM_INFINITY
 
-    def run(self, words: list[str], folder: str, given: str = "/dev/null") -> tuple[int, bytes, bytes]:
+    def run(self, words: list[str], folder: str, given: str) -> tuple[int, bytes, bytes]:
         """The status, that of a signal below zero, and what was printed on standard output and standard error."""
         if self.is_limited:  # (`ulimit -f` holds for files in memory too, and not for pipes)
             blocks: list[bytes] = []

@@ -12,7 +12,7 @@ from typing import Any
 from . import folder as files
 from .answers import read_envelope
 from .joining import join
-from .program import Fault, Operand, Program, Word
+from .program import Fault, Operand, Program
 from .recording import SECOND, Recording, read_recording
 from .settling import envelope_step_of
 from .text import count, plain
@@ -190,7 +190,7 @@ class Draft:
     def take_bound(self, claim: dict[str, Any], own: Operand, span: int) -> None:
         """The least bound that the envelope carries, rounded up to two digits."""
         step = envelope_step_of(claim, COARSEST)
-        words: list[Word] = ["envelope", own, self.capture, "--servers", "--step", str(step)]
+        words = ["envelope", own, self.capture, "--servers", "--step", str(step)]
         envelope = read_envelope(self.program.run(words, self.folder).text)
         claim["bound_ns"] = NO_BOUND
         if envelope.least_ns is None:

@@ -81,10 +81,10 @@ class Record(NamedTuple):
 
 
 def record_text(record: Record) -> bytes:
-    """A record as JSON, a line for each field and for each entry."""
-    lines = [f' "{name}": {json.dumps(value)}' for name, value in record._asdict().items() if name != "entries"]
-    entries = ",\n".join(f"  {json.dumps(entry._asdict())}" for entry in record.entries)
-    return ("{\n" + ",\n".join([*lines, f' "entries": [\n{entries}\n ]']) + "\n}\n").encode()
+    """A record as JSON, a line for the folder and one for each entry."""
+    of_folder = json.dumps({name: value for name, value in record._asdict().items() if name != "entries"})
+    entries = ",\n".join(json.dumps(entry._asdict()) for entry in record.entries)
+    return f'{of_folder[:-1]}, "entries": [\n{entries}\n]}}\n'.encode()
 
 
 def read_record(folder: str) -> Record | None:

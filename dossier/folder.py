@@ -27,28 +27,24 @@ COMPACT = json.JSONEncoder(separators=(",", ":"))
 DEVICE = 4
 
 
-def captures(folder: str) -> list[str]:
-    """The names of the captures in a folder, in the order of their names."""
-    return sorted(entry.name for entry in os.scandir(folder) if is_capture(entry.name) and entry.is_file())
-
-
 def is_capture(name: str) -> bool:
     return bool(CAPTURE.fullmatch(name)) and name != JOINED and not name.startswith(".")
 
 
 def inputs(folder: str) -> list[str]:
-    """The claim and the captures of a folder; a fault if there are none."""
+    """The claim and the captures of a folder, in the order of their names; a fault if there are none."""
     try:
-        found = captures(folder)
+        names = {entry.name for entry in os.scandir(folder) if entry.is_file()}
     except (FileNotFoundError, NotADirectoryError):
         raise Fault("ntpaudit-dossier: no such folder", DEVICE) from None
     except OSError as error:
         raise Fault(f"ntpaudit-dossier: the folder can't be read ({error.strerror})", DEVICE) from None
-    if not os.path.isfile(f"{folder}/{CLAIM}"):
+    if CLAIM not in names:
         raise Fault(f"ntpaudit-dossier: no {CLAIM} in the folder", DEVICE)
-    if not found:
+    captures = sorted(filter(is_capture, names))
+    if not captures:
         raise Fault("ntpaudit-dossier: no capture in the folder", DEVICE)
-    return [CLAIM, *found]
+    return [CLAIM, *captures]
 
 
 def part_of(folder: str, name: str) -> str:

@@ -6,7 +6,7 @@ from __future__ import annotations
 
 import json
 from collections.abc import Iterator
-from operator import sub
+from operator import gt, sub
 from typing import Any, NamedTuple
 
 from .answers import Envelope, Hull, Report, read_envelope, read_nothing, read_report
@@ -116,7 +116,7 @@ def servers_of(claim: dict[str, Any], recording: Recording, envelope: Envelope) 
         server = {"address": address, "group": group[number], "samples": recording.by_server.get(address, 0)}
         if address in envelope.servers:
             lows, highs = envelope.servers[address]
-            server |= {"low": min(lows), "high": max(highs), "crossed": sum(map(int.__gt__, lows, highs)),
+            server |= {"low": min(lows), "high": max(highs), "crossed": sum(map(gt, lows, highs)),
                        "apart": is_apart(lows, highs, envelope.hulls)}
         found.append(server)
     return found
@@ -124,9 +124,13 @@ def servers_of(claim: dict[str, Any], recording: Recording, envelope: Envelope) 
 
 def is_apart(lows: list[int], highs: list[int], hulls: list[Hull]) -> bool:
     """Whether there are hulls, and these intervals meet none of them."""
-    bounded = ((low, high, hull) for low, high, hull in zip(lows, highs, hulls) if not isinstance(hull, str))
-    meets = (low <= hull[1] and hull[0] <= high for low, high, hull in bounded)
-    return not next(meets, True) and not any(meets)
+    has_hull = False
+    for low, high, hull in zip(lows, highs, hulls):
+        if not isinstance(hull, str):
+            if low <= hull[1] and hull[0] <= high:
+                return False
+            has_hull = True
+    return has_hull
 
 
 def refutation_of(texts: Texts) -> dict[str, Any]:

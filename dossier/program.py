@@ -4,7 +4,7 @@ from __future__ import annotations
 import hashlib
 import os
 import time
-from collections.abc import Callable
+from collections.abc import Callable, Sequence
 from typing import NamedTuple
 
 from .call import Caller
@@ -30,17 +30,19 @@ class Ran(NamedTuple):
     text: bytes
 
 
-class Operand:
-    """A file to be named on a command line, by its name seen from the folder in which the program runs. The program
-    takes UTF-8 only: a file of another name is given on standard input."""
-
-    def __init__(self, name: str):
-        self.name = name
-        self.is_sayable = is_utf8(name)
-        self.word = "/dev/stdin" if not self.is_sayable else f"./{name}" if name.startswith("-") else name
+STDIN, NOTHING = "/dev/stdin", "/dev/null"
 
 
-Word = str | Operand
+class Operand(str):
+    """The word that names a file on a command line, by its name seen from the folder in which the program runs. The
+    program takes UTF-8 only: a file of another name is given on standard input."""
+
+    name: str
+
+    def __new__(cls, name: str) -> Operand:
+        word = super().__new__(cls, STDIN if not is_utf8(name) else f"./{name}" if name.startswith("-") else name)
+        word.name = name
+        return word
 
 
 def is_utf8(name: str) -> bool:
@@ -57,17 +59,15 @@ class Program(NamedTuple):
     sha256: str
     caller: Caller
 
-    def run(self, words: list[Word], folder: str) -> Ran:
+    def run(self, words: Sequence[str], folder: str) -> Ran:
         """Calls the program in a folder. At most one operand may have a name that isn't UTF-8."""
-        said, given = self.spoken(words)
-        status, text, error = self.caller.run(said, folder, given)
+        status, text, error = self.caller.run([self.path, *words], folder, given_to(words))
         if status not in (0, 1):
             raise fault_of(status, error)
         return Ran(status, text)
 
-    def blocks(self, words: list[Word], folder: str, take: Callable[[bytes], object]) -> None:
+    def blocks(self, words: Sequence[str], folder: str, take: Callable[[bytes], object]) -> None:
         """Hands on the lines of a text that may be long, many at a time, as they come."""
-        said, given = self.spoken(words)
         rest = b""
 
         def take_block(block: bytes) -> None:
@@ -77,20 +77,16 @@ class Program(NamedTuple):
             rest = block[end:]
             if end:
                 take(block[:end] if rest else block)
-        status, error = self.caller.stream(said, folder, given, take_block)
+        status, error = self.caller.stream([self.path, *words], folder, given_to(words), take_block)
         if status not in (0, 1):
             raise fault_of(status, error)
 
-    def spoken(self, words: list[Word]) -> tuple[list[str], str]:
-        """A call's words as they are said, and the file on its standard input."""
-        said, given = [self.path], "/dev/null"
-        for word in words:
-            if isinstance(word, Operand):
-                if not word.is_sayable:
-                    given = word.name
-                word = word.word
-            said.append(word)
-        return said, given
+
+def given_to(words: Sequence[str]) -> str:
+    """The file on a call's standard input: the operand whose name can't be said, if there is one."""
+    if STDIN not in words:
+        return NOTHING
+    return next((word.name for word in words if isinstance(word, Operand) and word == STDIN), NOTHING)
 
 
 def fault_of(status: int, error: bytes) -> Fault:
@@ -107,7 +103,7 @@ def find_program() -> Program:
     if not path or not os.access(path, os.X_OK):
         raise Fault("ntpaudit: the program is not there", 70)
     caller = Caller()
-    status, version, _ = caller.run([path, "--version"], ".")
+    status, version, _ = caller.run([path, "--version"], ".", NOTHING)
     lines = version.decode("utf-8", "replace").splitlines()
     return Program(path, lines[0] if lines and not status else "", sum_of_file(path), caller)
 

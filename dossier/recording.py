@@ -13,7 +13,7 @@ from collections.abc import Callable, Sequence
 from itertools import compress
 
 from .answers import read_counts
-from .program import Operand, Program, Word
+from .program import Operand, Program
 
 SECOND = 10**9
 """Nanoseconds in a second: times of records are held in nanoseconds."""
@@ -56,7 +56,7 @@ def read_recording(program: Program, folder: str, claim: Operand, capture: Opera
     """Runs `samples` and `list`."""
     found = Recording()
 
-    def read(words: list[Word], take: Callable[[bytes], None]) -> None:
+    def read(words: list[str], take: Callable[[bytes], None]) -> None:
         if is_small(f"{folder}/{capture.name}"):
             take(program.run(words, folder).text)
         else:

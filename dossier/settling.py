@@ -46,13 +46,13 @@ class Part(NamedTuple):
 
 
 class Settling:
-    """A claim that is being settled: what was called, and what was left."""
+    """A claim that is being settled. `left` are the sums of the files that were left so far."""
 
-    def __init__(self, folder: str, part: Part, capture: str, program: Program):
+    def __init__(self, folder: str, part: Part, capture: str, program: Program, left: dict[str, str]):
         self.part, self.program = part, program
         self.place = part.place(folder)
         self.capture = part.capture(capture)
-        self.left: dict[str, str] = {}
+        self.left = dict(left)
 
     def settle(self, recording: Recording, step: int | None) -> Entry:
         """Makes all calls and leaves all files, with pieces of this length or of the one that is found."""
@@ -65,8 +65,8 @@ class Settling:
         texts = self.seek(self.measure(self.decide(step), step))
         return judge(self.part.name, self.part.claim, recording, texts)._replace(outputs=self.left)
 
-    def call(self, *words: str | Operand) -> Ran:
-        return self.program.run(list(words), self.place)
+    def call(self, *words: str) -> Ran:
+        return self.program.run(words, self.place)
 
     def leave(self, name: str, data: bytes) -> None:
         write_beside(self.place, name, data)
@@ -126,5 +126,4 @@ class Settling:
 def envelope_step_of(claim: dict[str, Any], step: int) -> int:
     """The finest step that divides the certificate's and gives no more than so many pieces; else the certificate's."""
     span = seconds_of(claim["to"]) - seconds_of(claim["from"])
-    finer = (fine for fine in reversed(STEPS) if fine <= step and step % fine == 0)
-    return next((fine for fine in finer if span <= fine * MANY_PIECES), step)
+    return next((fine for fine in reversed(STEPS) if step % fine == 0 and span <= fine * MANY_PIECES), step)

@@ -89,9 +89,9 @@ class Again:
     def kept(self, name: str) -> bytes:
         return files.read(f"{self.place}/{name}")
 
-    def call(self, name: str, *words: str | Operand) -> bytes:
+    def call(self, name: str, *words: str) -> bytes:
         """A call, whose answer is held to the file that is kept of it."""
-        text, kept = self.program.run(list(words), self.place).text, self.kept(name)
+        text, kept = self.program.run(words, self.place).text, self.kept(name)
         if text != kept:
             self.found.append(f"{self.entry.part}/{name}: {first_difference(kept, text)}".removeprefix("./"))
         return text
