@@ -1,8 +1,7 @@
-"""Calls of a program, one at a time.
+"""Calls of a program, one at a time, in the current folder.
 
 A thousand small audits are seven thousand calls, so this goes to posix_spawn directly: subprocess takes nearly as long
-over a call as the program itself. The working folder is that of this whole process for as long as the process is made:
-no other thread may hang on it.
+over a call as the program itself.
 """
 from __future__ import annotations
 
@@ -20,35 +19,31 @@ DEFAULTS = [signal.SIGPIPE, signal.SIGXFSZ]
 ENVIRONMENT = {name: value for name, value in os.environb.items() if name == b"PATH" or name.startswith(b"LD_")}
 """What the program's loader reads, and what a script around it may need. The program reads none of it."""
 
-HOME = os.open(".", os.O_PATH | os.O_DIRECTORY)
-"""The folder in which this was called."""
-
 
 class Caller:
-    """Calls programs, each in a folder and with a file on its standard input. What they print goes into files in memory
-    that the next call writes over, so each process has a caller of its own."""
+    """Calls programs, each with a file on its standard input. What they print goes into files in memory that the next
+    call writes over, so each process has a caller of its own."""
 
     def __init__(self) -> None:
         self.output, self.error = os.memfd_create("output"), os.memfd_create("error")
         self.is_limited = resource.getrlimit(resource.RLIMIT_FSIZE)[0] != resource.RLIM_INFINITY
 
-    def run(self, words: list[str], folder: str, given: str) -> tuple[int, bytes, bytes]:
+    def run(self, words: list[str], given: str) -> tuple[int, bytes, bytes]:
         """The status, that of a signal below zero, and what was printed on standard output and standard error."""
         if self.is_limited:  # (`ulimit -f` holds for files in memory too, and not for pipes)
             blocks: list[bytes] = []
-            status, error = self.stream(words, folder, given, blocks.append)
+            status, error = self.stream(words, given, blocks.append)
             return status, b"".join(blocks), error
         os.lseek(self.output, 0, os.SEEK_SET)
-        status = ended(self.start(words, folder, given, self.output))
+        status = ended(self.start(words, given, self.output))
         return status, written(self.output), written(self.error)
 
-    def stream(
-            self, words: list[str], folder: str, given: str, take: Callable[[bytes], object]) -> tuple[int, bytes]:
+    def stream(self, words: list[str], given: str, take: Callable[[bytes], object]) -> tuple[int, bytes]:
         """Hands on what the program prints, as it comes. The status and what was printed on standard error."""
         output, its_output = os.pipe()
         try:
             try:
-                process = self.start(words, folder, given, its_output)
+                process = self.start(words, given, its_output)
             finally:
                 os.close(its_output)
             try:
@@ -61,15 +56,11 @@ class Caller:
             os.close(output)
         return ended(process), written(self.error)
 
-    def start(self, words: list[str], folder: str, given: str, output: int) -> int:
+    def start(self, words: list[str], given: str, output: int) -> int:
         os.lseek(self.error, 0, os.SEEK_SET)
         actions = [(os.POSIX_SPAWN_OPEN, 0, given, os.O_RDONLY, 0), (os.POSIX_SPAWN_DUP2, output, 1),
                    (os.POSIX_SPAWN_DUP2, self.error, 2)]
-        try:
-            os.chdir(folder)
-            return os.posix_spawn(words[0], words, ENVIRONMENT, file_actions=actions, setsigdef=DEFAULTS)
-        finally:
-            os.fchdir(HOME)
+        return os.posix_spawn(words[0], words, ENVIRONMENT, file_actions=actions, setsigdef=DEFAULTS)
 
 
 def ended(process: int) -> int:

@@ -237,7 +237,7 @@ def standing_alone(envelope: Envelope, bound_ns: int, label: str, wide: int = 90
 
 def print_picture(program: Program, claim: str, capture: str, step: int) -> int:
     """Prints the picture of a claim and a capture, from what `envelope` says about them."""
-    text = program.run(["envelope", Operand(claim), Operand(capture), "--servers", "--step", str(step)], ".").text
+    text = program.run("envelope", Operand(claim), Operand(capture), "--servers", "--step", str(step)).text
     with open(claim, "rb") as opened:
         given = json.load(opened)
     label = f"The error of the clock of {given['client']}"

@@ -1,11 +1,16 @@
-"""A folder that is audited: which files in it are inputs, and how outputs get there, whole or not at all."""
+"""A folder that is audited: which files in it are inputs, and how outputs get there, whole or not at all.
+
+While a folder is audited or verified it is the current one: names are looked for in it, and the program runs there.
+"""
 from __future__ import annotations
 
 import json
 import os
 import re
+from collections.abc import Iterator
+from contextlib import contextmanager
 
-from .program import Fault
+from .program import BLOCK, Fault
 
 CLAIM = "claim.json"
 EVIDENCE = "evidence.json"
@@ -26,19 +31,35 @@ PART = re.compile(r"\..*\.(\d+)\.part", re.DOTALL)
 COMPACT = json.JSONEncoder(separators=(",", ":"))
 DEVICE = 4
 
+HOME = os.open(".", os.O_PATH | os.O_DIRECTORY)
+"""The folder in which this was called."""
 
-def is_capture(name: str) -> bool:
-    return bool(CAPTURE.fullmatch(name)) and name != JOINED and not name.startswith(".")
 
-
-def inputs(folder: str) -> list[str]:
-    """The claim and the captures of a folder, in the order of their names; a fault if there are none."""
+@contextmanager
+def inside(folder: str) -> Iterator[None]:
+    """Makes a folder the current one for a while."""
     try:
-        names = {entry.name for entry in os.scandir(folder) if entry.is_file()}
+        os.chdir(folder)
     except (FileNotFoundError, NotADirectoryError):
         raise Fault("ntpaudit-dossier: no such folder", DEVICE) from None
     except OSError as error:
-        raise Fault(f"ntpaudit-dossier: the folder can't be read ({error.strerror})", DEVICE) from None
+        raise unreadable(error) from None
+    try:
+        yield
+    finally:
+        os.fchdir(HOME)
+
+
+def unreadable(error: OSError) -> Fault:
+    return Fault(f"ntpaudit-dossier: the folder can't be read ({error.strerror})", DEVICE)
+
+
+def inputs() -> list[str]:
+    """The claim and the captures, in the order of their names; a fault if there are none."""
+    try:
+        names = {entry.name for entry in os.scandir() if entry.is_file()}
+    except OSError as error:
+        raise unreadable(error) from None
     if CLAIM not in names:
         raise Fault(f"ntpaudit-dossier: no {CLAIM} in the folder", DEVICE)
     captures = sorted(filter(is_capture, names))
@@ -47,22 +68,28 @@ def inputs(folder: str) -> list[str]:
     return [CLAIM, *captures]
 
 
-def part_of(folder: str, name: str) -> str:
+def is_capture(name: str) -> bool:
+    return bool(CAPTURE.fullmatch(name)) and name != JOINED and not name.startswith(".")
+
+
+def part_of(path: str) -> str:
     """Where a file is written before it is put into its place."""
-    return f"{folder}/.{name}.{os.getpid()}.part"
+    place, slash, name = path.rpartition("/")
+    return f"{place}{slash}.{name}.{os.getpid()}.part"
 
 
-def write_beside(folder: str, name: str, data: bytes) -> None:
-    """Writes a file of a folder whole or not at all: beside its place, and then into it."""
-    part = part_of(folder, name)
+def write_beside(path: str, data: bytes) -> None:
+    """Writes a file whole or not at all: beside its place, and then into it."""
+    part = part_of(path)
     try:
         try:
             write(part, data)
-            os.replace(part, f"{folder}/{name}")
+            os.replace(part, path)
         except BaseException:
             remove(part)
             raise
     except OSError as error:
+        name = os.path.basename(path)
         raise Fault(f"ntpaudit-dossier: {name} can't be written ({error.strerror})", DEVICE) from None
 
 
@@ -83,17 +110,20 @@ def remove(path: str) -> None:
         pass
 
 
-def sweep_parts(folder: str) -> None:
+def sweep_parts() -> None:
     """Takes away what a killed run may have left half written."""
-    for name in os.listdir(folder):
+    for name in os.listdir():
         part = PART.fullmatch(name)
         if part and not os.path.exists(f"/proc/{part[1]}"):
-            remove(f"{folder}/{name}")
+            remove(name)
 
 
 def read(path: str) -> bytes:
-    with open(path, "rb", buffering=0) as opened:
-        return opened.readall()
+    file = os.open(path, os.O_RDONLY)
+    try:
+        return b"".join(iter(lambda: os.read(file, BLOCK), b""))
+    finally:
+        os.close(file)
 
 
 def read_json(path: str) -> object:

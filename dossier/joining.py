@@ -1,4 +1,4 @@
-"""Several captures of a folder, joined into one by mergecap."""
+"""Several captures of the current folder, joined into one by mergecap."""
 from __future__ import annotations
 
 import os
@@ -18,22 +18,22 @@ def is_nano(path: str) -> bool | None:
     return True if magic in NANOSECONDS else False if magic in MICROSECONDS else None
 
 
-def join(folder: str, names: list[str]) -> None:
+def join(names: list[str]) -> None:
     """Joins captures in order of time. Nanoseconds stay nanoseconds if all have them; else they are cut to
     microseconds, which only widens the windows of the records."""
-    units = [is_nano(f"{folder}/{name}") for name in names]
+    units = [is_nano(name) for name in names]
     for name, unit in zip(names, units):
         if unit is None:
             raise Fault(f"ntpaudit-dossier: {name} is no classic capture, so it can't be joined with the others", 2)
     form = "nsecpcap" if all(units) else "pcap"
-    part = part_of(folder, JOINED)
+    part = part_of(JOINED)
     try:
-        ran = subprocess.run(["mergecap", "-F", form, "-w", os.path.basename(part), *(f"./{name}" for name in names)],
-                             cwd=folder, stdin=subprocess.DEVNULL, capture_output=True)
+        ran = subprocess.run(["mergecap", "-F", form, "-w", part, *(f"./{name}" for name in names)],
+                             stdin=subprocess.DEVNULL, capture_output=True)
         if ran.returncode:
             said = ran.stderr.decode("utf-8", "replace").splitlines() or [f"status {ran.returncode}"]
             raise Fault(f"ntpaudit-dossier: the captures can't be joined ({said[0]})", 2)
-        os.replace(part, f"{folder}/{JOINED}")
+        os.replace(part, JOINED)
     except FileNotFoundError:
         raise Fault("ntpaudit-dossier: several captures, and mergecap isn't installed to join them", 70) from None
     except OSError as error:

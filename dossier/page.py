@@ -2,7 +2,6 @@
 from __future__ import annotations
 
 import argparse
-import os
 import sys
 from collections import Counter
 from dataclasses import dataclass
@@ -39,7 +38,7 @@ def write_page(folders: list[str], given: argparse.Namespace) -> int:
         text = page(records, given.title)
     data = text.encode("utf-8", "backslashreplace")
     if given.output:
-        write_beside(*os.path.split(os.path.abspath(given.output)), data)
+        write_beside(given.output, data)
     else:
         sys.stdout.buffer.write(data)
     return 0

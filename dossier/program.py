@@ -4,7 +4,7 @@ from __future__ import annotations
 import hashlib
 import os
 import time
-from collections.abc import Callable, Sequence
+from collections.abc import Callable
 from typing import NamedTuple
 
 from .call import Caller
@@ -34,8 +34,8 @@ STDIN, NOTHING = "/dev/stdin", "/dev/null"
 
 
 class Operand(str):
-    """The word that names a file on a command line, by its name seen from the folder in which the program runs. The
-    program takes UTF-8 only: a file of another name is given on standard input."""
+    """The word that names a file on a command line. The program takes UTF-8 only: a file of another name is given on
+    standard input."""
 
     name: str
 
@@ -59,15 +59,19 @@ class Program(NamedTuple):
     sha256: str
     caller: Caller
 
-    def run(self, words: Sequence[str], folder: str) -> Ran:
-        """Calls the program in a folder. At most one operand may have a name that isn't UTF-8."""
-        status, text, error = self.caller.run([self.path, *words], folder, given_to(words))
+    def run(self, *words: str) -> Ran:
+        """Calls the program. At most one operand may have a name that isn't UTF-8."""
+        status, text, error = self.caller.run([self.path, *words], given_to(words))
         if status not in (0, 1):
             raise fault_of(status, error)
         return Ran(status, text)
 
-    def blocks(self, words: Sequence[str], folder: str, take: Callable[[bytes], object]) -> None:
-        """Hands on the lines of a text that may be long, many at a time, as they come."""
+    def block(self, take: Callable[[bytes], object], *words: str) -> None:
+        """Calls the program, and hands on its text in one piece."""
+        take(self.run(*words).text)
+
+    def blocks(self, take: Callable[[bytes], object], *words: str) -> None:
+        """Calls the program, and hands on the lines of its text as they come, many at a time."""
         rest = b""
 
         def take_block(block: bytes) -> None:
@@ -77,12 +81,12 @@ class Program(NamedTuple):
             rest = block[end:]
             if end:
                 take(block[:end] if rest else block)
-        status, error = self.caller.stream([self.path, *words], folder, given_to(words), take_block)
+        status, error = self.caller.stream([self.path, *words], given_to(words), take_block)
         if status not in (0, 1):
             raise fault_of(status, error)
 
 
-def given_to(words: Sequence[str]) -> str:
+def given_to(words: tuple[str, ...]) -> str:
     """The file on a call's standard input: the operand whose name can't be said, if there is one."""
     if STDIN not in words:
         return NOTHING
@@ -103,7 +107,7 @@ def find_program() -> Program:
     if not path or not os.access(path, os.X_OK):
         raise Fault("ntpaudit: the program is not there", 70)
     caller = Caller()
-    status, version, _ = caller.run([path, "--version"], ".", NOTHING)
+    status, version, _ = caller.run([path, "--version"], NOTHING)
     lines = version.decode("utf-8", "replace").splitlines()
     return Program(path, lines[0] if lines and not status else "", sum_of_file(path), caller)
 
@@ -121,7 +125,8 @@ def path_of_program() -> str | None:
     if os.path.exists(beside):
         return beside
     import shutil
-    return shutil.which("ntpaudit")
+    found = shutil.which("ntpaudit")
+    return found and os.path.abspath(found)
 
 
 def path_of_launcher() -> str:

@@ -9,7 +9,6 @@ import re
 from array import array
 from bisect import bisect_left
 from collections import Counter
-from collections.abc import Callable, Sequence
 from itertools import compress
 
 from .answers import read_counts
@@ -21,10 +20,10 @@ SECOND = 10**9
 AT_ONCE = 1 << 22
 """Bytes of a capture whose texts are taken in one piece. Those of a greater one are taken as they come."""
 
-SAMPLE = re.compile(rb"(?m)^\d+ ([^ ]+) (\d+) (\d+) .*")
+SAMPLE = re.compile(rb"(?m)^[^ ]+ ([^ ]+ [^ ]+ [^ ]+) .*")
 """A line of `samples`: its number, the server, the records of request and reply, and then its figures."""
 
-PACKET = re.compile(rb"(?m)^(\d+) ([^ ]+) .*")
+PACKET = re.compile(rb"(?m)^([^ ]+ [^ ]+) .*")
 """A line of `list`: the record's number, its time, and then the packet."""
 
 
@@ -52,21 +51,15 @@ class Recording:
         return max(0, min([max(first - time, time - last) for time in self.times[max(0, at - 1) : at + 1]]))
 
 
-def read_recording(program: Program, folder: str, claim: Operand, capture: Operand) -> Recording:
+def read_recording(program: Program, claim: str, capture: Operand) -> Recording:
     """Runs `samples` and `list`."""
-    found = Recording()
-
-    def read(words: list[str], take: Callable[[bytes], None]) -> None:
-        if is_small(f"{folder}/{capture.name}"):
-            take(program.run(words, folder).text)
-        else:
-            program.blocks(words, folder, take)
-    samples = Samples()
-    read(["samples", claim, capture], samples.take)
+    found, samples = Recording(), Samples()
+    call = program.block if is_small(capture.name) else program.blocks
+    call(samples.take, "samples", claim, capture)
     found.counts = read_counts(samples.closing.decode("ascii"))
     found.by_server = {server.decode("ascii"): number for server, number in samples.by_server.items()}
     times = Times(found, samples)
-    read(["list", capture], times.take)
+    call(times.take, "list", capture)
     if found.falls:
         found.times = array("q", sorted(found.times))
     return found
@@ -79,6 +72,12 @@ def is_small(path: str) -> bool:
         return True  # (the program says what it is)
 
 
+def closing_of(block: bytes) -> int:
+    """Where the closing line begins, which has counts; the block's end if it isn't there yet."""
+    last = block.rfind(b"\n", 0, -1) + 1
+    return last if block.startswith(b"records ", last) else len(block)
+
+
 class Samples:
     """What `samples` says: the counts, how many samples each server has, the first request, and all replies."""
 
@@ -89,12 +88,13 @@ class Samples:
         self.closing = b""
 
     def take(self, block: bytes) -> None:
-        self.closing = block[block.rfind(b"\n", 0, -1) + 1 :]
-        if samples := SAMPLE.findall(block):
-            servers, requests, replies = zip(*samples)
-            self.by_server.update(servers)
-            self.replies.update(replies)
-            first = min(map(int, requests))
+        end = closing_of(block)
+        self.closing = block[end:]
+        words = b" ".join(SAMPLE.findall(block, 0, end)).split()
+        if words:
+            self.by_server.update(words[::3])
+            self.replies.update(words[2::3])
+            first = min(map(int, words[1::3]))
             self.request = first if self.request is None else min(self.request, first)
 
 
@@ -107,32 +107,35 @@ class Times:
         self.before: int | None = None
 
     def take(self, block: bytes) -> None:
-        packets = PACKET.findall(block)
-        if not packets:
+        words = b" ".join(PACKET.findall(block, 0, closing_of(block))).split()
+        if not words:
             return
-        numbers, times = zip(*packets)
-        self.take_all(packets if do_fall(times) else [packets[0], packets[-1]])
+        numbers, times = words[::2], words[1::2]
+        if do_fall(times):
+            self.take_all(numbers, times)
+        else:
+            self.take_all([numbers[0], numbers[-1]], [times[0], times[-1]])
         self.found.times.extend(nanoseconds(list(compress(times, map(self.replies.__contains__, numbers)))))
         if self.request in numbers:
             self.found.first_request, = nanoseconds([times[numbers.index(self.request)]])
 
-    def take_all(self, packets: list[tuple[bytes, bytes]]) -> None:
+    def take_all(self, numbers: list[bytes], texts: list[bytes]) -> None:
         """Looks for the earliest and the latest packet, and for times that fall. Packets between which times rise may
         be left out."""
-        times = nanoseconds([time for _, time in packets])
+        times = nanoseconds(texts)
         found, low, high = self.found, min(times), max(times)
         found.first = low if found.first is None else min(found.first, low)
         found.last = high if found.last is None else max(found.last, high)
-        for (number, _), time in zip(packets, times):
+        for number, time in zip(numbers, times):
             if self.before is not None and time < self.before:
                 found.falls += 1
                 found.fall = found.fall or (int(number), self.before, time)
             self.before = time
 
 
-def do_fall(times: Sequence[bytes]) -> bool:
+def do_fall(times: list[bytes]) -> bool:
     """Whether a time may be before the one that precedes it: of texts of one length the lesser is the earlier."""
-    return len(set(map(len, times))) > 1 or list(times) != sorted(times)
+    return len(set(map(len, times))) > 1 or times != sorted(times)
 
 
 def nanoseconds(times: list[bytes]) -> list[int]:

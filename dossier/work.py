@@ -17,6 +17,7 @@ from typing import NamedTuple, NoReturn
 from .audit import Options, audit_folder
 from .call import Caller
 from .entry import NEITHER, NO, REFUSED, YES
+from .folder import inside
 from .line import line_of, refusal_of
 from .program import Fault, Program
 
@@ -55,7 +56,8 @@ class Task(NamedTuple):
     def audit(self, number: int) -> Done:
         folder = self.folders[number]
         try:
-            record, is_old = audit_folder(folder, self.options, self.program)
+            with inside(folder):
+                record, is_old = audit_folder(self.options, self.program)
         except Fault as fault:
             return refused(folder, fault.line, fault.status)
         lines = [line_of(folder, entry) + (" (unchanged)" if is_old else "") for entry in record.entries]
