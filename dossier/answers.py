@@ -1,7 +1,7 @@
 """What the program prints, taken apart word by word. A number stays the number that was printed."""
 from __future__ import annotations
 
-from dataclasses import dataclass
+from typing import NamedTuple
 
 Hull = tuple[int, int] | str
 """Two ends in ticks, or one of the words `unbounded` and `empty`."""
@@ -17,8 +17,7 @@ def read_counts(line: str) -> dict[str, int]:
     return {name: int(number) for name, number in zip(words[::2], words[1::2])}
 
 
-@dataclass(frozen=True)
-class Nothing:
+class Nothing(NamedTuple):
     """What `find` says if it finds nothing: the first piece that fails, and its hull."""
 
     piece: int
@@ -30,30 +29,24 @@ def read_nothing(text: bytes) -> Nothing:
     return Nothing(int(words[2]), read_hull(words[4:]))
 
 
-@dataclass(frozen=True)
-class Report:
-    """The report of `check`: its advice, how many pieces, and the verdict; at a no the piece and the reason."""
+class Report(NamedTuple):
+    """The report of `check`: its advice, and at a no the piece and the reason."""
 
     sources: int | None
     reference: str | None
-    pieces: int
-    is_yes: bool
     piece: int | None = None
     why: str | None = None
 
 
 def read_report(text: bytes) -> Report:
     lines = [line.split() for line in text.decode("ascii").splitlines()]
-    named = {" ".join(words[:-1]): words[-1] for words in lines}
-    verdict = lines[-1]
-    is_yes = verdict == ["verdict", "yes"]
-    sources = named.get("advice sources")
-    return Report(int(sources) if sources else None, named.get("advice reference"), int(named["pieces"]), is_yes,
-                  None if is_yes else int(verdict[3]), None if is_yes else verdict[4])
+    advice = {words[1]: words[2] for words in lines if words[0] == "advice"}
+    sources, reference = advice.get("sources"), advice.get("reference")
+    fails = lines[-1][3:]
+    return Report(int(sources) if sources else None, reference, *([int(fails[0]), fails[1]] if fails else []))
 
 
-@dataclass(frozen=True)
-class Envelope:
+class Envelope(NamedTuple):
     """The envelope, in columns: begins and ends in Unix seconds, hulls, and of each server by its address the low ends
     and the high ends of its intervals, in ticks."""
 
@@ -70,16 +63,19 @@ class Envelope:
 
 
 def read_envelope(text: bytes) -> Envelope:
-    """Takes the text of `envelope --servers` apart. Each piece has as many lines as the first: one for each server with
-    a sample, and then the hull's, which alone has no address in it."""
-    *lines, closing = text.decode("ascii").splitlines()
-    width = next(k for k, line in enumerate(lines) if "." not in line)
-    hulls = [line.split() for line in lines[width :: width + 1]]
-    servers = {}
-    for place in range(width):
-        words = " ".join(lines[place :: width + 1]).split(" ")
-        servers[words[1]] = list(map(int, words[2::4])), list(map(int, words[3::4]))
+    """Takes the text of `envelope --servers` apart. Each piece has a line of four words for each server with a sample,
+    and then the hull's of five: number, from, to, and two ends. A hull that is one word gets it twice, so that all
+    pieces have as many words."""
+    lines, closing = text.decode("ascii").rstrip("\n").rsplit("\n", 1)
+    words = lines.replace("unbounded", "unbounded unbounded").replace("empty", "empty empty").split()
+    width = next(k for k in range(0, len(words), 4) if "." not in words[k + 1])
+    piece = width + 5
+
+    def column(place: int) -> list[int]:
+        return list(map(int, words[place::piece]))
+    ends = zip(words[width + 3 :: piece], words[width + 4 :: piece])
+    hulls = [low if low in ("unbounded", "empty") else (int(low), int(high)) for low, high in ends]
+    servers = {words[k + 1]: (column(k + 2), column(k + 3)) for k in range(0, width, 4)}
     _, least, _, worst = closing.split()
-    begins, ends = [int(words[1]) for words in hulls], [int(words[2]) for words in hulls]
-    least_ns = None if least == "none" else int(least)
-    return Envelope(begins, ends, [read_hull(words[3:]) for words in hulls], servers, least_ns, int(worst))
+    return Envelope(column(width + 1), column(width + 2), hulls, servers, None if least == "none" else int(least),
+                    int(worst))

@@ -10,9 +10,10 @@ from .answers import Envelope, read_envelope
 from .entry import REFUSED, Entry, Record
 from .figure import MARKS, legend, picture, stroke
 from .folder import ENVELOPE
+from .markup import html, minus, with_code
 from .premises import evidence, premises
 from .program import sum_of
-from .text import count, html, minus, with_code
+from .text import count
 from .units import range_ms
 from .words import capital, fit, sentence, span, to_do
 

@@ -5,20 +5,18 @@ import json
 import os
 import time
 from collections.abc import Iterator
-from dataclasses import dataclass
-from typing import Any
+from typing import Any, NamedTuple
 
 from . import folder as files
 from .entry import REFUSED, Entry, Record, read_record, record_text
 from .folder import read, remove, write_beside
 from .program import Fault, Operand, Program, now, sum_of_file
 from .recording import read_recording
-from .settling import CLAIM, Part, Settling
+from .settling import Part, Settling
 from .units import DAY, civil, day_of, seconds_of
 
 
-@dataclass(frozen=True)
-class Options:
+class Options(NamedTuple):
     step: int | None = None
     days: bool = False
     again: bool = False
@@ -29,70 +27,67 @@ class Options:
         return {"step": self.step, "days": self.days}
 
 
-def audit_folder(folder: str, options: Options, program: Program) -> tuple[Record, bool]:
-    """Audits a folder and leaves its files, audit.json last. True if it was done and nothing has changed since.
+def audit_folder(options: Options, program: Program) -> tuple[Record, bool]:
+    """Audits the current folder and leaves its files, audit.json last. True if it was done and nothing has changed
+    since.
 
     A refusal is an audit too, and is written down. A fault is raised only if that isn't possible.
     """
-    begun, old = time.monotonic(), read_record(folder)
-    record = Record(program={"version": program.version, "sha256": program.sha256}, options=options.kept, inputs={},
-                    capture="", entries=[], made=now(), seconds=0)
+    begun, made, old = time.monotonic(), now(), read_record(".")
+    by, kept = {"version": program.version, "sha256": program.sha256}, options.kept
+    inputs: dict[str, str] = {}
+    capture = ""
     try:
-        record.inputs = sums(folder, files.inputs(folder))
-        if old and not options.again and is_unchanged(folder, old, record):
+        inputs = sums(files.inputs())
+        is_same = old and (old.inputs, old.options, old.program) == (inputs, kept, by)
+        if old and is_same and not options.again and is_whole(old):
             return old, True
-        files.sweep_parts(folder)
-        record.capture = take_capture(folder, record)
-        record.entries = audit_parts(folder, record.capture, options, program)
+        files.sweep_parts()
+        capture = take_capture(inputs)
+        entries = audit_parts(capture, options, program)
     except Fault as fault:
-        if not os.path.isdir(folder):
-            raise
-        record.entries = [Entry(part=".", verdict=REFUSED, fault={"line": fault.line, "status": fault.status})]
+        entries = [Entry(part=".", verdict=REFUSED, fault={"line": fault.line, "status": fault.status})]
+    record = Record(by, kept, inputs, capture, entries, made, round(time.monotonic() - begun, 3))
     if old:
-        remove_files(folder, old.outputs.keys() - record.outputs.keys() - set(record.inputs))
-    record.seconds = round(time.monotonic() - begun, 3)
-    write_beside(folder, files.AUDIT, record_text(record))
+        remove_files(old.outputs.keys() - record.outputs.keys() - inputs.keys())
+    write_beside(files.AUDIT, record_text(record))
     return record, False
 
 
-def sums(folder: str, names: list[str]) -> dict[str, str]:
+def sums(names: list[str]) -> dict[str, str]:
     try:
-        return {name: sum_of_file(f"{folder}/{name}") for name in names}
+        return {name: sum_of_file(name) for name in names}
     except OSError as error:
         raise Fault(f"ntpaudit-dossier: an input can't be read ({error.strerror})", files.DEVICE) from None
 
 
-def is_unchanged(folder: str, old: Record, new: Record) -> bool:
-    """Whether a record stands for what an audit would give: the same inputs, program and options, and all its files
-    there as they were left. What was refused is tried again."""
-    if (old.inputs, old.options, old.program) != (new.inputs, new.options, new.program) or not old.entries:
-        return False
-    if any(entry.verdict == REFUSED for entry in old.entries):
+def is_whole(old: Record) -> bool:
+    """Whether a record has verdicts, and all its files are there as they were left. What was refused is tried again."""
+    if not old.entries or any(entry.verdict == REFUSED for entry in old.entries):
         return False
     try:
-        return all(sum_of_file(f"{folder}/{name}") == sum_ for name, sum_ in old.outputs.items())
+        return all(sum_of_file(name) == sum_ for name, sum_ in old.outputs.items())
     except OSError:
         return False
 
 
-def take_capture(folder: str, record: Record) -> str:
-    names = [name for name in record.inputs if name != files.CLAIM]
+def take_capture(inputs: dict[str, str]) -> str:
+    """The name of the one capture, or of what several are joined to."""
+    names = [name for name in inputs if name != files.CLAIM]
     if len(names) == 1:
         return names[0]
-    files.join(folder, names)
+    from .joining import join
+    join(names)
     return files.JOINED
 
 
-def audit_parts(folder: str, capture: str, options: Options, program: Program) -> list[Entry]:
-    recording = read_recording(program, folder, CLAIM, Operand(capture))
-    claim = json.loads(read(f"{folder}/{files.CLAIM}"))
-    entries = []
-    for part in parts_of(claim, options.days):
-        entry = Settling(folder, part, capture, program).settle(recording, options.step)
-        if capture == files.JOINED:
-            entry.outputs[files.JOINED] = sum_of_file(f"{folder}/{files.JOINED}")
-        entries.append(entry)
-    return entries
+def audit_parts(capture: str, options: Options, program: Program) -> list[Entry]:
+    operand = Operand(capture)
+    recording = read_recording(program, files.CLAIM, operand)
+    claim = json.loads(read(files.CLAIM))
+    joined = {capture: sum_of_file(capture)} if capture == files.JOINED else {}
+    return [Settling(part, operand, program, joined).settle(recording, options.step)
+            for part in parts_of(claim, options.days)]
 
 
 def parts_of(claim: dict[str, Any], days: bool) -> Iterator[Part]:
@@ -111,12 +106,12 @@ def parts_of(claim: dict[str, Any], days: bool) -> Iterator[Part]:
             return
 
 
-def remove_files(folder: str, names: set[str]) -> None:
+def remove_files(names: set[str]) -> None:
     """Takes away what an earlier audit left and this one didn't, and folders of days that are empty by that."""
     for name in names:
-        remove(f"{folder}/{name}")
+        remove(name)
     for day in {os.path.dirname(name) for name in names} - {""}:
         try:
-            os.rmdir(f"{folder}/{day}")
+            os.rmdir(day)
         except OSError:
             pass

@@ -5,7 +5,6 @@ import argparse
 import os
 import sys
 from collections.abc import Callable
-from pathlib import Path
 from typing import NoReturn
 
 from .program import Fault, Program, find_program
@@ -128,7 +127,7 @@ def tidy(folder: str) -> str:
 def run_draft(given: argparse.Namespace, program: Program) -> int:
     from .draft import Wanted, claim_text, draft
     wanted = Wanted(given.client, given.day, given.drift_ppb, given.reading_ns)
-    claim, remarks = draft(program, [str(Path(capture)) for capture in given.captures], wanted)
+    claim, remarks = draft(program, given.captures, wanted)
     for remark in remarks:
         say(remark)
     if claim is None:

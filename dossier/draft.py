@@ -11,7 +11,8 @@ from typing import Any
 
 from . import folder as files
 from .answers import read_envelope
-from .program import Fault, Operand, Program, Word
+from .joining import join
+from .program import Fault, Operand, Program
 from .recording import SECOND, Recording, read_recording
 from .settling import envelope_step_of
 from .text import count, plain
@@ -49,7 +50,7 @@ class Traffic:
     references: dict[tuple[str, str], set[tuple[int, str]]] = field(default_factory=lambda: defaultdict(set))
 
 
-def read_traffic(program: Program, folder: str, capture: Operand) -> Traffic:
+def read_traffic(program: Program, capture: Operand) -> Traffic:
     seen = Traffic()
 
     def take(block: bytes) -> None:
@@ -64,7 +65,7 @@ def read_traffic(program: Program, folder: str, capture: Operand) -> Traffic:
             elif words[5] == "m4" and source_port == "123":
                 seen.answered[destination][source] += 1
                 seen.references[destination, source].add((int(words[7][1:]), words[11]))
-    program.blocks(["list", capture], folder, take)
+    program.blocks(take, "list", capture)
     return seen
 
 
@@ -112,8 +113,8 @@ def span_of(first_request: int, last_reply: int, whole_days: bool) -> tuple[int,
 class Draft:
     """Drafts a claim for one capture, and says on the way what a person has to look at."""
 
-    def __init__(self, program: Program, folder: str, capture: Operand):
-        self.program, self.folder, self.capture = program, folder, capture
+    def __init__(self, program: Program, capture: Operand):
+        self.program, self.capture = program, capture
         self.remarks: list[str] = []
 
     def remark(self, *words: str) -> None:
@@ -121,7 +122,7 @@ class Draft:
 
     def claim(self, wanted: Wanted) -> dict[str, Any] | None:
         """The claim, or None if the capture has no client with a server that answered it."""
-        seen = read_traffic(self.program, self.folder, self.capture)
+        seen = read_traffic(self.program, self.capture)
         client = self.choose(seen, wanted.client)
         if client is None:
             return None
@@ -133,12 +134,12 @@ class Draft:
         with tempfile.TemporaryDirectory(prefix="ntpaudit-") as place:
             own = Operand(str(Path(place) / files.CLAIM))
             Path(own.name).write_bytes(files.compact(claim))
-            recording = read_recording(self.program, self.folder, own, self.capture)
-            if recording.first_request is None or recording.last_reply is None:
+            recording = read_recording(self.program, own, self.capture)
+            if recording.first_request is None:
                 self.remark(f"None of {client}'s servers gave a sample: {counted(recording.counts)}.")
                 return None
             self.name_servers(claim, recording, {server: seen.references[client, server] for server in servers})
-            first, last = span_of(recording.first_request, recording.last_reply, wanted.whole_days)
+            first, last = span_of(recording.first_request, recording.times[-1], wanted.whole_days)
             claim |= {"from": civil(first), "to": civil(last)}
             Path(own.name).write_bytes(files.compact(claim))
             self.take_bound(claim, own, last - first)
@@ -189,8 +190,7 @@ class Draft:
     def take_bound(self, claim: dict[str, Any], own: Operand, span: int) -> None:
         """The least bound that the envelope carries, rounded up to two digits."""
         step = envelope_step_of(claim, COARSEST)
-        words: list[Word] = ["envelope", own, self.capture, "--servers", "--step", str(step)]
-        envelope = read_envelope(self.program.run(words, self.folder).text)
+        envelope = read_envelope(self.program.run("envelope", own, self.capture, "--servers", "--step", str(step)).text)
         claim["bound_ns"] = NO_BOUND
         if envelope.least_ns is None:
             begin, word = envelope.begins[envelope.worst], envelope.hulls[envelope.worst]
@@ -225,7 +225,7 @@ def counted(counts: dict[str, int]) -> str:
 def draft(program: Program, captures: list[str], wanted: Wanted) -> tuple[dict[str, Any] | None, list[str]]:
     """A claim for captures, which are joined if there are several; and remarks for a person."""
     if len(captures) == 1:
-        drafting = Draft(program, ".", Operand(captures[0]))
+        drafting = Draft(program, Operand(captures[0]))
         return drafting.claim(wanted), drafting.remarks
     with tempfile.TemporaryDirectory(prefix="ntpaudit-") as place:
         for number, capture in enumerate(captures):
@@ -233,8 +233,9 @@ def draft(program: Program, captures: list[str], wanted: Wanted) -> tuple[dict[s
                 (Path(place) / f"{number:06}.pcap").symlink_to(Path(capture).resolve(strict=True))
             except OSError:
                 raise Fault("ntpaudit: device capture", files.DEVICE) from None
-        files.join(place, [f"{number:06}.pcap" for number in range(len(captures))])
-        drafting = Draft(program, place, Operand(files.JOINED))
+        with files.inside(place):
+            join([f"{number:06}.pcap" for number in range(len(captures))])
+        drafting = Draft(program, Operand(f"{place}/{files.JOINED}"))
         claim = drafting.claim(wanted)
         drafting.remarks.insert(0, f"{len(captures)} captures were joined in order of time.")
         return claim, drafting.remarks

@@ -3,8 +3,8 @@ from __future__ import annotations
 
 import json
 import re
-from dataclasses import dataclass, field, fields
-from typing import Any
+from collections.abc import Sequence
+from typing import Any, NamedTuple
 
 from . import VERSION
 from .folder import AUDIT, CERTIFICATE, CLAIM, CLAIM_OF_0, ENVELOPE, JOINED, REFUTATION, REPORT, read_json
@@ -20,16 +20,15 @@ MANGLED = (KeyError, TypeError, ValueError, AttributeError, IndexError, StopIter
 """What an audit.json brings about that no audit wrote."""
 
 
-@dataclass
-class Entry:
+class Entry(NamedTuple):
     """One audit: of a whole claim, or of one day of it."""
 
     part: str
     """The folder of its files, seen from the record's: `.`, or a day such as `2026-11-22`."""
     verdict: str
-    fault: dict[str, Any] = field(default_factory=dict)
+    fault: dict[str, Any] = {}
     """Of a refusal, its line and its status. What follows is there if there is none."""
-    claim: dict[str, Any] = field(default_factory=dict)
+    claim: dict[str, Any] = {}
     decided_by: str = ""
     """The command whose text is report.txt: `check`, or `find` if it found nothing."""
     step: int = 0
@@ -40,17 +39,17 @@ class Entry:
     """How many pieces the envelope has."""
     least_ns: int | None = None
     """The least bound that the envelope carries; None if a piece is unbounded or empty."""
-    worst: dict[str, Any] = field(default_factory=dict)
+    worst: dict[str, Any] = {}
     """The piece that needs the least bound, or the first that is unbounded or empty."""
-    reason: dict[str, Any] = field(default_factory=dict)
+    reason: dict[str, Any] = {}
     """Of a no: the piece that fails, and how."""
-    failing: dict[str, int] = field(default_factory=dict)
+    failing: dict[str, int] = {}
     """How many pieces of the envelope are unbounded, are empty, or lie beyond the bound."""
-    counts: dict[str, int] = field(default_factory=dict)
-    servers: list[dict[str, Any]] = field(default_factory=list)
-    refutation: dict[str, Any] = field(default_factory=dict)
-    warnings: list[dict[str, Any]] = field(default_factory=list)
-    outputs: dict[str, str] = field(default_factory=dict)
+    counts: dict[str, int] = {}
+    servers: Sequence[dict[str, Any]] = ()
+    refutation: dict[str, Any] = {}
+    warnings: Sequence[dict[str, Any]] = ()
+    outputs: dict[str, str] = {}
     """The SHA-256 of each file that the audit left, by its name seen from the record's folder."""
 
     @property
@@ -58,8 +57,7 @@ class Entry:
         return int(self.fault["status"]) if self.fault else STATUS[self.verdict]
 
 
-@dataclass
-class Record:
+class Record(NamedTuple):
     """What audit.json says about a folder."""
 
     program: dict[str, str]
@@ -83,10 +81,10 @@ class Record:
 
 
 def record_text(record: Record) -> bytes:
-    """A record as JSON, a line for each field and for each entry."""
-    lines = [f' "{name}": {json.dumps(value)}' for name, value in vars(record).items() if name != "entries"]
-    entries = ",\n".join(f"  {json.dumps(vars(entry))}" for entry in record.entries)
-    return ("{\n" + ",\n".join([*lines, f' "entries": [\n{entries}\n ]']) + "\n}\n").encode()
+    """A record as JSON, a line for the folder and one for each entry."""
+    of_folder = json.dumps({name: value for name, value in record._asdict().items() if name != "entries"})
+    entries = ",\n".join(json.dumps(entry._asdict()) for entry in record.entries)
+    return f'{of_folder[:-1]}, "entries": [\n{entries}\n]}}\n'.encode()
 
 
 def read_record(folder: str) -> Record | None:
@@ -112,4 +110,4 @@ def is_own(entry: Entry) -> bool:
 
 def differing(one: Entry, other: Entry) -> list[str]:
     """The names of what two entries say differently, the sums of outputs left out."""
-    return [f.name for f in fields(Entry) if f.name != "outputs" and getattr(one, f.name) != getattr(other, f.name)]
+    return [name for name, seen, wanted in zip(Entry._fields, one, other) if name != "outputs" and seen != wanted]

@@ -13,10 +13,11 @@ from collections.abc import Callable, Collection
 from .answers import Envelope, read_envelope
 from .cells import Cell, cells_of
 from .judgement import is_beyond
+from .markup import html, minus
 from .program import Operand, Program
 from .scale import ms_marks, time_marks
 from .style import PICTURE
-from .text import count, html, minus
+from .text import count
 from .units import bound_ticks, ns_ms, range_ms, shown_time
 
 WIDTH, HEIGHT, TOP, STRIP, FOOT = 10_000, 300, 10, 12, 40
@@ -236,7 +237,7 @@ def standing_alone(envelope: Envelope, bound_ns: int, label: str, wide: int = 90
 
 def print_picture(program: Program, claim: str, capture: str, step: int) -> int:
     """Prints the picture of a claim and a capture, from what `envelope` says about them."""
-    text = program.run(["envelope", Operand(claim), Operand(capture), "--servers", "--step", str(step)], ".").text
+    text = program.run("envelope", Operand(claim), Operand(capture), "--servers", "--step", str(step)).text
     with open(claim, "rb") as opened:
         given = json.load(opened)
     label = f"The error of the clock of {given['client']}"

@@ -1,12 +1,16 @@
-"""A folder that is audited: which files in it are inputs, and how outputs get there, whole or not at all."""
+"""A folder that is audited: which files in it are inputs, and how outputs get there, whole or not at all.
+
+While a folder is audited or verified it is the current one: names are looked for in it, and the program runs there.
+"""
 from __future__ import annotations
 
 import json
 import os
 import re
-import subprocess
+from collections.abc import Iterator
+from contextlib import contextmanager
 
-from .program import Fault
+from .program import BLOCK, Fault
 
 CLAIM = "claim.json"
 EVIDENCE = "evidence.json"
@@ -24,54 +28,78 @@ CAPTURE = re.compile(r".*\.(pcap|pcapng|cap)[0-9]*", re.DOTALL)
 PART = re.compile(r"\..*\.(\d+)\.part", re.DOTALL)
 """Names of files that are being written, with the number of the process that writes."""
 
-MICROSECONDS = {bytes.fromhex("d4c3b2a1"), bytes.fromhex("a1b2c3d4")}
-NANOSECONDS = {bytes.fromhex("4d3cb2a1"), bytes.fromhex("a1b23c4d")}
+COMPACT = json.JSONEncoder(separators=(",", ":"))
 DEVICE = 4
 
+HOME = os.open(".", os.O_PATH | os.O_DIRECTORY)
+"""The folder in which this was called."""
 
-def captures(folder: str) -> list[str]:
-    """The names of the captures in a folder, in the order of their names."""
-    return sorted(entry.name for entry in os.scandir(folder) if is_capture(entry.name) and entry.is_file())
+
+@contextmanager
+def inside(folder: str) -> Iterator[None]:
+    """Makes a folder the current one for a while."""
+    try:
+        os.chdir(folder)
+    except (FileNotFoundError, NotADirectoryError):
+        raise Fault("ntpaudit-dossier: no such folder", DEVICE) from None
+    except OSError as error:
+        raise unreadable(error) from None
+    try:
+        yield
+    finally:
+        os.fchdir(HOME)
+
+
+def unreadable(error: OSError) -> Fault:
+    return Fault(f"ntpaudit-dossier: the folder can't be read ({error.strerror})", DEVICE)
+
+
+def inputs() -> list[str]:
+    """The claim and the captures, in the order of their names; a fault if there are none."""
+    try:
+        names = {entry.name for entry in os.scandir() if entry.is_file()}
+    except OSError as error:
+        raise unreadable(error) from None
+    if CLAIM not in names:
+        raise Fault(f"ntpaudit-dossier: no {CLAIM} in the folder", DEVICE)
+    captures = sorted(filter(is_capture, names))
+    if not captures:
+        raise Fault("ntpaudit-dossier: no capture in the folder", DEVICE)
+    return [CLAIM, *captures]
 
 
 def is_capture(name: str) -> bool:
     return bool(CAPTURE.fullmatch(name)) and name != JOINED and not name.startswith(".")
 
 
-def inputs(folder: str) -> list[str]:
-    """The claim and the captures of a folder; a fault if there are none."""
-    try:
-        found = captures(folder)
-    except (FileNotFoundError, NotADirectoryError):
-        raise Fault("ntpaudit-dossier: no such folder", DEVICE) from None
-    except OSError as error:
-        raise Fault(f"ntpaudit-dossier: the folder can't be read ({error.strerror})", DEVICE) from None
-    if not os.path.isfile(f"{folder}/{CLAIM}"):
-        raise Fault(f"ntpaudit-dossier: no {CLAIM} in the folder", DEVICE)
-    if not found:
-        raise Fault("ntpaudit-dossier: no capture in the folder", DEVICE)
-    return [CLAIM, *found]
-
-
-def part_of(folder: str, name: str) -> str:
+def part_of(path: str) -> str:
     """Where a file is written before it is put into its place."""
-    return f"{folder}/.{name}.{os.getpid()}.part"
+    place, slash, name = path.rpartition("/")
+    return f"{place}{slash}.{name}.{os.getpid()}.part"
 
 
-def write_beside(folder: str, name: str, data: bytes) -> None:
-    """Writes a file of a folder whole or not at all: beside its place, and then into it."""
-    part = part_of(folder, name)
+def write_beside(path: str, data: bytes) -> None:
+    """Writes a file whole or not at all: beside its place, and then into it."""
+    part = part_of(path)
     try:
         try:
-            with open(part, "wb", buffering=0) as opened:
-                while data:
-                    data = data[opened.write(data) :]
-            os.replace(part, f"{folder}/{name}")
+            write(part, data)
+            os.replace(part, path)
         except BaseException:
             remove(part)
             raise
     except OSError as error:
+        name = os.path.basename(path)
         raise Fault(f"ntpaudit-dossier: {name} can't be written ({error.strerror})", DEVICE) from None
+
+
+def write(path: str, data: bytes) -> None:
+    file = os.open(path, os.O_WRONLY | os.O_CREAT | os.O_TRUNC, 0o666)
+    try:
+        while data:
+            data = data[os.write(file, data) :]
+    finally:
+        os.close(file)
 
 
 def remove(path: str) -> None:
@@ -82,48 +110,20 @@ def remove(path: str) -> None:
         pass
 
 
-def sweep_parts(folder: str) -> None:
+def sweep_parts() -> None:
     """Takes away what a killed run may have left half written."""
-    for name in os.listdir(folder):
+    for name in os.listdir():
         part = PART.fullmatch(name)
         if part and not os.path.exists(f"/proc/{part[1]}"):
-            remove(f"{folder}/{name}")
-
-
-def is_nano(path: str) -> bool | None:
-    """Whether a capture's times are in nanoseconds; None if it is no classic capture."""
-    with open(path, "rb") as opened:
-        magic = opened.read(4)
-    return True if magic in NANOSECONDS else False if magic in MICROSECONDS else None
-
-
-def join(folder: str, names: list[str]) -> None:
-    """Joins captures in order of time. Nanoseconds stay nanoseconds if all have them; else they are cut to
-    microseconds, which only widens the windows of the records."""
-    units = [is_nano(f"{folder}/{name}") for name in names]
-    for name, unit in zip(names, units):
-        if unit is None:
-            raise Fault(f"ntpaudit-dossier: {name} is no classic capture, so it can't be joined with the others", 2)
-    form = "nsecpcap" if all(units) else "pcap"
-    part = part_of(folder, JOINED)
-    try:
-        ran = subprocess.run(["mergecap", "-F", form, "-w", os.path.basename(part), *(f"./{name}" for name in names)],
-                             cwd=folder, stdin=subprocess.DEVNULL, capture_output=True)
-        if ran.returncode:
-            said = ran.stderr.decode("utf-8", "replace").splitlines() or [f"status {ran.returncode}"]
-            raise Fault(f"ntpaudit-dossier: the captures can't be joined ({said[0]})", 2)
-        os.replace(part, f"{folder}/{JOINED}")
-    except FileNotFoundError:
-        raise Fault("ntpaudit-dossier: several captures, and mergecap isn't installed to join them", 70) from None
-    except OSError as error:
-        raise Fault(f"ntpaudit-dossier: {JOINED} can't be written ({error.strerror})", DEVICE) from None
-    finally:
-        remove(part)
+            remove(name)
 
 
 def read(path: str) -> bytes:
-    with open(path, "rb", buffering=0) as opened:
-        return opened.readall()
+    file = os.open(path, os.O_RDONLY)
+    try:
+        return b"".join(iter(lambda: os.read(file, BLOCK), b""))
+    finally:
+        os.close(file)
 
 
 def read_json(path: str) -> object:
@@ -135,4 +135,4 @@ def read_json(path: str) -> object:
 
 
 def compact(value: object) -> bytes:
-    return json.dumps(value, separators=(",", ":")).encode() + b"\n"
+    return COMPACT.encode(value).encode() + b"\n"

@@ -6,10 +6,8 @@ from __future__ import annotations
 
 import json
 from collections.abc import Iterator
-from dataclasses import dataclass
-from functools import cached_property
-from operator import sub
-from typing import Any
+from operator import gt, sub
+from typing import Any, NamedTuple
 
 from .answers import Envelope, Hull, Report, read_envelope, read_nothing, read_report
 from .entry import NEITHER, NO, YES, Entry
@@ -21,8 +19,7 @@ FAR = 10
 """A piece is far from the samples if the nearest is farther than this part of the span."""
 
 
-@dataclass(frozen=True)
-class Texts:
+class Texts(NamedTuple):
     """What the program printed of one audit."""
 
     decided_by: str
@@ -36,14 +33,10 @@ class Texts:
     refute: bytes | None = None
     """What `refute` says about it."""
 
-    @cached_property
-    def said(self) -> Report | None:
-        """The report of `check`, if it decided."""
-        return read_report(self.report) if self.decided_by == "check" else None
-
     @property
     def is_yes(self) -> bool:
-        return self.said is not None and self.said.is_yes
+        """Whether `check` decided, and says yes."""
+        return self.decided_by == "check" and self.report.endswith(b"\nverdict yes\n")
 
 
 def at_bound_0(claim: dict[str, Any]) -> bytes:
@@ -57,7 +50,7 @@ def groups_of(claim: dict[str, Any]) -> list[list[int]]:
 
 def judge(part: str, claim: dict[str, Any], recording: Recording, texts: Texts) -> Entry:
     envelope = read_envelope(texts.envelope)
-    report = texts.said
+    report = read_report(texts.report) if texts.decided_by == "check" else None
     failing = count_failing(envelope, bound_ticks(claim["bound_ns"]))
     verdict = NO if not texts.is_yes else NEITHER if failing["empty"] else YES
     return Entry(
@@ -123,7 +116,7 @@ def servers_of(claim: dict[str, Any], recording: Recording, envelope: Envelope) 
         server = {"address": address, "group": group[number], "samples": recording.by_server.get(address, 0)}
         if address in envelope.servers:
             lows, highs = envelope.servers[address]
-            server |= {"low": min(lows), "high": max(highs), "crossed": sum(map(int.__gt__, lows, highs)),
+            server |= {"low": min(lows), "high": max(highs), "crossed": sum(map(gt, lows, highs)),
                        "apart": is_apart(lows, highs, envelope.hulls)}
         found.append(server)
     return found
@@ -131,9 +124,13 @@ def servers_of(claim: dict[str, Any], recording: Recording, envelope: Envelope) 
 
 def is_apart(lows: list[int], highs: list[int], hulls: list[Hull]) -> bool:
     """Whether there are hulls, and these intervals meet none of them."""
-    bounded = ((low, high, hull) for low, high, hull in zip(lows, highs, hulls) if not isinstance(hull, str))
-    meets = (low <= hull[1] and hull[0] <= high for low, high, hull in bounded)
-    return not next(meets, True) and not any(meets)
+    has_hull = False
+    for low, high, hull in zip(lows, highs, hulls):
+        if not isinstance(hull, str):
+            if low <= hull[1] and hull[0] <= high:
+                return False
+            has_hull = True
+    return has_hull
 
 
 def refutation_of(texts: Texts) -> dict[str, Any]:

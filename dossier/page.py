@@ -2,7 +2,6 @@
 from __future__ import annotations
 
 import argparse
-import os
 import sys
 from collections import Counter
 from dataclasses import dataclass
@@ -10,10 +9,11 @@ from dataclasses import dataclass
 from .article import article
 from .entry import MANGLED, NEITHER, NO, REFUSED, YES, Record
 from .folder import write_beside
+from .markup import html, minus, with_code
 from .program import now
 from .style import PAGE
 from .table import Row, as_csv, as_json, not_audited, records_of, row_of, rows_of
-from .text import count, html, minus, with_code
+from .text import count
 from .units import ns_ms, ns_up_ms
 
 SYMBOLS = {YES: "\u2713", NO: "\u2717", NEITHER: "?", REFUSED: "!"}
@@ -38,7 +38,7 @@ def write_page(folders: list[str], given: argparse.Namespace) -> int:
         text = page(records, given.title)
     data = text.encode("utf-8", "backslashreplace")
     if given.output:
-        write_beside(*os.path.split(os.path.abspath(given.output)), data)
+        write_beside(given.output, data)
     else:
         sys.stdout.buffer.write(data)
     return 0

@@ -3,20 +3,16 @@ from __future__ import annotations
 
 import hashlib
 import os
-import shutil
-import subprocess
 import time
 from collections.abc import Callable
-from dataclasses import dataclass
-from functools import cached_property
-from pathlib import Path
+from typing import NamedTuple
 
-from .call import Call
+from .call import Caller
 
 BLOCK = 1 << 20
 """Bytes of a file that are read at once."""
 
-ROOT = Path(__file__).resolve().parent.parent
+ROOT = os.path.dirname(os.path.dirname(os.path.realpath(__file__)))
 
 
 class Fault(Exception):
@@ -27,62 +23,55 @@ class Fault(Exception):
         self.line, self.status = line, status
 
 
-@dataclass(frozen=True)
-class Ran:
+class Ran(NamedTuple):
     """What a call gave, if it gave an answer: the status is 0 or 1."""
 
     status: int
     text: bytes
 
 
-@dataclass(frozen=True)
-class Operand:
-    """A file to be named on a command line, by its name seen from the folder in which the program runs."""
+STDIN, NOTHING = "/dev/stdin", "/dev/null"
+
+
+class Operand(str):
+    """The word that names a file on a command line. The program takes UTF-8 only: a file of another name is given on
+    standard input."""
 
     name: str
 
-    @cached_property
-    def is_sayable(self) -> bool:
-        """Whether the program takes the name as a word: it has to be UTF-8."""
-        return not any("\udc80" <= c <= "\udcff" for c in self.name)
-
-    @cached_property
-    def word(self) -> str:
-        if not self.is_sayable:
-            return "/dev/stdin"
-        return f"./{self.name}" if self.name.startswith("-") else self.name
+    def __new__(cls, name: str) -> Operand:
+        word = super().__new__(cls, STDIN if not is_utf8(name) else f"./{name}" if name.startswith("-") else name)
+        word.name = name
+        return word
 
 
-Word = str | Operand
+def is_utf8(name: str) -> bool:
+    try:
+        name.encode()
+    except UnicodeEncodeError:
+        return False
+    return True
 
 
-@dataclass(frozen=True)
-class Program:
+class Program(NamedTuple):
     path: str
     version: str
     sha256: str
+    caller: Caller
 
-    def run(self, words: list[Word], folder: str) -> Ran:
-        """Calls the program in a folder. At most one operand may have a name that isn't UTF-8."""
-        blocks: list[bytes] = []
-        return Ran(self.call(words, folder, blocks.append), b"".join(blocks))
-
-    def call(self, words: list[Word], folder: str, take: Callable[[bytes], object]) -> int:
-        """Hands on what the program prints, as it comes. The status, which is 0 or 1."""
-        call = Call([self.path, *map(said, words)], folder, unsayable(words))
-        try:
-            for block in call.blocks():
-                take(block)
-        except BaseException:
-            call.kill()
-            raise
-        status, error = call.end()
+    def run(self, *words: str) -> Ran:
+        """Calls the program. At most one operand may have a name that isn't UTF-8."""
+        status, text, error = self.caller.run([self.path, *words], given_to(words))
         if status not in (0, 1):
             raise fault_of(status, error)
-        return status
+        return Ran(status, text)
 
-    def blocks(self, words: list[Word], folder: str, take: Callable[[bytes], object]) -> None:
-        """Hands on the lines of a text that may be long, many at a time."""
+    def block(self, take: Callable[[bytes], object], *words: str) -> None:
+        """Calls the program, and hands on its text in one piece."""
+        take(self.run(*words).text)
+
+    def blocks(self, take: Callable[[bytes], object], *words: str) -> None:
+        """Calls the program, and hands on the lines of its text as they come, many at a time."""
         rest = b""
 
         def take_block(block: bytes) -> None:
@@ -92,16 +81,16 @@ class Program:
             rest = block[end:]
             if end:
                 take(block[:end] if rest else block)
-        self.call(words, folder, take_block)
+        status, error = self.caller.stream([self.path, *words], given_to(words), take_block)
+        if status not in (0, 1):
+            raise fault_of(status, error)
 
 
-def said(word: Word) -> str:
-    return word.word if isinstance(word, Operand) else word
-
-
-def unsayable(words: list[Word]) -> str:
-    """The file that is given on standard input, since its name can't be said."""
-    return next((word.name for word in words if isinstance(word, Operand) and not word.is_sayable), "/dev/null")
+def given_to(words: tuple[str, ...]) -> str:
+    """The file on a call's standard input: the operand whose name can't be said, if there is one."""
+    if STDIN not in words:
+        return NOTHING
+    return next((word.name for word in words if isinstance(word, Operand) and word == STDIN), NOTHING)
 
 
 def fault_of(status: int, error: bytes) -> Fault:
@@ -113,34 +102,51 @@ def fault_of(status: int, error: bytes) -> Fault:
 
 
 def find_program() -> Program:
-    """The program under which all is done: the file that the environment's NTPAUDIT names (from the repository's root);
-    or the one that the launcher keeps, which it has made sure of just now; or, if this is installed, the one that was
-    installed beside it; or `ntpaudit` on the PATH."""
-    path = os.environ.get("NTPAUDIT")
-    if path:
-        path = str((ROOT / path).resolve())
-    elif (ROOT / "crates.txt").exists():
-        built = subprocess.run([ROOT / "ntpaudit", "--version"], stdin=subprocess.DEVNULL, stdout=subprocess.DEVNULL)
-        if built.returncode:
-            raise Fault("ntpaudit: the program is not built", 70)
-        kept = ROOT / "out" / "ntpaudit"
-        path = str(kept if kept.exists() else ROOT / "dist" / "ntpaudit")
-    else:
-        beside = ROOT.parent.parent / "bin" / "ntpaudit"
-        path = str(beside) if beside.exists() else shutil.which("ntpaudit")
+    """The program under which all is done, with its version and its sum."""
+    path = path_of_program()
     if not path or not os.access(path, os.X_OK):
         raise Fault("ntpaudit: the program is not there", 70)
-    said_version = subprocess.run([path, "--version"], stdin=subprocess.DEVNULL, capture_output=True)
-    lines = said_version.stdout.decode("utf-8", "replace").splitlines()
-    return Program(path, lines[0] if lines and not said_version.returncode else "", sum_of_file(path))
+    caller = Caller()
+    status, version, _ = caller.run([path, "--version"], NOTHING)
+    lines = version.decode("utf-8", "replace").splitlines()
+    return Program(path, lines[0] if lines and not status else "", sum_of_file(path), caller)
+
+
+def path_of_program() -> str | None:
+    """The file that the environment's NTPAUDIT names (from the repository's root); or the one that the launcher keeps,
+    which it has made sure of just now; or, if this is installed, the one that was installed beside it; or `ntpaudit` on
+    the PATH."""
+    path = os.environ.get("NTPAUDIT")
+    if path:
+        return os.path.realpath(os.path.join(ROOT, path))
+    if os.path.exists(f"{ROOT}/crates.txt"):
+        return path_of_launcher()
+    beside = os.path.join(os.path.dirname(os.path.dirname(ROOT)), "bin", "ntpaudit")
+    if os.path.exists(beside):
+        return beside
+    import shutil
+    found = shutil.which("ntpaudit")
+    return found and os.path.abspath(found)
+
+
+def path_of_launcher() -> str:
+    import subprocess
+    built = subprocess.run([f"{ROOT}/ntpaudit", "--version"], stdin=subprocess.DEVNULL, stdout=subprocess.DEVNULL)
+    if built.returncode:
+        raise Fault("ntpaudit: the program is not built", 70)
+    kept = f"{ROOT}/out/ntpaudit"
+    return kept if os.path.exists(kept) else f"{ROOT}/dist/ntpaudit"
 
 
 def sum_of_file(path: str) -> str:
     """The SHA-256 of a file, of any size."""
     found = hashlib.sha256()
-    with open(path, "rb", buffering=0) as opened:
-        while block := opened.read(BLOCK):
+    file = os.open(path, os.O_RDONLY)
+    try:
+        while block := os.read(file, BLOCK):
             found.update(block)
+    finally:
+        os.close(file)
     return found.hexdigest()
 
 

@@ -4,12 +4,12 @@ All of it is read off `list` and `samples`, in one pass over each.
 """
 from __future__ import annotations
 
+import os
+import re
 from array import array
 from bisect import bisect_left
 from collections import Counter
-from dataclasses import dataclass, field
-from itertools import takewhile
-from operator import itemgetter, lt
+from itertools import compress
 
 from .answers import read_counts
 from .program import Operand, Program
@@ -17,22 +17,31 @@ from .program import Operand, Program
 SECOND = 10**9
 """Nanoseconds in a second: times of records are held in nanoseconds."""
 
+AT_ONCE = 1 << 22
+"""Bytes of a capture whose texts are taken in one piece. Those of a greater one are taken as they come."""
 
-@dataclass
+SAMPLE = re.compile(rb"(?m)^[^ ]+ ([^ ]+ [^ ]+ [^ ]+) .*")
+"""A line of `samples`: its number, the server, the records of request and reply, and then its figures."""
+
+PACKET = re.compile(rb"(?m)^([^ ]+ [^ ]+) .*")
+"""A line of `list`: the record's number, its time, and then the packet."""
+
+
 class Recording:
     """Times are Unix nanoseconds of the client's clock, as the capture has them."""
 
-    counts: dict[str, int] = field(default_factory=dict)
-    by_server: dict[str, int] = field(default_factory=dict)
-    first: int | None = None
-    last: int | None = None
-    falls: int = 0
-    fall: tuple[int, int, int] | None = None
-    """The first record whose time falls back: its number, the time before it, and its own."""
-    first_request: int | None = None
-    last_reply: int | None = None
-    times: array[int] = field(default_factory=lambda: array("q"))
-    """When each sample's reply was recorded, in rising order."""
+    def __init__(self) -> None:
+        self.counts: dict[str, int] = {}
+        self.by_server: dict[str, int] = {}
+        self.first: int | None = None
+        self.last: int | None = None
+        self.falls = 0
+        self.fall: tuple[int, int, int] | None = None
+        """The first record whose time falls back: its number, the time before it, and its own."""
+        self.first_request: int | None = None
+        """The time of the first request that has a sample."""
+        self.times = array("q")
+        """When each sample's reply was recorded, in rising order."""
 
     def nearest(self, begin: int, end: int) -> int:
         """How far the nearest sample is from a piece of Unix seconds, in nanoseconds; 0 if one lies in it. There has to
@@ -42,75 +51,96 @@ class Recording:
         return max(0, min([max(first - time, time - last) for time in self.times[max(0, at - 1) : at + 1]]))
 
 
-def read_recording(program: Program, folder: str, claim: Operand, capture: Operand) -> Recording:
+def read_recording(program: Program, claim: str, capture: Operand) -> Recording:
     """Runs `samples` and `list`."""
-    found, servers, closing = Recording(), Counter[bytes](), b""
-    requests: list[int | None] = []
-    replies: list[bytes] = []
-
-    def take(block: bytes) -> None:
-        """A line of `samples` has its number, the server, the records of request and reply, and then its figures."""
-        nonlocal closing
-        lines = [line.split(b" ", 4) for line in block.splitlines()]
-        if lines[-1][0] == b"records":
-            closing = b" ".join(lines.pop())
-        servers.update(map(itemgetter(1), lines))
-        replies.extend(map(itemgetter(3), lines))
-        requests.append(min(map(int, map(itemgetter(2), lines)), default=None))
-    program.blocks(["samples", claim, capture], folder, take)
-    found.counts = read_counts(closing.decode("ascii"))
-    found.by_server = {server.decode("ascii"): number for server, number in servers.items()}
-    first = min((request for request in requests if request is not None), default=None)
-    Times(found, first, replies).read(program, folder, capture)
+    found, samples = Recording(), Samples()
+    call = program.block if is_small(capture.name) else program.blocks
+    call(samples.take, "samples", claim, capture)
+    found.counts = read_counts(samples.closing.decode("ascii"))
+    found.by_server = {server.decode("ascii"): number for server, number in samples.by_server.items()}
+    times = Times(found, samples)
+    call(times.take, "list", capture)
+    if found.falls:
+        found.times = array("q", sorted(found.times))
     return found
 
 
-class Times:
-    """The times of all packets, of the first exchange and of the samples, whose records come in rising order."""
+def is_small(path: str) -> bool:
+    try:
+        return os.stat(path).st_size <= AT_ONCE
+    except OSError:
+        return True  # (the program says what it is)
 
-    def __init__(self, found: Recording, first: int | None, replies: list[bytes]):
-        self.found, self.replies = found, replies
-        self.request = b"" if first is None else b"%d" % first
-        self.before: int | None = None
-        self.taken = 0
 
-    def read(self, program: Program, folder: str, capture: Operand) -> None:
-        program.blocks(["list", capture], folder, self.take)
-        self.found.last_reply = max(self.found.times, default=None)
-        self.found.times = array("q", sorted(self.found.times))
+def closing_of(block: bytes) -> int:
+    """Where the closing line begins, which has counts; the block's end if it isn't there yet."""
+    last = block.rfind(b"\n", 0, -1) + 1
+    return last if block.startswith(b"records ", last) else len(block)
+
+
+class Samples:
+    """What `samples` says: the counts, how many samples each server has, the first request, and all replies."""
+
+    def __init__(self) -> None:
+        self.by_server = Counter[bytes]()
+        self.request: int | None = None
+        self.replies: set[bytes] = set()
+        self.closing = b""
 
     def take(self, block: bytes) -> None:
-        """A line of `list` has the record's number, its time, and then the packet; the last line has counts."""
-        lines = [line.split(b" ", 2) for line in block.splitlines()]
-        if lines[-1][0] == b"records":
-            lines.pop()
-        if not lines:
+        end = closing_of(block)
+        self.closing = block[end:]
+        words = b" ".join(SAMPLE.findall(block, 0, end)).split()
+        if words:
+            self.by_server.update(words[::3])
+            self.replies.update(words[2::3])
+            first = min(map(int, words[1::3]))
+            self.request = first if self.request is None else min(self.request, first)
+
+
+class Times:
+    """The times of all packets, of the first request and of the samples."""
+
+    def __init__(self, found: Recording, samples: Samples):
+        self.found, self.replies = found, samples.replies
+        self.request = b"%d" % samples.request if samples.request is not None else b""
+        self.before: int | None = None
+
+    def take(self, block: bytes) -> None:
+        words = b" ".join(PACKET.findall(block, 0, closing_of(block))).split()
+        if not words:
             return
-        numbers = list(map(itemgetter(0), lines))
-        times = nanoseconds(list(map(itemgetter(1), lines)))
-        self.find_falls(numbers, times)
-        found, packets = self.found, dict(zip(numbers, times))
-        low, high = min(times), max(times)
+        numbers, times = words[::2], words[1::2]
+        if do_fall(times):
+            self.take_all(numbers, times)
+        else:
+            self.take_all([numbers[0], numbers[-1]], [times[0], times[-1]])
+        self.found.times.extend(nanoseconds(list(compress(times, map(self.replies.__contains__, numbers)))))
+        if self.request in numbers:
+            self.found.first_request, = nanoseconds([times[numbers.index(self.request)]])
+
+    def take_all(self, numbers: list[bytes], texts: list[bytes]) -> None:
+        """Looks for the earliest and the latest packet, and for times that fall. Packets between which times rise may
+        be left out."""
+        times = nanoseconds(texts)
+        found, low, high = self.found, min(times), max(times)
         found.first = low if found.first is None else min(found.first, low)
         found.last = high if found.last is None else max(found.last, high)
-        if self.request in packets:
-            found.first_request = packets[self.request]
-        next_ones = self.replies[self.taken : self.taken + len(packets)]
-        there = list(takewhile(packets.__contains__, next_ones))
-        found.times.extend(map(packets.__getitem__, there))
-        self.taken += len(there)
+        for number, time in zip(numbers, times):
+            if self.before is not None and time < self.before:
+                found.falls += 1
+                found.fall = found.fall or (int(number), self.before, time)
+            self.before = time
 
-    def find_falls(self, numbers: list[bytes], times: list[int]) -> None:
-        """Counts the records whose time is before that of the one before them."""
-        earlier = [times[0] if self.before is None else self.before, *times]
-        self.before = times[-1]
-        if any(map(lt, times, earlier)):
-            falls = [fall for fall in zip(map(int, numbers), earlier, times) if fall[2] < fall[1]]
-            self.found.falls += len(falls)
-            self.found.fall = self.found.fall or falls[0]
+
+def do_fall(times: list[bytes]) -> bool:
+    """Whether a time may be before the one that precedes it: of texts of one length the lesser is the earlier."""
+    return len(set(map(len, times))) > 1 or times != sorted(times)
 
 
 def nanoseconds(times: list[bytes]) -> list[int]:
     """Times as `list` prints them: seconds, a dot, and 6 digits or 9, as many in all records of a capture."""
+    if not times:
+        return []
     zeros = b"0" * (9 - len(times[0].partition(b".")[2]))
     return list(map(int, ((zeros + b" ").join(times) + zeros).replace(b".", b"").split()))

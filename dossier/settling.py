@@ -2,8 +2,7 @@
 from __future__ import annotations
 
 import os
-from dataclasses import dataclass, replace
-from typing import Any
+from typing import Any, NamedTuple
 
 from . import folder as files
 from .answers import read_nothing
@@ -22,67 +21,51 @@ MANY_PIECES = 10_000
 
 TOO_MANY_PIECES = "ntpaudit: pieces over 100000"
 
-CLAIM = Operand(files.CLAIM)
-CERTIFICATE = Operand(files.CERTIFICATE)
-REFUTATION = Operand(files.REFUTATION)
-CLAIM_OF_0 = Operand(files.CLAIM_OF_0)
 
-
-@dataclass(frozen=True)
-class Part:
+class Part(NamedTuple):
     """A claim to be settled, and the folder in which its files are: `.`, or one of a day."""
 
     name: str
     claim: dict[str, Any]
 
-    def place(self, folder: str) -> str:
-        return folder if self.name == "." else f"{folder}/{self.name}"
-
     def within(self, name: str) -> str:
         """A file of this part, seen from the folder of the record."""
         return name if self.name == "." else f"{self.name}/{name}"
 
-    def capture(self, name: str) -> Operand:
-        """The capture, seen from this part's folder."""
-        return Operand(name if self.name == "." else f"../{name}")
-
 
 class Settling:
-    """A claim that is being settled: what was called, and what was left."""
+    """A claim that is being settled. `left` are the sums of the files that were left so far."""
 
-    def __init__(self, folder: str, part: Part, capture: str, program: Program):
-        self.part, self.program = part, program
-        self.place = part.place(folder)
-        self.capture = part.capture(capture)
-        self.left: dict[str, str] = {}
+    def __init__(self, part: Part, capture: Operand, program: Program, left: dict[str, str]):
+        self.part, self.capture, self.program = part, capture, program
+        self.claim = part.within(files.CLAIM)
+        self.left = dict(left)
 
     def settle(self, recording: Recording, step: int | None) -> Entry:
         """Makes all calls and leaves all files, with pieces of this length or of the one that is found."""
         try:
             if self.part.name != ".":
-                os.makedirs(self.place, exist_ok=True)
+                os.makedirs(self.part.name, exist_ok=True)
                 self.leave(files.CLAIM, compact(self.part.claim))
         except OSError as error:
             raise Fault(f"ntpaudit-dossier: the folder can't be written ({error.strerror})", files.DEVICE) from None
         texts = self.seek(self.measure(self.decide(step), step))
-        entry = judge(self.part.name, self.part.claim, recording, texts)
-        entry.outputs = self.left
-        return entry
+        return judge(self.part.name, self.part.claim, recording, texts)._replace(outputs=self.left)
 
-    def call(self, *words: str | Operand) -> Ran:
-        return self.program.run(list(words), self.place)
-
-    def leave(self, name: str, data: bytes) -> None:
-        write_beside(self.place, name, data)
-        self.left[self.part.within(name)] = sum_of(data)
+    def leave(self, name: str, data: bytes) -> str:
+        """Leaves a file of this part, and gives its path."""
+        path = self.part.within(name)
+        write_beside(path, data)
+        self.left[path] = sum_of(data)
+        return path
 
     def decide(self, step: int | None) -> Texts:
         """The certificate and what `check` says about it; or what `find` says if it finds nothing."""
         step, found = self.find([step] if step else STEPS)
         decided_by, report = "find", found.text
         if found.status == 0:
-            self.leave(files.CERTIFICATE, found.text)
-            decided_by, report = "check", self.call("check", CLAIM, self.capture, CERTIFICATE).text
+            certificate = self.leave(files.CERTIFICATE, found.text)
+            decided_by, report = "check", self.program.run("check", self.claim, self.capture, certificate).text
         self.leave(files.REPORT, report)
         return Texts(decided_by, step, report)
 
@@ -103,32 +86,28 @@ class Settling:
         return last, ran
 
     def find_with(self, step: int) -> Ran:
-        return self.call("find", CLAIM, self.capture, "--step", str(step))
+        return self.program.run("find", self.claim, self.capture, "--step", str(step))
 
     def measure(self, texts: Texts, step: int | None) -> Texts:
         """The envelope, in pieces of the step that was asked for or of a finer one than the certificate's."""
         step = step or envelope_step_of(self.part.claim, texts.step)
-        text = self.call("envelope", CLAIM, self.capture, "--servers", "--step", str(step)).text
+        text = self.program.run("envelope", self.claim, self.capture, "--servers", "--step", str(step)).text
         self.leave(files.ENVELOPE, text)
-        return replace(texts, envelope_step=step, envelope=text)
+        return texts._replace(envelope_step=step, envelope=text)
 
     def seek(self, texts: Texts) -> Texts:
         """Looks for a refutation: at a no of the claim, and at a yes of the same claim with the bound 0, which shows
         that a course of events fits the capture at all."""
-        claim = CLAIM
-        if texts.is_yes:
-            claim = CLAIM_OF_0
-            self.leave(files.CLAIM_OF_0, at_bound_0(self.part.claim))
-        found = self.call("find", claim, self.capture, "--refutation")
+        claim = self.leave(files.CLAIM_OF_0, at_bound_0(self.part.claim)) if texts.is_yes else self.claim
+        found = self.program.run("find", claim, self.capture, "--refutation")
         if found.status:
             return texts
-        self.leave(files.REFUTATION, found.text)
-        refute = self.call("refute", claim, self.capture, REFUTATION).text
-        return replace(texts, refutation=found.text, refute=refute)
+        refutation = self.leave(files.REFUTATION, found.text)
+        refute = self.program.run("refute", claim, self.capture, refutation).text
+        return texts._replace(refutation=found.text, refute=refute)
 
 
 def envelope_step_of(claim: dict[str, Any], step: int) -> int:
     """The finest step that divides the certificate's and gives no more than so many pieces; else the certificate's."""
     span = seconds_of(claim["to"]) - seconds_of(claim["from"])
-    finer = (fine for fine in reversed(STEPS) if fine <= step and step % fine == 0)
-    return next((fine for fine in finer if span <= fine * MANY_PIECES), step)
+    return next((fine for fine in reversed(STEPS) if step % fine == 0 and span <= fine * MANY_PIECES), step)

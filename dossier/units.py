@@ -4,13 +4,13 @@ A low end is rounded down and a high end up, so that what is shown never says mo
 """
 from __future__ import annotations
 
-from datetime import datetime, timedelta, timezone
+from datetime import datetime, timedelta
 from functools import cache
 
 TICKS = 2**32
 """Ticks in a second."""
 
-EPOCH = datetime(1970, 1, 1, tzinfo=timezone.utc)
+EPOCH = datetime(1970, 1, 1)
 FORM = "%Y-%m-%dT%H:%M:%SZ"
 DAY = 86_400
 
@@ -69,7 +69,7 @@ def shown_time(seconds: int) -> str:
 @cache
 def seconds_of(time: str) -> int:
     """Unix seconds of a claim's time."""
-    return int((datetime.strptime(time, FORM).replace(tzinfo=timezone.utc) - EPOCH).total_seconds())
+    return (datetime.fromisoformat(time.removesuffix("Z")) - EPOCH) // timedelta(seconds=1)
 
 
 def day_of(seconds: int) -> str:

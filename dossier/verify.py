@@ -2,7 +2,6 @@
 from __future__ import annotations
 
 import json
-from dataclasses import replace
 from typing import Any
 
 from . import folder as files
@@ -11,7 +10,7 @@ from .entry import MANGLED, REFUSED, Entry, Record, differing, read_record
 from .judgement import Texts, at_bound_0, judge
 from .program import Fault, Operand, Program, sum_of_file
 from .recording import Recording, read_recording
-from .settling import CERTIFICATE, CLAIM, CLAIM_OF_0, REFUTATION
+from .settling import Part
 from .text import plain
 
 DIFFERS = 1
@@ -23,7 +22,8 @@ def verify_all(folders: list[str], program: Program) -> int:
     worst = 0
     for folder in folders:
         try:
-            findings, notes = verify(folder, program)
+            with files.inside(folder):
+                findings, notes = verify(program)
             status = DIFFERS if findings else 0
         except Fault as fault:
             findings, notes, status = [fault.line], [], fault.status
@@ -37,12 +37,12 @@ def verify_all(folders: list[str], program: Program) -> int:
     return worst
 
 
-def verify(folder: str, program: Program) -> tuple[list[str], list[str]]:
-    """What differs in a folder, and what is worth a note and differs in nothing."""
-    record = read_record(folder)
+def verify(program: Program) -> tuple[list[str], list[str]]:
+    """What differs in the current folder, and what is worth a note and differs in nothing."""
+    record = read_record(".")
     if record is None:
         raise Fault("ntpaudit-dossier: not audited", files.DEVICE)
-    findings = changed(folder, record)
+    findings = changed(record)
     if findings:
         return findings, []
     refused = [entry for entry in record.entries if entry.verdict == REFUSED]
@@ -51,29 +51,30 @@ def verify(folder: str, program: Program) -> tuple[list[str], list[str]]:
     notes = []
     if record.program["sha256"] != program.sha256:
         notes.append("by another build of the program than the audit's")
-    recording = read_recording(program, folder, CLAIM, Operand(record.capture))
-    claim = json.loads(files.read(f"{folder}/{files.CLAIM}"))
+    capture = Operand(record.capture)
+    recording = read_recording(program, files.CLAIM, capture)
+    claim = json.loads(files.read(files.CLAIM))
     claims = {part.name: part.claim for part in parts_of(claim, record.options["days"])}
     if list(claims) != [entry.part for entry in record.entries]:
         return ["audit.json: other days than those of the claim's span"], notes
     for entry in record.entries:
-        findings += Again(folder, entry, record.capture, program).findings(claims[entry.part], recording)
+        findings += Again(Part(entry.part, claims[entry.part]), entry, capture, program).findings(recording)
     return findings, notes
 
 
-def changed(folder: str, record: Record) -> list[str]:
+def changed(record: Record) -> list[str]:
     """The files that aren't there any more, or aren't what they were; and inputs that came."""
     found = []
     for name, wanted in {**record.inputs, **record.outputs}.items():
         try:
-            if sum_of_file(f"{folder}/{name}") != wanted:
+            if sum_of_file(name) != wanted:
                 is_input = name in record.inputs
                 what = "isn't the file that was audited" if is_input else "was changed since the audit"
                 found.append(f"{name} {what}")
         except OSError as error:
             found.append(f"{name} can't be read ({error.strerror})")
     try:
-        found += [f"{name} is new" for name in set(files.inputs(folder)) - set(record.inputs)]
+        found += [f"{name} is new" for name in set(files.inputs()) - set(record.inputs)]
     except Fault as fault:
         found += [] if found else [fault.line]
     return found
@@ -82,44 +83,45 @@ def changed(folder: str, record: Record) -> list[str]:
 class Again:
     """An audit whose calls are made again, with the certificate and the refutation that it left."""
 
-    def __init__(self, folder: str, entry: Entry, capture: str, program: Program):
-        self.place, self.entry, self.program = f"{folder}/{entry.part}", entry, program
-        self.capture = Operand(capture if entry.part == "." else f"../{capture}")
+    def __init__(self, part: Part, entry: Entry, capture: Operand, program: Program):
+        self.part, self.entry, self.capture, self.program = part, entry, capture, program
+        self.claim = part.within(files.CLAIM)
         self.found: list[str] = []
 
     def kept(self, name: str) -> bytes:
-        return files.read(f"{self.place}/{name}")
+        return files.read(self.part.within(name))
 
-    def call(self, name: str, *words: str | Operand) -> bytes:
+    def call(self, name: str, *words: str) -> bytes:
         """A call, whose answer is held to the file that is kept of it."""
-        text, kept = self.program.run(list(words), self.place).text, self.kept(name)
+        text, kept = self.program.run(*words).text, self.kept(name)
         if text != kept:
-            self.found.append(f"{self.entry.part}/{name}: {first_difference(kept, text)}".removeprefix("./"))
+            self.found.append(f"{self.part.within(name)}: {first_difference(kept, text)}")
         return text
 
     def texts(self) -> Texts:
         entry = self.entry
         if entry.decided_by == "check":
-            report = self.call(files.REPORT, "check", CLAIM, self.capture, CERTIFICATE)
+            certificate = self.part.within(files.CERTIFICATE)
+            report = self.call(files.REPORT, "check", self.claim, self.capture, certificate)
         else:
-            report = self.call(files.REPORT, "find", CLAIM, self.capture, "--step", str(entry.step))
+            report = self.call(files.REPORT, "find", self.claim, self.capture, "--step", str(entry.step))
         step = str(entry.envelope_step)
-        envelope = self.call(files.ENVELOPE, "envelope", CLAIM, self.capture, "--servers", "--step", step)
+        envelope = self.call(files.ENVELOPE, "envelope", self.claim, self.capture, "--servers", "--step", step)
         texts = Texts(entry.decided_by, entry.step, report, entry.envelope_step, envelope)
         if not entry.refutation["found"]:
             return texts
-        claim = CLAIM_OF_0 if texts.is_yes else CLAIM
-        refute = self.program.run(["refute", claim, self.capture, REFUTATION], self.place).text
-        return replace(texts, refutation=self.kept(files.REFUTATION), refute=refute)
+        claim = self.part.within(files.CLAIM_OF_0) if texts.is_yes else self.claim
+        refute = self.program.run("refute", claim, self.capture, self.part.within(files.REFUTATION)).text
+        return texts._replace(refutation=self.kept(files.REFUTATION), refute=refute)
 
-    def findings(self, claim: dict[str, Any], recording: Recording) -> list[str]:
+    def findings(self, recording: Recording) -> list[str]:
         """What differs: an answer from its file, or audit.json from what the answers come to."""
         texts = self.texts()
-        if texts.is_yes and self.kept(files.CLAIM_OF_0) != at_bound_0(claim):
+        if texts.is_yes and self.kept(files.CLAIM_OF_0) != at_bound_0(self.part.claim):
             self.found.append(f"{files.CLAIM_OF_0} isn't the claim with the bound 0")
         if not self.found:
-            of = "" if self.entry.part == "." else f" of {self.entry.part}"
-            names = differing(self.entry, judge(self.entry.part, claim, recording, texts))
+            of = "" if self.part.name == "." else f" of {self.part.name}"
+            names = differing(self.entry, judge(self.part.name, self.part.claim, recording, texts))
             self.found += [f"audit.json says another {name} than the answers{of}" for name in names]
         return self.found
 

@@ -12,13 +12,14 @@ import signal
 import sys
 import time
 from collections.abc import Generator
-from dataclasses import astuple, dataclass
-from typing import NoReturn
+from typing import NamedTuple, NoReturn
 
 from .audit import Options, audit_folder
+from .call import Caller
 from .entry import NEITHER, NO, REFUSED, YES
+from .folder import inside
+from .line import line_of, refusal_of
 from .program import Fault, Program
-from .words import line_of, refusal_of
 
 WIDTH = 30
 MOMENT = 0.5
@@ -26,8 +27,7 @@ MOMENT = 0.5
 ENDED = "ntpaudit-dossier: the worker of this folder was ended"
 
 
-@dataclass(frozen=True)
-class Done:
+class Done(NamedTuple):
     """What came of a folder: its status, the verdicts in it, and the lines to be shown."""
 
     status: int
@@ -46,8 +46,7 @@ def stop(number: int, _: object) -> None:
     raise Stopped(number)
 
 
-@dataclass(frozen=True)
-class Task:
+class Task(NamedTuple):
     """The folders to be audited, and how."""
 
     folders: list[str]
@@ -57,7 +56,8 @@ class Task:
     def audit(self, number: int) -> Done:
         folder = self.folders[number]
         try:
-            record, is_old = audit_folder(folder, self.options, self.program)
+            with inside(folder):
+                record, is_old = audit_folder(self.options, self.program)
         except Fault as fault:
             return refused(folder, fault.line, fault.status)
         lines = [line_of(folder, entry) + (" (unchanged)" if is_old else "") for entry in record.entries]
@@ -154,12 +154,13 @@ class Worker:
 
 def work(task: Task, given: int, answers: int) -> NoReturn:
     """The life of a worker, in a session of its own: Ctrl-C is for the process that forked it, which then ends it."""
+    task = task._replace(program=task.program._replace(caller=Caller()))
     try:
         signal.signal(signal.SIGINT, signal.SIG_IGN)
         os.setsid()
         with open(given, encoding="ascii") as numbers:
             for number in iter(numbers.readline, ""):
-                os.write(answers, json.dumps(astuple(task.audit(int(number)))).encode() + b"\n")
+                os.write(answers, json.dumps(task.audit(int(number))).encode() + b"\n")
     except (Stopped, BrokenPipeError):
         pass
     except BaseException:

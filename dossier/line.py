@@ -1,0 +1,24 @@
+"""An audit in one line for a terminal."""
+from __future__ import annotations
+
+from .entry import REFUSED, Entry
+from .text import plain
+from .units import ns_ms, ns_up_ms
+
+
+def refusal_of(folder: str, line: str) -> str:
+    """One line for a terminal, of a folder without a verdict."""
+    return f"{REFUSED:8}{plain(folder)}: {plain(line)}"
+
+
+def line_of(folder: str, entry: Entry) -> str:
+    """One line for a terminal: the verdict, the folder, and the figures."""
+    if entry.fault:
+        return refusal_of(folder, entry.fault["line"])
+    name = plain(folder) + ("" if entry.part == "." else f" {entry.part}")
+    return f"{entry.verdict:8}{name}: {figures(entry)}"
+
+
+def figures(entry: Entry) -> str:
+    least = "no bound is carried" if entry.least_ns is None else f"least bound {ns_up_ms(entry.least_ns)} ms"
+    return f"{least}, claimed {ns_ms(entry.claim['bound_ns'])} ms"
