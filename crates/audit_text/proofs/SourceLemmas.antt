@@ -1,5 +1,5 @@
 -- How many servers have an exchange, one server after another.
-use Rattle.std.proofs.Common.{◌≡◌, ◌∙◌, ◌+◌, ◌==◌, ◌||◌, if◌then◌else◌, Bool, ℕ, List, [], ◌∷◌, map, refl, ap, add-one}
+use Rattle.std.proofs.Common.{◌≡◌, ◌+◌, ◌==◌, ◌||◌, if◌then◌else◌, Bool, ℕ, List, [], ◌∷◌, map, refl, ap, add-one}
 use Rattle.std.specs.List.{list_any}
 use Rattle.pairing.specs.declared.held.HeldExchange.{HeldExchange}
 use Rattle.pairing.specs.Held.{exchange_shown}

@@ -179,7 +179,7 @@ fn envelope_command<'a>(alloc: Global) -> Result<Command<'a>, AllocError> {
 /// The program with its commands.
 pub(crate) fn program<'a>(alloc: Global) -> Result<Command<'a>, AllocError> {
     Command::new(alloc, "ntpaudit")
-        .version("0.2.1 (rattle-kit-13b logic dac8208d650f15bf)")
+        .version("0.2.2 (rattle-kit-13b logic dac8208d650f15bf)")
         .about("What a packet capture of NTP shows about a clock")
         .after_help(PROGRAM_HELP)
         .subcommand_required(true)
