@@ -63,19 +63,26 @@ class Envelope(NamedTuple):
 
 
 def read_envelope(text: bytes) -> Envelope:
-    """Takes the text of `envelope --servers` apart. Each piece has a line of four words for each server with a sample,
-    and then the hull's of five: number, from, to, and two ends. A hull that is one word gets it twice, so that all
-    pieces have as many words."""
-    lines, closing = text.decode("ascii").rstrip("\n").rsplit("\n", 1)
-    words = lines.replace("unbounded", "unbounded unbounded").replace("empty", "empty empty").split()
-    width = next(k for k in range(0, len(words), 4) if "." not in words[k + 1])
-    piece = width + 5
+    """Takes the text of `envelope --servers` apart."""
+    lines = text.decode("ascii").splitlines()[:-1]
+    width, servers = width_of(lines), {}
+    for place in range(width):
+        words = " ".join(lines[place :: width + 1]).split(" ")
+        servers[words[1]] = list(map(int, words[2::4])), list(map(int, words[3::4]))
+    return read_hulls(text)._replace(servers=servers)
 
-    def column(place: int) -> list[int]:
-        return list(map(int, words[place::piece]))
-    ends = zip(words[width + 3 :: piece], words[width + 4 :: piece])
-    hulls = [low if low in ("unbounded", "empty") else (int(low), int(high)) for low, high in ends]
-    servers = {words[k + 1]: (column(k + 2), column(k + 3)) for k in range(0, width, 4)}
+
+def read_hulls(text: bytes) -> Envelope:
+    """The envelope with its servers left out."""
+    *lines, closing = text.decode("ascii").splitlines()
+    width = width_of(lines)
+    hulls = [line.split() for line in lines[width :: width + 1]]
     _, least, _, worst = closing.split()
-    return Envelope(column(width + 1), column(width + 2), hulls, servers, None if least == "none" else int(least),
-                    int(worst))
+    return Envelope([int(words[1]) for words in hulls], [int(words[2]) for words in hulls],
+                    [read_hull(words[3:]) for words in hulls], {}, None if least == "none" else int(least), int(worst))
+
+
+def width_of(lines: list[str]) -> int:
+    """How many lines of each piece come before its hull's: one for each server with a sample. The hull's alone has no
+    address in it."""
+    return next(k for k, line in enumerate(lines) if "." not in line)

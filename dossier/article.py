@@ -13,6 +13,7 @@ from .folder import ENVELOPE
 from .markup import html, minus, with_code
 from .premises import evidence, premises
 from .program import sum_of
+from .ranges import ranges_of
 from .text import count
 from .units import range_ms
 from .words import capital, fit, sentence, span, to_do
@@ -56,7 +57,7 @@ def body(name: str, folder: str, record: Record, entry: Entry) -> Iterator[str]:
         yield f'<ul class="warnings">{items}</ul>'
     envelope = kept_envelope(folder, entry)
     yield figure(name, entry, envelope) if envelope else NO_PICTURE
-    yield servers(entry, list(envelope.servers) if envelope else [])
+    yield servers(entry, envelope)
     yield granted(folder, entry)
     yield counts(entry)
     yield again(record, entry)
@@ -99,18 +100,19 @@ def rows(columns: dict[str, str], lines: list[list[str]], name: str = "") -> str
                       *(f"<tr>{line}</tr>" for line in body), "</tbody>", "</table>"])
 
 
-def servers(entry: Entry, drawn: list[str]) -> str:
+def servers(entry: Entry, envelope: Envelope | None) -> str:
     """The servers of the claim, each with its stroke if it is in the picture."""
-    lines = []
+    lines, drawn = [], ranges_of(envelope) if envelope else {}
     for number, server in enumerate(entry.servers):
-        address = server["address"]
-        swatch = f"{stroke(drawn.index(address))} " if address in drawn else ""
-        outer = minus(range_ms(server["low"], server["high"])) if "low" in server else "no sample"
-        remarks = ["<b>stands apart</b>: it never meets the hull"] if server.get("apart") else []
-        if server.get("crossed"):
-            remarks.append(f"contradicts itself in {count(server['crossed'], 'piece')}")
-        lines.append([f"<span>{swatch}{html(address)}</span>", str(number), html(server["group"]),
-                      f"{server['samples']:,}", outer, "; ".join(remarks)])
+        address, samples = server["address"], server["samples"]
+        swatch, outer, remarks = "", "" if samples else "no sample", []
+        if address in drawn:
+            found = drawn[address]
+            swatch, outer = f"{stroke(list(drawn).index(address))} ", minus(range_ms(found.low, found.high))
+            remarks += ["<b>stands apart</b>: it never meets the hull"] if found.apart else []
+            remarks += [f"contradicts itself in {count(found.crossed, 'piece')}"] if found.crossed else []
+        lines.append([f"<span>{swatch}{html(address)}</span>", str(number), html(server["group"]), f"{samples:,}", outer,
+                      "; ".join(remarks)])
     columns = {"Address": "", "Number": "narrow", "Group": "narrow", "Samples": "number",
                "The clock's error by it, at the outermost": "", "Remark": ""}
     return "<h3>Servers</h3>\n" + rows(columns, lines)

@@ -30,7 +30,7 @@ class Parser(argparse.ArgumentParser):
 
 def parser() -> Parser:
     top = Parser(prog="ntpaudit-dossier", description=ABOUT, formatter_class=argparse.RawDescriptionHelpFormatter)
-    commands = top.add_subparsers(dest="command", required=True, metavar="COMMAND")
+    commands = top.add_subparsers(dest="command", required=True, metavar="COMMAND", prog=top.prog)
     draft = commands.add_parser("draft", help="print a claim to start from")
     draft.add_argument("captures", nargs="+", metavar="CAPTURE")
     draft.add_argument("--client", metavar="ADDRESS", help="the client; the one that asks most if it is left out")

@@ -10,7 +10,7 @@ from pathlib import Path
 from typing import Any
 
 from . import folder as files
-from .answers import read_envelope
+from .answers import read_hulls
 from .joining import join
 from .program import Fault, Operand, Program
 from .recording import SECOND, Recording, read_recording
@@ -134,7 +134,7 @@ class Draft:
         with tempfile.TemporaryDirectory(prefix="ntpaudit-") as place:
             own = Operand(str(Path(place) / files.CLAIM))
             Path(own.name).write_bytes(files.compact(claim))
-            recording = read_recording(self.program, own, self.capture)
+            recording = read_recording(self.program, own, self.capture, wants_request=True)
             if recording.first_request is None:
                 self.remark(f"None of {client}'s servers gave a sample: {counted(recording.counts)}.")
                 return None
@@ -190,7 +190,7 @@ class Draft:
     def take_bound(self, claim: dict[str, Any], own: Operand, span: int) -> None:
         """The least bound that the envelope carries, rounded up to two digits."""
         step = envelope_step_of(claim, COARSEST)
-        envelope = read_envelope(self.program.run("envelope", own, self.capture, "--servers", "--step", str(step)).text)
+        envelope = read_hulls(self.program.run("envelope", own, self.capture, "--servers", "--step", str(step)).text)
         claim["bound_ns"] = NO_BOUND
         if envelope.least_ns is None:
             begin, word = envelope.begins[envelope.worst], envelope.hulls[envelope.worst]

@@ -6,10 +6,10 @@ from __future__ import annotations
 
 import json
 from collections.abc import Iterator
-from operator import gt, sub
+from operator import sub
 from typing import Any, NamedTuple
 
-from .answers import Envelope, Hull, Report, read_envelope, read_nothing, read_report
+from .answers import Envelope, Hull, Report, read_hulls, read_nothing, read_report
 from .entry import NEITHER, NO, YES, Entry
 from .folder import compact
 from .recording import SECOND, Recording
@@ -17,6 +17,9 @@ from .units import bound_ticks, seconds_of
 
 FAR = 10
 """A piece is far from the samples if the nearest is farther than this part of the span."""
+
+MANY = 100
+"""Samples that are enough to show, if there are more, that no piece is far."""
 
 
 class Texts(NamedTuple):
@@ -49,7 +52,7 @@ def groups_of(claim: dict[str, Any]) -> list[list[int]]:
 
 
 def judge(part: str, claim: dict[str, Any], recording: Recording, texts: Texts) -> Entry:
-    envelope = read_envelope(texts.envelope)
+    envelope = read_hulls(texts.envelope)
     report = read_report(texts.report) if texts.decided_by == "check" else None
     failing = count_failing(envelope, bound_ticks(claim["bound_ns"]))
     verdict = NO if not texts.is_yes else NEITHER if failing["empty"] else YES
@@ -66,7 +69,7 @@ def judge(part: str, claim: dict[str, Any], recording: Recording, texts: Texts) 
         reason={} if texts.is_yes else reason_of(claim, report, texts),
         failing=failing,
         counts=recording.counts,
-        servers=servers_of(claim, recording, envelope),
+        servers=servers_of(claim, recording),
         refutation=refutation_of(texts),
         warnings=list(warnings(claim, recording, envelope, report)),
     )
@@ -107,30 +110,11 @@ def why_of(hull: Hull, bound: int) -> str:
     return "off" if hull[0] > bound or hull[1] < -bound else "exceeds"
 
 
-def servers_of(claim: dict[str, Any], recording: Recording, envelope: Envelope) -> list[dict[str, Any]]:
-    """For each server of the claim its group, its samples, the outermost ends of its intervals, how many of these hold
-    nothing, and whether it stands apart: no interval of its own meets the hull of its piece."""
+def servers_of(claim: dict[str, Any], recording: Recording) -> list[dict[str, Any]]:
+    """For each server of the claim its group and its samples."""
     group = {server: number for number, members in enumerate(groups_of(claim)) for server in members}
-    found = []
-    for number, address in enumerate(claim["servers"]):
-        server = {"address": address, "group": group[number], "samples": recording.by_server.get(address, 0)}
-        if address in envelope.servers:
-            lows, highs = envelope.servers[address]
-            server |= {"low": min(lows), "high": max(highs), "crossed": sum(map(gt, lows, highs)),
-                       "apart": is_apart(lows, highs, envelope.hulls)}
-        found.append(server)
-    return found
-
-
-def is_apart(lows: list[int], highs: list[int], hulls: list[Hull]) -> bool:
-    """Whether there are hulls, and these intervals meet none of them."""
-    has_hull = False
-    for low, high, hull in zip(lows, highs, hulls):
-        if not isinstance(hull, str):
-            if low <= hull[1] and hull[0] <= high:
-                return False
-            has_hull = True
-    return has_hull
+    return [{"address": address, "group": group[number], "samples": recording.by_server.get(address, 0)}
+            for number, address in enumerate(claim["servers"])]
 
 
 def refutation_of(texts: Texts) -> dict[str, Any]:
@@ -172,11 +156,15 @@ def warnings(
 
 def far_pieces(claim: dict[str, Any], recording: Recording, envelope: Envelope) -> Iterator[Alert]:
     first, last = seconds_of(claim["from"]) * SECOND, seconds_of(claim["to"]) * SECOND
-    limit, times = (last - first) // FAR, [first, *recording.times, last]
-    if not recording.times or max(map(sub, times[1:], times)) <= limit:
-        return  # (a piece can't be farther from a sample than the samples are from one another)
+    limit, times = (last - first) // FAR, recording.times
+    if not times or widest_gap([first, *times[:: 1 + len(times) // MANY], times[-1], last]) <= limit:
+        return  # (a piece can't be farther from a sample than some of the samples are from one another)
     distances = list(map(recording.nearest, envelope.begins, envelope.ends))
     farthest = max(distances)
     if farthest > limit:
         far = sum(distance > limit for distance in distances)
         yield {"kind": "far", "count": far, "distance": farthest, **piece_of(envelope, distances.index(farthest))}
+
+
+def widest_gap(times: list[int]) -> int:
+    return max(map(sub, times[1:], times))

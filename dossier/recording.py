@@ -39,7 +39,7 @@ class Recording:
         self.fall: tuple[int, int, int] | None = None
         """The first record whose time falls back: its number, the time before it, and its own."""
         self.first_request: int | None = None
-        """The time of the first request that has a sample."""
+        """The time of the first request that has a sample, if it was looked for."""
         self.times = array("q")
         """When each sample's reply was recorded, in rising order."""
 
@@ -51,9 +51,9 @@ class Recording:
         return max(0, min([max(first - time, time - last) for time in self.times[max(0, at - 1) : at + 1]]))
 
 
-def read_recording(program: Program, claim: str, capture: Operand) -> Recording:
-    """Runs `samples` and `list`."""
-    found, samples = Recording(), Samples()
+def read_recording(program: Program, claim: str, capture: Operand, wants_request: bool = False) -> Recording:
+    """Runs `samples` and `list`. The first request is looked for if it is wanted."""
+    found, samples = Recording(), Samples(wants_request)
     call = program.block if is_small(capture.name) else program.blocks
     call(samples.take, "samples", claim, capture)
     found.counts = read_counts(samples.closing.decode("ascii"))
@@ -81,7 +81,8 @@ def closing_of(block: bytes) -> int:
 class Samples:
     """What `samples` says: the counts, how many samples each server has, the first request, and all replies."""
 
-    def __init__(self) -> None:
+    def __init__(self, wants_request: bool):
+        self.wants_request = wants_request
         self.by_server = Counter[bytes]()
         self.request: int | None = None
         self.replies: set[bytes] = set()
@@ -91,9 +92,9 @@ class Samples:
         end = closing_of(block)
         self.closing = block[end:]
         words = b" ".join(SAMPLE.findall(block, 0, end)).split()
-        if words:
-            self.by_server.update(words[::3])
-            self.replies.update(words[2::3])
+        self.by_server.update(words[::3])
+        self.replies.update(words[2::3])
+        if words and self.wants_request:
             first = min(map(int, words[1::3]))
             self.request = first if self.request is None else min(self.request, first)
 
