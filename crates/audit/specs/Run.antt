@@ -1,5 +1,5 @@
 -- What a run needs and what it promises.
-use Rattle.std.specs.Prelude.{◌≡◌, ℕ, ◌≤◌, Result, Ok}
+use Rattle.std.specs.Prelude.{◌≡◌, ℕ, Result, Ok}
 use Rattle.byte_stream.specs.State.{FeedState, IsReadable, IsWritable, SinkState}
 use Rattle.report.specs.ExitStatus.{status_of}
 use Rattle.report.specs.declared.fault.Outcome.{Outcome}
@@ -43,8 +43,3 @@ abbrev pub ShowsAt : ℕ → QuestionData → FeedState → FeedState → FeedSt
 ShowsAt status question claim second capture =
     (outcome : Outcome) → status ≡ status_of (Ok outcome)
     → Shows question claim second capture outcome
-
--- a length that pieces may have, in seconds
-pub record IsStep (seconds : ℕ) : Type 0 where
-  pub least : 1 ≤ seconds
-  pub most : seconds ≤ 86400

@@ -1,6 +1,7 @@
 //! The engine of each command: one question, asked with std's hasher of a fixed key.
 
 ghost use Rattle.std.specs.Prelude.{◌≡◌, ◌≤◌, Ok, IfOk};
+ghost use Rattle.finder.specs.Piece.{IsStep};
 ghost use Rattle.report.specs.Run.{no_feed, run_state};
 ghost use Rattle.audit.specs.At.{IsHeld};
 ghost use Rattle.audit.specs.Check.{IsNotTraced, IsTraced};
@@ -8,7 +9,7 @@ ghost use Rattle.audit.specs.Envelope.{IsEnveloped};
 ghost use Rattle.audit.specs.Find.{IsAccepted, IsNotFound};
 ghost use Rattle.audit.specs.Question.{samples, at, find, check, refute, envelope, seek};
 ghost use Rattle.audit.specs.Refute.{IsContested, IsUncontested};
-ghost use Rattle.audit.specs.Run.{IsStep, MayRun, RunsAlone, RunsFor};
+ghost use Rattle.audit.specs.Run.{MayRun, RunsAlone, RunsFor};
 ghost use Rattle.audit.specs.Seek.{IsIrrefutable, IsRefutable};
 
 use crate::engine::run;
