@@ -23,8 +23,9 @@ AT_ONCE = 1 << 22
 SAMPLE = re.compile(rb"(?m)^[^ ]+ ([^ ]+ [^ ]+ [^ ]+) .*")
 """A line of `samples`: its number, the server, the records of request and reply, and then its figures."""
 
-PACKET = re.compile(rb"(?m)^([^ ]+ [^ ]+) .*")
-"""A line of `list`: the record's number, its time, and then the packet."""
+PACKET = re.compile(rb"(?m)^([^ ]+ [^ ]+)(?s: .{120}).*")
+"""A line of `list`: the record's number, its time, and then the packet, of 120 bytes at least, which are passed over at
+once."""
 
 
 class Recording:
