@@ -111,17 +111,16 @@ def side_by_side(task: Task, jobs: int, shown: Progress) -> Generator[Done, None
 
 
 class Worker:
-    """A forked process, the two pipes to it and from it, and the processor to which it keeps, if there is one."""
+    """A forked process, and the two pipes to it and from it."""
 
-    def __init__(self, task: Task, others: list[Worker], processor: int | None):
-        self.processor = processor
+    def __init__(self, task: Task, others: list[Worker]):
         its_input, self.input = os.pipe()
         self.output, its_output = os.pipe()
         self.process = os.fork()
         if not self.process:
             for end in (self.input, self.output, *(end for other in others for end in (other.input, other.output))):
                 os.close(end)
-            work(task, processor, its_input, its_output)
+            work(task, its_input, its_output)
         os.close(its_input)
         os.close(its_output)
         self.number = -1
@@ -154,21 +153,11 @@ class Worker:
         os.close(self.output)
 
 
-def keep_to(processor: int | None) -> None:
-    """Has this process and its calls run on one processor only, so that they find in its caches what they left."""
-    if processor is not None:
-        try:
-            os.sched_setaffinity(0, {processor})
-        except OSError:
-            pass  # (it was taken away meanwhile)
-
-
-def work(task: Task, processor: int | None, given: int, answers: int) -> NoReturn:
+def work(task: Task, given: int, answers: int) -> NoReturn:
     """The life of a worker, in a session of its own: Ctrl-C is for the process that forked it, which then ends it."""
     try:
         signal.signal(signal.SIGINT, signal.SIG_IGN)
         os.setsid()
-        keep_to(processor)
         gc.disable()  # (an audit leaves no cycles behind)
         task = task._replace(program=task.program._replace(caller=Caller()))
         with open(given, encoding="ascii") as numbers:
@@ -182,25 +171,21 @@ def work(task: Task, processor: int | None, given: int, answers: int) -> NoRetur
 
 
 class Team:
-    """The workers, the folders that are still to be done, and the answers that weren't taken yet. If there are as many
-    workers as processors, each keeps to one; `free` are those that no worker has."""
+    """The workers, the folders that are still to be done, and the answers that weren't taken yet."""
 
     def __init__(self, task: Task, shown: Progress):
         self.task, self.shown = task, shown
-        self.free: list[int] = []
         self.todo = iter(range(len(task.folders)))
         self.workers: dict[int, Worker] = {}
         self.answers: dict[int, Done] = {}
         self.poll = select.poll()
 
     def begin(self, number: int) -> None:
-        processors = os.sched_getaffinity(0)
-        self.free = list(processors) if len(processors) == number else []
         for _ in range(number):
             self.give(self.start())
 
     def start(self) -> Worker:
-        worker = Worker(self.task, list(self.workers.values()), self.free.pop() if self.free else None)
+        worker = Worker(self.task, list(self.workers.values()))
         self.workers[worker.output] = worker
         self.poll.register(worker.output, select.POLLIN)
         return worker
@@ -228,7 +213,6 @@ class Team:
         self.poll.unregister(worker.output)
         del self.workers[worker.output]
         worker.wait()
-        self.free += [] if worker.processor is None else [worker.processor]
         return self.start()
 
     def end(self) -> None:
