@@ -85,9 +85,11 @@ def audit_parts(capture: str, options: Options, program: Program) -> list[Entry]
     operand = Operand(capture)
     recording = read_recording(program, files.CLAIM, operand)
     claim = json.loads(read(files.CLAIM))
-    joined = {capture: sum_of_file(capture)} if capture == files.JOINED else {}
-    return [Settling(part, operand, program, joined).settle(recording, options.step)
-            for part in parts_of(claim, options.days)]
+    entries = [Settling(part, operand, program).settle(recording, options.step) for part in parts_of(claim, options.days)]
+    if capture != files.JOINED:
+        return entries
+    joined = {capture: sum_of_file(capture)}
+    return [entry._replace(outputs=entry.outputs | joined) for entry in entries]
 
 
 def parts_of(claim: dict[str, Any], days: bool) -> Iterator[Part]:

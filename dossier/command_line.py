@@ -7,7 +7,7 @@ import sys
 from collections.abc import Callable
 from typing import NoReturn
 
-from .program import Fault, Program, find_program
+from .program import Fault, Program, Stopped, find_program
 
 USAGE, OUTPUT_FAILED, INTERRUPTED = 5, 4, 130
 
@@ -72,7 +72,6 @@ def in_range(least: int, most: int) -> Callable[[str], int]:
 
 def main(words: list[str]) -> int:
     """Runs a command, and gives its status."""
-    from .work import Stopped
     try:
         status = run(parser().parse_args(words))
         sys.stdout.flush()
@@ -108,7 +107,8 @@ def run(given: argparse.Namespace) -> int:
         return run_draft(given, program)
     if given.command == "audit":
         from .audit import Options
-        from .work import Task, audit_all
+        from .task import Task
+        from .work import audit_all
         jobs = given.jobs or len(os.sched_getaffinity(0))
         options = Options(given.step, given.days, given.again)
         return audit_all(Task([tidy(folder) for folder in given.folders], options, program), jobs)

@@ -18,9 +18,6 @@ from .units import bound_ticks, seconds_of
 FAR = 10
 """A piece is far from the samples if the nearest is farther than this part of the span."""
 
-MANY = 100
-"""Samples that are enough to show, if there are more, that no piece is far."""
-
 
 class Texts(NamedTuple):
     """What the program printed of one audit."""
@@ -156,8 +153,8 @@ def warnings(
 
 def far_pieces(claim: dict[str, Any], recording: Recording, envelope: Envelope) -> Iterator[Alert]:
     first, last = seconds_of(claim["from"]) * SECOND, seconds_of(claim["to"]) * SECOND
-    limit, times = (last - first) // FAR, recording.times
-    if not times or widest_gap([first, *times[:: 1 + len(times) // MANY], times[-1], last]) <= limit:
+    limit = (last - first) // FAR
+    if not recording.replies or widest_gap([first, *recording.some_times(), last]) <= limit:
         return  # (a piece can't be farther from a sample than some of the samples are from one another)
     distances = list(map(recording.nearest, envelope.begins, envelope.ends))
     farthest = max(distances)

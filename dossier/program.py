@@ -23,6 +23,13 @@ class Fault(Exception):
         self.line, self.status = line, status
 
 
+class Stopped(BaseException):
+    """A signal came: nothing more is begun, and nothing half done is left."""
+
+    def __init__(self, number: int):
+        self.number = number
+
+
 class Ran(NamedTuple):
     """What a call gave, if it gave an answer: the status is 0 or 1."""
 

@@ -6,9 +6,9 @@ from __future__ import annotations
 
 import os
 import re
-from array import array
 from bisect import bisect_left
 from collections import Counter
+from functools import cached_property
 from itertools import compress
 
 from .answers import read_counts
@@ -23,8 +23,9 @@ AT_ONCE = 1 << 22
 SAMPLE = re.compile(rb"(?m)^[^ ]+ ([^ ]+ [^ ]+ [^ ]+) .*")
 """A line of `samples`: its number, the server, the records of request and reply, and then its figures."""
 
-PACKET = re.compile(rb"(?m)^([^ ]+ [^ ]+) .*")
-"""A line of `list`: the record's number, its time, and then the packet."""
+PACKET = re.compile(rb"(?m)^([^ ]+ [^ ]+)(?s: .{120}).*")
+"""A line of `list`: the record's number, its time, and then the packet, of 120 bytes at least, which are passed over at
+once."""
 
 
 class Recording:
@@ -40,8 +41,17 @@ class Recording:
         """The first record whose time falls back: its number, the time before it, and its own."""
         self.first_request: int | None = None
         """The time of the first request that has a sample, if it was looked for."""
-        self.times = array("q")
+        self.replies: list[bytes] = []
+        """When each sample's reply was recorded, in the words of `list`."""
+
+    @cached_property
+    def times(self) -> list[int]:
         """When each sample's reply was recorded, in rising order."""
+        return sorted(nanoseconds(self.replies))
+
+    def some_times(self) -> list[int]:
+        """The times of some hundred of these replies, the first and the last among them."""
+        return nanoseconds(self.replies[:: 1 + len(self.replies) // 100] + self.replies[-1:])
 
     def nearest(self, begin: int, end: int) -> int:
         """How far the nearest sample is from a piece of Unix seconds, in nanoseconds; 0 if one lies in it. There has to
@@ -58,10 +68,7 @@ def read_recording(program: Program, claim: str, capture: Operand, wants_request
     call(samples.take, "samples", claim, capture)
     found.counts = read_counts(samples.closing.decode("ascii"))
     found.by_server = {server.decode("ascii"): number for server, number in samples.by_server.items()}
-    times = Times(found, samples)
-    call(times.take, "list", capture)
-    if found.falls:
-        found.times = array("q", sorted(found.times))
+    call(Times(found, samples).take, "list", capture)
     return found
 
 
@@ -116,8 +123,8 @@ class Times:
             self.take_all(numbers, times)
         else:
             self.take_all([numbers[0], numbers[-1]], [times[0], times[-1]])
-        self.found.times.extend(nanoseconds(list(compress(times, map(self.replies.__contains__, numbers)))))
-        if self.request in numbers:
+        self.found.replies.extend(compress(times, map(self.replies.__contains__, numbers)))
+        if self.request and self.request in numbers:
             self.found.first_request, = nanoseconds([times[numbers.index(self.request)]])
 
     def take_all(self, numbers: list[bytes], texts: list[bytes]) -> None:

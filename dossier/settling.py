@@ -34,12 +34,12 @@ class Part(NamedTuple):
 
 
 class Settling:
-    """A claim that is being settled. `left` are the sums of the files that were left so far."""
+    """A claim that is being settled, and the files that were left so far."""
 
-    def __init__(self, part: Part, capture: Operand, program: Program, left: dict[str, str]):
+    def __init__(self, part: Part, capture: Operand, program: Program):
         self.part, self.capture, self.program = part, capture, program
         self.claim = part.within(files.CLAIM)
-        self.left = dict(left)
+        self.left: dict[str, bytes] = {}
 
     def settle(self, recording: Recording, step: int | None) -> Entry:
         """Makes all calls and leaves all files, with pieces of this length or of the one that is found."""
@@ -50,13 +50,14 @@ class Settling:
         except OSError as error:
             raise Fault(f"ntpaudit-dossier: the folder can't be written ({error.strerror})", files.DEVICE) from None
         texts = self.seek(self.measure(self.decide(step), step))
-        return judge(self.part.name, self.part.claim, recording, texts)._replace(outputs=self.left)
+        entry = judge(self.part.name, self.part.claim, recording, texts)
+        return entry._replace(outputs={path: sum_of(data) for path, data in self.left.items()})
 
     def leave(self, name: str, data: bytes) -> str:
         """Leaves a file of this part, and gives its path."""
         path = self.part.within(name)
         write_beside(path, data)
-        self.left[path] = sum_of(data)
+        self.left[path] = data
         return path
 
     def decide(self, step: int | None) -> Texts:

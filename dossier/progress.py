@@ -1,0 +1,40 @@
+"""How far many audits are."""
+from __future__ import annotations
+
+import sys
+import time
+
+from .entry import NEITHER, NO, REFUSED, YES
+from .task import Done
+
+WIDTH = 30
+
+
+class Progress:
+    """A bar on standard error, if that is a terminal."""
+
+    def __init__(self, total: int):
+        self.total, self.finished, self.begun = total, 0, time.monotonic()
+        self.tally = dict.fromkeys((YES, NO, NEITHER, REFUSED), 0)
+        self.is_shown = sys.stderr.isatty() and total > 1
+
+    def add(self, done: Done) -> None:
+        self.finished += 1
+        for verdict in done.verdicts:
+            self.tally[verdict] += 1
+
+    def summed(self, between: str) -> str:
+        return between.join(f"{number} {verdict}" for verdict, number in self.tally.items() if number)
+
+    def show(self) -> None:
+        if self.is_shown:
+            part = self.finished / self.total
+            bar = "#" * int(WIDTH * part)
+            left = f", {(time.monotonic() - self.begun) * (1 - part) / part:.0f} s left" if part else ""
+            sys.stderr.write(f"\r[{bar:{WIDTH}}] {self.finished}/{self.total} {self.summed(' ')}{left}\x1b[K")
+            sys.stderr.flush()
+
+    def clear(self) -> None:
+        if self.is_shown:
+            sys.stderr.write("\r\x1b[K")
+            sys.stderr.flush()

@@ -1,0 +1,44 @@
+"""The folders to be audited, and what came of each."""
+from __future__ import annotations
+
+from typing import NamedTuple
+
+from .audit import Options, audit_folder
+from .call import Caller
+from .entry import REFUSED
+from .folder import inside
+from .line import line_of, refusal_of
+from .program import Fault, Program
+
+
+class Done(NamedTuple):
+    """What came of a folder: its status, the verdicts in it, and the lines to be shown."""
+
+    status: int
+    verdicts: list[str]
+    lines: list[str]
+
+
+class Task(NamedTuple):
+    """The folders to be audited, and how."""
+
+    folders: list[str]
+    options: Options
+    program: Program
+
+    def audit(self, number: int) -> Done:
+        folder = self.folders[number]
+        try:
+            with inside(folder):
+                record, is_old = audit_folder(self.options, self.program)
+        except Fault as fault:
+            return self.refused(number, fault.line, fault.status)
+        lines = [line_of(folder, entry) + (" (unchanged)" if is_old else "") for entry in record.entries]
+        return Done(record.status, [entry.verdict for entry in record.entries], lines)
+
+    def refused(self, number: int, line: str, status: int) -> Done:
+        return Done(status, [REFUSED], [refusal_of(self.folders[number], line)])
+
+    def with_own_caller(self) -> Task:
+        """The same task for another process."""
+        return self._replace(program=self.program._replace(caller=Caller()))
