@@ -14,7 +14,6 @@ import os
 import select
 import signal
 import sys
-from typing import NoReturn
 
 from .program import Stopped
 from .progress import Progress
@@ -50,13 +49,16 @@ class Worker:
     """A forked process, its place on the board, and the pipe by which it answers."""
 
     def __init__(self, task: Task, board: Board, place: int, others: list[Worker]):
-        self.place, parent = place, os.getpid()
+        self.place, parent, status = place, os.getpid(), 1
         self.output, its_output = os.pipe()
         self.process = os.fork()
         if not self.process:
-            for output in (self.output, *(other.output for other in others)):
-                os.close(output)
-            work(task, board, place, parent, its_output)
+            try:
+                for output in (self.output, *(other.output for other in others)):
+                    os.close(output)
+                status = live(task, board, place, parent, its_output)
+            finally:  # (whatever comes: nothing here is for a worker any more)
+                os._exit(status)
         os.close(its_output)
         self.rest = b""
 
@@ -78,22 +80,24 @@ class Worker:
         return status == 0
 
 
-def work(task: Task, board: Board, place: int, parent: int, output: int) -> NoReturn:
-    """The life of a worker, in a session of its own: Ctrl-C is for the process that forked it, which then ends it."""
-    status = 1
+def live(task: Task, board: Board, place: int, parent: int, output: int) -> int:
+    """The life of a worker, in a session of its own: Ctrl-C is for the process that forked it, which then ends it. The
+    status is 0 if there was no folder left."""
     try:
         signal.signal(signal.SIGINT, signal.SIG_IGN)
         os.setsid()
         gc.disable()  # (an audit leaves no cycles behind)
         task = task.with_own_caller()
-        while os.getppid() == parent and (number := board.take(place)) < len(task.folders):
+        while os.getppid() == parent:
+            number = board.take(place)
+            if number >= len(task.folders):
+                return 0
             os.write(output, json.dumps([number, *task.audit(number)]).encode() + b"\n")
-        status = 0
     except (Stopped, BrokenPipeError):
         pass
     except BaseException:
         sys.excepthook(*sys.exc_info())
-    os._exit(status)
+    return 1
 
 
 class Team:
