@@ -14,6 +14,7 @@ import os
 import select
 import signal
 import sys
+import time
 
 from .program import Stopped
 from .progress import Progress
@@ -21,6 +22,10 @@ from .task import Done, Task
 
 MOMENT = 0.5
 """Seconds after which a bar is drawn again."""
+
+GATHERED = 0.02
+"""Seconds for which answers are left to gather, as long as there are folders left: to wake up for each would take time
+from the workers."""
 
 NONE = -1
 ENDED = "ntpaudit-dossier: the worker of this folder was ended"
@@ -139,6 +144,8 @@ class Team:
 
     def wait(self) -> None:
         """Takes the answers that come within a moment."""
+        if self.board.next[0] < len(self.task.folders):
+            time.sleep(GATHERED)
         for output, _ in self.poll.poll(MOMENT * 1000):
             worker = self.workers[output]
             answers = worker.answers()
