@@ -14,6 +14,7 @@ import os
 import select
 import signal
 import sys
+import time
 
 from .program import Stopped
 from .progress import Progress
@@ -21,6 +22,10 @@ from .task import Done, Task
 
 MOMENT = 0.5
 """Seconds after which a bar is drawn again."""
+
+GATHERED = 0.02
+"""Seconds for which answers are left to gather, as long as there are folders left: to wake up for each would take time
+from the workers."""
 
 NONE = -1
 ENDED = "ntpaudit-dossier: the worker of this folder was ended"
@@ -46,9 +51,9 @@ class Board:
 
 
 class Worker:
-    """A forked process, its place on the board, and the pipe by which it answers."""
+    """A forked process, its place on the board, and the pipe by which it answers. It runs on some processors only."""
 
-    def __init__(self, task: Task, board: Board, place: int, others: list[Worker]):
+    def __init__(self, task: Task, board: Board, place: int, processors: set[int], others: list[Worker]):
         self.place, parent, status = place, os.getpid(), 1
         self.output, its_output = os.pipe()
         self.process = os.fork()
@@ -56,6 +61,7 @@ class Worker:
             try:
                 for output in (self.output, *(other.output for other in others)):
                     os.close(output)
+                keep_to(processors)
                 status = live(task, board, place, parent, its_output)
             finally:  # (whatever comes: nothing here is for a worker any more)
                 os._exit(status)
@@ -80,6 +86,14 @@ class Worker:
         return status == 0
 
 
+def keep_to(processors: set[int]) -> None:
+    """Has this process and its calls run on these processors only."""
+    try:
+        os.sched_setaffinity(0, processors)
+    except OSError:
+        pass  # (they were taken away meanwhile)
+
+
 def live(task: Task, board: Board, place: int, parent: int, output: int) -> int:
     """The life of a worker, in a session of its own: Ctrl-C is for the process that forked it, which then ends it. The
     status is 0 if there was no folder left."""
@@ -101,11 +115,17 @@ def live(task: Task, board: Board, place: int, parent: int, output: int) -> int:
 
 
 class Team:
-    """The workers, and the answers that weren't taken yet."""
+    """The workers, and the answers that weren't taken yet.
+
+    If there are as many workers as processors, each keeps to one: what a worker and its calls have in a processor's
+    caches stays of use, and no two workers are on one processor while another is idle.
+    """
 
     def __init__(self, task: Task, jobs: int, shown: Progress):
         self.task, self.shown = task, shown
         self.board = Board(jobs)
+        processors = sorted(os.sched_getaffinity(0))
+        self.processors = [{own} for own in processors] if len(processors) == jobs else [set(processors)] * jobs
         self.workers: dict[int, Worker] = {}
         self.answers: dict[int, Done] = {}
         self.answered: set[int] = set()
@@ -117,12 +137,15 @@ class Team:
 
     def start(self, place: int) -> None:
         self.board.hands[place] = NONE
-        worker = Worker(self.task, self.board, place, list(self.workers.values()))
+        others = list(self.workers.values())
+        worker = Worker(self.task, self.board, place, self.processors[place], others)
         self.workers[worker.output] = worker
         self.poll.register(worker.output, select.POLLIN)
 
     def wait(self) -> None:
         """Takes the answers that come within a moment."""
+        if self.board.next[0] < len(self.task.folders):
+            time.sleep(GATHERED)
         for output, _ in self.poll.poll(MOMENT * 1000):
             worker = self.workers[output]
             answers = worker.answers()
