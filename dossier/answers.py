@@ -34,16 +34,17 @@ class Report(NamedTuple):
 
     sources: int | None
     reference: str | None
-    piece: int | None = None
-    why: str | None = None
+    piece: int | None
+    why: str | None
 
 
 def read_report(text: bytes) -> Report:
     lines = [line.split() for line in text.decode("ascii").splitlines()]
     advice = {words[1]: words[2] for words in lines if words[0] == "advice"}
-    sources, reference = advice.get("sources"), advice.get("reference")
-    fails = lines[-1][3:]
-    return Report(int(sources) if sources else None, reference, *([int(fails[0]), fails[1]] if fails else []))
+    sources, verdict = advice.get("sources"), lines[-1]
+    is_yes = verdict == ["verdict", "yes"]
+    return Report(int(sources) if sources else None, advice.get("reference"), None if is_yes else int(verdict[3]),
+                  None if is_yes else verdict[4])
 
 
 class Envelope(NamedTuple):

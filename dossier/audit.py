@@ -85,7 +85,8 @@ def audit_parts(capture: str, options: Options, program: Program) -> list[Entry]
     operand = Operand(capture)
     recording = read_recording(program, files.CLAIM, operand)
     claim = json.loads(read(files.CLAIM))
-    entries = [Settling(part, operand, program).settle(recording, options.step) for part in parts_of(claim, options.days)]
+    parts = parts_of(claim, options.days)
+    entries = [Settling(part, operand, program).settle(recording, options.step) for part in parts]
     if capture != files.JOINED:
         return entries
     joined = {capture: sum_of_file(capture)}

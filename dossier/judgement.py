@@ -164,4 +164,5 @@ def far_pieces(claim: dict[str, Any], recording: Recording, envelope: Envelope) 
 
 
 def widest_gap(times: list[int]) -> int:
-    return max(map(sub, times[1:], times))
+    gaps: Iterator[int] = map(sub, times[1:], times)
+    return max(gaps)

@@ -164,13 +164,12 @@ class Team:
         place; but none takes the place of one that didn't come to a folder at all."""
         self.poll.unregister(worker.output)
         del self.workers[worker.output]
-        if worker.wait():
-            return
         number = self.board.hands[worker.place]
-        if number != NONE:
-            if number not in self.answered:
-                self.take(number, self.ended(number))
-            self.start(worker.place)
+        if worker.wait() or number not in range(len(self.task.folders)):
+            return
+        if number not in self.answered:
+            self.take(number, self.ended(number))
+        self.start(worker.place)
 
     def ended(self, number: int) -> Done:
         return self.task.refused(number, ENDED, 3)
