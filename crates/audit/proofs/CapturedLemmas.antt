@@ -65,7 +65,7 @@ module _ (unit : TimeUnit) (records : List Record) (are : AreRecordsFrom unit 0 
 -- ---- their bytes
 
 module _ (order : Endian) (unit : TimeUnit) where
-  respelled : (number place : ℕ) (records : List Record) → AreRecordsFrom unit number place records
+  pub respelled : (number place : ℕ) (records : List Record) → AreRecordsFrom unit number place records
       → spelling order records ≡ flat_map (record_bytes order) (map frame_of records)
   respelled number place [] are = refl
   respelled number place (r ∷ records) are =

@@ -12,6 +12,7 @@ pub mod ShowsLemmas
 pub mod StatusLemmas
 pub mod HeldLemmas
 pub mod CapturedLemmas
+pub mod FramesLemmas
 pub mod ExchangedLemmas
 pub mod ClaimedLemmas
 pub mod UniquenessLemmas

@@ -4,18 +4,20 @@
 
 ghost use Rattle.std.specs.Prelude.{◌≡◌, ℕ, ◌↔◌, ◌≢◌, ◌⊎◌, List, map, None, Some, Ok, AllPairs, slice_get};
 ghost use Rattle.byte_stream.specs.Bytes.{IsBytes};
+ghost use Rattle.era_unfold.specs.declared.unit.Unit.{Unit as TimeUnit};
 ghost use Rattle.claim_file.specs.Claim.{ClaimData};
 ghost use Rattle.claim_file.specs.Reading.{claim_of};
 ghost use Rattle.ntp_packet.specs.Packet.{Packet, ntp_port, packet_of};
 ghost use Rattle.pairing.specs.Pairing.{exchanges_of};
 ghost use Rattle.pairing.specs.Refusal.{refusal_of};
 ghost use Rattle.pairing.specs.declared.exchange.Exchange.{Exchange};
+ghost use Rattle.pcap_reader.specs.declared.format.Endian.{Endian};
 ghost use Rattle.pcap_reader.specs.declared.format.Format.{Format};
 ghost use Rattle.pcap_reader.specs.Capture.{Record, IsCapture};
 ghost use Rattle.audit.specs.Headline.{ShowsHeadline};
 ghost use Rattle.audit.specs.Claimed.{IsClaimText};
 ghost use Rattle.audit.specs.Exchanged.{IsUsable, IsExchangeIn};
-ghost use Rattle.audit.specs.Captured.{IsCaptureOf, frame_of};
+ghost use Rattle.audit.specs.Captured.{CapturedFrame, IsCaptureOf, frame_of};
 ghost use Rattle.audit.specs.Held.{HoldsPacket, HoldsShown, packet_with};
 ghost use Rattle.audit.specs.Nanoseconds.{GivesNanoseconds};
 
@@ -32,7 +34,7 @@ use frame_reader::laws::given_where_held;
 use pairing::laws::{
     exchanges_are_those_of_the_pairs, reply_is_of_one_server, request_is_to_one_server,
 };
-use pcap_reader::laws::what_is_read_is_a_capture;
+use pcap_reader::laws::{one_reading, what_is_read_is_a_capture};
 
 /// What is within the bound in ticks of a claim that was read, is within its bound in nanoseconds.
 pub fn bounds_of_bytes_hold_in_nanoseconds()
@@ -67,6 +69,25 @@ pub fn records_are_frames()
         IsCapture bytes format records →
         IsCaptureOf bytes format.order format.unit (map frame_of records) }
 {}
+
+/// A capture of frames is one of records that say these, in the same byte order and unit.
+pub fn frames_are_records()
+    ensures { (bytes : List ℕ) (order : Endian) (unit : TimeUnit) (frames : List CapturedFrame) →
+        IsCaptureOf bytes order unit frames →
+        (records : List Record) × IsCapture bytes (record { order = order; unit = unit }) records
+        × (map frame_of records ≡ frames) }
+{}
+
+/// Bytes are a capture in one byte order, in one unit and of one list of frames at most.
+pub fn captures_say_one_list_of_frames()
+    ensures { (bytes : List ℕ) (order other_order : Endian) (unit other_unit : TimeUnit)
+        (frames others : List CapturedFrame) →
+        IsCaptureOf bytes order unit frames → IsCaptureOf bytes other_order other_unit others →
+        (order ≡ other_order) × (unit ≡ other_unit) × (frames ≡ others) }
+{
+    frames_are_records();
+    one_reading();
+}
 
 /// The exchanges that are collected of a capture are exchanges in its frames.
 pub fn exchanges_are_in_the_frames()

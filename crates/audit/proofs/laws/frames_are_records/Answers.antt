@@ -1,0 +1,5 @@
+use Rattle.audit.proofs.FramesLemmas.{of_records}
+use Rattle.audit.proofs.laws.frames_are_records.Goals as goal
+
+pub returns : goal.returns
+returns c = of_records
