@@ -1,3 +1,4 @@
 pub mod SourceLemmas
 pub mod SampleLemmas
 pub mod ShownLemmas
+pub mod EnvelopeLemmas

@@ -1,0 +1,22 @@
+-- The lines of the pieces of an envelope, one piece after another.
+use Rattle.std.proofs.Common.{◌≡◌, ◌∙◌, ◌+◌, ◌<◌, ◌++◌, ℕ, suc, List, [], ◌∷◌, length, map, drop, get_or, Bool, sym, ap, add-one, append_assoc}
+use Rattle.std.proofs.Math.Seq.{drop-cons}
+use Rattle.std.specs.Bool.{if◌then◌else◌}
+use Rattle.claim_file.specs.Claim.{ClaimData}
+use Rattle.sample_interval.specs.declared.kinds.Sample.{Sample}
+use Rattle.finder.specs.Envelope.{piece_data}
+use Rattle.finder.specs.declared.piece_hull.PieceHull.{PieceHull}
+use Rattle.audit_text.specs.Envelope.{lines_from, piece_line, server_lines}
+
+module _ (samples : List Sample) (claim : ClaimData) (servers : Bool) (pieces : List PieceHull) where
+  -- the lines of the servers of a piece, if they are asked for, and its own line were added
+  pub piece_added : (number : ℕ) (piece : PieceHull) (old more new start : List ℕ) → number < length pieces
+      → piece ≡ get_or pieces number piece
+      → more ≡ old ++ (if servers then server_lines samples claim number (piece_data piece) else [])
+      → new ≡ more ++ piece_line number (piece_data piece)
+      → old ++ lines_from samples claim servers number (map piece_data (drop number pieces)) ≡ start
+      → new ++ lines_from samples claim servers (number + 1) (map piece_data (drop (number + 1) pieces)) ≡ start
+  piece_added number piece old more new start within here asked own so_far =
+      let left = drop-cons pieces number piece within ∙ ap (λ p. p ∷ drop (suc number) pieces) (sym here) in
+      let before = ap (λ l. old ++ lines_from samples claim servers number (map piece_data l)) (sym left) ∙ so_far in
+      rw (own, asked, append_assoc, append_assoc, add-one) (rw (append_assoc, add-one) at before)
