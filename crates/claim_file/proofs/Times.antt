@@ -40,6 +40,12 @@ time_of-read {text} {bytes} {slice} {m} {second} {found} same known at unix is s
     test ∙ ap (bytes_eq bytes) (spelled ∙ ap spelling at) in
     time_of-there bytes second same there written ∙ ap time_of known
 
+-- a second was found, so the date and time exist
+pub found_there : (there : Bool) (known : ℤ) (found : Option ℤ) {second : ℤ} →
+    found ≡ (if there then Some known else None) → found ≡ Some second → there ≡ true
+found_there true known found unix is = refl
+found_there false known found unix is = cc
+
 -- the digits of a number below 100, read again
 pair_value-digits : (n : ℕ) → n < 100 → pair_value (48 + n / 10) (48 + n % 10) ≡ n
 pair_value-digits n small = omega arith
