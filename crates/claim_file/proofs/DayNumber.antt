@@ -1,19 +1,19 @@
 -- The answers of the number of a day.
-use Rattle.std.proofs.Common.{◌≡◌, ◌<◌, ◌≤◌, ℕ, ℤ, pos, nat_lt, nat_le, Bool, true, false, Option, Some, None, Result, Ok, Err, if◌then◌else◌, refl, ap, ◌∙◌, arith}
+use Rattle.std.proofs.Common.{◌≡◌, ◌<◌, ◌≤◌, ℕ, ℤ, pos, nat_lt, nat_le, Bool, true, false, if◌then◌else◌}
+use Rattle.std.proofs.Common.{Option, Some, None, Result, Ok, Err, refl, ap, ◌∙◌, arith}
 use Rattle.std.proofs.lemmas.Bool.{leb-true, ltb-true}
-use Rattle.std.proofs.lemmas.Bool.Decides.{Decides-ltb, nat_tests}
+use Rattle.std.proofs.lemmas.Bool.Decides.{Decides-ltb}
 use Rattle.std.proofs.lemmas.Int.{ints}
 use Rattle.std.specs.Result.{IsOk, IfOk, result_ok}
 use Rattle.jiff_core.specs.Calendar.{IsDate, days_in_month, days_from_civil}
 use Rattle.jiff.specs.declared.civil.dates.Date.{Date}
 use Rattle.claim_file.specs.Time.{is_date}
 use Rattle.claim_file.proofs.Groups.{both_true}
-
-passes : (a b : ℕ) → a ≤ b → nat_le a b ≡ true
-passes a b less = grind (arith, nat_tests)
+use Rattle.claim_file.proofs.Times.{passes}
 
 -- a date of the library is a date, where the year has four digits, and the other way round
-date_there : (year month day : ℕ) → year < 10000 → IsDate (pos year) (pos month) (pos day) → is_date year month day ≡ true
+date_there : (year month day : ℕ) → year < 10000 → IsDate (pos year) (pos month) (pos day) →
+    is_date year month day ≡ true
 date_there year month day small date =
     let (years, months, days) = date in
     let y : nat_lt year 10000 ≡ true = (Decides-ltb year 10000).1 small in
