@@ -1,4 +1,6 @@
 pub mod Addresses
+pub mod DayNumber
+pub mod FieldSteps
 pub mod Groupings
 pub mod Groups
 pub mod Lawful

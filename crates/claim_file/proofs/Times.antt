@@ -40,6 +40,27 @@ time_of-read {text} {bytes} {slice} {m} {second} {found} same known at unix is s
     test ∙ ap (bytes_eq bytes) (spelled ∙ ap spelling at) in
     time_of-there bytes second same there written ∙ ap time_of known
 
+-- a second was found, so the date and time exist
+pub found_there : (there : Bool) (known : ℤ) (found : Option ℤ) {second : ℤ} →
+    found ≡ (if there then Some known else None) → found ≡ Some second → there ≡ true
+found_there true known found unix is = refl
+found_there false known found unix is = cc
+
+found_none : (there : Bool) (known : ℤ) (found : Option ℤ) →
+    found ≡ (if there then Some known else None) → found ≡ None → there ≡ false
+found_none true known found unix is = cc
+found_none false known found unix is = refl
+
+-- a date and time that doesn't exist: the text says no second
+pub time_of-missing : {text bytes : List ℕ} {m : DateTime} {found : Option ℤ} {answer : Option ℕ} →
+    bytes ≡ text → m ≡ date_time_at bytes →
+    found ≡ (if exists m then Some (unix_second m) else None) → found ≡ None → answer ≡ None → answer ≡ time_of text
+time_of-missing {text} {bytes} {m} {found} {answer} known at unix is none =
+    let gone : exists m ≡ false = found_none (exists m) (unix_second m) found unix is in
+    let here : exists (date_time_at text) ≡ false = ap exists (sym (at ∙ ap date_time_at known)) ∙ gone in
+    none ∙ sym (ap (λ b. if b && bytes_eq text (spelling (date_time_at text))
+    then in_u32 (unix_second (date_time_at text)) else None) here)
+
 -- the digits of a number below 100, read again
 pair_value-digits : (n : ℕ) → n < 100 → pair_value (48 + n / 10) (48 + n % 10) ≡ n
 pair_value-digits n small = omega arith
@@ -130,7 +151,7 @@ unsaid false same z second e = cc
 
 -- ---- dates and times by their parts
 
-passes : (a b : ℕ) → a ≤ b → nat_le a b ≡ true
+pub passes : (a b : ℕ) → a ≤ b → nat_le a b ≡ true
 passes a b less = grind (arith, nat_tests)
 
 -- a date and time exist if the calendar has the day, and the day the time

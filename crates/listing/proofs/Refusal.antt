@@ -1,12 +1,14 @@
 -- How the run of a listing ends that has no record to list, and what it makes of a capture's bytes.
-use Rattle.std.proofs.Common.{◌≡◌, ℕ, List, [], Option, Some, None, Result, Ok, Err, refl, sym, ap, subst}
+use Rattle.std.proofs.Common.{◌≡◌, ◌≤◌, ℕ, List, [], Option, Some, None, Result, Ok, Err, refl, sym, ap, subst, arith}
 use Rattle.std.specs.Prelude.{IfSome}
 use Rattle.std.specs.Option.{option_map}
 use Rattle.byte_stream.specs.Fault.{CountsFault}
+use Rattle.byte_stream.specs.Intake.{TakesAtMost}
 use Rattle.byte_stream.specs.State.{FeedState, SinkState}
 use Rattle.pcap_reader.specs.declared.fault.CaptureFault.{CaptureFault}
 use Rattle.pcap_reader.specs.declared.fault.CaptureFault.TheVariants as captures
-use Rattle.pcap_reader.specs.Refusal.{IsRefusal}
+use Rattle.pcap_reader.specs.Limit.{most_taken, buffer_size}
+use Rattle.pcap_reader.specs.Refusal.{IsRefusal, most_refused}
 use Rattle.pcap_reader.specs.Remaining.{Coming, capture_of}
 use Rattle.pcap_reader.specs.Source.{AllRemains, is_read}
 use Rattle.report.specs.declared.fault.Outcome.{Outcome}
@@ -116,3 +118,37 @@ pub reports_refused_memory : {feed : FeedState} {before after : SinkState} {answ
     Reports report (capture_state feed before) (capture_state feed after) answer
 reports_refused_memory report p = reports_published faults.Memory report (nothing_made report) p
     (record { claim = refl; second = refl; capture = refl })
+
+-- ---- what a refusal leaves of the feed
+
+fault_is_memory : (fault : CaptureFault) → run_fault_of fault ≡ faults.Memory → fault ≡ captures.Memory
+fault_is_memory captures.Memory is = refl
+fault_is_memory captures.Read is = cc
+fault_is_memory fault is = cc
+
+-- memory is answered only where the buffer wasn't made
+pub memory_refused : {before after : SinkState} {answer : Result Outcome RunFault} (fault : CaptureFault) →
+    Publishes before after (Err (run_fault_of fault)) answer → answer ≡ Err faults.Memory → fault ≡ captures.Memory
+memory_refused fault p is =
+    let same : run_fault_of fault ≡ faults.Memory = cc (p.stays) in fault_is_memory fault same
+
+most_refused-few : (fault : CaptureFault) → most_refused fault ≤ buffer_size
+most_refused-few captures.Read = omega arith
+most_refused-few captures.Memory = omega arith
+most_refused-few fault = omega arith
+
+-- at most one buffer was taken, which is less than a whole capture
+pub refused_takes : (before after : Option (List ℕ)) (fault : CaptureFault) →
+    TakesAtMost (most_refused fault) before after → TakesAtMost buffer_size before after
+refused_takes before after fault (taken, consumed, few) =
+    (taken, consumed, omega (arith, few, most_refused-few fault))
+
+pub buffer_takes : (before after : Option (List ℕ)) → TakesAtMost buffer_size before after →
+    TakesAtMost most_taken before after
+buffer_takes before after (taken, consumed, few) = (taken, consumed, omega (arith, few))
+
+-- the same whatever the bytes are
+pub whatever_bytes : (known : Option (List ℕ)) (Q : Type 0) → Q →
+    IfSome known (λ bytes. (fault : CaptureFault) → capture_of bytes ≡ Err fault → Q)
+whatever_bytes None Q q = tt
+whatever_bytes (Some bytes) Q q = λ fault is. q
