@@ -3,6 +3,9 @@ pub mod SaidLemmas
 pub mod ExchangeLemmas
 pub mod CountingLemmas
 pub mod CoverLemmas
+pub mod TestLemmas
+pub mod KeptLemmas
+pub mod FirstFaultLemmas
 pub mod VerdictLemmas
 pub mod PieceLemmas
 pub mod PieceFitLemmas

@@ -1,8 +1,8 @@
 -- What the entries of a piece say, each by itself.
-use Rattle.std.proofs.Common.{◌≡◌, ℕ, ◌<◌, Bool, true, false, cond, not, List, [], ◌∷◌, ◌++◌, Option, Some, None, Result, Ok, Err, length, refl, sym, ◌∙◌, subst, arith}
+use Rattle.std.proofs.Common.{◌≡◌, ◌≢◌, ℕ, ◌<◌, Bool, true, false, cond, not, List, [], ◌∷◌, ◌++◌, Option, Some, None, Result, Ok, Err, length, refl, sym, ◌∙◌, subst, arith}
 use Rattle.std.specs.Prelude.{All, slice_get, ◌==◌}
 use Rattle.std.specs.List.{list_any}
-use Rattle.std.proofs.lemmas.Bool.{cond-false}
+use Rattle.std.proofs.lemmas.Bool.{cond-true, cond-false}
 use Rattle.std.proofs.lemmas.Bool.Decides.{nat_tests}
 use Rattle.std.proofs.lemmas.List.Elements.{All-push, All-nil}
 use Rattle.std.proofs.lemmas.Option.{get_or_from_slice_get, slice_get_within}
@@ -41,6 +41,24 @@ accepted stretch ppb earlier low high at_low at_high is_low is_high one new =
     rw (is_low, is_high)
     (cond-false (not (low.server == high.server)) _ _ (test_fails low.server high.server one)
     ∙ cond-false (list_any (λ (part : Part). part.server == low.server) earlier) _ _ new)
+
+-- of two servers, or of one that is named already, they are refused
+test_holds : (a b : ℕ) → a ≢ b → not (a == b) ≡ true
+test_holds a b h = grind (arith, nat_tests)
+
+module _ (stretch : Stretch) (ppb : ℕ) (earlier : List Part) (low high : Sample) (at_low at_high : Option Sample)
+    (is_low : at_low ≡ Some low) (is_high : at_high ≡ Some high) where
+  pub mixed : low.server ≢ high.server → Err MixedServers ≡ part_from stretch ppb earlier at_low at_high
+  mixed two =
+      rw (is_low, is_high)
+      (sym (cond-true (not (low.server == high.server)) _ _ (test_holds low.server high.server two)))
+
+  pub repeated : low.server ≡ high.server → list_any (λ part. part.server == low.server) earlier ≡ true
+      → Err RepeatedServer ≡ part_from stretch ppb earlier at_low at_high
+  repeated one named =
+      rw (is_low, is_high)
+      (sym (cond-false (not (low.server == high.server)) _ _ (test_fails low.server high.server one)
+      ∙ cond-true (list_any (λ (part : Part). part.server == low.server) earlier) _ _ named))
 
 module _ (samples : List Sample) (stretch : Stretch) (ppb : ℕ) (P : Part → Type 0) where
   -- P holds of whatever an entry can say

@@ -1,5 +1,5 @@
 use Rattle.std.proofs.Common.{◌∙◌, sym, ap, Ok}
-use Rattle.checker.proofs.PartLemmas.{accepted}
+use Rattle.checker.proofs.PartLemmas.{accepted, mixed, repeated}
 use Rattle.checker.proofs.entry.part.Goals as goal
 
 pub returns : goal.returns
@@ -8,3 +8,14 @@ returns g c =
     ∙ sym (accepted c.args.stretch c.args.drift_ppb c.args.earlier.now c.in-Some.low c.in-Some-sample_named.high _ _
     (sym c.in-Some.ensures) (sym c.in-Some-sample_named.ensures) c.if-server-high.false
     (sym c.names_server.ensures ∙ c.if-names_server.false))
+
+pub returns-then-server-high : goal.returns-then-server-high
+returns-then-server-high g c =
+    mixed c.args.stretch c.args.drift_ppb c.args.earlier.now c.in-Some.low c.in-Some-sample_named.high _ _
+    (sym c.in-Some.ensures) (sym c.in-Some-sample_named.ensures) c.if-server-high.true
+
+pub returns-then-names_server : goal.returns-then-names_server
+returns-then-names_server g c =
+    repeated c.args.stretch c.args.drift_ppb c.args.earlier.now c.in-Some.low c.in-Some-sample_named.high _ _
+    (sym c.in-Some.ensures) (sym c.in-Some-sample_named.ensures) c.if-server-high.false
+    (sym c.names_server.ensures ∙ c.if-names_server.true)

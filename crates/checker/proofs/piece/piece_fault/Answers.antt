@@ -1,6 +1,16 @@
-use Rattle.std.proofs.Common.{length, ap, ◌∙◌}
+use Rattle.std.proofs.Common.{length, Ok, Err, ap, ap₂, ◌∙◌}
+use Rattle.std.proofs.lemmas.Int.{to_z-of_z}
+use mir.Syntax.{w128}
+use Rattle.claim_file.specs.Claim.{data_of}
+use Rattle.certificate.specs.Certificate.{piece_data}
+use Rattle.span_cover.specs.Group.{piece_hull}
+use Rattle.checker.specs.Verdict.{hull_fault}
+use Rattle.checker.proofs.FirstFaultLemmas.{cut_before, cut_after, uncut, uncut_piece}
+use Rattle.checker.proofs.KeptLemmas.{last_kept, bound_kept}
 use Rattle.checker.proofs.PartLemmas.{listed_parts, listed_again}
 use Rattle.checker.proofs.piece.piece_fault.Goals as goal
+use Rattle.checker.proofs.piece.piece_fault.Goals.{then-stretch-begin-via-then-stretch-begin}
+use Rattle.checker.proofs.piece.piece_fault.Goals.{then-stretch-begin-via-else-stretch-begin+then-claim-stretch}
 
 pub piece_hull-requires-clause-listed : goal.piece_hull-requires-clause-listed
 piece_hull-requires-clause-listed g c =
@@ -11,3 +21,59 @@ piece_hull-requires-clause-listed g c =
     listed_again c.as_slice.result.now c.add_parts.new.parts.items c.as_slice-in-Ok.result.now _
     c.as_slice.ensures.value
     (ap length c.as_slice-in-Ok.ensures.value ∙ c.requires.claim.group_for_each) listed
+
+pub add_parts-requires-clause-stretch : goal.add_parts-requires-clause-stretch
+add_parts-requires-clause-stretch g c =
+    let claim = data_of c.args.claim.now in
+    let begin = to_z-of_z w128 c.args.begin c.ranges.begin in
+    let fits = to_z-of_z w128 c.from.result (record { sfits = c.from.type_inv }) in
+    let end = fits ∙ c.from.ensures in
+    let last = last_kept claim c.requires.claim in
+    uncut_piece (g.S.SampleSource.samples c.args.samples) claim c.args.begin (piece_data c.args.piece.now) _ _ _ begin
+    end last c.requires.from_1970 c.requires.claim.span_ends (rw fits at c.if-stretch-begin.false)
+    (rw fits at c.if-claim-stretch.false)
+
+pub returns-then-stretch-begin : goal.returns-then-stretch-begin
+returns-then-stretch-begin g c =
+    let samples = g.S.SampleSource.samples c.args.samples in
+    let claim = data_of c.args.claim.now in
+    let piece = piece_data c.args.piece.now in
+    let begin = to_z-of_z w128 c.args.begin c.ranges.begin in
+    let fits = to_z-of_z w128 c.from.result (record { sfits = c.from.type_inv }) in
+    let end = fits ∙ c.from.ensures in
+    let last = last_kept claim c.requires.claim in
+    elim c.then-stretch-begin.branch [
+      | then-stretch-begin-via-then-stretch-begin w ↦
+          cut_before samples claim c.args.begin piece _ _ _ begin end last (rw fits at w.if-stretch-begin.true)
+      | then-stretch-begin-via-else-stretch-begin+then-claim-stretch w ↦
+          cut_after samples claim c.args.begin piece _ _ _ begin end last (rw fits at w.if-stretch-begin.false)
+          (rw fits at w.if-claim-stretch.true)
+    ]
+
+pub returns-in-Ok : goal.returns-in-Ok
+returns-in-Ok g c =
+    let samples = g.S.SampleSource.samples c.args.samples in
+    let claim = data_of c.args.claim.now in
+    let begin = to_z-of_z w128 c.args.begin c.ranges.begin in
+    let fits = to_z-of_z w128 c.from.result (record { sfits = c.from.type_inv }) in
+    let end = fits ∙ c.from.ensures in
+    let last = last_kept claim c.requires.claim in
+    c.hull_fault.ensures
+    ∙ ap₂ hull_fault (bound_kept claim c.requires.claim)
+    (c.piece_hull.ensures
+    ∙ ap₂ (λ groups parts. piece_hull groups claim.false_max parts) c.as_slice-in-Ok.ensures.value
+    c.as_slice.ensures.value)
+    ∙ uncut samples claim c.args.begin (piece_data c.args.piece.now) _ _ _ begin end last
+    (Ok c.add_parts.new.parts.items) (rw fits at c.if-stretch-begin.false) (rw fits at c.if-claim-stretch.false)
+    c.in-Ok.ensures
+
+pub returns-in-Err : goal.returns-in-Err
+returns-in-Err g c =
+    let samples = g.S.SampleSource.samples c.args.samples in
+    let claim = data_of c.args.claim.now in
+    let begin = to_z-of_z w128 c.args.begin c.ranges.begin in
+    let fits = to_z-of_z w128 c.from.result (record { sfits = c.from.type_inv }) in
+    let end = fits ∙ c.from.ensures in
+    let last = last_kept claim c.requires.claim in
+    uncut samples claim c.args.begin (piece_data c.args.piece.now) _ _ _ begin end last (Err c.in-Err.why)
+    (rw fits at c.if-stretch-begin.false) (rw fits at c.if-claim-stretch.false) c.in-Err.ensures

@@ -1,4 +1,4 @@
-use Rattle.std.proofs.Common.{◌<◌, List, length, map, sym, ap, ◌∙◌, subst, rules}
+use Rattle.std.proofs.Common.{◌<◌, List, length, map, sym, ap, ◌∙◌, subst}
 use Rattle.std.specs.List.{All}
 use Rattle.claim_file.specs.Claim.{data_of as claim_data}
 use Rattle.certificate.specs.Certificate.{data_of as certificate_data}
@@ -7,13 +7,14 @@ use Rattle.sample_interval.specs.declared.kinds.Sample.{Sample}
 use Rattle.checker.specs.Traceability.{samples_of, IsVerdictOn}
 use Rattle.checker.specs.Verdict.{verdict_of}
 use Rattle.checker.proofs.ExchangeLemmas.{listed_samples, lawful_samples, same_samples}
+use Rattle.checker.proofs.KeptLemmas.{reading_kept}
 use Rattle.checker.proofs.verdict.check_exchanges.Goals as goal
 
 pub first_fault-requires-clause-samples : goal.first_fault-requires-clause-samples
 first_fault-requires-clause-samples g c =
     let claim = claim_data c.args.claim.now in
     let xs = map g.X.ToExchange.shown c.args.exchanges.now in
-    subst (All IsLawfulSample) (same_samples xs claim _ (search rules))
+    subst (All IsLawfulSample) (same_samples xs claim _ (reading_kept claim c.requires.claim))
     (lawful_samples xs claim _ c.requires.claim c.requires.exchanges)
 
 pub first_fault-requires-clause-listed : goal.first_fault-requires-clause-listed
@@ -21,7 +22,8 @@ first_fault-requires-clause-listed g c =
     let claim = claim_data c.args.claim.now in
     let xs = map g.X.ToExchange.shown c.args.exchanges.now in
     let servers = length c.args.claim.now.servers.items in
-    subst (All (λ (sample : Sample). sample.server < servers)) (same_samples xs claim _ (search rules))
+    let reading = reading_kept claim c.requires.claim in
+    subst (All (λ (sample : Sample). sample.server < servers)) (same_samples xs claim _ reading)
     (listed_samples xs claim servers c.requires.exchanges)
 
 pub returns : goal.returns
@@ -32,7 +34,7 @@ returns g c =
     let exact =
     c.first_fault.ensures
     ∙ ap (λ (samples : List Sample). verdict_of samples claim certificate)
-    (sym (same_samples xs claim _ (search rules))) in
+    (sym (same_samples xs claim _ (reading_kept claim c.requires.claim))) in
     subst (IsVerdictOn claim (samples_of xs claim) certificate) (sym exact)
     (c.verdicts_are_traceable.ensures claim (samples_of xs claim) certificate c.requires.claim
     (listed_samples xs claim _ c.requires.exchanges))

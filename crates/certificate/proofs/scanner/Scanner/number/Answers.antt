@@ -1,4 +1,4 @@
-use Rattle.std.proofs.Common.{◌≡◌, ◌+◌, ◌*◌, ◌<◌, ◌^◌, arith, subst}
+use Rattle.std.proofs.Common.{◌≡◌, ◌+◌, ◌*◌, ◌<◌, ◌^◌, length, ap, arith, subst}
 use Rattle.certificate.proofs.Digits.{IsRead, first_digit, next_digit}
 use Rattle.certificate.proofs.scanner.Scanner.number.Goals as goal
 
@@ -26,3 +26,6 @@ loop-digit-preserved c =
     subst (λ m. IsRead c.args.self.now c.digit-in-loop-digit.new.self m) is
     (next_digit c.args.self.now c.loop-digit.self c.digit-in-loop-digit.new.self n digit c.loop-digit.invariant
     c.in-Some.ensures.read (c.in-Some.ensures.digit, fits))
+
+pub loop-digit-smaller : goal.loop-digit-smaller
+loop-digit-smaller c = omega (arith, ap length c.in-Some.ensures.read)

@@ -1,0 +1,35 @@
+-- The numbers of a claim that keeps its limits, as 128 bits hold them.
+use Rattle.std.proofs.Common.{◌≡◌, ◌^◌, ◌<◌, ℤ, unsigned_abs, to_z, of_z, arith}
+use Rattle.std.proofs.lemmas.Int.{ints, to_z-of_z, fits_signed_from_abs}
+use mir.Syntax.{w128}
+use Rattle.claim_file.specs.Claim.{ClaimData, IsLawful}
+
+pub kept : (a : ℤ) → unsigned_abs a < 2 ^ 127 → to_z w128 (of_z w128 a) ≡ a
+kept a h = to_z-of_z w128 a (fits_signed_from_abs w128 a h)
+
+module _ (claim : ClaimData) (lawful : IsLawful claim) where
+  pub first_kept : to_z w128 (of_z w128 claim.first) ≡ claim.first
+  first_kept =
+      let begins = lawful.span_begins in
+      let forward = lawful.span_forward in
+      let ends = lawful.span_ends in
+      kept claim.first (omega (arith, ints))
+
+  pub last_kept : to_z w128 (of_z w128 claim.last) ≡ claim.last
+  last_kept =
+      let begins = lawful.span_begins in
+      let forward = lawful.span_forward in
+      let ends = lawful.span_ends in
+      kept claim.last (omega (arith, ints))
+
+  pub bound_kept : to_z w128 (of_z w128 claim.bound) ≡ claim.bound
+  bound_kept =
+      let not_below = lawful.bound_not_negative in
+      let not_above = lawful.bound_in_range in
+      kept claim.bound (omega (arith, ints))
+
+  pub reading_kept : to_z w128 (of_z w128 claim.reading) ≡ claim.reading
+  reading_kept =
+      let from = lawful.reading_not_negative in
+      let to = lawful.reading_in_range in
+      kept claim.reading (omega (arith, ints))

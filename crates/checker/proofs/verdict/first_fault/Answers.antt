@@ -1,0 +1,73 @@
+use Rattle.std.proofs.Common.{◌≡◌, ◌≤◌, length, map, sym, ap, ◌∙◌, arith, to_z, of_z}
+use Rattle.std.proofs.lemmas.Int.{ints, to_z-of_z}
+use Rattle.std.proofs.Math.Facts.{of_z-to_z}
+use mir.Syntax.{w128}
+use Rattle.claim_file.specs.Claim.{data_of as claim_data}
+use Rattle.certificate.specs.Certificate.{piece_data}
+use Rattle.checker.specs.Verdict.{verdict_from}
+use Rattle.checker.proofs.FirstFaultLemmas.{none_read, ends_elsewhere, stops_at, passes_to, covered, uncovered}
+use Rattle.checker.proofs.KeptLemmas.{first_kept, last_kept}
+use Rattle.checker.proofs.verdict.first_fault.Goals as goal
+use Rattle.checker.proofs.verdict.first_fault.Goals.{else-count-gt0-via-then-count-gt0+else-begin-claim}
+use Rattle.checker.proofs.verdict.first_fault.Goals.{else-count-gt0-via-else-count-gt0}
+
+pub loop-number-init : goal.loop-number-init
+loop-number-init g c =
+    let samples = g.S.SampleSource.samples c.args.samples in
+    let claim = claim_data c.args.claim.now in
+    let lawful = c.requires.claim in
+    let first = first_kept claim lawful in
+    let forward = lawful.span_forward in
+    let ends = lawful.span_ends in
+    record {
+      rest = ap (λ b. verdict_from samples claim 0 b (map piece_data c.args.certificate.now.pieces.items)) first;
+      from_1970 = rw first lawful.span_begins;
+      in_range = rw first (omega (arith, ints));
+    }
+
+pub loop-number-preserved : goal.loop-number-preserved
+loop-number-preserved g c =
+    let samples = g.S.SampleSource.samples c.args.samples in
+    let claim = claim_data c.args.claim.now in
+    let upto = to_z-of_z w128 c.from-begin.result (record { sfits = c.from-begin.type_inv }) ∙ c.from-begin.ensures in
+    record {
+      rest = passes_to samples claim c.args.certificate.now.pieces.items c.loop-number.number _ _
+          c.loop-number.invariant.rest c.deref-piece-items.result.now c.piece-item.result
+          c.deref-piece-items.ensures.value c.piece-item.is c.loop-number-test.true _ upto
+          (sym c.piece_fault.ensures ∙ c.in_default.is);
+      from_1970 = rw upto (omega (arith, ints));
+      in_range = rw upto (omega (arith, ints));
+    }
+
+pub returns-in-Some : goal.returns-in-Some
+returns-in-Some g c =
+    let samples = g.S.SampleSource.samples c.args.samples in
+    let claim = claim_data c.args.claim.now in
+    stops_at samples claim c.args.certificate.now.pieces.items c.loop-number.number _ _
+    c.loop-number.invariant.rest c.deref-piece-items.result.now c.piece-item.result
+    c.deref-piece-items.ensures.value c.piece-item.is c.loop-number-test.true c.in-Some.why
+    (sym c.piece_fault.ensures ∙ c.in-Some.is)
+
+pub returns-then-begin-claim : goal.returns-then-begin-claim
+returns-then-begin-claim g c =
+    let samples = g.S.SampleSource.samples c.args.samples in
+    let claim = claim_data c.args.claim.now in
+    let over : length c.args.certificate.now.pieces.items ≤ c.loop-number.number = omega arith in
+    covered samples claim c.args.certificate.now.pieces.items c.loop-number.number _ _ c.loop-number.invariant.rest over
+    (omega arith) (ap (to_z w128) c.if-begin-claim.true ∙ last_kept claim c.requires.claim)
+
+pub returns : goal.returns
+returns g c =
+    let samples = g.S.SampleSource.samples c.args.samples in
+    let claim = claim_data c.args.claim.now in
+    let pieces = c.args.certificate.now.pieces.items in
+    let n = c.loop-number.number in
+    let over : length pieces ≤ n = omega arith in
+    let all : c.len-count.result ≡ n = omega arith in
+    uncovered samples claim pieces n _ _ c.loop-number.invariant.rest over c.len-count.result all
+    (elim c.else-count-gt0.branch [
+      | else-count-gt0-via-then-count-gt0+else-begin-claim w ↦
+          ends_elsewhere n _ claim.last
+          (λ ends. w.if-begin-claim.false (sym (of_z-to_z c.loop-number.auto.begin) ∙ ap (of_z w128) ends))
+      | else-count-gt0-via-else-count-gt0 w ↦ none_read n _ claim.last (omega arith)
+    ])
