@@ -1,4 +1,4 @@
-use Rattle.std.proofs.Common.{◌+◌, ◌-◌, ◌++◌, ◌≤◌, ℕ, List, length, take, arith, length-append}
+use Rattle.std.proofs.Common.{◌+◌, ◌-◌, ◌++◌, ◌≤◌, ℕ, List, length, take, arith, length-append, subst, sym}
 use Rattle.std.proofs.lemmas.List.{length-take}
 use Rattle.std.proofs.KnownBytes.{Consumes-trans}
 use Rattle.report.proofs.InputLemmas.{own_byte, takes_within}
@@ -20,7 +20,8 @@ returns-then-n-room-clause-at_most g c =
     let one = own_byte c.args.which in (
       read ++ take n c.pull.new.into,
       Consumes-trans _ _ _ _ _ c.pulls.invariant.taken c.in-Ok.ensures.known.0,
-      (rw one (within read c.pull.new.into n (c.args.limit + 1) all)),
+      subst (λ (past : ℕ). length (read ++ take n c.pull.new.into) ≤ c.args.limit + past) (sym one)
+          (within read c.pull.new.into n (c.args.limit + 1) all),
     )
 
 pub returns-in_err-extend_from_slice-clause-at_most :

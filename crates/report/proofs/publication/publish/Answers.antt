@@ -1,0 +1,74 @@
+use Rattle.std.proofs.Common.{◌≡◌, ◌∙◌, ℕ, List, [], Bool, Err, inl, Ok, Option, None, refl, Some, sym}
+use Rattle.std.proofs.lemmas.List.{append-nil}
+use Rattle.std.specs.Io.KnownBytes.{Appends, Keeps}
+use Rattle.std.specs.Prelude.{is_err}
+use Rattle.byte_stream.specs.Fault.{CountsFault}
+use Rattle.byte_stream.specs.State.{SinkState}
+use Rattle.report.specs.declared.fault.Input.{Input}
+use Rattle.report.specs.declared.fault.Outcome.{Outcome}
+use Rattle.report.specs.declared.fault.RunFault.{RunFault}
+use Rattle.report.specs.declared.fault.RunFault.TheVariants.{Device, Memory, Write}
+use Rattle.report.specs.declared.publication.Made.{Made}
+use Rattle.report.specs.Delivery.{Delivers}
+use Rattle.report.specs.Publication.{IsMadeFor, IsUnwritten, Publishes}
+use Rattle.report.specs.Reports.{CountsSink, GetsText, Report, is_device, text_of}
+use Rattle.report.proofs.ClosingLemmas.{Finishes}
+use Rattle.report.proofs.Known.{appends_same}
+use Rattle.report.proofs.publication.publish.Goals as goal
+
+-- the whole text went out
+publishes_text : (made : Made) (text : List ℕ) (before after : SinkState) → text ≡ made.text.items →
+    Delivers text before after (Ok tt) → Publishes before after (Ok made) (Ok made.outcome)
+publishes_text made text before after same p = record {
+  text = λ report is. (sym is.1, appends_same _ _ text (text_of report) (same ∙ sym is.0) p.went);
+  stays = inl refl;
+  closed = p.closed;
+  sink = p.counted;
+  device = λ which. refl;
+}
+
+appends_nothing : (a b : Option (List ℕ)) → Keeps a b → Appends a b []
+appends_nothing None b kept = tt
+appends_nothing (Some xs) None kept = absurd kept
+appends_nothing (Some xs) (Some ys) kept = kept ∙ sym (append-nil xs)
+
+refusal_text : (report : Report) (fault : RunFault) (before after : Option (List ℕ)) → IsUnwritten (Err fault) →
+    IsMadeFor report (Err fault) → Keeps before after → GetsText report before after (Err fault)
+refusal_text report Memory before after unwritten is kept = kept
+refusal_text report (Device input) before after unwritten is kept =
+    ([], report.lines, refl, appends_nothing before after kept)
+refusal_text report (Write sent) before after unwritten is kept = absurd unwritten
+refusal_text report fault before after unwritten is kept =
+    (sym is.1, appends_same before after [] (text_of report) (sym is.0) (appends_nothing before after kept))
+
+refusal_counts : (fault : RunFault) (failed : Bool) (before after : ℕ) → IsUnwritten (Err fault) →
+    CountsFault failed before after → CountsSink (Err fault) before after
+refusal_counts (Write sent) failed before after unwritten counts = absurd unwritten
+refusal_counts fault failed before after unwritten counts = (failed, counts)
+
+refusal_device : (fault : RunFault) (which : Input → Bool) →
+    is_device {A = Outcome} which (Err fault) ≡ is_device {A = Made} which (Err fault)
+refusal_device (Device input) which = refl
+refusal_device fault which = refl
+
+-- a refusal stays, however the sink was finished
+publishes_refusal : (fault : RunFault) (before after : SinkState) (failed : Bool) → IsUnwritten (Err fault) →
+    Finishes before after failed → Publishes before after (Err fault) (Err fault)
+publishes_refusal fault before after failed unwritten finishes = record {
+  text = λ report is. refusal_text report fault before.contents after.contents unwritten is finishes.kept;
+  stays = refl;
+  closed = finishes.closed;
+  sink = refusal_counts fault failed before.faults after.faults unwritten finishes.counts;
+  device = λ which. refusal_device fault which;
+}
+
+pub returns-in-Ok-deliver : goal.returns-in-Ok-deliver
+returns-in-Ok-deliver g c =
+    rw c.in-Ok.is (publishes_text c.in-Ok.made _ _ _ c.as_slice.ensures.value c.in-Ok-deliver.ensures)
+
+pub returns-in-Err : goal.returns-in-Err
+returns-in-Err g c =
+    let finishes = c.finish.ensures in
+    let unwritten = rw c.in-Err.is at c.requires.unwritten in
+    rw c.in-Err.is (publishes_refusal c.in-Err.fault _ _ (is_err c.finish.result) unwritten
+    (record { kept = finishes.known; closed = finishes.closes; counts = finishes.counts_fault }))
