@@ -1,5 +1,6 @@
 use Rattle.std.proofs.Common.{◌≡◌, ◌⊎◌, List, ℕ, Err, sym, ap, subst, inl, inr}
 use Rattle.std.specs.Prelude.{IfSome}
+use Rattle.claim_file.specs.declared.claim.Claim.{Claim}
 use Rattle.claim_file.specs.declared.fault.ClaimFault.{ClaimFault}
 use Rattle.claim_file.specs.declared.fault.ClaimFault.TheVariants as claims
 use Rattle.claim_file.specs.Claim.{data_of}
@@ -9,6 +10,7 @@ use Rattle.report.specs.declared.fault.RunFault.{RunFault}
 use Rattle.report.specs.Fault.{claim_run_fault_of}
 use Rattle.report.specs.Reading.{IsFromOutside, Reads}
 use Rattle.report.specs.ClaimInput.{claim_or_fault, claim_read}
+use Rattle.report.proofs.InputLemmas.{takes_within}
 use Rattle.report.proofs.ReadingLemmas.{input_is_read, input_refused, input_unread}
 use Rattle.report.proofs.claim_input.read_claim_from.Goals as goal
 
@@ -36,3 +38,13 @@ returns-in-Ok-clause-known g c =
     (sym c.from.ensures)
     (input_refused data_of 65536 inputs.Claim (λ b. claim_or_fault (claim_of b)) _ _ _ c.in-Ok.ensures.whole
     (refusal _ c.in-Err-read_claim.fault (rw c.as_slice.ensures.value at c.in-Err-read_claim.ensures.exact)))
+
+pub returns-in-Ok-read_claim-clause-at_most : goal.returns-in-Ok-read_claim-clause-at_most
+returns-in-Ok-read_claim-clause-at_most g c = c.in-Ok.ensures.at_most
+
+pub returns-in-Ok-clause-at_most : goal.returns-in-Ok-clause-at_most
+returns-in-Ok-clause-at_most g c =
+    takes_within {X = Claim} inputs.Claim 65536 (Err c.from.result) _ _ c.in-Ok.ensures.at_most
+
+pub returns-clause-at_most : goal.returns-clause-at_most
+returns-clause-at_most g c = c.in-Err.ensures.at_most
