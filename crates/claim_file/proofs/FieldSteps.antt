@@ -2,7 +2,7 @@
 use Rattle.std.proofs.Common.{◌≡◌, Option, Some, None, Result, Ok, Err, option_map, refl, sym, ap, ◌∙◌, inl, inr}
 use Rattle.std.specs.Option.{ok_or}
 use Rattle.std.specs.Result.{IsErr, IsErrAnd}
-use Rattle.json_text.specs.Step.{given}
+use Rattle.json_text.specs.Step.{given, Gives}
 use Rattle.claim_file.specs.declared.fault.ClaimFault.{ClaimFault}
 use Rattle.claim_file.specs.declared.fault.ClaimFault.TheVariants.{Memory}
 use Rattle.claim_file.specs.Fault.{Answers}
@@ -49,6 +49,12 @@ pub answers_fault : {A B : Type 0} (shown : A → B) {defined : Result B ClaimFa
     Answers answer shown defined
 answers_fault shown (Ok x) (err, is) stopped = cc
 answers_fault shown (Err f) (err, is) stopped = inr (stopped ∙ ap Err (sym is))
+
+pub gives_fault : {A B : Type 0} (shown : A → B) {defined : Result B ClaimFault} {e : ClaimFault}
+    (answer : Result A ClaimFault) → IsErr answer × IsErrAnd answer (λ f. f ≡ e) → defined ≡ Err e →
+    Gives answer shown defined
+gives_fault shown (Ok x) (err, is) stopped = cc
+gives_fault shown (Err f) (err, is) stopped = stopped ∙ ap Err (sym is)
 
 pub answers_memory : {A B : Type 0} (shown : A → B) (defined : Result B ClaimFault) (answer : Result A ClaimFault) →
     IsErr answer × IsErrAnd answer (λ f. f ≡ Memory) → Answers answer shown defined

@@ -6,4 +6,5 @@ pub mod Groups
 pub mod Lawful
 pub mod Times
 pub mod Made
+pub mod Scalars
 pub mod Worked

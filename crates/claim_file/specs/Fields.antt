@@ -9,6 +9,7 @@ use Rattle.json_text.specs.Member.{members_among, text_at, items_at, unsigned_at
 use Rattle.claim_file.specs.declared.fault.ClaimFault.{ClaimFault}
 use Rattle.claim_file.specs.declared.fault.ClaimFault.TheVariants.{Field}
 use Rattle.claim_file.specs.declared.fields.Fields.{Fields}
+use Rattle.claim_file.specs.declared.fields.Scalars.{Scalars}
 use Rattle.json_text.specs.Step.{given}
 
 pub record FieldsData : Type 0 where
@@ -21,6 +22,15 @@ pub record FieldsData : Type 0 where
   pub drift_ppb : ℕ
   pub reading_ns : ℕ
   pub groups : Option (List (List ℕ))
+
+-- the members from `false_max` to `reading_ns`, each a number or a text
+pub record ScalarsData : Type 0 where
+  pub false_max : ℕ
+  pub begin : List ℕ
+  pub end : List ℕ
+  pub bound_ns : ℕ
+  pub drift_ppb : ℕ
+  pub reading_ns : ℕ
 
 -- the names that a claim may have
 abbrev pub claim_names : List (List ℕ)
@@ -75,6 +85,24 @@ fields_of value =
       groups = groups;
     })
 
+-- the same of those from `false_max` to `reading_ns` alone
+abbrev pub scalars_of : Data → Result ScalarsData ClaimFault
+scalars_of value =
+    given (Field 3) (unsigned_at (codes "false_max") value) λ false_max.
+    given (Field 4) (text_at (codes "from") value) λ begin.
+    given (Field 5) (text_at (codes "to") value) λ end.
+    given (Field 6) (unsigned_at (codes "bound_ns") value) λ bound_ns.
+    given (Field 7) (unsigned_at (codes "drift_ppb") value) λ drift_ppb.
+    given (Field 8) (unsigned_at (codes "reading_ns") value) λ reading_ns.
+    Ok (record {
+      false_max = false_max;
+      begin = begin;
+      end = end;
+      bound_ns = bound_ns;
+      drift_ppb = drift_ppb;
+      reading_ns = reading_ns;
+    })
+
 -- what the members that were read say
 abbrev pub fields_data : Fields → FieldsData
 fields_data f = record {
@@ -87,4 +115,14 @@ fields_data f = record {
   drift_ppb = f.drift_ppb;
   reading_ns = f.reading_ns;
   groups = option_map (λ lists. map (λ list. list.items) lists.items) f.groups;
+}
+
+abbrev pub scalars_data : Scalars → ScalarsData
+scalars_data s = record {
+  false_max = s.false_max;
+  begin = s.begin.now;
+  end = s.end.now;
+  bound_ns = s.bound_ns;
+  drift_ppb = s.drift_ppb;
+  reading_ns = s.reading_ns;
 }

@@ -2,7 +2,8 @@
 
 ghost use Rattle.serde_json.specs.View.{view};
 ghost use Rattle.claim_file.specs.Fault.{Answers};
-ghost use Rattle.claim_file.specs.Fields.{fields_data, fields_of};
+ghost use Rattle.claim_file.specs.Fields.{fields_data, fields_of, scalars_data, scalars_of};
+ghost use Rattle.json_text.specs.Step.{Gives};
 
 use crate::elements::{groups_at, texts_at};
 use crate::fault::ClaimFault;
@@ -44,22 +45,48 @@ pub(crate) fn read_fields(alloc: Global, value: &Value) -> Result<Fields<'_>, Cl
     members_among(value, &NAMES).ok_or(ClaimFault::Field(0))?;
     let client = text_at(value, "client").ok_or(ClaimFault::Field(1))?;
     let servers = texts_at(alloc, value, "servers")?.ok_or(ClaimFault::Field(2))?;
+    let scalars = read_scalars(value)?;
+    let groups = groups_at(alloc, value)?.ok_or(ClaimFault::Field(9))?;
+    Ok(Fields {
+        client,
+        servers,
+        false_max: scalars.false_max,
+        begin: scalars.begin,
+        end: scalars.end,
+        bound_ns: scalars.bound_ns,
+        drift_ppb: scalars.drift_ppb,
+        reading_ns: scalars.reading_ns,
+        groups,
+    })
+}
+
+/// The members from `false_max` to `reading_ns`, each a number or a text.
+#[derive(Clone, Copy)]
+struct Scalars<'v> {
+    false_max: u64,
+    begin: &'v str,
+    end: &'v str,
+    bound_ns: u64,
+    drift_ppb: u64,
+    reading_ns: u64,
+}
+
+/// Those members, by rising code too.
+fn read_scalars(value: &Value) -> Result<Scalars<'_>, ClaimFault>
+    ensures exact { Gives result scalars_data (scalars_of (view value.now)) }
+{
     let false_max = unsigned_at(value, "false_max").ok_or(ClaimFault::Field(3))?;
     let begin = text_at(value, "from").ok_or(ClaimFault::Field(4))?;
     let end = text_at(value, "to").ok_or(ClaimFault::Field(5))?;
     let bound_ns = unsigned_at(value, "bound_ns").ok_or(ClaimFault::Field(6))?;
     let drift_ppb = unsigned_at(value, "drift_ppb").ok_or(ClaimFault::Field(7))?;
     let reading_ns = unsigned_at(value, "reading_ns").ok_or(ClaimFault::Field(8))?;
-    let groups = groups_at(alloc, value)?.ok_or(ClaimFault::Field(9))?;
-    Ok(Fields {
-        client,
-        servers,
+    Ok(Scalars {
         false_max,
         begin,
         end,
         bound_ns,
         drift_ppb,
         reading_ns,
-        groups,
     })
 }

@@ -1,5 +1,7 @@
 use Rattle.std.proofs.Common.{◌∙◌}
-use Rattle.claim_file.proofs.FieldSteps.{past, past_shown, stops, stops_shown, answers_fault, answers_memory}
+use Rattle.serde_json.specs.View.{view}
+use Rattle.claim_file.proofs.FieldSteps.{past_shown, stops_shown, answers_fault, answers_memory}
+use Rattle.claim_file.proofs.Scalars.{with_scalars, together, past_after, stops_after}
 use Rattle.claim_file.proofs.fields.read_fields.Goals as goal
 
 pub returns-in_err-ok_or : goal.returns-in_err-ok_or
@@ -26,73 +28,14 @@ returns-in_err-servers c = record {
       ∙ stops_shown _ _ _ _ c.in_ok-texts_at.ensures c.in_err-servers.ensures.value);
 }
 
-pub returns-in_err-false_max : goal.returns-in_err-false_max
-returns-in_err-false_max c = record {
-  exact = answers_fault _ _ c.from_residual-in_err-false_max.ensures
+pub returns-in_err-scalars : goal.returns-in_err-scalars
+returns-in_err-scalars c = record {
+  exact = answers_fault _ _ c.from_residual-in_err-scalars.ensures
       (past_shown _ _ _ _ c.members_among.ensures c.in_ok-ok_or.ensures.value
       ∙ past_shown _ _ _ _ c.text_at.ensures c.in_ok-client.ensures.value
       ∙ past_shown _ _ _ _ c.in_ok-texts_at.ensures c.in_ok-servers.ensures.value
-      ∙ stops _ _ c.unsigned_at.ensures c.in_err-false_max.ensures.value);
-}
-
-pub returns-in_err-begin : goal.returns-in_err-begin
-returns-in_err-begin c = record {
-  exact = answers_fault _ _ c.from_residual-in_err-begin.ensures
-      (past_shown _ _ _ _ c.members_among.ensures c.in_ok-ok_or.ensures.value
-      ∙ past_shown _ _ _ _ c.text_at.ensures c.in_ok-client.ensures.value
-      ∙ past_shown _ _ _ _ c.in_ok-texts_at.ensures c.in_ok-servers.ensures.value
-      ∙ past _ _ c.unsigned_at.ensures c.in_ok-false_max.ensures.value
-      ∙ stops_shown _ _ _ _ c.text_at-2.ensures c.in_err-begin.ensures.value);
-}
-
-pub returns-in_err-end : goal.returns-in_err-end
-returns-in_err-end c = record {
-  exact = answers_fault _ _ c.from_residual-in_err-end.ensures
-      (past_shown _ _ _ _ c.members_among.ensures c.in_ok-ok_or.ensures.value
-      ∙ past_shown _ _ _ _ c.text_at.ensures c.in_ok-client.ensures.value
-      ∙ past_shown _ _ _ _ c.in_ok-texts_at.ensures c.in_ok-servers.ensures.value
-      ∙ past _ _ c.unsigned_at.ensures c.in_ok-false_max.ensures.value
-      ∙ past_shown _ _ _ _ c.text_at-2.ensures c.in_ok-begin.ensures.value
-      ∙ stops_shown _ _ _ _ c.text_at-3.ensures c.in_err-end.ensures.value);
-}
-
-pub returns-in_err-bound_ns : goal.returns-in_err-bound_ns
-returns-in_err-bound_ns c = record {
-  exact = answers_fault _ _ c.from_residual-in_err-bound_ns.ensures
-      (past_shown _ _ _ _ c.members_among.ensures c.in_ok-ok_or.ensures.value
-      ∙ past_shown _ _ _ _ c.text_at.ensures c.in_ok-client.ensures.value
-      ∙ past_shown _ _ _ _ c.in_ok-texts_at.ensures c.in_ok-servers.ensures.value
-      ∙ past _ _ c.unsigned_at.ensures c.in_ok-false_max.ensures.value
-      ∙ past_shown _ _ _ _ c.text_at-2.ensures c.in_ok-begin.ensures.value
-      ∙ past_shown _ _ _ _ c.text_at-3.ensures c.in_ok-end.ensures.value
-      ∙ stops _ _ c.unsigned_at-2.ensures c.in_err-bound_ns.ensures.value);
-}
-
-pub returns-in_err-drift_ppb : goal.returns-in_err-drift_ppb
-returns-in_err-drift_ppb c = record {
-  exact = answers_fault _ _ c.from_residual-in_err-drift_ppb.ensures
-      (past_shown _ _ _ _ c.members_among.ensures c.in_ok-ok_or.ensures.value
-      ∙ past_shown _ _ _ _ c.text_at.ensures c.in_ok-client.ensures.value
-      ∙ past_shown _ _ _ _ c.in_ok-texts_at.ensures c.in_ok-servers.ensures.value
-      ∙ past _ _ c.unsigned_at.ensures c.in_ok-false_max.ensures.value
-      ∙ past_shown _ _ _ _ c.text_at-2.ensures c.in_ok-begin.ensures.value
-      ∙ past_shown _ _ _ _ c.text_at-3.ensures c.in_ok-end.ensures.value
-      ∙ past _ _ c.unsigned_at-2.ensures c.in_ok-bound_ns.ensures.value
-      ∙ stops _ _ c.unsigned_at-3.ensures c.in_err-drift_ppb.ensures.value);
-}
-
-pub returns-in_err-reading_ns : goal.returns-in_err-reading_ns
-returns-in_err-reading_ns c = record {
-  exact = answers_fault _ _ c.from_residual-in_err-reading_ns.ensures
-      (past_shown _ _ _ _ c.members_among.ensures c.in_ok-ok_or.ensures.value
-      ∙ past_shown _ _ _ _ c.text_at.ensures c.in_ok-client.ensures.value
-      ∙ past_shown _ _ _ _ c.in_ok-texts_at.ensures c.in_ok-servers.ensures.value
-      ∙ past _ _ c.unsigned_at.ensures c.in_ok-false_max.ensures.value
-      ∙ past_shown _ _ _ _ c.text_at-2.ensures c.in_ok-begin.ensures.value
-      ∙ past_shown _ _ _ _ c.text_at-3.ensures c.in_ok-end.ensures.value
-      ∙ past _ _ c.unsigned_at-2.ensures c.in_ok-bound_ns.ensures.value
-      ∙ past _ _ c.unsigned_at-3.ensures c.in_ok-drift_ppb.ensures.value
-      ∙ stops _ _ c.unsigned_at-4.ensures c.in_err-reading_ns.ensures.value);
+      ∙ together (with_scalars (view c.args.value.now) _ _) _ _ _ _ _ _
+      ∙ stops_after (with_scalars (view c.args.value.now) _ _) c.in_err-scalars.ensures.exact);
 }
 
 pub returns-in_err-groups_at : goal.returns-in_err-groups_at
@@ -104,12 +47,8 @@ returns-in_err-groups c = record {
       (past_shown _ _ _ _ c.members_among.ensures c.in_ok-ok_or.ensures.value
       ∙ past_shown _ _ _ _ c.text_at.ensures c.in_ok-client.ensures.value
       ∙ past_shown _ _ _ _ c.in_ok-texts_at.ensures c.in_ok-servers.ensures.value
-      ∙ past _ _ c.unsigned_at.ensures c.in_ok-false_max.ensures.value
-      ∙ past_shown _ _ _ _ c.text_at-2.ensures c.in_ok-begin.ensures.value
-      ∙ past_shown _ _ _ _ c.text_at-3.ensures c.in_ok-end.ensures.value
-      ∙ past _ _ c.unsigned_at-2.ensures c.in_ok-bound_ns.ensures.value
-      ∙ past _ _ c.unsigned_at-3.ensures c.in_ok-drift_ppb.ensures.value
-      ∙ past _ _ c.unsigned_at-4.ensures c.in_ok-reading_ns.ensures.value
+      ∙ together (with_scalars (view c.args.value.now) _ _) _ _ _ _ _ _
+      ∙ past_after (with_scalars (view c.args.value.now) _ _) c.in_ok-scalars.ensures.exact
       ∙ stops_shown _ _ _ _ c.in_ok-groups_at.ensures c.in_err-groups.ensures.value);
 }
 
@@ -118,11 +57,7 @@ returns c = record {
   exact = past_shown _ _ _ _ c.members_among.ensures c.in_ok-ok_or.ensures.value
       ∙ past_shown _ _ _ _ c.text_at.ensures c.in_ok-client.ensures.value
       ∙ past_shown _ _ _ _ c.in_ok-texts_at.ensures c.in_ok-servers.ensures.value
-      ∙ past _ _ c.unsigned_at.ensures c.in_ok-false_max.ensures.value
-      ∙ past_shown _ _ _ _ c.text_at-2.ensures c.in_ok-begin.ensures.value
-      ∙ past_shown _ _ _ _ c.text_at-3.ensures c.in_ok-end.ensures.value
-      ∙ past _ _ c.unsigned_at-2.ensures c.in_ok-bound_ns.ensures.value
-      ∙ past _ _ c.unsigned_at-3.ensures c.in_ok-drift_ppb.ensures.value
-      ∙ past _ _ c.unsigned_at-4.ensures c.in_ok-reading_ns.ensures.value
+      ∙ together (with_scalars (view c.args.value.now) _ _) _ _ _ _ _ _
+      ∙ past_after (with_scalars (view c.args.value.now) _ _) c.in_ok-scalars.ensures.exact
       ∙ past_shown _ _ _ _ c.in_ok-groups_at.ensures c.in_ok-groups.ensures.value;
 }
