@@ -1,3 +1,4 @@
+pub mod ArrayRead
 pub mod Ascii
 pub mod CompactRead
 pub mod Digits
@@ -10,7 +11,9 @@ pub mod PairRead
 pub mod PartsRead
 pub mod PiecesRead
 pub mod ReadBack
+pub mod Refusals
 pub mod RefutationText
+pub mod SampleRead
 pub mod TextRead
 pub mod Texts
 pub mod WholeRead

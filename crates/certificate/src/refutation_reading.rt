@@ -1,9 +1,10 @@
 //! What the text of a refutation says.
 
-ghost use Rattle.std.specs.Prelude.{◌≡◌, ◌≤◌, length, option_map};
+ghost use Rattle.std.specs.Prelude.{◌≡◌, ◌≤◌, Ok, length, option_map};
 ghost use Rattle.serde_json.specs.View.{view, items_view};
-ghost use Rattle.json_text.specs.Step.{Gives};
+ghost use Rattle.json_text.specs.Step.{given};
 ghost use Rattle.certificate.specs.Refutation.{data_of};
+ghost use Rattle.certificate.specs.declared.refutation_fault.RefutationFault.TheVariants.{Shape};
 ghost use Rattle.certificate.specs.RefutationFault.{Answers};
 ghost use Rattle.certificate.specs.RefutationReading as spec;
 
@@ -19,22 +20,23 @@ use std::alloc::Global;
 pub fn read_refutation(alloc: Global, bytes: &[u8]) -> Result<Refutation, RefutationFault>
     ensures exact { Answers result data_of (spec.refutation_of bytes.now) }
 {
-    read_value(&parse(alloc, bytes)?.ok_or(RefutationFault::Json)?)
+    let value = parse(alloc, bytes)?.ok_or(RefutationFault::Json)?;
+    read_value(&value).ok_or(RefutationFault::Shape)
 }
 
-/// The refutation that a JSON value says.
-fn read_value(value: &Value) -> Result<Refutation, RefutationFault>
-    ensures { Gives result data_of (spec.refutation_from (view value.now)) }
+/// The refutation that a JSON value says, None if it says none.
+fn read_value(value: &Value) -> Option<Refutation>
+    ensures { given Shape (option_map data_of result) Ok ≡ spec.refutation_from (view value.now) }
 {
-    members_among(value, &["error", "false", "reading"]).ok_or(RefutationFault::Shape)?;
-    let error = signed_at(value, "error").ok_or(RefutationFault::Shape)?;
-    let reading = unsigned_at(value, "reading").ok_or(RefutationFault::Shape)?;
-    let items = items_at(value, "false").ok_or(RefutationFault::Shape)?;
+    members_among(value, &["error", "false", "reading"])?;
+    let error = signed_at(value, "error")?;
+    let reading = unsigned_at(value, "reading")?;
+    let items = items_at(value, "false")?;
     if !is_at_most(items, MAX_LIARS) {
-        return Err(RefutationFault::Shape);
+        return None;
     }
-    let liars = read_servers(items).ok_or(RefutationFault::Shape)?;
-    Ok(Refutation {
+    let liars = read_servers(items)?;
+    Some(Refutation {
         error,
         liars,
         reading,

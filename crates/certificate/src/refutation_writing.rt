@@ -1,6 +1,7 @@
 //! The text that writes a refutation.
 
 ghost use Rattle.std.specs.Prelude.{◌≡◌, ◌<◌, ◌^◌, ◌++◌, IfOk, OnOk, Ok, map, All, string_bytes, decimal};
+ghost use Rattle.std.specs.Fmt.{signed_decimal};
 ghost use Rattle.std.specs.List.{join_with_byte};
 ghost use Rattle.certificate.specs.Refutation.{data_of};
 ghost use Rattle.certificate.specs.RefutationReading.{refutation_of};
@@ -21,13 +22,21 @@ pub fn write_refutation(alloc: Global, refutation: &Refutation) -> Result<String
 {
     let mut text = String::new(alloc);
     text.push_str("{\"error\":")?;
-    text.push_str(Buffer::new().format(refutation.error))?;
+    push_error(&mut text, refutation.error)?;
     text.push_str(",\"false\":[")?;
     push_servers(&mut text, &refutation.liars)?;
     text.push_str("],\"reading\":")?;
     push_number(&mut text, refutation.reading)?;
     text.push_str("}")?;
     Ok(text)
+}
+
+/// Writes an error with its sign in decimal.
+fn push_error(text: &mut String, error: i64) -> Result<(), AllocError>
+    ensures { OnOk result (string_bytes text.new
+        ≡ string_bytes text.old ++ signed_decimal error) }
+{
+    text.push_str(Buffer::new().format(error))
 }
 
 /// Writes the numbers of servers, with commas between them.

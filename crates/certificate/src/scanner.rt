@@ -8,7 +8,7 @@ use std::marker::Model;
 ///
 /// If a reading is refused with None, some of the bytes may have gone, unless a function says that
 /// none has.
-#[derive(Debug, Drop)]
+#[derive(Drop)]
 pub(crate) struct Scanner<'t> {
     rest: &'t [u8],
 }

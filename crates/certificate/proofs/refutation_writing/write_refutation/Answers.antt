@@ -11,24 +11,23 @@ use Rattle.certificate.specs.Writing.{comma}
 use Rattle.certificate.proofs.RefutationText.{refutation_of-text}
 use Rattle.certificate.proofs.refutation_writing.write_refutation.Goals as goal
 
-written : (c : goal.In_ok-push_str-5) →
-    string_bytes c.push_str-5.new.self ≡ refutation_text (data_of c.args.refutation.now)
+written : (c : goal.In_ok-push_str-4) →
+    string_bytes c.push_str-4.new.self ≡ refutation_text (data_of c.args.refutation.now)
 written c =
     let refutation = c.args.refutation.now in
     let error : to_z w64 (of_z w64 refutation.error) ≡ refutation.error = search rules in
-    let opened = c.push_str-3.new.self in
+    let opened = c.push_str-2.new.self in
     let servers : string_bytes c.push_servers.new.text
     ≡ string_bytes opened ++ join_with_byte comma (map decimal refutation.liars.items) =
     c.in_ok-push_servers.ensures.text
     ∙ ap (λ l. string_bytes opened ++ join_with_byte comma (map decimal l)) c.deref.ensures.0 in
-    c.in_ok-push_str-5.ensures.bytes
+    c.in_ok-push_str-4.ensures.bytes
     ∙ rw (
       c.in_ok-push_number.ensures,
-      c.in_ok-push_str-4.ensures.bytes,
-      servers,
       c.in_ok-push_str-3.ensures.bytes,
+      servers,
       c.in_ok-push_str-2.ensures.bytes,
-      c.format.ensures.text,
+      c.in_ok-push_error.ensures,
       error,
       c.in_ok-push_str.ensures.bytes,
       c.new-text.ensures.bytes,
