@@ -1,6 +1,7 @@
 -- The lines of the pieces of an envelope, one piece after another.
-use Rattle.std.proofs.Common.{◌≡◌, ◌∙◌, ◌+◌, ◌<◌, ◌++◌, ℕ, suc, List, [], ◌∷◌, length, map, drop, get_or, Bool, sym, ap, add-one, append_assoc}
+use Rattle.std.proofs.Common.{◌≡◌, ◌∙◌, ◌+◌, ◌<◌, ◌≤◌, ◌++◌, ℕ, suc, List, [], ◌∷◌, length, map, drop, get_or, Bool, sym, ap, add-one, append_assoc, append-nil}
 use Rattle.std.proofs.Math.Seq.{drop-cons}
+use Rattle.std.proofs.lemmas.List.{drop_all}
 use Rattle.std.specs.Bool.{if◌then◌else◌}
 use Rattle.claim_file.specs.Claim.{ClaimData}
 use Rattle.sample_interval.specs.declared.kinds.Sample.{Sample}
@@ -20,3 +21,11 @@ module _ (samples : List Sample) (claim : ClaimData) (servers : Bool) (pieces : 
       let left = drop-cons pieces number piece within ∙ ap (λ p. p ∷ drop (suc number) pieces) (sym here) in
       let before = ap (λ l. old ++ lines_from samples claim servers number (map piece_data l)) (sym left) ∙ so_far in
       rw (own, asked, append_assoc, append_assoc, add-one) (rw (append_assoc, add-one) at before)
+
+  -- the lines of every piece were added
+  pub pieces_done : (number : ℕ) → length pieces ≤ number → (text start : List ℕ)
+      → text ++ lines_from samples claim servers number (map piece_data (drop number pieces)) ≡ start → text ≡ start
+  pieces_done number past text start so_far =
+      sym (append-nil text)
+      ∙ ap (λ l. text ++ lines_from samples claim servers number (map piece_data l)) (sym (drop_all number pieces past))
+      ∙ so_far

@@ -2,3 +2,4 @@ pub mod SourceLemmas
 pub mod SampleLemmas
 pub mod ShownLemmas
 pub mod EnvelopeLemmas
+pub mod ListedLemmas

@@ -11,3 +11,4 @@ pub mod Pairs
 pub mod Servers
 pub mod WindowLemmas
 pub mod Words
+pub mod Keys

@@ -14,7 +14,7 @@ use pcap_reader::RecordHead;
 use std::alloc::{AllocError, Global};
 
 /// What a request and its replies share.
-#[derive(Clone, Copy, Debug, PartialEq, Eq, Hash)]
+#[derive(Clone, Copy, PartialEq, Eq, Hash)]
 pub(crate) struct Key {
     /// The server's number.
     pub server: u8,
@@ -25,7 +25,7 @@ pub(crate) struct Key {
 }
 
 /// The requests with one key, in 16 bytes.
-#[derive(Clone, Copy, Debug, PartialEq, Eq)]
+#[derive(Clone, Copy)]
 pub(crate) enum Place {
     /// The one and only: its record.
     One {

@@ -24,7 +24,7 @@ const CLIENT_MODE: u8 = 3;
 const SERVER_MODE: u8 = 4;
 
 /// What a record says to the pairing.
-#[derive(Clone, Copy, Debug, PartialEq, Eq)]
+#[derive(Clone, Copy)]
 pub(crate) enum Message {
     /// A request with this key.
     Request(Key),

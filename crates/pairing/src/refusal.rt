@@ -8,7 +8,7 @@ ghost use Rattle.pairing.specs.Refusal.{refusal_of};
 use ntp_packet::NtpView;
 
 /// Why a reply gives no exchange, in the order in which the reasons are tried.
-#[derive(Clone, Copy, Debug, PartialEq, Eq)]
+#[derive(Clone, Copy)]
 pub(crate) enum Refusal {
     /// The version isn't 4.
     Version,

@@ -8,7 +8,7 @@ use era_unfold::{high, low};
 use pcap_reader::RecordHead;
 
 /// The window of a record's time, in ticks.
-#[derive(Clone, Copy, Debug, PartialEq, Eq)]
+#[derive(Clone, Copy)]
 pub(crate) struct Window {
     /// The first tick.
     pub low: u64,

@@ -1,9 +1,10 @@
-use Rattle.std.proofs.Common.{◌≡◌, ◌∙◌, ◌++◌, [], sym, ap, append-nil, Vec, Global, ℕ}
+use Rattle.std.proofs.Common.{◌≡◌, ◌∙◌, ◌++◌, [], length, subst, sym, ap, append-nil, Vec, Global, ℕ}
 use Rattle.std.specs.Bool.{if◌then◌else◌}
 use Rattle.claim_file.specs.Claim.{data_of}
-use Rattle.finder.specs.Envelope.{piece_data}
+use Rattle.finder.specs.Envelope.{IsLawfulPiece, piece_data}
+use Rattle.finder.specs.declared.piece_hull.PieceHull.{PieceHull}
 use Rattle.audit_text.specs.Envelope.{server_lines}
-use Rattle.audit_text.proofs.EnvelopeLemmas.{piece_added}
+use Rattle.audit_text.proofs.EnvelopeLemmas.{piece_added, pieces_done}
 use Rattle.audit_text.proofs.envelope.add_pieces.Goals as goal
 use Rattle.audit_text.proofs.envelope.add_pieces.Goals.{then-servers+in_ok-add_servers, else-servers}
 
@@ -30,3 +31,19 @@ loop-number-preserved g c =
     ] in
     piece_added samples claim c.args.servers pieces number piece old more _ _
     c.loop-number-test.true c.index-pieces-number.is asked own c.loop-number.invariant
+
+pub add_servers-requires : goal.add_servers-requires
+add_servers-requires g c =
+    let samples = g.S.SampleSource.samples c.args.samples in
+    let piece = c.index-pieces-number.result in
+    record {
+      claim = c.requires.claim;
+      samples = c.requires.samples;
+      piece = subst (λ (p : PieceHull). IsLawfulPiece (length samples) (piece_data p))
+          (sym c.index-pieces-number.is) (c.requires.pieces c.loop-number.number piece c.loop-number-test.true);
+    }
+
+pub returns : goal.returns
+returns g c =
+    pieces_done (g.S.SampleSource.samples c.args.samples) (data_of c.args.claim.now) c.args.servers
+    c.args.pieces.now c.loop-number.number c.loop-number-test.false _ _ c.loop-number.invariant

@@ -1,6 +1,6 @@
 use Rattle.std.proofs.Common.{◌≡◌, ◌∙◌, ◌++◌, ◌∷◌, [], ap, Bool, true, false, List, Option, refl, Some, subst, sym}
-use Rattle.std.specs.Prelude.{◌&&◌, is_some, if◌then◌else◌}
-use Rattle.std.proofs.lemmas.Bool.{eq-eqb, eqb-true}
+use Rattle.std.specs.Prelude.{is_some, if◌then◌else◌}
+use Rattle.std.proofs.lemmas.Bool.{eq-eqb}
 use Rattle.std.proofs.lemmas.List.{append-nil}
 use Rattle.std.proofs.lemmas.List.Elements.{filter-append}
 use Rattle.indexmap.specs.IndexMap.{get}
@@ -10,19 +10,8 @@ use Rattle.pairing.specs.declared.index.Place.{Place}
 use Rattle.pairing.specs.declared.index.Place.TheVariants.{Several}
 use Rattle.pairing.specs.Index.{Indexes, having, key_of, place_of, request_at, same_key}
 use Rattle.pairing.specs.Message.{Request}
+use Rattle.pairing.proofs.Keys.{key_is}
 use Rattle.pairing.proofs.index.Index.note.Goals as goal
-
-both : (p q : Bool) → (p && q) ≡ true → (p ≡ true) × (q ≡ true)
-both true q h = (refl, h)
-both false q h = cc
-
-key_is : (a b : Key) → same_key a b ≡ true → a ≡ b
-key_is a b h =
-    let first = both _ _ h in
-    let rest = both _ _ first.1 in
-    ap (λ n. record { server = n; port = a.port; stamp = a.stamp }) (eqb-true _ _ first.0)
-    ∙ ap (λ n. record { server = b.server; port = n; stamp = a.stamp }) (eqb-true _ _ rest.0)
-    ∙ ap (λ n. record { server = b.server; port = b.port; stamp = n }) (eqb-true _ _ rest.1)
 
 same_self : (k : Key) → same_key k k ≡ true
 same_self k =

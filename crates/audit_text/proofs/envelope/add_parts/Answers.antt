@@ -1,0 +1,18 @@
+use Rattle.std.proofs.Common.{◌∙◌, ◌++◌, ap}
+use Rattle.claim_file.specs.Claim.{data_of}
+use Rattle.audit_text.specs.Envelope.{server_line}
+use Rattle.audit_text.proofs.ListedLemmas.{listed_more, listed_all}
+use Rattle.audit_text.proofs.envelope.add_parts.Goals as goal
+
+pub loop-part-preserved : goal.loop-part-preserved
+loop-part-preserved c =
+    let old = c.loop-part.text.items in
+    listed_more (server_line (data_of c.args.claim.now) c.args.number) c.args.parts.now c.loop-part.part-index _
+    c.loop-part-test.true c.args.text.now.items old c.extend_from_slice.new.self.items
+    (c.in_ok-extend_from_slice.ensures.items
+    ∙ ap (λ l. old ++ l) (c.as_bytes.ensures.text ∙ c.write_server_line.ensures)) c.loop-part.invariant
+
+pub returns : goal.returns
+returns c =
+    listed_all (server_line (data_of c.args.claim.now) c.args.number) c.args.parts.now c.loop-part.part-index
+    c.loop-part-test.false c.args.text.now.items c.loop-part.text.items c.loop-part.invariant
