@@ -1,17 +1,11 @@
-//! The worked examples as tables over the public calls of the readers, from frames to exchanges,
-//! as tests, and in `uses` a proved caller.
+//! The worked examples as tables over public calls, as tests: of the readers, of checking, and of
+//! the engines. In `uses` stand small proved callers, as programs of one's own would have them.
 #![tactic(auto)]
 
 #[cfg(test)]
-mod captures;
+mod checking;
 #[cfg(test)]
-mod claims;
+mod engines;
 #[cfg(test)]
-mod exchanges;
-#[cfg(test)]
-mod frames;
-#[cfg(test)]
-mod headers;
-#[cfg(test)]
-mod ticks;
+mod readers;
 pub mod uses;

@@ -113,25 +113,35 @@ pub(crate) fn gives(
     wanted: Result<Outcome, RunFault>,
     lines: &[&str],
 ) -> Result<(), Fail> {
-    for cut in [Cut::Fixed(1), Cut::Growing] {
-        for finish_fails in [false, true] {
-            let mut out = TestSink::new(alloc, 2000, 2000, None, finish_fails)?;
-            let ran = run(alloc, command, inputs, cut, NONE, &mut out);
-            assert_eq!(rt;
-                lines_of(rt, out.bytes(), lines),
-                lines.len(),
-                "{command:?} {cut:?}"
-            );
-            let answer = match wanted {
-                Ok(_) if finish_fails => Err(RunFault::Write(out.bytes().len() as u64)),
-                answer => answer,
-            };
-            assert_eq!(rt; ran.answer, answer, "{command:?} {cut:?} {finish_fails}");
-            assert_eq!(rt; out.faults(), u64::from(finish_fails));
-            assert_eq!(rt; ran.faults(), 0);
-        }
+    for (cut, finish_fails) in [
+        (Cut::Fixed(1), false),
+        (Cut::Fixed(1), true),
+        (Cut::Growing, false),
+        (Cut::Growing, true),
+    ] {
+        let mut out = TestSink::new(alloc, 2000, 2000, None, finish_fails)?;
+        let ran = run(alloc, command, inputs, cut, NONE, &mut out);
+        went(rt, &ran, &out, wanted, finish_fails, lines);
     }
     Ok(())
+}
+
+/// A run went so.
+fn went(
+    rt: &impl Abort,
+    ran: &Ran<'_>,
+    out: &TestSink,
+    wanted: Result<Outcome, RunFault>,
+    finish_fails: bool,
+    lines: &[&str],
+) {
+    let answer = match wanted {
+        Ok(_) if finish_fails => Err(RunFault::Write(out.bytes().len() as u64)),
+        answer => answer,
+    };
+    assert_eq!(rt; ran.answer, answer, "{lines:?} {finish_fails}");
+    assert_eq!(rt; lines_of(rt, out.bytes(), lines), lines.len());
+    assert_eq!(rt; (ran.faults(), out.faults()), (0, u64::from(finish_fails)));
 }
 
 /// Nothing was taken of these bytes: the next one is their first.

@@ -3,7 +3,9 @@
 use audit::run_check;
 use byte_stream::{Cut, ReadFeed, Sink, TestFeed, TestSink};
 use report::{Input, Outcome, RunFault};
+use std::alloc::Global;
 use std::io::{self, Read};
+use std::process::Abort;
 use std::test::Fail;
 use vectors::{C1, K1, V1};
 
@@ -33,23 +35,29 @@ impl Read for Padded<'_> {
     }
 }
 
-/// `K1` with blanks up to the greatest length is read, and with one more it's refused.
+/// `check` answers this of `K1` with blanks up to this length.
+fn answers(
+    rt: &impl Abort,
+    alloc: Global,
+    length: u64,
+    answer: Result<Outcome, RunFault>,
+) -> Result<(), Fail> {
+    let mut claim = TestFeed::new(C1.as_bytes(), Cut::Growing, None);
+    let mut certificate = ReadFeed::new(Padded {
+        text: K1.as_bytes(),
+        blanks: length.saturating_sub(K1.len() as u64),
+    });
+    let capture = TestFeed::new(&V1, Cut::Growing, None);
+    let mut out = TestSink::new(alloc, 1000, 1000, None, false)?;
+    let (_, given) = run_check(alloc, &mut claim, capture, &mut certificate, &mut out);
+    assert_eq!(rt; (given, out.faults()), (answer, 0), "{length}");
+    Ok(())
+}
+
+/// The greatest length is read, and one more refused.
 #[test]
 fn certificates(rt: HostRuntime) -> Result<(), Fail> {
-    for (length, answer) in [
-        (MOST, Ok(Outcome::Yes)),
-        (MOST + 1, Err(RunFault::TooBig(Input::Certificate))),
-    ] {
-        let mut claim = TestFeed::new(C1.as_bytes(), Cut::Growing, None);
-        let mut certificate = ReadFeed::new(Padded {
-            text: K1.as_bytes(),
-            blanks: length.saturating_sub(K1.len() as u64),
-        });
-        let capture = TestFeed::new(&V1, Cut::Growing, None);
-        let mut out = TestSink::new(rt.alloc(), 1000, 1000, None, false)?;
-        let (_, given) = run_check(rt.alloc(), &mut claim, capture, &mut certificate, &mut out);
-        assert_eq!(rt; given, answer, "{length}");
-        assert_eq!(rt; out.faults(), 0);
-    }
-    Ok(())
+    let too_big = RunFault::TooBig(Input::Certificate);
+    answers(&rt, rt.alloc(), MOST, Ok(Outcome::Yes))?;
+    answers(&rt, rt.alloc(), MOST + 1, Err(too_big))
 }

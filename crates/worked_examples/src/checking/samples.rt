@@ -1,7 +1,7 @@
 //! Samples, offsets, delays and widenings, by hand.
 ghost use Rattle.sample_interval.specs.Exchange.{IsOfSomeClaim};
 
-use crate::pieces::twenty_milliseconds;
+use crate::checking::pieces::twenty_milliseconds;
 use pairing::Exchange;
 use sample_interval::kinds::Sample;
 use sample_interval::{delay, offset, sample, widen};

@@ -2,13 +2,13 @@
 ghost use Rattle.std.specs.Prelude.{◌≡◌};
 ghost use Rattle.sample_interval.specs.Sample.{IsLawfulSample};
 
-use crate::claims::{AS_IS, LONG, LONG_TIGHT, TIGHT, claim_of};
-use crate::pieces::twenty_milliseconds;
+use crate::checking::claims::{AS_IS, LONG, LONG_TIGHT, TIGHT, Terms, claim_of};
+use crate::checking::pieces::twenty_milliseconds;
 use certificate::read_certificate;
 use checker::{Verdict, Why, check};
 use claim_file::read_claim;
 use sample_interval::kinds::Sample;
-use std::alloc::{AllocError, Global};
+use std::alloc::Global;
 use std::process::Abort;
 use std::test::Fail;
 use vectors::{C1, K1, TICK};
@@ -29,63 +29,70 @@ fn sample_of(server: u8, low: i32, high: i32) -> Sample
     }
 }
 
+/// The end of the span of a second, and of that of 64 seconds, in ticks.
+const SECOND_END: u64 = 4_294_967_296_000_000_000;
+
+const MINUTE_END: u64 = 4_294_967_570_877_906_944;
+
 fn no(piece: u32, why: Why) -> Verdict {
     Verdict::No { piece, why }
 }
 
-/// The text of a certificate with one piece, with these entries and this end.
-fn piece_of(alloc: Global, entries: &str, upto: u64) -> Result<String, AllocError> {
-    format!(in alloc; "{{\"pieces\":[{{\"entries\":[{entries}],\"upto\":{upto}}}]}}")
+/// The worked sample is judged so, under a claim with these terms, and a certificate of one piece
+/// with these entries and this end: yes, or no for this reason.
+fn judged(
+    rt: &impl Abort,
+    alloc: Global,
+    terms: Terms,
+    entries: &str,
+    upto: u64,
+    reason: Option<(u32, Why)>,
+) -> Result<(), Fail> {
+    let samples = [twenty_milliseconds()];
+    let claim = read_claim(alloc, claim_of(alloc, terms)?.as_bytes())?;
+    let text = format!(in alloc; "{{\"pieces\":[{{\"entries\":[{entries}],\"upto\":{upto}}}]}}")?;
+    let certificate = read_certificate(alloc, text.as_bytes())?;
+    let verdict = match reason {
+        None => Verdict::Yes,
+        Some((piece, why)) => no(piece, why),
+    };
+    assert_eq!(rt; check(&samples, &claim, &certificate), verdict, "{text}");
+    Ok(())
 }
+
+/// The rows on the worked sample, each with the piece that isn't shown, and why.
+const ROWS: [(Terms, &str, u64, Option<(u32, Why)>); 9] = [
+    (AS_IS, "[0,0]", SECOND_END, None),
+    (TIGHT, "[0,0]", SECOND_END, Some((0, Why::Exceeds))),
+    (AS_IS, "[0,0]", SECOND_END - 1, Some((0, Why::Cut))),
+    (AS_IS, "[0,0]", SECOND_END + 1, Some((0, Why::Cut))),
+    (LONG, "[0,0]", MINUTE_END, None),
+    (LONG_TIGHT, "[0,0]", MINUTE_END, Some((0, Why::Exceeds))),
+    (LONG, "[0,0]", MINUTE_END - 1, Some((1, Why::Uncovered))),
+    (
+        LONG,
+        "[0,0],[0,0]",
+        MINUTE_END,
+        Some((0, Why::RepeatedServer)),
+    ),
+    (LONG, "[0,1]", MINUTE_END, Some((0, Why::BadSample))),
+];
 
 /// The worked sample, under claims and certificates like the worked ones.
 #[test]
 fn one_piece(rt: HostRuntime) -> Result<(), Fail> {
-    let alloc = rt.alloc();
-    let samples = [twenty_milliseconds()];
-    for (terms, entries, upto, verdict) in [
-        (AS_IS, "[0,0]", 4_294_967_296_000_000_000, Verdict::Yes),
-        (
-            TIGHT,
-            "[0,0]",
-            4_294_967_296_000_000_000,
-            no(0, Why::Exceeds),
-        ),
-        (AS_IS, "[0,0]", 4_294_967_295_999_999_999, no(0, Why::Cut)),
-        (AS_IS, "[0,0]", 4_294_967_296_000_000_001, no(0, Why::Cut)),
-        (LONG, "[0,0]", 4_294_967_570_877_906_944, Verdict::Yes),
-        (
-            LONG_TIGHT,
-            "[0,0]",
-            4_294_967_570_877_906_944,
-            no(0, Why::Exceeds),
-        ),
-        (
-            LONG,
-            "[0,0]",
-            4_294_967_570_877_906_943,
-            no(1, Why::Uncovered),
-        ),
-        (
-            LONG,
-            "[0,0],[0,0]",
-            4_294_967_570_877_906_944,
-            no(0, Why::RepeatedServer),
-        ),
-        (
-            LONG,
-            "[0,1]",
-            4_294_967_570_877_906_944,
-            no(0, Why::BadSample),
-        ),
-    ] {
-        let claim = read_claim(alloc, claim_of(alloc, terms)?.as_bytes())?;
-        let text = piece_of(alloc, entries, upto)?;
-        let certificate = read_certificate(alloc, text.as_bytes())?;
-        assert_eq!(rt; check(&samples, &claim, &certificate), verdict, "{text}");
+    for (terms, entries, upto, reason) in ROWS {
+        judged(&rt, rt.alloc(), terms, entries, upto, reason)?;
     }
-    let claim = read_claim(alloc, C1.as_bytes())?;
-    let none = read_certificate(alloc, b"{\"pieces\":[]}")?;
+    Ok(())
+}
+
+/// A certificate of no pieces.
+#[test]
+fn no_piece(rt: HostRuntime) -> Result<(), Fail> {
+    let samples = [twenty_milliseconds()];
+    let claim = read_claim(rt.alloc(), C1.as_bytes())?;
+    let none = read_certificate(rt.alloc(), b"{\"pieces\":[]}")?;
     assert_eq!(rt; check(&samples, &claim, &none), no(0, Why::Uncovered));
     Ok(())
 }
@@ -142,28 +149,29 @@ fn bounds(rt: HostRuntime) -> Result<(), Fail> {
     Ok(())
 }
 
+/// The verdict on a piece with samples of two servers that contradict each other, and these
+/// entries.
+fn judged_of_two(rt: &impl Abort, alloc: Global, entries: &str, why: Why) -> Result<(), Fail> {
+    let servers = C1.replace(alloc, "\"192.0.2.1\"", "\"192.0.2.1\",\"192.0.2.2\"")?;
+    let claim = read_claim(alloc, servers.as_bytes())?;
+    assert!(rt; claim.servers.len() == 2);
+    let samples = [sample_of(0, 0, 5), sample_of(1, 6, 9)];
+    let text = K1.replace(alloc, "[0,0]", entries)?;
+    let certificate = read_certificate(alloc, text.as_bytes())?;
+    assert_eq!(rt;
+        check(&samples, &claim, &certificate),
+        no(0, why),
+        "{entries}"
+    );
+    Ok(())
+}
+
 /// Two servers that contradict each other, an entry that names both, and one too many.
 #[test]
 fn two_servers(rt: HostRuntime) -> Result<(), Fail> {
-    let alloc = rt.alloc();
-    let text = C1.replace(alloc, "\"192.0.2.1\"", "\"192.0.2.1\",\"192.0.2.2\"")?;
-    let claim = read_claim(alloc, text.as_bytes())?;
-    assert!(rt; claim.servers.len() == 2);
-    let samples = [sample_of(0, 0, 5), sample_of(1, 6, 9)];
-    for (entries, expected) in [
-        ("[0,0],[1,1]", no(0, Why::Contradiction)),
-        ("[0,1]", no(0, Why::MixedServers)),
-        ("[0,0],[2,1]", no(0, Why::BadSample)),
-    ] {
-        let text = K1.replace(alloc, "[0,0]", entries)?;
-        let certificate = read_certificate(alloc, text.as_bytes())?;
-        assert_eq!(rt;
-            check(&samples, &claim, &certificate),
-            expected,
-            "{entries}"
-        );
-    }
-    Ok(())
+    judged_of_two(&rt, rt.alloc(), "[0,0],[1,1]", Why::Contradiction)?;
+    judged_of_two(&rt, rt.alloc(), "[0,1]", Why::MixedServers)?;
+    judged_of_two(&rt, rt.alloc(), "[0,0],[2,1]", Why::BadSample)
 }
 
 #[test]

@@ -4,6 +4,7 @@ ghost use Rattle.std.specs.Prelude.{◌≤◌, IfOk};
 
 use byte_stream::{Feed, ReadFeed, Sink, WriteSink};
 use std::io::{self, ErrorKind, Read, Write};
+use std::process::Abort;
 
 /// What a call of a device does.
 #[derive(Clone, Copy, Debug)]
@@ -52,45 +53,52 @@ impl Write for Script<'_> {
     }
 }
 
+impl<'a> Script<'a> {
+    fn of(steps: &'a [Step]) -> Self {
+        Script { steps, calls: 0 }
+    }
+}
+
+/// A pull, a push and a `finish` on a device that does these steps: whether it goes well, and how
+/// often it calls the device.
+fn goes(rt: &impl Abort, steps: &[Step], is_well: bool, calls: usize) {
+    let wanted = (is_well, u64::from(!is_well), calls);
+    let mut device = Script::of(steps);
+    let mut feed = ReadFeed::new(&mut device);
+    let pulled = feed.pull(&mut [0; 4]);
+    let answer = (pulled.is_ok(), feed.faults(), device.calls);
+    assert_eq!(rt; answer, wanted, "{steps:?}");
+    let mut device = Script::of(steps);
+    let mut sink = WriteSink::new(&mut device);
+    let pushed = sink.push(b"pushed");
+    let answer = (pushed.is_ok(), sink.faults(), device.calls);
+    assert_eq!(rt; answer, wanted, "{steps:?}");
+    let mut device = Script::of(steps);
+    let mut sink = WriteSink::new(&mut device);
+    let finished = sink.finish();
+    let answer = (finished.is_ok(), sink.faults(), device.calls);
+    assert_eq!(rt; answer, wanted, "{steps:?}");
+}
+
+/// What a device does, whether a call of it goes well, and how often it's called.
+const STEPS: [([Step; 2], bool, usize); 5] = [
+    ([Takes(2), Takes(1)], true, 1),
+    ([Fails(ErrorKind::Other), Takes(2)], false, 1),
+    ([Fails(ErrorKind::WouldBlock), Takes(2)], false, 1),
+    ([Fails(ErrorKind::Interrupted), Takes(2)], true, 2),
+    (
+        [Fails(ErrorKind::Interrupted), Fails(ErrorKind::Other)],
+        false,
+        2,
+    ),
+];
+
 /// A call that fails is a fault at once, though the next one would succeed. An interrupted one is
 /// tried again. This is so of a read, of a write and of a flush, by which a sink is finished.
 #[test]
 fn failures(rt: HostRuntime) {
-    for (steps, is_well, calls) in [
-        ([Takes(2), Takes(1)], true, 1),
-        ([Fails(ErrorKind::Other), Takes(2)], false, 1),
-        ([Fails(ErrorKind::WouldBlock), Takes(2)], false, 1),
-        ([Fails(ErrorKind::Interrupted), Takes(2)], true, 2),
-        (
-            [Fails(ErrorKind::Interrupted), Fails(ErrorKind::Other)],
-            false,
-            2,
-        ),
-    ] {
-        let mut device = Script {
-            steps: &steps,
-            calls: 0,
-        };
-        let mut feed = ReadFeed::new(&mut device);
-        let pulled = feed.pull(&mut [0; 4]);
-        let answer = (pulled.is_ok(), feed.faults(), device.calls);
-        assert_eq!(rt; answer, (is_well, u64::from(!is_well), calls), "{steps:?}");
-        let mut device = Script {
-            steps: &steps,
-            calls: 0,
-        };
-        let mut sink = WriteSink::new(&mut device);
-        let pushed = sink.push(b"pushed");
-        let answer = (pushed.is_ok(), sink.faults(), device.calls);
-        assert_eq!(rt; answer, (is_well, u64::from(!is_well), calls), "{steps:?}");
-        let mut device = Script {
-            steps: &steps,
-            calls: 0,
-        };
-        let mut sink = WriteSink::new(&mut device);
-        let finished = sink.finish();
-        let answer = (finished.is_ok(), sink.faults(), device.calls);
-        assert_eq!(rt; answer, (is_well, u64::from(!is_well), calls), "{steps:?}");
+    for (steps, is_well, calls) in STEPS {
+        goes(&rt, &steps, is_well, calls);
     }
 }
 

@@ -2,6 +2,7 @@
 
 use certificate::{CertificateFault, read_certificate, write_certificate};
 use std::alloc::{AllocError, Global};
+use std::process::Abort;
 use std::test::Fail;
 use vectors::K1;
 
@@ -84,15 +85,24 @@ fn answer(alloc: Global, text: &str) -> Result<String, AllocError> {
     }
 }
 
+/// A text is answered so.
+fn answers(rt: &impl Abort, alloc: Global, text: &str, expected: &str) -> Result<(), Fail> {
+    assert_eq!(rt; answer(alloc, text)?.as_str(), expected);
+    Ok(())
+}
+
+/// A row of the table holds.
+fn holds(rt: &impl Abort, alloc: Global, row: &str) -> Result<(), Fail> {
+    match row.split_once(" | ") {
+        Some((expected, text)) => answers(rt, alloc, text, expected),
+        None => panic!(rt; "{row}"),
+    }
+}
+
 #[test]
 fn texts(rt: HostRuntime) -> Result<(), Fail> {
     for row in TEXTS.lines() {
-        match row.split_once(" | ") {
-            Some((expected, text)) => {
-                assert_eq!(rt; answer(rt.alloc(), text)?.as_str(), expected, "{row}");
-            }
-            None => panic!(rt; "{row}"),
-        }
+        holds(&rt, rt.alloc(), row)?;
     }
     Ok(())
 }
@@ -113,57 +123,53 @@ fn repeated(
     Ok(text)
 }
 
+const PIECES: &str = "{\"pieces\":[";
+
+const PIECE: &str = "{\"entries\":[],\"upto\":0},";
+
+const LAST: &str = "{\"entries\":[],\"upto\":0}]}";
+
+const ENTRIES: &str = "{\"pieces\":[{\"entries\":[";
+
+const UPTO_FIRST: &str = "{\"pieces\":[{\"upto\":0,\"entries\":[";
+
+/// The parts of a text, and what is answered.
+const COUNTS: [(&str, &str, u32, &str, &str); 12] = [
+    (PIECES, PIECE, 99_999, LAST, "read"),
+    (PIECES, "{},", 99_999, "{}]}", "shape 0"),
+    (PIECES, "{},", 100_000, "{}]}", "fault 5"),
+    (PIECES, PIECE, 100_000, LAST, "fault 5"),
+    (PIECES, "{},", 100_000, "{}],\"pieces\":[]}", "read"),
+    (ENTRIES, "[0,0],", 31, "[0,0]],\"upto\":0}]}", "read"),
+    (ENTRIES, "[0,0],", 31, "[0]],\"upto\":0}]}", "shape 0"),
+    (ENTRIES, "[0,0],", 32, "[0,0]],\"upto\":0}]}", "entries 0"),
+    (UPTO_FIRST, "[0,0],", 31, "[0,0]]}]}", "read"),
+    (UPTO_FIRST, "[0,0],", 31, "[0]]}]}", "shape 0"),
+    (UPTO_FIRST, "[0,0],", 32, "[0,0]]}]}", "entries 0"),
+    (UPTO_FIRST, "[0,0],", 32, "[0]]}]}", "entries 0"),
+];
+
 #[test]
 fn counts(rt: HostRuntime) -> Result<(), Fail> {
-    let pieces = "{\"pieces\":[";
-    let piece = "{\"entries\":[],\"upto\":0},";
-    let entries = "{\"pieces\":[{\"entries\":[";
-    let later = "{\"pieces\":[{\"upto\":0,\"entries\":[";
-    for (begin, part, times, end, expected) in [
-        (
-            pieces,
-            piece,
-            99_999,
-            "{\"entries\":[],\"upto\":0}]}",
-            "read",
-        ),
-        (pieces, "{},", 99_999, "{}]}", "shape 0"),
-        (pieces, "{},", 100_000, "{}]}", "fault 5"),
-        (
-            pieces,
-            piece,
-            100_000,
-            "{\"entries\":[],\"upto\":0}]}",
-            "fault 5",
-        ),
-        (pieces, "{},", 100_000, "{}],\"pieces\":[]}", "read"),
-        (entries, "[0,0],", 31, "[0,0]],\"upto\":0}]}", "read"),
-        (entries, "[0,0],", 31, "[0]],\"upto\":0}]}", "shape 0"),
-        (entries, "[0,0],", 32, "[0,0]],\"upto\":0}]}", "entries 0"),
-        (later, "[0,0],", 31, "[0,0]]}]}", "read"),
-        (later, "[0,0],", 31, "[0]]}]}", "shape 0"),
-        (later, "[0,0],", 32, "[0,0]]}]}", "entries 0"),
-        (later, "[0,0],", 32, "[0]]}]}", "entries 0"),
-    ] {
-        let text = repeated(rt.alloc(), begin, part, times, end)?;
-        assert_eq!(rt;
-            answer(rt.alloc(), text.as_str())?.as_str(),
-            expected,
-            "{end}"
-        );
+    let alloc = rt.alloc();
+    for (begin, part, times, end, expected) in COUNTS {
+        let text = repeated(alloc, begin, part, times, end)?;
+        answers(&rt, alloc, text.as_str(), expected)?;
     }
     Ok(())
 }
 
-// Arrays may nest 127 deep.
+/// Arrays that nest so deep are answered so.
+fn nests(rt: &impl Abort, alloc: Global, depth: u32, expected: &str) -> Result<(), Fail> {
+    let open = repeated(alloc, "", "[", depth, "")?;
+    let text = repeated(alloc, open.as_str(), "]", depth, "")?;
+    answers(rt, alloc, text.as_str(), expected)
+}
+
 #[test]
 fn depths(rt: HostRuntime) -> Result<(), Fail> {
-    for (depth, expected) in [(127, "fault 2"), (128, "fault 1")] {
-        let open = repeated(rt.alloc(), "", "[", depth, "")?;
-        let text = repeated(rt.alloc(), open.as_str(), "]", depth, "")?;
-        assert_eq!(rt; answer(rt.alloc(), text.as_str())?.as_str(), expected);
-    }
-    Ok(())
+    nests(&rt, rt.alloc(), 127, "fault 2")?;
+    nests(&rt, rt.alloc(), 128, "fault 1")
 }
 
 #[test]
@@ -174,18 +180,19 @@ fn written_again(rt: HostRuntime) -> Result<(), Fail> {
     Ok(())
 }
 
+/// `K1` with this end is answered so.
+fn ends(rt: &impl Abort, alloc: Global, end: &str, expected: &str) -> Result<(), Fail> {
+    let mut text = String::from_str(alloc, K1)?;
+    text.push_str(end)?;
+    answers(rt, alloc, text.as_str(), expected)
+}
+
 // What `find` writes ends with a line feed, which is no part of the certificate.
 #[test]
 fn ends_of_lines(rt: HostRuntime) -> Result<(), Fail> {
-    for (end, expected) in [
-        ("\n", "read"),
-        ("\n\n", "read"),
-        ("\r\n", "read"),
-        ("\n}", "fault 1"),
-    ] {
-        let mut text = String::from_str(rt.alloc(), K1)?;
-        text.push_str(end)?;
-        assert_eq!(rt; answer(rt.alloc(), text.as_str())?.as_str(), expected);
-    }
-    Ok(())
+    let alloc = rt.alloc();
+    ends(&rt, alloc, "\n", "read")?;
+    ends(&rt, alloc, "\n\n", "read")?;
+    ends(&rt, alloc, "\r\n", "read")?;
+    ends(&rt, alloc, "\n}", "fault 1")
 }

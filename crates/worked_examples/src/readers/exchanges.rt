@@ -106,7 +106,7 @@ fn expect(
     claim: &str,
     pieces: [Piece; 3],
     want: [u32; 11],
-    pairs: [Option<(u8, u32, u32)>; 2],
+    pairs: Pairs,
 ) -> Result<(), Fail> {
     let collected = collected(alloc, claim, &capture_of(alloc, pieces)?)?;
     let given = [pair(&collected, 0), pair(&collected, 1)];
@@ -138,139 +138,155 @@ fn the_exchange(rt: HostRuntime) -> Result<(), Fail> {
     Ok(())
 }
 
-/// Where requests and replies stand, and which request a reply names.
+/// The server, the request and the reply of each exchange.
+type Pairs = [Option<(u8, u32, u32)>; 2];
+
+const NO_PAIR: Pairs = [None, None];
+
+const ONE_PAIR: Pairs = [Some((0, 0, 1)), None];
+
+/// Records, and the counts and the exchanges that they give: where requests and replies stand, and
+/// which request a reply names.
+const PAIRS: [([Piece; 3], [u32; 11], Pairs); 14] = [
+    (
+        [REQUEST, REPLY, NONE],
+        [2, 1, 1, 0, 0, 0, 0, 0, 0, 0, 0],
+        ONE_PAIR,
+    ),
+    (
+        [REPLY, REQUEST, NONE],
+        [2, 1, 1, 0, 0, 0, 0, 0, 0, 0, 0],
+        [Some((0, 1, 0)), None],
+    ),
+    (
+        [REQUEST, NONE, NONE],
+        [1, 1, 0, 0, 0, 0, 0, 0, 0, 0, 0],
+        NO_PAIR,
+    ),
+    (
+        [REQUEST, REQUEST, REPLY],
+        [3, 2, 1, 0, 0, 0, 0, 0, 0, 1, 0],
+        NO_PAIR,
+    ),
+    (
+        [REQUEST, REPLY, REQUEST],
+        [3, 2, 1, 0, 0, 0, 0, 0, 0, 1, 0],
+        NO_PAIR,
+    ),
+    (
+        [REQUEST, REPLY, REPLY],
+        [3, 1, 2, 0, 0, 0, 0, 0, 0, 0, 0],
+        [Some((0, 0, 1)), Some((0, 0, 2))],
+    ),
+    (
+        [REQUEST, FROM_OTHER_PORT, REPLY],
+        [3, 2, 1, 0, 0, 0, 0, 0, 0, 0, 0],
+        [Some((0, 0, 2)), None],
+    ),
+    // A reply to another port, and one of another server than was asked.
+    (
+        [REQUEST, (130, (37, 38, 1), AS_IS), NONE],
+        [2, 1, 1, 0, 0, 0, 0, 0, 1, 0, 0],
+        NO_PAIR,
+    ),
+    (
+        [TO_SECOND, REPLY, NONE],
+        [2, 0, 1, 0, 0, 0, 0, 0, 1, 0, 0],
+        NO_PAIR,
+    ),
+    (
+        [OLD_REQUEST, REPLY, NONE],
+        [2, 0, 1, 0, 0, 0, 0, 0, 1, 0, 0],
+        NO_PAIR,
+    ),
+    // From port 124, of 192.0.2.9, with a payload of 47 bytes, and to 192.0.2.11.
+    (
+        [REQUEST, (130, (35, 36, 124), AS_IS), NONE],
+        [2, 1, 0, 0, 0, 0, 0, 0, 0, 0, 0],
+        NO_PAIR,
+    ),
+    (
+        [REQUEST, (130, (29, 30, 9), AS_IS), NONE],
+        [2, 1, 0, 0, 0, 0, 0, 0, 0, 0, 0],
+        NO_PAIR,
+    ),
+    (
+        [REQUEST, (130, (39, 40, 55), AS_IS), NONE],
+        [2, 1, 0, 0, 0, 0, 0, 0, 0, 0, 0],
+        NO_PAIR,
+    ),
+    (
+        [REQUEST, (130, (33, 34, 11), AS_IS), NONE],
+        [2, 1, 0, 0, 0, 0, 0, 0, 0, 0, 0],
+        NO_PAIR,
+    ),
+];
+
 #[test]
 fn pairs(rt: HostRuntime) -> Result<(), Fail> {
-    let none = [None, None];
-    for (pieces, want, pairs) in [
-        (
-            [REQUEST, REPLY, NONE],
-            [2, 1, 1, 0, 0, 0, 0, 0, 0, 0, 0],
-            [Some((0, 0, 1)), None],
-        ),
-        (
-            [REPLY, REQUEST, NONE],
-            [2, 1, 1, 0, 0, 0, 0, 0, 0, 0, 0],
-            [Some((0, 1, 0)), None],
-        ),
-        (
-            [REQUEST, NONE, NONE],
-            [1, 1, 0, 0, 0, 0, 0, 0, 0, 0, 0],
-            none,
-        ),
-        (
-            [REQUEST, REQUEST, REPLY],
-            [3, 2, 1, 0, 0, 0, 0, 0, 0, 1, 0],
-            none,
-        ),
-        (
-            [REQUEST, REPLY, REQUEST],
-            [3, 2, 1, 0, 0, 0, 0, 0, 0, 1, 0],
-            none,
-        ),
-        (
-            [REQUEST, REPLY, REPLY],
-            [3, 1, 2, 0, 0, 0, 0, 0, 0, 0, 0],
-            [Some((0, 0, 1)), Some((0, 0, 2))],
-        ),
-        (
-            [REQUEST, FROM_OTHER_PORT, REPLY],
-            [3, 2, 1, 0, 0, 0, 0, 0, 0, 0, 0],
-            [Some((0, 0, 2)), None],
-        ),
-        // A reply to another port, and one of another server than was asked.
-        (
-            [REQUEST, reply(37, 38, 1), NONE],
-            [2, 1, 1, 0, 0, 0, 0, 0, 1, 0, 0],
-            none,
-        ),
-        (
-            [TO_SECOND, REPLY, NONE],
-            [2, 0, 1, 0, 0, 0, 0, 0, 1, 0, 0],
-            none,
-        ),
-        (
-            [OLD_REQUEST, REPLY, NONE],
-            [2, 0, 1, 0, 0, 0, 0, 0, 1, 0, 0],
-            none,
-        ),
-        // From port 124, of 192.0.2.9, with a payload of 47 bytes, and to 192.0.2.11.
-        (
-            [REQUEST, reply(35, 36, 124), NONE],
-            [2, 1, 0, 0, 0, 0, 0, 0, 0, 0, 0],
-            none,
-        ),
-        (
-            [REQUEST, reply(29, 30, 9), NONE],
-            [2, 1, 0, 0, 0, 0, 0, 0, 0, 0, 0],
-            none,
-        ),
-        (
-            [REQUEST, reply(39, 40, 55), NONE],
-            [2, 1, 0, 0, 0, 0, 0, 0, 0, 0, 0],
-            none,
-        ),
-        (
-            [REQUEST, reply(33, 34, 11), NONE],
-            [2, 1, 0, 0, 0, 0, 0, 0, 0, 0, 0],
-            none,
-        ),
-    ] {
+    for (pieces, want, pairs) in PAIRS {
         expect(&rt, rt.alloc(), C1, pieces, want, pairs)?;
-    }
-    // The same timestamp to two servers, and the reply of the first and of the second.
-    let want = [3, 2, 1, 0, 0, 0, 0, 0, 0, 0, 0];
-    for (last, pair) in [(REPLY, (0, 0, 2)), (reply(29, 30, 2), (1, 1, 2))] {
-        expect(
-            &rt,
-            rt.alloc(),
-            TWO_SERVERS,
-            [REQUEST, TO_SECOND, last],
-            want,
-            [Some(pair), None],
-        )?;
     }
     Ok(())
 }
 
-/// Each test of a reply's header at its edge.
+/// The same timestamp to two servers, and this reply to it.
+fn expect_of_two(
+    rt: &impl Abort,
+    alloc: Global,
+    last: Piece,
+    pair: (u8, u32, u32),
+) -> Result<(), Fail> {
+    let pieces = [REQUEST, TO_SECOND, last];
+    let want = [3, 2, 1, 0, 0, 0, 0, 0, 0, 0, 0];
+    expect(rt, alloc, TWO_SERVERS, pieces, want, [Some(pair), None])
+}
+
+/// The reply of the first server, and of the second.
+#[test]
+fn two_servers(rt: HostRuntime) -> Result<(), Fail> {
+    expect_of_two(&rt, rt.alloc(), REPLY, (0, 0, 2))?;
+    expect_of_two(&rt, rt.alloc(), reply(29, 30, 2), (1, 1, 2))
+}
+
+/// A part of the reply's frame, the byte that fills it, and the counts and the exchanges that this
+/// gives: each test of a reply's header at its edge.
+const HEADERS: [(usize, usize, u8, [u32; 11], Pairs); 14] = [
+    // The stratum.
+    (43, 44, 0, [2, 1, 1, 0, 0, 1, 0, 0, 0, 0, 0], NO_PAIR),
+    (43, 44, 1, [2, 1, 1, 0, 0, 0, 0, 0, 0, 0, 0], ONE_PAIR),
+    (43, 44, 15, [2, 1, 1, 0, 0, 0, 0, 0, 0, 0, 0], ONE_PAIR),
+    (43, 44, 16, [2, 1, 1, 0, 0, 1, 0, 0, 0, 0, 0], NO_PAIR),
+    (43, 44, 255, [2, 1, 1, 0, 0, 1, 0, 0, 0, 0, 0], NO_PAIR),
+    // The precision.
+    (45, 46, 16, [2, 1, 1, 0, 0, 0, 0, 0, 0, 0, 0], ONE_PAIR),
+    (45, 46, 17, [2, 1, 1, 0, 0, 0, 1, 0, 0, 0, 0], NO_PAIR),
+    // The leap indicator: 1, 2, 3, and 3 with version 3.
+    (42, 43, 0x64, [2, 1, 1, 0, 0, 0, 0, 0, 0, 0, 1], ONE_PAIR),
+    (42, 43, 0xa4, [2, 1, 1, 0, 0, 0, 0, 0, 0, 0, 1], ONE_PAIR),
+    (42, 43, 0xe4, [2, 1, 1, 0, 1, 0, 0, 0, 0, 0, 0], NO_PAIR),
+    (42, 43, 0xdc, [2, 1, 1, 1, 0, 0, 0, 0, 0, 0, 0], NO_PAIR),
+    // The origin, receive and transmit timestamps.
+    (66, 74, 0, [2, 1, 1, 0, 0, 0, 0, 1, 0, 0, 0], NO_PAIR),
+    (74, 82, 0, [2, 1, 1, 0, 0, 0, 0, 1, 0, 0, 0], NO_PAIR),
+    (82, 90, 0, [2, 1, 1, 0, 0, 0, 0, 1, 0, 0, 0], NO_PAIR),
+];
+
 #[test]
 fn headers(rt: HostRuntime) -> Result<(), Fail> {
-    let some = [Some((0, 0, 1)), None];
-    let none = [None, None];
-    for (from, to, byte, want, pairs) in [
-        // The stratum.
-        (43, 44, 0, [2, 1, 1, 0, 0, 1, 0, 0, 0, 0, 0], none),
-        (43, 44, 1, [2, 1, 1, 0, 0, 0, 0, 0, 0, 0, 0], some),
-        (43, 44, 15, [2, 1, 1, 0, 0, 0, 0, 0, 0, 0, 0], some),
-        (43, 44, 16, [2, 1, 1, 0, 0, 1, 0, 0, 0, 0, 0], none),
-        (43, 44, 255, [2, 1, 1, 0, 0, 1, 0, 0, 0, 0, 0], none),
-        // The precision.
-        (45, 46, 16, [2, 1, 1, 0, 0, 0, 0, 0, 0, 0, 0], some),
-        (45, 46, 17, [2, 1, 1, 0, 0, 0, 1, 0, 0, 0, 0], none),
-        // The leap indicator: 1, 2, 3, and 3 with version 3.
-        (42, 43, 0x64, [2, 1, 1, 0, 0, 0, 0, 0, 0, 0, 1], some),
-        (42, 43, 0xa4, [2, 1, 1, 0, 0, 0, 0, 0, 0, 0, 1], some),
-        (42, 43, 0xe4, [2, 1, 1, 0, 1, 0, 0, 0, 0, 0, 0], none),
-        (42, 43, 0xdc, [2, 1, 1, 1, 0, 0, 0, 0, 0, 0, 0], none),
-        // The origin, receive and transmit timestamps.
-        (66, 74, 0, [2, 1, 1, 0, 0, 0, 0, 1, 0, 0, 0], none),
-        (74, 82, 0, [2, 1, 1, 0, 0, 0, 0, 1, 0, 0, 0], none),
-        (82, 90, 0, [2, 1, 1, 0, 0, 0, 0, 1, 0, 0, 0], none),
-    ] {
+    for (from, to, byte, want, pairs) in HEADERS {
         let pieces = [REQUEST, reply(from, to, byte), NONE];
         expect(&rt, rt.alloc(), C1, pieces, want, pairs)?;
     }
-    // Leap indicator 3 and stratum 0 count once.
+    Ok(())
+}
+
+/// Leap indicator 3 and stratum 0 count once.
+#[test]
+fn leap_and_stratum(rt: HostRuntime) -> Result<(), Fail> {
     let both = [REQUEST, (130, (42, 43, 0xe4), (43, 44, 0)), NONE];
-    expect(
-        &rt,
-        rt.alloc(),
-        C1,
-        both,
-        [2, 1, 1, 0, 1, 0, 0, 0, 0, 0, 0],
-        none,
-    )
+    let want = [2, 1, 1, 0, 1, 0, 0, 0, 0, 0, 0];
+    expect(&rt, rt.alloc(), C1, both, want, NO_PAIR)
 }
 
 /// The header and the request of `V1`, and then its reply again and again.
@@ -300,25 +316,35 @@ impl Feed for Replies {
     }
 }
 
+/// A request and so many more replies after the first are collected, or refused so.
+fn collects(
+    rt: &impl Abort,
+    alloc: Global,
+    more: u32,
+    fault: Option<PairFault>,
+) -> Result<(), Fail> {
+    let claim = read_claim(alloc, C1.as_bytes())?;
+    let Ok(mut source) = Capture::begin(alloc, Replies { at: 0, more }) else {
+        panic!(rt; "no capture");
+    };
+    match collect(alloc, &mut source, &claim) {
+        Ok(collected) => {
+            let seen = (collected.exchanges.len(), collected.counts.replies);
+            assert_eq!(rt; (seen, fault), ((1_000_000, 1_000_000), None));
+        }
+        Err(refused) => assert_eq!(rt; Some(refused), fault),
+    }
+    Ok(())
+}
+
 /// A million exchanges, and one more.
 #[test]
 fn most_exchanges(rt: HostRuntime) -> Result<(), Fail> {
-    let claim = read_claim(rt.alloc(), C1.as_bytes())?;
-    for (more, fault) in [
-        (999_999, None),
-        (1_000_000, Some(PairFault::TooManyExchanges)),
-    ] {
-        let Ok(mut source) = Capture::begin(rt.alloc(), Replies { at: 0, more }) else {
-            panic!(rt; "no capture");
-        };
-        match collect(rt.alloc(), &mut source, &claim) {
-            Ok(collected) => {
-                assert_eq!(rt; fault, None);
-                assert_eq!(rt; collected.exchanges.len(), 1_000_000);
-                assert_eq!(rt; collected.counts.replies, 1_000_000);
-            }
-            Err(refused) => assert_eq!(rt; Some(refused), fault),
-        }
-    }
-    Ok(())
+    collects(&rt, rt.alloc(), 999_999, None)?;
+    collects(
+        &rt,
+        rt.alloc(),
+        1_000_000,
+        Some(PairFault::TooManyExchanges),
+    )
 }

@@ -2,7 +2,7 @@ use Rattle.std.proofs.Common.{◌<◌, [], ◌∷◌, All, length, arith}
 use Rattle.std.proofs.lemmas.List.Elements.{All-cons, All-nil}
 use Rattle.sample_interval.specs.declared.kinds.Sample.{Sample}
 use Rattle.sample_interval.specs.Sample.{IsLawfulSample}
-use Rattle.worked_verdicts.proofs.verdicts.verdict_of_three.Goals as goal
+use Rattle.worked_examples.proofs.checking.verdicts.verdict_of_three.Goals as goal
 
 All-three : (P : Sample → Type 0) (x y z : Sample) → P x → P y → P z → All P (x ∷ y ∷ z ∷ [])
 All-three P x y z px py pz =

@@ -1,7 +1,7 @@
 //! The worked rows on `check` and `find`.
 
-use crate::inputs::{LONG, claim_of, edited};
-use crate::trial::{Command, Inputs, gives};
+use crate::engines::inputs::{LONG, claim_of, edited};
+use crate::engines::trial::{Command, Inputs, gives};
 use Command::{Check, Find};
 use report::Outcome;
 use std::alloc::Global;
@@ -93,49 +93,64 @@ fn bad_sample(rt: HostRuntime) -> Result<(), Fail> {
     gives(&rt, alloc, Check, inputs, Ok(Outcome::No), &lines)
 }
 
+const ONE_PIECE: &str = "{\"pieces\":[{\"entries\":[[0,0]],\"upto\":4294967570877906944}]}\n";
+
+const TWO_PIECES: &str = "{\"pieces\":[{\"entries\":[[0,0]],\"upto\":4294967433438953472},\
+    {\"entries\":[[0,0]],\"upto\":4294967570877906944}]}\n";
+
+/// The length of pieces in seconds, edits of `C1`, its bound, and what is found.
+const FOUND: [(u32, &[(&str, &str)], &str, Outcome, &[&str]); 6] = [
+    (64, &[], "10001001", Outcome::Yes, &[K1, "\n"]),
+    (
+        64,
+        &[],
+        "10001000",
+        Outcome::No,
+        &["nothing piece 0 hull -42949674 42953969\n"],
+    ),
+    (64, &LONG, "11280627", Outcome::Yes, &[ONE_PIECE]),
+    (
+        64,
+        &LONG,
+        "11280626",
+        Outcome::No,
+        &["nothing piece 0 hull -48447343 48449920\n"],
+    ),
+    (32, &LONG, "11280627", Outcome::Yes, &[TWO_PIECES]),
+    (
+        32,
+        &LONG,
+        "11280626",
+        Outcome::No,
+        &["nothing piece 1 hull -48447343 48449920\n"],
+    ),
+];
+
+/// `find` says this.
+fn finds(
+    rt: &impl Abort,
+    alloc: Global,
+    command: Command,
+    claim: &str,
+    outcome: Outcome,
+    lines: &[&str],
+) -> Result<(), Fail> {
+    let inputs = Inputs {
+        claim: claim.as_bytes(),
+        second: b"",
+        capture: &V1,
+    };
+    gives(rt, alloc, command, inputs, Ok(outcome), lines)
+}
+
 /// The rows on a moment, and on a span of 64 seconds with a drift, in one piece and in two.
 #[test]
 fn findings(rt: HostRuntime) -> Result<(), Fail> {
     let alloc = rt.alloc();
-    let one = "{\"pieces\":[{\"entries\":[[0,0]],\"upto\":4294967570877906944}]}\n";
-    let two = "{\"pieces\":[{\"entries\":[[0,0]],\"upto\":4294967433438953472},\
-        {\"entries\":[[0,0]],\"upto\":4294967570877906944}]}\n";
-    let k1 = format!(in alloc; "{K1}\n")?;
-    let rows: [(u32, &[(&str, &str)], &str, Outcome, &str); 6] = [
-        (64, &[], "10001001", Outcome::Yes, k1.as_str()),
-        (
-            64,
-            &[],
-            "10001000",
-            Outcome::No,
-            "nothing piece 0 hull -42949674 42953969\n",
-        ),
-        (64, &LONG, "11280627", Outcome::Yes, one),
-        (
-            64,
-            &LONG,
-            "11280626",
-            Outcome::No,
-            "nothing piece 0 hull -48447343 48449920\n",
-        ),
-        (32, &LONG, "11280627", Outcome::Yes, two),
-        (
-            32,
-            &LONG,
-            "11280626",
-            Outcome::No,
-            "nothing piece 1 hull -48447343 48449920\n",
-        ),
-    ];
-    for (step_s, edits, bound, outcome, text) in rows {
+    for (step_s, edits, bound, outcome, lines) in FOUND {
         let wide = claim_of(alloc, edits)?;
         let claim = wide.as_str().replace(alloc, "10001001", bound)?;
-        let inputs = Inputs {
-            claim: claim.as_bytes(),
-            second: b"",
-            capture: &V1,
-        };
-        gives(&rt, alloc, Find(step_s), inputs, Ok(outcome), &[text])?;
+        finds(&rt, alloc, Find(step_s), claim.as_str(), outcome, lines)?;
     }
     Ok(())
 }

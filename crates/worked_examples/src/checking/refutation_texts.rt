@@ -2,6 +2,7 @@
 
 use certificate::{RefutationFault, read_refutation, write_refutation};
 use std::alloc::{AllocError, Global};
+use std::process::Abort;
 use std::test::Fail;
 
 /// What is answered, and a text: `same` if the refutation that it says is written as that text,
@@ -61,15 +62,19 @@ fn answer(alloc: Global, text: &str) -> Result<String, AllocError> {
     }
 }
 
+/// A row of the table holds.
+fn holds(rt: &impl Abort, alloc: Global, row: &str) -> Result<(), Fail> {
+    match row.split_once(" | ") {
+        Some((expected, text)) => assert_eq!(rt; answer(alloc, text)?.as_str(), expected, "{row}"),
+        None => panic!(rt; "{row}"),
+    }
+    Ok(())
+}
+
 #[test]
 fn texts(rt: HostRuntime) -> Result<(), Fail> {
     for row in TEXTS.lines() {
-        match row.split_once(" | ") {
-            Some((expected, text)) => {
-                assert_eq!(rt; answer(rt.alloc(), text)?.as_str(), expected, "{row}");
-            }
-            None => panic!(rt; "{row}"),
-        }
+        holds(&rt, rt.alloc(), row)?;
     }
     Ok(())
 }

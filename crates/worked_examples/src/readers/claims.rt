@@ -131,6 +131,12 @@ fn answer(alloc: Global, text: &str) -> Result<String, AllocError> {
     }
 }
 
+/// A text is answered so.
+fn answers(rt: &impl Abort, alloc: Global, text: &str, expected: &str) -> Result<(), Fail> {
+    assert_eq!(rt; answer(alloc, text)?.as_str(), expected, "{text}");
+    Ok(())
+}
+
 /// The two halves of a row.
 fn halves<'a>(rt: &impl Abort, row: &'a str) -> (&'a str, &'a str) {
     match row.split_once(" | ") {
@@ -143,48 +149,58 @@ fn halves<'a>(rt: &impl Abort, row: &'a str) -> (&'a str, &'a str) {
 fn texts(rt: HostRuntime) -> Result<(), Fail> {
     for row in TEXTS.lines() {
         let (expected, text) = halves(&rt, row);
-        assert_eq!(rt; answer(rt.alloc(), text)?.as_str(), expected, "{row}");
-    }
-    for row in EDITS.lines() {
-        let (expected, edit) = halves(&rt, row);
-        let (part, other) = halves(&rt, edit);
-        let text = C1.replace(rt.alloc(), part, other)?;
-        assert_eq!(rt;
-            answer(rt.alloc(), text.as_str())?.as_str(),
-            expected,
-            "{row}"
-        );
+        answers(&rt, rt.alloc(), text, expected)?;
     }
     Ok(())
+}
+
+/// A row of the table of edits holds.
+fn holds(rt: &impl Abort, alloc: Global, row: &str) -> Result<(), Fail> {
+    let (expected, edit) = halves(rt, row);
+    let (part, other) = halves(rt, edit);
+    let text = C1.replace(alloc, part, other)?;
+    answers(rt, alloc, text.as_str(), expected)
+}
+
+#[test]
+fn edits(rt: HostRuntime) -> Result<(), Fail> {
+    for row in EDITS.lines() {
+        holds(&rt, rt.alloc(), row)?;
+    }
+    Ok(())
+}
+
+/// A claim that names so many servers is answered so.
+fn names(rt: &impl Abort, alloc: Global, count: u32, expected: &str) -> Result<(), Fail> {
+    let mut servers = String::from_str(alloc, r#""1.0.0.0""#)?;
+    for number in 1..count {
+        let server = format!(in alloc; ",\"1.0.0.{number}\"")?;
+        servers.push_str(server.as_str())?;
+    }
+    let text = C1.replace(alloc, r#""192.0.2.1""#, servers.as_str())?;
+    answers(rt, alloc, text.as_str(), expected)
 }
 
 /// A claim may name 32 servers, and no more.
 #[test]
 fn server_counts(rt: HostRuntime) -> Result<(), Fail> {
-    for (count, expected) in [(32, "read"), (33, "fault 5")] {
-        let mut servers = String::from_str(rt.alloc(), r#""1.0.0.0""#)?;
-        for number in 1..count {
-            let server = format!(in rt.alloc(); ",\"1.0.0.{number}\"")?;
-            servers.push_str(server.as_str())?;
+    names(&rt, rt.alloc(), 32, "read")?;
+    names(&rt, rt.alloc(), 33, "fault 5")
+}
+
+/// A row of the table of times holds.
+fn is_at(rt: &impl Abort, row: &str) {
+    match row.split_once('|') {
+        Some((text, second)) => {
+            assert_eq!(rt; read_time(text), second.parse::<u32>().ok(), "{row}");
         }
-        let text = C1.replace(rt.alloc(), r#""192.0.2.1""#, servers.as_str())?;
-        assert_eq!(rt;
-            answer(rt.alloc(), text.as_str())?.as_str(),
-            expected,
-            "{count} servers"
-        );
+        None => panic!(rt; "{row}"),
     }
-    Ok(())
 }
 
 #[test]
 fn times(rt: HostRuntime) {
     for row in TIMES.lines() {
-        match row.split_once('|') {
-            Some((text, second)) => {
-                assert_eq!(rt; read_time(text), second.parse::<u32>().ok(), "{row}");
-            }
-            None => panic!(rt; "{row}"),
-        }
+        is_at(&rt, row);
     }
 }

@@ -1,0 +1,10 @@
+//! From samples and certificates to verdicts.
+
+mod certificates;
+mod claims;
+mod finds;
+mod hulls;
+mod pieces;
+mod refutation_texts;
+mod samples;
+mod verdicts;

@@ -1,0 +1,77 @@
+//! The hulls of lists of intervals, by hand.
+
+use arrayvec::ArrayVec;
+use intersection::kinds::{Hull, Interval};
+use intersection::{hull, hull_walk, meet};
+use std::process::Abort;
+
+fn list_of(rt: &impl Abort, intervals: &[(i128, i128)]) -> ArrayVec<Interval, 32> {
+    let mut list = ArrayVec::new();
+    for (lo, hi) in intervals {
+        let interval = Interval { lo: *lo, hi: *hi };
+        list.try_push(interval)
+            .expect(rt, "a list of at most 32 intervals");
+    }
+    list
+}
+
+/// Intervals, how many of them may be wrong, and their hull.
+const HULLS: [(&[(i128, i128)], u8, Hull); 7] = [
+    (&[], 0, Hull::Unbounded),
+    (&[(0, 5), (5, 9)], 0, Hull::Bounded { lo: 5, hi: 5 }),
+    (&[(0, 5), (6, 9)], 0, Hull::Empty),
+    (&[(0, 5), (6, 9), (6, 7)], 1, Hull::Bounded { lo: 6, hi: 7 }),
+    (&[(0, 5), (6, 9), (6, 7)], 2, Hull::Bounded { lo: 0, hi: 9 }),
+    (&[(0, 5), (6, 9), (6, 7)], 255, Hull::Unbounded),
+    (
+        &[(i128::MIN, i128::MAX), (i128::MAX, i128::MAX)],
+        1,
+        Hull::Bounded {
+            lo: i128::MIN,
+            hi: i128::MAX,
+        },
+    ),
+];
+
+#[test]
+fn hulls(rt: HostRuntime) {
+    for (intervals, f, wanted) in HULLS {
+        let found = hull(&list_of(&rt, intervals), f);
+        assert_eq!(rt; found, wanted, "{intervals:?} {f}");
+    }
+}
+
+/// The same, and how many ends are looked at.
+const WALKS: [(&[(i128, i128)], u8, Hull, u32); 5] = [
+    (
+        &[(0, 5), (4, 10), (20, 30)],
+        1,
+        Hull::Bounded { lo: 4, hi: 5 },
+        6,
+    ),
+    (&[(0, 5), (4, 10), (20, 30)], 0, Hull::Empty, 6),
+    (&[(0, 1), (10, 11)], 1, Hull::Bounded { lo: 0, hi: 11 }, 2),
+    (&[(0, 1), (10, 11)], 2, Hull::Unbounded, 0),
+    (&[(5, 4)], 0, Hull::Empty, 0),
+];
+
+#[test]
+fn walks(rt: HostRuntime) {
+    for (intervals, f, wanted, looked) in WALKS {
+        let walked = hull_walk(&list_of(&rt, intervals), f);
+        assert_eq!(rt; walked, (wanted, looked), "{intervals:?} {f}");
+    }
+}
+
+#[test]
+fn meets(rt: HostRuntime) {
+    let left = Interval { lo: 0, hi: 5 };
+    assert_eq!(rt;
+        meet(left, Interval { lo: 4, hi: 10 }),
+        Interval { lo: 4, hi: 5 }
+    );
+    assert_eq!(rt;
+        meet(left, Interval { lo: 6, hi: 9 }),
+        Interval { lo: 6, hi: 5 }
+    );
+}

@@ -1,0 +1,14 @@
+//! The engines, with devices that fail.
+
+mod certificates;
+mod envelopes;
+mod failures;
+mod inputs;
+mod lengths;
+mod listings;
+mod moments;
+mod refusals;
+mod refutations;
+mod reports;
+mod streams;
+mod trial;

@@ -1,0 +1,113 @@
+//! The worked rows on `envelope`.
+
+use crate::engines::inputs::{LONG, claim_of};
+use crate::engines::trial::{Command, Inputs, gives};
+use Command::Envelope;
+use report::Outcome;
+use std::alloc::Global;
+use std::process::Abort;
+use std::test::Fail;
+use vectors::V1;
+
+const SERVER: &str = "0 192.0.2.1 -42949674 42953969\n";
+
+const PIECE: &str = "0 1000000000 1000000000 -42949674 42953969\n";
+
+const UNBOUNDED: &str = "0 1000000000 1000000000 unbounded\n";
+
+const LEAST: &str = "bound_ns 10001001 piece 0\n";
+
+/// An edit that leaves a claim as it is.
+const SAME: (&str, &str) = ("10001001", "10001001");
+
+const NONE: &str = "bound_ns none piece 0\n";
+
+const ZERO: (&str, &str) = ("\"bound_ns\":10001001", "\"bound_ns\":0");
+
+const ONE: (&str, &str) = ("\"false_max\":0", "\"false_max\":1");
+
+/// Whether servers are shown, an edit of `C1`, and the outcome and the lines on a moment: with the
+/// server's line and without it; with a bound of nothing, which plays no part; and with the one
+/// server allowed to be wrong.
+const MOMENTS: [(bool, (&str, &str), Outcome, &[&str]); 4] = [
+    (true, SAME, Outcome::Yes, &[SERVER, PIECE, LEAST]),
+    (false, SAME, Outcome::Yes, &[PIECE, LEAST]),
+    (false, ZERO, Outcome::Yes, &[PIECE, LEAST]),
+    (true, ONE, Outcome::No, &[SERVER, UNBOUNDED, NONE]),
+];
+
+/// `envelope` says this of a capture, in pieces of so many seconds.
+fn envelops(
+    rt: &impl Abort,
+    alloc: Global,
+    command: Command,
+    edits: &[(&str, &str)],
+    capture: &[u8],
+    outcome: Outcome,
+    lines: &[&str],
+) -> Result<(), Fail> {
+    let claim = claim_of(alloc, edits)?;
+    let inputs = Inputs {
+        claim: claim.as_bytes(),
+        second: b"",
+        capture,
+    };
+    gives(rt, alloc, command, inputs, Ok(outcome), lines)
+}
+
+#[test]
+fn moments(rt: HostRuntime) -> Result<(), Fail> {
+    for (servers, edit, outcome, lines) in MOMENTS {
+        let command = Envelope(64, servers);
+        envelops(&rt, rt.alloc(), command, &[edit], &V1, outcome, lines)?;
+    }
+    Ok(())
+}
+
+/// There is no reply.
+#[test]
+fn no_reply(rt: HostRuntime) -> Result<(), Fail> {
+    let lines = [UNBOUNDED, NONE];
+    let request = &V1[..130];
+    envelops(
+        &rt,
+        rt.alloc(),
+        Envelope(64, true),
+        &[],
+        request,
+        Outcome::No,
+        &lines,
+    )
+}
+
+/// A span of 64 seconds with a drift, in one piece and in two.
+#[test]
+fn spans(rt: HostRuntime) -> Result<(), Fail> {
+    let one = [
+        "0 1000000000 1000000064 -48447343 48449920\n",
+        "bound_ns 11280627 piece 0\n",
+    ];
+    let two = [
+        "0 1000000000 1000000032 -45698509 45701086\n",
+        "1 1000000032 1000000064 -48447343 48449920\n",
+        "bound_ns 11280627 piece 1\n",
+    ];
+    envelops(
+        &rt,
+        rt.alloc(),
+        Envelope(64, false),
+        &LONG,
+        &V1,
+        Outcome::Yes,
+        &one,
+    )?;
+    envelops(
+        &rt,
+        rt.alloc(),
+        Envelope(32, false),
+        &LONG,
+        &V1,
+        Outcome::Yes,
+        &two,
+    )
+}

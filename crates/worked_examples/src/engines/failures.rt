@@ -1,0 +1,174 @@
+//! Engines whose devices fail, at each of their calls in turn.
+
+use crate::engines::inputs::REFUTATION;
+use crate::engines::trial::{Command, Failing, Inputs, NONE, Ran, is_untouched, run};
+use byte_stream::{Cut, Feed, Sink, TestSink};
+use report::{Input, Outcome, RunFault};
+use std::alloc::Global;
+use std::process::Abort;
+use std::test::Fail;
+use vectors::{C1, K1, V1};
+
+/// Each command that has a claim, and its outcome on the worked inputs.
+const COMMANDS: [(Command, Outcome); 7] = [
+    (Command::Samples, Outcome::Yes),
+    (Command::At(1_000_000_000), Outcome::Yes),
+    (Command::Check, Outcome::Yes),
+    (Command::Find(64), Outcome::Yes),
+    (Command::Refute, Outcome::No),
+    (Command::Seek, Outcome::No),
+    (Command::Envelope(64, true), Outcome::Yes),
+];
+
+/// The second input of a command, and the worked one.
+fn second_of(command: Command) -> (Input, &'static [u8]) {
+    match command {
+        Command::Refute => (Input::Refutation, REFUTATION.as_bytes()),
+        _ => (Input::Certificate, K1.as_bytes()),
+    }
+}
+
+fn worked(command: Command) -> Inputs<'static> {
+    Inputs {
+        claim: C1.as_bytes(),
+        second: second_of(command).1,
+        capture: &V1,
+    }
+}
+
+fn failing_pull(input: Input, number: u64) -> Failing {
+    let mut failing = NONE;
+    match input {
+        Input::Claim => failing.claim = Some(number),
+        Input::Certificate | Input::Refutation => failing.second = Some(number),
+        Input::Capture => failing.capture = Some(number),
+    }
+    failing
+}
+
+/// The inputs after this one are as they were.
+fn are_later_untouched(ran: &mut Ran<'_>, inputs: Inputs<'_>, input: Input) -> bool {
+    match input {
+        Input::Claim => {
+            is_untouched(&mut ran.second, inputs.second)
+                && is_untouched(&mut ran.capture, inputs.capture)
+        }
+        Input::Certificate | Input::Refutation => is_untouched(&mut ran.capture, inputs.capture),
+        Input::Capture => true,
+    }
+}
+
+/// A run in which one pull fails: the answer names the input, nothing is written, and later inputs
+/// are as they were. Whether it got to that pull: if not, it goes well.
+fn fails(
+    rt: &impl Abort,
+    alloc: Global,
+    (command, outcome): (Command, Outcome),
+    cut: Cut,
+    (input, number): (Input, u64),
+) -> Result<bool, Fail> {
+    let inputs = worked(command);
+    let failing = failing_pull(input, number);
+    let mut out = TestSink::new(alloc, 1000, 1000, None, false)?;
+    let mut ran = run(alloc, command, inputs, cut, failing, &mut out);
+    if ran.faults() == 0 {
+        assert_eq!(rt; ran.answer, Ok(outcome), "{command:?} {input:?}");
+        return Ok(false);
+    }
+    let device = Err(RunFault::Device(input));
+    assert_eq!(rt; ran.answer, device, "{command:?} {number}");
+    let seen = (ran.faults(), out.faults(), out.bytes().len());
+    assert_eq!(rt; seen, (1, 0, 0), "{command:?} {input:?} {number}");
+    let later = are_later_untouched(&mut ran, inputs, input);
+    assert!(rt; later, "{command:?} {input:?} {number}");
+    Ok(true)
+}
+
+/// Each pull of an input fails in turn, until a run meets none that does.
+fn each_pull_fails(
+    rt: &impl Abort,
+    alloc: Global,
+    command: (Command, Outcome),
+    cut: Cut,
+    input: Input,
+) -> Result<(), Fail> {
+    for number in 1..1000 {
+        if !fails(rt, alloc, command, cut, (input, number))? {
+            break;
+        }
+    }
+    Ok(())
+}
+
+#[test]
+fn pulls(rt: HostRuntime) -> Result<(), Fail> {
+    for command in COMMANDS {
+        let second = second_of(command.0).0;
+        for cut in [Cut::Fixed(1), Cut::Fixed(7), Cut::Growing] {
+            for input in [Input::Claim, second, Input::Capture] {
+                each_pull_fails(&rt, rt.alloc(), command, cut, input)?;
+            }
+        }
+    }
+    Ok(())
+}
+
+const AT_ONCE: Cut = Cut::Fixed(usize::MAX);
+
+/// A run in which one push fails: exactly the bytes that the answer counts have gone out of the
+/// whole text. Whether it got to that push: if not, it goes well.
+fn breaks_off(
+    rt: &impl Abort,
+    alloc: Global,
+    (command, outcome): (Command, Outcome),
+    whole: &[u8],
+    (most, failing): (usize, u64),
+) -> Result<bool, Fail> {
+    let mut out = TestSink::new(alloc, 1000, most, Some(failing), false)?;
+    let ran = run(alloc, command, worked(command), AT_ONCE, NONE, &mut out);
+    let is_broken = out.faults() > 0;
+    let held = out.bytes().len();
+    let wanted = match is_broken {
+        true => Err(RunFault::Write(held as u64)),
+        false => Ok(outcome),
+    };
+    assert_eq!(rt; ran.answer, wanted, "{command:?} {most} {failing}");
+    assert_eq!(rt; (ran.faults(), out.faults()), (0, u64::from(is_broken)));
+    assert_eq!(rt; Some(out.bytes()), whole.get(..held));
+    assert!(rt; is_broken || held == whole.len());
+    Ok(is_broken)
+}
+
+/// Each push fails in turn, until a run meets none that does.
+fn each_push_fails(
+    rt: &impl Abort,
+    alloc: Global,
+    command: (Command, Outcome),
+    most: usize,
+) -> Result<(), Fail> {
+    let mut whole = TestSink::new(alloc, 1000, 1000, None, false)?;
+    let _ = run(
+        alloc,
+        command.0,
+        worked(command.0),
+        AT_ONCE,
+        NONE,
+        &mut whole,
+    );
+    for failing in 1..1000 {
+        if !breaks_off(rt, alloc, command, whole.bytes(), (most, failing))? {
+            break;
+        }
+    }
+    Ok(())
+}
+
+#[test]
+fn pushes(rt: HostRuntime) -> Result<(), Fail> {
+    for command in COMMANDS {
+        for most in [1, 7, 1000] {
+            each_push_fails(&rt, rt.alloc(), command, most)?;
+        }
+    }
+    Ok(())
+}
