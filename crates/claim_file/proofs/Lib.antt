@@ -1,6 +1,7 @@
 pub mod Addresses
 pub mod DayNumber
 pub mod FieldSteps
+pub mod Gathering
 pub mod Groupings
 pub mod Groups
 pub mod Lawful

@@ -88,7 +88,7 @@ exists_parts m there =
     )
 
 -- a date and time that exist have numbers of as many digits as are written
-small_parts : (m : DateTime) → exists m ≡ true →
+pub small_parts : (m : DateTime) → exists m ≡ true →
     (m.year < 10000) × (m.month < 100) × (m.day < 100) × (m.hour < 100) × (m.minute < 100) × (m.second < 100)
 small_parts m there =
     let (date, h, mi, s) = exists_parts m there in
