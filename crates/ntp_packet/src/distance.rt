@@ -8,6 +8,9 @@ use crate::NtpView;
 /// Ticks in a unit of the short format, 2^-16 s.
 const UNIT_TICKS: u64 = 65536;
 
+/// The greatest precision with a root distance, in log2 seconds: 18 hours.
+const GREATEST_PRECISION: i8 = 16;
+
 #[tactic(auto, unfolding(crate::specs::Header::root_distance_of))]
 impl NtpView<'_> {
     /// The root distance that the sender announces, in ticks of 2^-32 s: half its root delay, its
@@ -20,7 +23,7 @@ impl NtpView<'_> {
         ensures greatest { IfSome result (λ ticks. ticks <ℤ pos (2 ^ 50)) }
     {
         let precision = self.precision();
-        if precision > 16 {
+        if precision > GREATEST_PRECISION {
             return None;
         }
         let half_delay = u64::from(self.root_delay()) * (UNIT_TICKS / 2);
