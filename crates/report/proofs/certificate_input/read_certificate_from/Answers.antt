@@ -1,4 +1,4 @@
-use Rattle.std.proofs.Common.{◌≡◌, ◌⊎◌, List, ℕ, Err, sym, ap, subst, inl, inr}
+use Rattle.std.proofs.Common.{◌≡◌, ◌⊎◌, List, ℕ, Err, sym, ap, subst, inl, inr, rules}
 use Rattle.std.specs.Prelude.{IfSome}
 use Rattle.certificate.specs.declared.fault.CertificateFault.{CertificateFault}
 use Rattle.certificate.specs.declared.fault.CertificateFault.TheVariants as certificates
@@ -40,3 +40,12 @@ returns-in-Err-read_certificate_in-clause-known g c =
     (input_refused data_of 134217728 inputs.Certificate (λ b. certificate_or_fault (certificate_of b)) _ _ _
     c.in-Ok.ensures.whole
     (refusal _ c.in-Err-read_certificate_in.fault c.in-Err-read_certificate_in.ensures.exact))
+
+pub returns-in-Err-clause-fault : goal.returns-in-Err-clause-fault
+returns-in-Err-clause-fault g c = search rules
+
+pub returns-in-Err-clause-counts_fault : goal.returns-in-Err-clause-counts_fault
+returns-in-Err-clause-counts_fault g c = search rules
+
+pub returns-in-Err-clause-at_most : goal.returns-in-Err-clause-at_most
+returns-in-Err-clause-at_most g c = c.in-Err.ensures.at_most
