@@ -4,7 +4,7 @@ use claim_file::Claim;
 use pairing::Held;
 
 /// A claim, and the exchanges and counts of a capture that is held against it.
-#[derive(Debug, Drop)]
+#[derive(Drop)]
 pub(crate) struct Evidence {
     /// The claim.
     pub(crate) claim: Claim,

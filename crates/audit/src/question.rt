@@ -63,7 +63,7 @@ pub enum Question {
 }
 
 /// What is to be done for a question, once its second input is read.
-#[derive(Debug, Drop)]
+#[derive(Drop)]
 pub(crate) enum Task {
     /// Show the samples.
     Samples,

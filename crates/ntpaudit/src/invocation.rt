@@ -4,7 +4,7 @@ use audit::Question;
 use report::Input;
 
 /// The path of a second input.
-#[derive(Debug, Drop)]
+#[derive(Drop)]
 pub(crate) struct SecondPath {
     /// Which input it is.
     pub(crate) input: Input,
@@ -13,7 +13,7 @@ pub(crate) struct SecondPath {
 }
 
 /// The paths of the files that a question is asked of.
-#[derive(Debug, Drop)]
+#[derive(Drop)]
 pub(crate) struct Paths {
     /// The claim's.
     pub(crate) claim: String,

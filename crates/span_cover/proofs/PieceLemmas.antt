@@ -1,7 +1,9 @@
 -- The greatest distance between a window and a piece, and what it moves.
 use Rattle.std.proofs.Common.{◌≡◌, ℕ, ◌-◌, ◌*◌, ◌^◌, ◌<◌, ◌≤◌, ℤ, pos, ◌+ℤ◌, ◌-ℤ◌, ◌*ℤ◌, ◌≤ℤ◌, unsigned_abs}
-use Rattle.std.proofs.Common.{refl, ◌∙◌, arith, to_z, of_z, FitsSigned, negsuc}
+use Rattle.std.proofs.Common.{refl, ◌∙◌, arith, to_z, of_z, true, FitsSigned, negsuc}
 use mir.Syntax.{w128}
+use Rattle.std.specs.Int.{int_max, int_min}
+use Rattle.std.specs.Int.Signed.{le_z}
 use Rattle.std.proofs.lemmas.Int.{ints, clamps, to_z-of_z, fits_signed_from_abs}
 use Rattle.std.proofs.Math.Nat.{le_of_mul-le-mul_right, mul-le-mul_left, mul-le-mul_right}
 use Rattle.intersection.specs.Fineness.{times_le, times-add}
@@ -142,3 +144,20 @@ module _ (widens : HaveWidenings) (n ppb : ℕ) (p q : ℤ) (observed : Moment) 
       no_more ((sample.high +ℤ pos w) *ℤ pos n) (sample.high *ℤ pos n) (error_of reply) (error_of observed) (w * n)
       parts most
       (change_of_error sample.high_from sample.high_to reply window drift)
+
+-- ---- an end that a sample's doesn't pass
+
+not_above : (a b : ℤ) → le_z a b ≡ true → a ≤ℤ b
+not_above a b h = grind (arith, ints)
+
+pub low_stays : (low : ℤ) (sample : Sample) (p q : ℤ) (ppb : ℕ) → sample.low_from ≤ℤ sample.low_to → IsPiece p q →
+    le_z sample.low low ≡ true → low ≡ int_max low (moved_low sample p q ppb)
+unfolding moved_low
+low_stays low sample p q ppb window piece h =
+    omega (arith, ints, clamps, not_above sample.low low h)
+
+pub high_stays : (high : ℤ) (sample : Sample) (p q : ℤ) (ppb : ℕ) → sample.high_from ≤ℤ sample.high_to →
+    IsPiece p q → le_z high sample.high ≡ true → high ≡ int_min high (moved_high sample p q ppb)
+unfolding moved_high
+high_stays high sample p q ppb window piece h =
+    omega (arith, ints, clamps, not_above high sample.high h)
