@@ -29,8 +29,8 @@ fn sample_of(server: u8, low: i32, high: i32) -> Sample
     }
 }
 
-/// The end of the span of a second, and of that of 64 seconds, in ticks.
-const SECOND_END: u64 = 4_294_967_296_000_000_000;
+/// The ends of the spans in ticks: of that of a moment, and of that of 64 seconds.
+const MOMENT_END: u64 = 4_294_967_296_000_000_000;
 
 const MINUTE_END: u64 = 4_294_967_570_877_906_944;
 
@@ -62,10 +62,10 @@ fn judged(
 
 /// The rows on the worked sample, each with the piece that isn't shown, and why.
 const ROWS: [(Terms, &str, u64, Option<(u32, Why)>); 9] = [
-    (AS_IS, "[0,0]", SECOND_END, None),
-    (TIGHT, "[0,0]", SECOND_END, Some((0, Why::Exceeds))),
-    (AS_IS, "[0,0]", SECOND_END - 1, Some((0, Why::Cut))),
-    (AS_IS, "[0,0]", SECOND_END + 1, Some((0, Why::Cut))),
+    (AS_IS, "[0,0]", MOMENT_END, None),
+    (TIGHT, "[0,0]", MOMENT_END, Some((0, Why::Exceeds))),
+    (AS_IS, "[0,0]", MOMENT_END - 1, Some((0, Why::Cut))),
+    (AS_IS, "[0,0]", MOMENT_END + 1, Some((0, Why::Cut))),
     (LONG, "[0,0]", MINUTE_END, None),
     (LONG_TIGHT, "[0,0]", MINUTE_END, Some((0, Why::Exceeds))),
     (LONG, "[0,0]", MINUTE_END - 1, Some((1, Why::Uncovered))),

@@ -37,7 +37,7 @@ fn samples(rt: HostRuntime) -> Result<(), Fail> {
     says(&rt, rt.alloc(), Samples, &V1, &lines)
 }
 
-/// No reply can be paired if its request was sent twice.
+/// A reply is paired with no request if two were sent that it may answer.
 #[test]
 fn request_twice(rt: HostRuntime) -> Result<(), Fail> {
     let capture = joined(rt.alloc(), &[&V1[..130], &V1[24..]])?;

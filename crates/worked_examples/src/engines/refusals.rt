@@ -56,7 +56,7 @@ fn captures(rt: HostRuntime) -> Result<(), Fail> {
     refuses(&rt, alloc, first_of(&long, 40), CaptureFault::TooLong(24))
 }
 
-/// A whole second and more in the sub-second field, in microseconds and in nanoseconds.
+/// A whole second in the sub-second field, in microseconds and in nanoseconds.
 #[test]
 fn fractions(rt: HostRuntime) -> Result<(), Fail> {
     let micro = edited(&[(28, b"\x40\x42\x0f\x00")]);

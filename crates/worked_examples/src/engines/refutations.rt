@@ -20,7 +20,7 @@ const ONE: (&str, &str) = ("\"false_max\":0", "\"false_max\":1");
 /// The refutation in which the one server is wrong.
 const LIAR: &str = "{\"error\":42953973,\"false\":[0],\"reading\":4294967296000000000}";
 
-const TWICE: &str = "{\"error\":42953973,\"false\":[0,0],\"reading\":4294967296000000000}";
+const LIAR_TWICE: &str = "{\"error\":42953973,\"false\":[0,0],\"reading\":4294967296000000000}";
 
 const STRANGER: &str = "{\"error\":42953973,\"false\":[1],\"reading\":4294967296000000000}";
 
@@ -36,7 +36,7 @@ const REFUTED: [((&str, &str), &str, Outcome); 9] = [
     (BOUND, REFUTATION, Outcome::No),
     (ONE, LIAR, Outcome::Yes),
     (BOUND, LIAR, Outcome::No),
-    (ONE, TWICE, Outcome::No),
+    (ONE, LIAR_TWICE, Outcome::No),
     (ONE, STRANGER, Outcome::No),
     (ONE, AFTER, Outcome::No),
     (TIGHT, GREATEST, Outcome::Yes),
