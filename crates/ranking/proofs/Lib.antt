@@ -1,3 +1,4 @@
+pub mod Children
 pub mod Descent
 pub mod Empty
 pub mod Entries
