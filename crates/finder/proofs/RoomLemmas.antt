@@ -172,6 +172,30 @@ pub record IsKept (computed is : ℤ) : Type 0 where
 is_kept : (a b : ℤ) → a ≡ b → unsigned_abs b ≤ 2 ^ 72 → IsKept a b
 is_kept a b same small = record { same = same; kept = ap bits same ∙ kept b (omega arith); small = small }
 
+-- a number whose sums and differences are computed
+pub record IsSmall (a : ℤ) : Type 0 where
+  pub in_sum : unsigned_abs (bits a) ≤ 2 ^ 72
+  pub in_difference : unsigned_abs (bits a) ≤ 2 ^ 73
+
+is_small : (a : ℤ) → unsigned_abs a ≤ 2 ^ 70 → IsSmall a
+is_small a h =
+    let same : bits a ≡ a = kept a (omega arith) in
+    record { in_sum = rw same (omega arith); in_difference = rw same (omega arith) }
+
+pub time_small : (a : ℤ) → IsInRange a → IsSmall a
+time_small a is = is_small a (small a is)
+
+pub allowance_small : (a : ℤ) → pos 0 ≤ℤ a → a ≤ℤ pos (2 ^ 32) → IsSmall a
+allowance_small a from to = is_small a (omega (arith, ints))
+
+pub kept_small : (a b : ℤ) → IsKept a b → IsSmall a
+kept_small a b is =
+    let small = is.small in
+    record { in_sum = rw is.kept small; in_difference = rw is.kept (omega arith) }
+
+pub end_small : (a : ℤ) → unsigned_abs a ≤ 2 ^ 74 → unsigned_abs (bits a) ≤ 2 ^ 80
+end_small a h = rw (kept a (omega arith)) (omega arith)
+
 module _ (x : Exchange) (allowance : ℤ) (c : Computed x allowance) where
   t1 : unsigned_abs x.t1_low ≤ 2 ^ 70
   t1 = small x.t1_low c.of_claim.lawful.t1_low
