@@ -1,9 +1,12 @@
 -- The numbers of a claim that keeps its limits, as 128 bits hold them.
-use Rattle.std.proofs.Common.{◌≡◌, ◌≤◌, length, to_z, of_z, arith}
-use Rattle.std.proofs.lemmas.Int.{ints}
+use Rattle.std.proofs.Common.{◌≡◌, ℕ, ◌<◌, ◌≤◌, ◌^◌, pos, ◌-ℤ◌, ◌≤ℤ◌, ◌<ℤ◌, unsigned_abs, length, to_z, of_z, Fits, w8, arith}
+use Rattle.std.proofs.lemmas.Int.{ints, fits_signed_from_abs}
+use Rattle.std.specs.Int.Signed.{non_neg, yes_non_neg}
+use Rattle.std.proofs.Math.Dec.{T}
 use mir.Syntax.{w128}
+use mir.Val.{SFits}
 use Rattle.claim_file.specs.Claim.{ClaimData, IsLawful}
-use Rattle.finder.proofs.Kept.{kept}
+use Rattle.finder.proofs.Kept.{kept, kept_difference}
 
 module _ (claim : ClaimData) (lawful : IsLawful claim) where
   pub first_kept : to_z w128 (of_z w128 claim.first) ≡ claim.first
@@ -32,7 +35,55 @@ module _ (claim : ClaimData) (lawful : IsLawful claim) where
       let to = lawful.reading_in_range in
       kept claim.reading (omega (arith, ints))
 
-  -- ---- its groups
+  pub first_from_zero : pos 0 ≤ℤ to_z w128 (of_z w128 claim.first)
+  first_from_zero = rw first_kept lawful.span_begins
+
+  pub span_in_order : to_z w128 (of_z w128 claim.first) ≤ℤ to_z w128 (of_z w128 claim.last)
+  span_in_order = rw (first_kept, last_kept) lawful.span_forward
+
+  pub last_in_range : to_z w128 (of_z w128 claim.last) <ℤ pos (2 ^ 64)
+  last_in_range = rw last_kept lawful.span_ends
+
+  pub bound_from_zero : pos 0 ≤ℤ to_z w128 (of_z w128 claim.bound)
+  bound_from_zero = rw bound_kept lawful.bound_not_negative
+
+  -- ---- the length of its span
+
+  pub length_kept : to_z w128 (of_z w128 (to_z w128 (of_z w128 claim.last) -ℤ to_z w128 (of_z w128 claim.first)))
+      ≡ claim.last -ℤ claim.first
+  length_kept =
+      let begins = lawful.span_begins in
+      let forward = lawful.span_forward in
+      let ends = lawful.span_ends in
+      kept_difference claim.last claim.first (omega (arith, ints)) (omega (arith, ints))
+
+  pub length_fits : SFits w128 (to_z w128 (of_z w128 claim.last) -ℤ to_z w128 (of_z w128 claim.first))
+  length_fits =
+      let begins = lawful.span_begins in
+      let forward = lawful.span_forward in
+      let ends = lawful.span_ends in
+      rw (last_kept, first_kept) (fits_signed_from_abs w128 (claim.last -ℤ claim.first) (omega (arith, ints)))
+
+  pub length_below : unsigned_abs (claim.last -ℤ claim.first) < 2 ^ 64
+  length_below =
+      let begins = lawful.span_begins in
+      let forward = lawful.span_forward in
+      let ends = lawful.span_ends in
+      omega (arith, ints)
+
+  pub length_from_zero : T (non_neg (to_z w128 (of_z w128
+      (to_z w128 (of_z w128 claim.last) -ℤ to_z w128 (of_z w128 claim.first)))))
+  length_from_zero = let forward = lawful.span_forward in rw length_kept (yes_non_neg (omega (arith, ints)))
+
+  pub length_fits_unsigned : Fits w128 (unsigned_abs (to_z w128 (of_z w128
+      (to_z w128 (of_z w128 claim.last) -ℤ to_z w128 (of_z w128 claim.first)))))
+  length_fits_unsigned = let below = length_below in rw length_kept (record { fits = omega arith })
+
+  -- ---- its servers and groups
+
+  pub server_fits : (server count : ℕ) → server < count → count ≡ length claim.servers → Fits w8 server
+  server_fits server count below is = let few = lawful.few_servers in record { fits = omega arith }
+
 
   pub few_groups : length claim.groups ≤ 32
   few_groups = let same = lawful.group_for_each in let few = lawful.few_servers in omega arith

@@ -1,5 +1,5 @@
 -- The pieces of a span.
-use Rattle.std.proofs.Common.{◌≡◌, ℕ, zero, suc, ◌+◌, ◌-◌, ◌*◌, ◌/◌, ◌%◌, ◌<◌, ◌≤◌, min, max, ◌^◌, ℤ, pos, ◌+ℤ◌, ◌-ℤ◌, ◌≤ℤ◌, ◌<ℤ◌, nat_lt, true, false, unsigned_abs, List, [], ◌∷◌, ◌++◌, sym, ap, ◌∙◌, ⊎_elim, arith, to_z, of_z, Fits, w64}
+use Rattle.std.proofs.Common.{◌≡◌, ℕ, zero, suc, ◌+◌, ◌-◌, ◌*◌, ◌/◌, ◌%◌, ◌<◌, ◌≤◌, min, max, ◌^◌, ℤ, pos, ◌+ℤ◌, ◌-ℤ◌, ◌≤ℤ◌, ◌<ℤ◌, nat_lt, true, false, unsigned_abs, List, [], ◌∷◌, ◌++◌, sym, ap, ◌∙◌, ⊎_elim, arith, to_z, of_z, Fits, w32, w64}
 use mir.Syntax.{w128}
 use Rattle.std.proofs.Math.Nat.{mul-le-mul_right}
 use Rattle.std.proofs.lemmas.Bool.{cases_lt}
@@ -106,6 +106,26 @@ pub IsPieceCount-piece_count_of : ((n d : ℕ) → 0 < d → IsCeiling n d (ceil
 unfolding piece_count_of
 IsPieceCount-piece_count_of ceilings first last step in_order some =
     count_is first last step _ in_order (ceilings _ (step * ticks_per_second) (omega arith))
+
+-- the numbers from which the code computes the count
+module _ (step from : ℕ) (same : from ≡ step) where
+  pub ticks_fit : Fits w32 step → Fits w128 (from * ticks_per_second)
+  ticks_fit fits = let small = fits.fits in record { fits = omega arith }
+
+  pub some_ticks : 0 < step → 0 < from * ticks_per_second
+  some_ticks some = omega arith
+
+at_most_whole : (n d q : ℕ) → 1 ≤ d → q * d < n + d → q ≤ n
+at_most_whole n d zero some below = omega arith
+at_most_whole n d (suc q) some below =
+    let more : 1 * q ≤ d * q = mul-le-mul_right q some in
+    omega arith
+
+pub count_fits : (n d q count : ℕ) → 0 < d → n < 2 ^ 64 → q ≡ div_ceil n d → count ≡ max q 1 → Fits w64 count
+count_fits n d q count some below e f =
+    let bounds = div_ceil_times n d some in
+    let whole = at_most_whole n d (div_ceil n d) (omega arith) bounds.1 in
+    record { fits = omega arith }
 
 -- the count that the code computes
 pub count_from : (first last : ℤ) (step from length q count : ℕ) → 0 < step → from ≡ step

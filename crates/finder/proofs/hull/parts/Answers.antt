@@ -1,9 +1,9 @@
-use Rattle.std.proofs.Common.{◌<◌, ◌≤◌, length, get_or, arith}
+use Rattle.std.proofs.Common.{◌<◌, ◌≤◌, length, get_or, ap, ◌∙◌, falls, arith}
 use Rattle.std.proofs.lemmas.Grind.{common_steps}
 use Rattle.std.proofs.lemmas.List.{take_all}
 use Rattle.claim_file.specs.Claim.{data_of}
 use Rattle.sample_interval.specs.Sample.{IsLawfulSample}
-use Rattle.finder.specs.Entry.{part_named}
+use Rattle.finder.specs.Entry.{part_named, parts_named}
 use Rattle.finder.proofs.EntryLemmas.{listed_parts, part_computed}
 use Rattle.finder.proofs.ListLemmas.{All-slice_get, filter_map_more}
 use Rattle.finder.proofs.hull.parts.Goals as goal
@@ -15,10 +15,28 @@ sample_at-low-requires g c =
     let index = c.loop-entry.entry-index in
     rw same (c.requires.named index (0, 0) (rw (← same) within)).0
 
+pub sample_at-high-requires : goal.sample_at-high-requires
+sample_at-high-requires g c =
+    let same = c.as_slice-entry-items.ensures.value in
+    let within = c.loop-entry-test.true in
+    let index = c.loop-entry.entry-index in
+    rw same (c.requires.named index (0, 0) (rw (← same) within)).1
+
 pub part_of-requires-clause-low : goal.part_of-requires-clause-low
 part_of-requires-clause-low g c =
     All-slice_get IsLawfulSample (g.S.SampleSource.samples c.args.samples) _ _ c.requires.samples.lawful
     c.sample_at-low.ensures
+
+pub part_of-requires-clause-high : goal.part_of-requires-clause-high
+part_of-requires-clause-high g c =
+    All-slice_get IsLawfulSample (g.S.SampleSource.samples c.args.samples) _ _ c.requires.samples.lawful
+    c.sample_at-high.ensures
+
+pub part_of-requires-clause-stretch : goal.part_of-requires-clause-stretch
+part_of-requires-clause-stretch g c = c.requires.stretch
+
+pub part_of-requires-clause-rate : goal.part_of-requires-clause-rate
+part_of-requires-clause-rate g c = c.requires.claim.drift_in_range
 
 pub loop-entry-preserved : goal.loop-entry-preserved
 loop-entry-preserved g c =
@@ -38,6 +56,18 @@ loop-entry-preserved g c =
           c.push.ensures.items;
       fits = grind (arith, common_steps);
     }
+
+pub loop-entry-smaller : goal.loop-entry-smaller
+loop-entry-smaller g c = falls _ _ c.loop-entry-test.true
+
+pub returns-clause-exact : goal.returns-clause-exact
+returns-clause-exact g c =
+    let entries = c.args.entries.now.items in
+    let past : length entries ≤ c.loop-entry.entry-index =
+    rw c.as_slice-entry-items.ensures.value at c.loop-entry-test.false in
+    c.loop-entry.invariant.so_far
+    ∙ ap (parts_named (g.S.SampleSource.samples c.args.samples) (data_of c.args.claim.now) c.args.stretch)
+    (take_all c.loop-entry.entry-index entries past)
 
 pub returns-clause-listed : goal.returns-clause-listed
 returns-clause-listed g c =

@@ -1,17 +1,34 @@
-use Rattle.std.proofs.Common.{ap, arith, unsigned_abs}
-use Rattle.std.proofs.lemmas.Int.{ints}
+use Rattle.std.proofs.Common.{ap, subst, sym, ◌<◌, ◌^◌, ℕ, unsigned_abs}
 use Rattle.claim_file.specs.Claim.{data_of}
-use Rattle.finder.proofs.Kept.{kept_difference}
-use Rattle.finder.proofs.PieceLemmas.{count_from}
+use Rattle.finder.proofs.ClaimLemmas.{length_kept, length_fits, length_below, length_from_zero, length_fits_unsigned}
+use Rattle.finder.proofs.PieceLemmas.{count_from, count_fits, some_ticks, ticks_fit}
 use Rattle.finder.proofs.piece.piece_count.Goals as goal
+
+pub overflow_mul-step : goal.overflow_mul-step
+overflow_mul-step c = ticks_fit c.args.step_s c.from-step.result c.from-step.ensures c.ranges.step_s
+
+pub overflow_sub-length : goal.overflow_sub-length
+overflow_sub-length c = length_fits (data_of c.args.claim.now) c.requires.claim
+
+pub overflow_cast-length : goal.overflow_cast-length
+overflow_cast-length c =
+    let claim = data_of c.args.claim.now in
+    (length_from_zero claim c.requires.claim, length_fits_unsigned claim c.requires.claim)
+
+pub div_ceil-requires : goal.div_ceil-requires
+div_ceil-requires c = some_ticks c.args.step_s c.from-step.result c.from-step.ensures c.requires.step
+
+pub overflow_cast-result : goal.overflow_cast-result
+overflow_cast-result c =
+    let claim = data_of c.args.claim.now in
+    let kept = ap unsigned_abs (length_kept claim c.requires.claim) in
+    count_fits _ _ c.div_ceil.result c.max.result
+    (some_ticks c.args.step_s c.from-step.result c.from-step.ensures c.requires.step)
+    (subst (λ (n : ℕ). n < 2 ^ 64) (sym kept) (length_below claim c.requires.claim)) c.div_ceil.ensures c.max.ensures
 
 pub returns : goal.returns
 returns c =
     let claim = data_of c.args.claim.now in
-    let begins = c.requires.claim.span_begins in
-    let forward = c.requires.claim.span_forward in
-    let ends = c.requires.claim.span_ends in
-    let length = ap unsigned_abs
-    (kept_difference claim.last claim.first (omega (arith, ints)) (omega (arith, ints))) in
+    let length = ap unsigned_abs (length_kept claim c.requires.claim) in
     count_from claim.first claim.last c.args.step_s c.from-step.result _ c.div_ceil.result c.max.result
     c.requires.step c.from-step.ensures length c.div_ceil.ensures c.max.ensures
