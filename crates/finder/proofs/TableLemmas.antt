@@ -1,6 +1,6 @@
 -- The best samples of each server in each piece, table by table.
-use Rattle.std.proofs.Common.{◌≡◌, ℕ, zero, suc, ◌+◌, ◌<◌, ◌^◌, ℤ, pos, ◌≤ℤ◌, ◌<ℤ◌, List, [], ◌∷◌, ◌++◌, length, Option, Some, refl, sym, ap, ◌∙◌, subst, arith}
-use Rattle.std.specs.Prelude.{slice_get}
+use Rattle.std.proofs.Common.{◌≡◌, ℕ, zero, suc, ◌+◌, ◌<◌, ◌≤◌, ◌^◌, ℤ, pos, ◌≤ℤ◌, ◌<ℤ◌, List, [], ◌∷◌, ◌++◌, length, Option, Some, refl, sym, ap, ◌∙◌, subst, le_trans, arith, Vec, Global}
+use Rattle.std.specs.Prelude.{All, slice_get}
 use Rattle.std.specs.List.{filter_map, cons_option, range_with_len}
 use Rattle.std.proofs.lemmas.List.Elements.{filter_map-append}
 use Rattle.std.proofs.lemmas.List.FromFn.{length-map-range_with_len, get_or-map-range_with_len}
@@ -80,3 +80,22 @@ module _ (first last : ℤ) (step n : ℕ) (f g l : ℤ) (ends list : List ℤ) 
   as_many samples server ppb chosen are =
       are.as_many ∙ ap (λ (es : List ℤ). length es) ends_are
       ∙ length-map-range_with_len (piece_end_of first last step) 0 n
+
+-- ---- the tables as they are passed on
+
+-- the best samples of a server in each piece
+abbrev Table : Type 0
+Table = Vec (ℕ × ℕ) Global
+
+pub few_tables : (servers : ℕ) (list tables : List Table) → list ≡ tables → length tables ≤ servers → servers ≤ 32
+    → length list ≤ 32
+few_tables servers list tables same few at_most = rw same (le_trans few at_most)
+
+pub long_tables : (k n : ℕ) (list tables : List Table) → list ≡ tables → k < n
+    → All (λ table. length table.items ≡ n) tables → All (λ table. k < length table.items) list
+long_tables k n list tables same below long = rw same (λ i d within. rw (long i d within) below)
+
+pub best_tables : (k : ℕ) (list tables : List Table) (best : List (ℕ × ℕ)) → list ≡ tables
+    → filter_map (λ table. slice_get table.items k) tables ≡ best
+    → filter_map (λ table. slice_get table.items k) list ≡ best
+best_tables k list tables best same is = rw same is

@@ -1,10 +1,44 @@
-use Rattle.std.proofs.Common.{◌≡◌, length, map, ap, ◌∙◌, arith}
+use Rattle.std.proofs.Common.{◌≡◌, length, map, ap, ◌∙◌, falls, arith}
 use Rattle.std.specs.Prelude.{All}
 use Rattle.std.proofs.lemmas.List.{map-append}
 use Rattle.claim_file.specs.Claim.{data_of as claim_data}
 use Rattle.finder.specs.Envelope.{IsLawfulPiece, PieceHullData, piece_data}
 use Rattle.finder.proofs.EnvelopeLemmas.{All-from_map, envelope_is, lawful_pieces, least_more, piece_hulls_more}
+use Rattle.finder.proofs.TableLemmas.{best_tables, few_tables, long_tables}
 use Rattle.finder.proofs.envelope.envelope_to.Goals as goal
+
+pub tables-requires-clause-claim : goal.tables-requires-clause-claim
+tables-requires-clause-claim g c = c.requires.claim
+
+pub tables-requires-clause-samples : goal.tables-requires-clause-samples
+tables-requires-clause-samples g c = c.requires.samples.lawful
+
+pub tables-requires-clause-few : goal.tables-requires-clause-few
+tables-requires-clause-few g c = c.requires.few
+
+pub piece_hull_at-piece-requires-clause-claim : goal.piece_hull_at-piece-requires-clause-claim
+piece_hull_at-piece-requires-clause-claim g c = c.requires.claim
+
+pub piece_hull_at-piece-requires-clause-samples : goal.piece_hull_at-piece-requires-clause-samples
+piece_hull_at-piece-requires-clause-samples g c = c.requires.samples
+
+pub piece_hull_at-piece-requires-clause-few : goal.piece_hull_at-piece-requires-clause-few
+piece_hull_at-piece-requires-clause-few g c =
+    few_tables _ c.as_slice.result.now c.in_ok-tables.tables.items c.as_slice.ensures.value c.in_ok-tables.ensures.few
+    c.requires.claim.few_servers
+
+pub piece_hull_at-piece-requires-clause-long : goal.piece_hull_at-piece-requires-clause-long
+piece_hull_at-piece-requires-clause-long g c =
+    long_tables c.loop-number.number c.args.count c.as_slice.result.now c.in_ok-tables.tables.items
+    c.as_slice.ensures.value c.loop-number-test.true c.in_ok-tables.ensures.long
+
+pub piece_hull_at-piece-requires-clause-best : goal.piece_hull_at-piece-requires-clause-best
+piece_hull_at-piece-requires-clause-best g c =
+    best_tables c.loop-number.number c.as_slice.result.now c.in_ok-tables.tables.items _ c.as_slice.ensures.value
+    (c.in_ok-tables.ensures.best c.loop-number.number c.loop-number-test.true)
+
+pub with_piece-least-requires : goal.with_piece-least-requires
+with_piece-least-requires g c = c.loop-number.invariant.below
 
 pub loop-number-preserved : goal.loop-number-preserved
 loop-number-preserved g c =
@@ -20,6 +54,9 @@ loop-number-preserved g c =
           (ap (λ (p : PieceHullData). p.hull) piece);
       below = c.with_piece-least.ensures.in_range;
     }
+
+pub loop-number-smaller : goal.loop-number-smaller
+loop-number-smaller g c = falls _ _ c.loop-number-test.true
 
 pub returns-clause-value : goal.returns-clause-value
 returns-clause-value g c =

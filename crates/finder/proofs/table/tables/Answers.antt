@@ -1,4 +1,4 @@
-use Rattle.std.proofs.Common.{ℕ, length, ap, ◌∙◌, arith, rules, ◌≡◌, [], ◌∷◌, ◌++◌}
+use Rattle.std.proofs.Common.{ℕ, ◌≤◌, length, ap, subst, le_trans, falls, ◌∙◌, arith, rules, ◌≡◌, [], ◌∷◌, ◌++◌}
 use Rattle.std.specs.Prelude.{slice_get}
 use Rattle.std.specs.List.{filter_map, range_with_len}
 use Rattle.std.proofs.lemmas.Grind.{common_steps}
@@ -6,11 +6,34 @@ use Rattle.std.proofs.lemmas.List.Elements.{All-push}
 use Rattle.claim_file.specs.Claim.{data_of}
 use Rattle.finder.specs.Entry.{best_over}
 use Rattle.finder.specs.Piece.{stretch_at}
-use Rattle.finder.proofs.ClaimLemmas.{first_kept, last_kept}
+use Rattle.finder.proofs.ClaimLemmas.{first_from_zero, first_kept, last_in_range, last_kept, server_fits, span_in_order}
 use Rattle.finder.proofs.ListLemmas.{without}
 use Rattle.finder.proofs.TableLemmas.{are_pieces_of, best_are, as_many, table_more}
 use Rattle.finder.proofs.table.tables.Goals as goal
 use Rattle.finder.proofs.table.tables.Goals.{in-Some+in_ok-push, in_default}
+
+pub piece_ends-requires-clause-from_zero : goal.piece_ends-requires-clause-from_zero
+piece_ends-requires-clause-from_zero g c = first_from_zero (data_of c.args.claim.now) c.requires.claim
+
+pub piece_ends-requires-clause-in_order : goal.piece_ends-requires-clause-in_order
+piece_ends-requires-clause-in_order g c = span_in_order (data_of c.args.claim.now) c.requires.claim
+
+pub piece_ends-requires-clause-in_range : goal.piece_ends-requires-clause-in_range
+piece_ends-requires-clause-in_range g c = last_in_range (data_of c.args.claim.now) c.requires.claim
+
+pub overflow_cast-server : goal.overflow_cast-server
+overflow_cast-server g c =
+    server_fits (data_of c.args.claim.now) c.requires.claim c.loop-server.server c.len-server-end.result
+    c.loop-server-test.true (c.len-server-end.ensures ∙ c.args.claim.now.servers.ok.0)
+
+pub best_of_pieces-requires-clause-samples : goal.best_of_pieces-requires-clause-samples
+best_of_pieces-requires-clause-samples g c = c.requires.samples
+
+pub best_of_pieces-requires-clause-few : goal.best_of_pieces-requires-clause-few
+best_of_pieces-requires-clause-few g c = c.requires.few
+
+pub best_of_pieces-requires-clause-servers : goal.best_of_pieces-requires-clause-servers
+best_of_pieces-requires-clause-servers g c = c.as_slice.ensures.value ∙ c.in_ok-servers.ensures
 
 pub best_of_pieces-requires-clause-pieces : goal.best_of_pieces-requires-clause-pieces
 best_of_pieces-requires-clause-pieces g c =
@@ -21,6 +44,9 @@ best_of_pieces-requires-clause-pieces g c =
     are_pieces_of claim.first claim.last c.args.step_s c.args.count _ _ _ c.in_ok-ends.ends.items
     _ first last first c.as_slice-in-loop-server.ensures.value c.in_ok-ends.ensures lawful.span_begins
     lawful.span_forward lawful.span_ends
+
+pub best_of_pieces-requires-clause-rate : goal.best_of_pieces-requires-clause-rate
+best_of_pieces-requires-clause-rate g c = c.requires.claim.drift_in_range
 
 pub loop-server-preserved : goal.loop-server-preserved
 loop-server-preserved g c =
@@ -63,6 +89,18 @@ loop-server-preserved g c =
                 none));
           }
     ]
+
+pub loop-server-smaller : goal.loop-server-smaller
+loop-server-smaller g c = falls _ _ c.loop-server-test.true
+
+pub returns-clause-few : goal.returns-clause-few
+returns-clause-few g c =
+    subst (λ (n : ℕ). length c.loop-server.tables.items ≤ n)
+    (c.len-server-end.ensures ∙ c.args.claim.now.servers.ok.0)
+    (le_trans c.loop-server.invariant.few c.loop-server.auto.server-end)
+
+pub returns-clause-long : goal.returns-clause-long
+returns-clause-long g c = c.loop-server.invariant.long
 
 pub returns-clause-best : goal.returns-clause-best
 returns-clause-best g c k below =
