@@ -84,6 +84,5 @@ module _ (claim : ClaimData) (lawful : IsLawful claim) where
   pub server_fits : (server count : ℕ) → server < count → count ≡ length claim.servers → Fits w8 server
   server_fits server count below is = let few = lawful.few_servers in record { fits = omega arith }
 
-
   pub few_groups : length claim.groups ≤ 32
   few_groups = let same = lawful.group_for_each in let few = lawful.few_servers in omega arith

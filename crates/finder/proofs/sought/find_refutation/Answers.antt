@@ -9,6 +9,20 @@ use Rattle.finder.proofs.ClaimLemmas.{first_kept, reading_kept}
 use Rattle.finder.proofs.Kept.{kept}
 use Rattle.finder.proofs.sought.find_refutation.Goals as goal
 
+pub rooms_of-rooms-requires-clause-from_zero : goal.rooms_of-rooms-requires-clause-from_zero
+rooms_of-rooms-requires-clause-from_zero g c =
+    rw (reading_kept (claim_data c.args.claim.now) c.requires.claim) c.requires.claim.reading_not_negative
+
+pub rooms_of-rooms-requires-clause-at_most_a_second : goal.rooms_of-rooms-requires-clause-at_most_a_second
+rooms_of-rooms-requires-clause-at_most_a_second g c =
+    rw (reading_kept (claim_data c.args.claim.now) c.requires.claim) c.requires.claim.reading_in_range
+
+pub error_sought-requires-clause-low : goal.error_sought-requires-clause-low
+error_sought-requires-clause-low g c server below = (c.rooms_of-rooms.ensures.rooms server below).low
+
+pub error_sought-requires-clause-high : goal.error_sought-requires-clause-high
+error_sought-requires-clause-high g c server below = (c.rooms_of-rooms.ensures.rooms server below).high
+
 pub returns-in_err-error-clause-none : goal.returns-in_err-error-clause-none
 returns-in_err-error-clause-none g c none =
     let claim = claim_data c.args.claim.now in
