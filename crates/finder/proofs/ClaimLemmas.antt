@@ -44,9 +44,6 @@ module _ (claim : ClaimData) (lawful : IsLawful claim) where
   pub last_in_range : to_z w128 (of_z w128 claim.last) <ℤ pos (2 ^ 64)
   last_in_range = rw last_kept lawful.span_ends
 
-  pub bound_from_zero : pos 0 ≤ℤ to_z w128 (of_z w128 claim.bound)
-  bound_from_zero = rw bound_kept lawful.bound_not_negative
-
   -- ---- the length of its span
 
   pub length_kept : to_z w128 (of_z w128 (to_z w128 (of_z w128 claim.last) -ℤ to_z w128 (of_z w128 claim.first)))

@@ -5,7 +5,7 @@ use Rattle.claim_file.specs.Claim.{data_of as claim_data}
 use Rattle.span_cover.specs.Group.{is_inside}
 use Rattle.finder.specs.Envelope.{PieceHullData}
 use Rattle.finder.specs.Piece.{count_of}
-use Rattle.finder.proofs.ClaimLemmas.{bound_from_zero, bound_kept}
+use Rattle.finder.proofs.ClaimLemmas.{bound_kept}
 use Rattle.finder.proofs.FoundLemmas.{found_all, found_failing, passed_more, pieces_more}
 use Rattle.finder.proofs.PieceLemmas.{end_fits, end_kept}
 use Rattle.finder.proofs.TableLemmas.{best_tables, few_tables, long_tables}
@@ -40,9 +40,6 @@ pub piece_hull_at-entries-requires-clause-best : goal.piece_hull_at-entries-requ
 piece_hull_at-entries-requires-clause-best g c =
     best_tables c.loop-number.number c.as_slice.result.now c.in_ok-tables.tables.items _ c.as_slice.ensures.value
     (c.in_ok-tables.ensures.best c.loop-number.number c.loop-number-test.true)
-
-pub is_inside-requires : goal.is_inside-requires
-is_inside-requires g c = bound_from_zero (claim_data c.args.claim.now) c.requires.claim
 
 pub returns-then-not-is_inside : goal.returns-then-not-is_inside
 returns-then-not-is_inside g c =
