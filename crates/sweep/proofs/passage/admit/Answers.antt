@@ -1,7 +1,7 @@
 use Rattle.std.proofs.Common.{arith, subst, sym, ◌∙◌, ap, ℤ, set, Some, ◌⊎◌, ⊎_elim, get_or, ◌≡◌, ◌≤◌, ◌<◌}
 use Rattle.std.specs.List.{slice_get}
 use Rattle.std.proofs.lemmas.Bool.{cases_lt}
-use Rattle.std.proofs.lemmas.Int.{to_z_pos}
+use Rattle.std.proofs.lemmas.Int.{ints, to_z_pos}
 use Rattle.std.proofs.lemmas.Option.{slice_get-get_or, slice_get_within, same_Some, get_or_from_slice_get}
 use mir.Syntax.{w128}
 use Rattle.ranking.specs.Ranking.{HasBefore}
@@ -43,3 +43,25 @@ pub returns-after-loop-next-clause-waiting : goal.returns-after-loop-next-clause
 returns-after-loop-next-clause-waiting c = λ a at.
     let within = slice_get_within c.args.queue.now c.loop-next.next a at in
     absurd (let end = c.loop-next-test.false in omega arith)
+
+pub offer-requires-clause-free : goal.offer-requires-clause-free
+offer-requires-clause-free c =
+    let none : Arrival = record { at = 0; height = 0; index = 0 } in
+    let here = slice_get-get_or c.args.queue.now c.loop-next.next none c.loop-next-test.true in
+    c.loop-next.invariant.holds.free c.loop-next.next _ (omega arith) here
+
+pub overflow_cast-queue : goal.overflow_cast-queue
+overflow_cast-queue c =
+    let none : Arrival = record { at = 0; height = 0; index = 0 } in
+    let here = slice_get-get_or c.args.queue.now c.loop-next.next none c.loop-next-test.true in
+    let small = c.requires.once.small c.loop-next.next _ here in
+    record { sfits = omega (arith, small) }
+
+pub offer-requires-clause-above_least : goal.offer-requires-clause-above_least
+offer-requires-clause-above_least c =
+    let none : Arrival = record { at = 0; height = 0; index = 0 } in
+    let here = slice_get-get_or c.args.queue.now c.loop-next.next none c.loop-next-test.true in
+    let small = c.requires.once.small c.loop-next.next _ here in
+    let height = (get_or c.args.queue.now c.loop-next.next none).height in
+    let kept = to_z_pos w128 height (omega (arith, small)) in
+    rw kept (omega (arith, ints))
