@@ -1,5 +1,5 @@
 -- How a run ends.
-use Rattle.std.proofs.Common.{◌≡◌, ◌∙◌, ◌++◌, ◌+◌, ℕ, List, [], ◌∷◌, Option, Some, None, Bool, true, false, Ok, Err, refl, sym, ap, subst, inl, inr, length, take, arith, IsOk}
+use Rattle.std.proofs.Common.{◌≡◌, ◌∙◌, ◌++◌, ◌+◌, ℕ, List, [], ◌∷◌, Option, Some, None, Bool, true, false, Ok, Err, refl, sym, ap, subst, inl, inr, length, take, arith, append_assoc, IsOk}
 use Rattle.std.proofs.Math.Seq.{take-length}
 use Rattle.std.proofs.lemmas.List.{append-nil}
 use Rattle.std.specs.List.{concat}
@@ -10,9 +10,9 @@ use Rattle.report.specs.declared.fault.Input.{Input}
 use Rattle.report.specs.declared.fault.Outcome.{Outcome}
 use Rattle.report.specs.declared.fault.RunFault.{RunFault}
 use Rattle.report.specs.declared.fault.RunFault.TheVariants.{Device, Write, Memory}
-use Rattle.report.specs.Output.{OutputState, Puts, IsWrite}
+use Rattle.report.specs.Output.{OutputState, IsReady, Puts, IsWrite}
 use Rattle.report.specs.Reports.{Report, text_of, GetsText, CountsSink, is_device}
-use Rattle.report.specs.Closing.{IsPut, HasRun, Closes, IsRefusal, StaysOrWrites, stops_of}
+use Rattle.report.specs.Closing.{CanClose, IsPut, HasRun, Closes, IsRefusal, StaysOrWrites, stops_of}
 use Rattle.report.proofs.Known.{appends_kept, appends_same}
 use Rattle.report.proofs.OutputLemmas.{put_all}
 
@@ -214,3 +214,39 @@ closes_memory old after failed finishes = record {
       (failed, CountsFault-after failed before _ _ same finishes.counts);
   device = λ which. refl;
 }
+
+-- a device failed, after some first lines
+pub closes_device : (old : OutputState) (after : SinkState) (input : Input) (failed : Bool) →
+    Finishes old.sink after failed → Closes old after (Err (Device input)) (Err (Device input))
+closes_device old after input failed finishes = record {
+  text = λ report before (first, others, lines, put).
+      let parted = lines ∙ ap (λ l. l ++ others) put.parts ∙ append_assoc put.gone put.kept others in
+      let went = appends_kept before old.sink.contents after.contents _ put.went finishes.kept in
+      (put.gone, put.kept ++ others, parted, went);
+  stays = refl;
+  closed = finishes.closed;
+  sink = λ before start.
+      let same : old.sink.faults ≡ before = omega (arith, start) in
+      (failed, CountsFault-after failed before _ _ same finishes.counts);
+  device = λ which. refl;
+}
+
+-- the sink had failed already
+pub closes_write : (old : OutputState) (sent : ℕ) → old.sink.is_open ≡ false →
+    Closes old old.sink (Err (Write sent)) (Err (Write sent))
+closes_write old sent closed = record {
+  text = λ report before cut. (inl cut.short, cut.went);
+  stays = refl;
+  closed = closed;
+  sink = λ before start. start;
+  device = λ which. refl;
+}
+
+-- any other fault is a refusal, after which the output may be used
+pub may_be_refused : (now : OutputState) (fault : RunFault) → ((input : Input) → fault ≡ Device input → ⊥) →
+    ((sent : ℕ) → fault ≡ Write sent → ⊥) → (fault ≡ Memory → ⊥) → CanClose now (Err fault) →
+    IsReady now × IsRefusal fault
+may_be_refused now (Device input) device write memory can = absurd (device input refl)
+may_be_refused now (Write sent) device write memory can = absurd (write sent refl)
+may_be_refused now Memory device write memory can = absurd (memory refl)
+may_be_refused now fault device write memory can = (can, tt)

@@ -1,4 +1,5 @@
-use Rattle.std.proofs.Common.{◌≡◌, ◌∙◌, ℕ, List, [], Bool, Err, inl, Ok, Option, None, refl, Some, sym}
+use Rattle.std.proofs.Common.{◌≡◌, ◌≤◌, ◌∙◌, ℕ, List, [], Bool, Err, IsOk, inl, inr, Ok, Option, None, ap, arith, length, refl, Some, subst, sym, take}
+use Rattle.std.proofs.lemmas.Bool.{cases_eq}
 use Rattle.std.proofs.lemmas.List.{append-nil}
 use Rattle.std.specs.Io.KnownBytes.{Appends, Keeps}
 use Rattle.std.specs.Prelude.{is_err}
@@ -11,10 +12,15 @@ use Rattle.report.specs.declared.fault.RunFault.TheVariants.{Device, Memory, Wri
 use Rattle.report.specs.declared.publication.Made.{Made}
 use Rattle.report.specs.Delivery.{Delivers}
 use Rattle.report.specs.Publication.{IsMadeFor, IsUnwritten, Publishes}
-use Rattle.report.specs.Reports.{CountsSink, GetsText, Report, is_device, text_of}
+use Rattle.report.specs.Reports.{CountsSink, GetsText, MayStop, Report, is_device, text_of}
 use Rattle.report.proofs.ClosingLemmas.{Finishes}
 use Rattle.report.proofs.Known.{appends_same}
 use Rattle.report.proofs.publication.publish.Goals as goal
+
+-- after an outcome the sink may stop anywhere, also as it is finished
+may_stop : (report : Report) (sent : ℕ) → sent ≤ length (text_of report) → IsOk report.answer → MayStop report sent
+may_stop report sent within ended =
+    elim (cases_eq sent (length (text_of report))) [ inl whole ↦ inr (whole, ended) | inr part ↦ inl (omega arith) ]
 
 -- the whole text went out
 publishes_text : (made : Made) (text : List ℕ) (before after : SinkState) → text ≡ made.text.items →
@@ -22,6 +28,21 @@ publishes_text : (made : Made) (text : List ℕ) (before after : SinkState) → 
 publishes_text made text before after same p = record {
   text = λ report is. (sym is.1, appends_same _ _ text (text_of report) (same ∙ sym is.0) p.went);
   stays = inl refl;
+  closed = p.closed;
+  sink = p.counted;
+  device = λ which. refl;
+}
+
+-- the sink failed, and has got a number of the first bytes
+publishes_part : (made : Made) (text : List ℕ) (before after : SinkState) (sent : ℕ) → text ≡ made.text.items →
+    Delivers text before after (Err sent) → Publishes before after (Ok made) (Err (Write sent))
+publishes_part made text before after sent same p = record {
+  text = λ report is.
+      let whole : text ≡ text_of report = same ∙ sym is.0 in
+      let stops = may_stop report sent (subst (λ (t : List ℕ). sent ≤ length t) whole p.at_most)
+      (subst IsOk (sym is.1) refl) in
+      (stops, appends_same _ _ _ _ (ap (take sent) whole) p.went);
+  stays = inr (sent, refl);
   closed = p.closed;
   sink = p.counted;
   device = λ which. refl;
@@ -72,3 +93,14 @@ returns-in-Err g c =
     let unwritten = rw c.in-Err.is at c.requires.unwritten in
     rw c.in-Err.is (publishes_refusal c.in-Err.fault _ _ (is_err c.finish.result) unwritten
     (record { kept = finishes.known; closed = finishes.closes; counts = finishes.counts_fault }))
+
+pub deliver-requires : goal.deliver-requires
+deliver-requires g c = c.requires.writable
+
+pub finish-requires : goal.finish-requires
+finish-requires g c = c.requires.writable
+
+pub returns-in-Err-deliver : goal.returns-in-Err-deliver
+returns-in-Err-deliver g c =
+    rw c.in-Ok.is (publishes_part c.in-Ok.made _ _ _ c.in-Err-deliver.sent c.as_slice.ensures.value
+    c.in-Err-deliver.ensures)
