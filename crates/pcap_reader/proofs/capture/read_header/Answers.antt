@@ -1,11 +1,12 @@
-use Rattle.std.proofs.Common.{◌-◌, ◌<◌, ◌≤◌, ◌∙◌, ap, sym, subst, length, arith, length-append}
+use Rattle.std.proofs.Common.{◌+◌, ◌-◌, ◌<◌, ◌≤◌, ◌∙◌, ap, sym, subst, length, arith, length-append}
 use Rattle.std.proofs.lemmas.Result.{err_from_is_err_and}
 use Rattle.std.specs.Io.KnownBytes.{Keeps, prepend_known}
-use Rattle.pcap_reader.specs.Buffered.{held_bytes}
+use Rattle.pcap_reader.specs.Buffered.{held_bytes, supply_of}
 use Rattle.pcap_reader.specs.Header.{header_of}
 use Rattle.pcap_reader.specs.Limit.{buffer_size}
+use Rattle.pcap_reader.specs.Source.{TakesFrom}
 use Rattle.pcap_reader.proofs.Beginning.{held-none, Keeps-first, header_refused, header_begun, header_fault_counts, header_fault_most, not_memory}
-use Rattle.pcap_reader.proofs.Intake.{refilled, length-held}
+use Rattle.pcap_reader.proofs.Intake.{refilled, Refills-takes, length-held}
 use Rattle.pcap_reader.proofs.Prefix.{header_fault}
 use Rattle.pcap_reader.proofs.capture.read_header.Goals as goal
 
@@ -68,3 +69,32 @@ returns-clause-known g c =
     let value = ap header_of (sym c.held.ensures.value) ∙ sym c.in_ok-format.ensures.value in
     header_begun (state s.feed).remaining (state k.feed).remaining (held_bytes i) (held_bytes k)
     c.in_ok-format.format keeps' long value c.consume.ensures.rest
+
+pub hold-requires-clause-limit : goal.hold-requires-clause-limit
+hold-requires-clause-limit g c = rw c.requires.none_consumed (omega arith)
+
+pub hold-requires-clause-faults : goal.hold-requires-clause-faults
+hold-requires-clause-faults g c = c.requires.faults
+
+pub returns-in_default-clause-takes : goal.returns-in_default-clause-takes
+returns-in_default-clause-takes g c = Refills-takes g.F.Feed.state _ _ _ _ c.hold.ensures
+
+pub returns-in_err-format-clause-known : goal.returns-in_err-format-clause-known
+returns-in_err-format-clause-known g c =
+    let p = err_from_is_err_and c.from_residual.result c.from_residual.ensures.1 in rw p.1 tt
+
+pub returns-in_err-format-clause-place : goal.returns-in_err-format-clause-place
+returns-in_err-format-clause-place g c =
+    let p = err_from_is_err_and c.from_residual.result c.from_residual.ensures.1 in rw p.1 tt
+
+pub returns-in_err-format-clause-takes : goal.returns-in_err-format-clause-takes
+returns-in_err-format-clause-takes g c = Refills-takes g.F.Feed.state _ _ _ _ c.hold.ensures
+
+pub returns-clause-place : goal.returns-clause-place
+returns-clause-place g c =
+    c.consume.ensures.place ∙ ap (λ n. n + 24) (c.hold.ensures.place ∙ c.requires.none_consumed)
+
+pub returns-clause-takes : goal.returns-clause-takes
+returns-clause-takes g c =
+    subst (λ s. TakesFrom (supply_of g.F.Feed.state c.args.input.now) s) (sym c.consume.ensures.supply)
+    (Refills-takes g.F.Feed.state _ _ _ _ c.hold.ensures)
