@@ -1,7 +1,8 @@
 -- Numbers that 128 bits keep as they are.
-use Rattle.std.proofs.Common.{◌≡◌, ◌^◌, ◌<◌, ◌≤◌, ℤ, ◌+ℤ◌, ◌-ℤ◌, arith, unsigned_abs, to_z, of_z}
+use Rattle.std.proofs.Common.{◌≡◌, ◌^◌, ◌<◌, ◌≤◌, ℤ, ◌+ℤ◌, ◌-ℤ◌, arith, unsigned_abs, to_z, of_z, FitsSigned, ap, ◌∙◌}
 use mir.Syntax.{w128}
 use Rattle.std.proofs.lemmas.Int.{ints, to_z-of_z, fits_signed_from_abs}
+use Rattle.pairing.specs.Exchange.{IsInRange}
 
 pub kept : (a : ℤ) → unsigned_abs a < 2 ^ 127 → to_z w128 (of_z w128 a) ≡ a
 kept a h = to_z-of_z w128 a (fits_signed_from_abs w128 a h)
@@ -16,3 +17,25 @@ pub kept_difference : (a b : ℤ) → unsigned_abs a ≤ 2 ^ 100 → unsigned_ab
     to_z w128 (of_z w128 (to_z w128 (of_z w128 a) -ℤ to_z w128 (of_z w128 b))) ≡ a -ℤ b
 kept_difference a b p q =
     rw (kept a (omega arith), kept b (omega arith)) (kept (a -ℤ b) (omega (arith, ints)))
+
+-- a bound that the number is passed with, too
+pub kept_tick : (a : ℤ) → unsigned_abs a ≤ 2 ^ 71 → unsigned_abs (to_z w128 (of_z w128 a)) ≤ 2 ^ 71
+kept_tick a h = rw (kept a (omega arith)) h
+
+pub kept_doubled : (a : ℤ) → unsigned_abs a ≤ 2 ^ 73 → unsigned_abs (to_z w128 (of_z w128 a)) ≤ 2 ^ 73
+kept_doubled a h = rw (kept a (omega arith)) h
+
+-- a number in an exchange's range
+tick_of : (a : ℤ) → IsInRange a → unsigned_abs a ≤ 2 ^ 71
+tick_of a h = omega (arith, ints)
+
+pub kept_stamp : (a : ℤ) → IsInRange a → unsigned_abs (to_z w128 (of_z w128 a)) ≤ 2 ^ 71
+kept_stamp a h = kept_tick a (tick_of a h)
+
+pub stamp_is : (a : ℤ) → IsInRange a → to_z w128 (of_z w128 a) ≡ a
+stamp_is a h = let le : unsigned_abs a ≤ 2 ^ 71 = tick_of a h in kept a (omega arith)
+
+-- an end of a window that is made of a kept reading
+pub end_is : (end : ℤ → ℤ) (reading a : ℤ) → FitsSigned w128 reading → unsigned_abs a ≤ 2 ^ 71 →
+    a ≡ end (to_z w128 (of_z w128 reading)) → to_z w128 (of_z w128 a) ≡ end reading
+end_is end reading a fits le made = kept a (omega arith) ∙ made ∙ ap end (to_z-of_z w128 reading fits)

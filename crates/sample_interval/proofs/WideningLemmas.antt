@@ -1,5 +1,6 @@
 -- The widening as a least number, and the drift by the clock's own readings.
-use Rattle.std.proofs.Common.{◌≡◌, ℕ, zero, suc, ◌+◌, ◌-◌, ◌*◌, ◌<◌, ◌≤◌, ◌-ℤ◌, unsigned_abs}
+use Rattle.std.proofs.Common.{◌≡◌, ℕ, zero, suc, ◌+◌, ◌-◌, ◌*◌, ◌^◌, ◌<◌, ◌≤◌, ℤ, pos, ◌-ℤ◌, ◌≤ℤ◌, unsigned_abs, Fits}
+use mir.Syntax.{w128}
 use Rattle.std.proofs.Common.{◌⊎◌, inl, inr, ⊎_elim, ◌↔◌, refl, sym, arith, subst}
 use Rattle.std.proofs.lemmas.Int.{ints}
 use Rattle.std.proofs.lemmas.Grind.{div_ceil_times}
@@ -54,6 +55,28 @@ pub IsWidening-le_distance : (ppb distance w : ℕ) → IsRate ppb → IsWidenin
 IsWidening-le_distance ppb distance w h is =
     let rate : ppb * distance ≤ (billion - ppb) * distance = mul-le-mul_right distance (omega arith) in
     is.least distance (omega arith)
+
+-- the code's numbers fit their types
+module _ (rate ppb : ℕ) (is_rate : IsRate ppb) (same : rate ≡ ppb) where
+  pub rate_below : rate ≤ 1000000000
+  rate_below = omega arith
+
+  pub parts_left : 0 < 1000000000 - rate
+  parts_left = omega arith
+
+pub product_fits : (rate abs ppb : ℕ) (distance : ℤ) → IsRate ppb → pos 0 ≤ℤ distance → distance ≤ℤ pos (2 ^ 80) →
+    rate ≡ ppb → abs ≡ unsigned_abs distance → Fits w128 (rate * abs)
+product_fits rate abs ppb distance is_rate from to same value =
+    let le : abs ≤ 2 ^ 80 = omega (arith, ints) in
+    let most : rate * abs ≤ rate * 2 ^ 80 = mul-le-mul_left rate le in
+    record { fits = omega arith }
+
+pub within_a_word : (n : ℕ) (distance : ℤ) → pos 0 ≤ℤ distance → distance ≤ℤ pos (2 ^ 80) → n ≤ unsigned_abs distance →
+    n < 2 ^ 127
+within_a_word n distance from to le = omega (arith, ints)
+
+pub at_most : (n : ℕ) (distance : ℤ) → pos 0 ≤ℤ distance → n ≤ unsigned_abs distance → pos n ≤ℤ distance
+at_most n distance from le = omega (arith, ints)
 
 product_zero : (a b : ℕ) → a * b ≤ 0 → (a ≡ 0) ⊎ (b ≡ 0)
 product_zero zero b h = inl refl

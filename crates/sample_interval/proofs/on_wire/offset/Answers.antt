@@ -1,9 +1,94 @@
-use Rattle.std.proofs.Common.{arith}
-use Rattle.std.proofs.lemmas.Int.{ints}
+use Rattle.std.proofs.Common.{◌∙◌, ap}
+use Rattle.std.proofs.lemmas.Int.{to_z-of_z}
+use mir.Syntax.{w128}
+use Rattle.sample_interval.specs.OnWire.{offset_doubled, half_down, half_up}
+use Rattle.sample_interval.specs.Window.{request_start, request_end, reply_start, reply_end}
+use Rattle.sample_interval.proofs.Kept.{kept_tick, kept_doubled, kept_stamp, stamp_is, end_is}
 use Rattle.sample_interval.proofs.on_wire.offset.Goals as goal
 
+pub request_window-request-requires-clause-exchange : goal.request_window-request-requires-clause-exchange
+request_window-request-requires-clause-exchange c = c.requires.exchange
+
+pub request_window-request-requires-clause-from_zero : goal.request_window-request-requires-clause-from_zero
+request_window-request-requires-clause-from_zero c =
+    rw (to_z-of_z w128 c.args.reading c.ranges.reading) c.requires.from_zero
+
+pub request_window-request-requires-clause-at_most_a_second :
+    goal.request_window-request-requires-clause-at_most_a_second
+request_window-request-requires-clause-at_most_a_second c =
+    rw (to_z-of_z w128 c.args.reading c.ranges.reading) c.requires.at_most_a_second
+
+pub reply_window-reply-requires-clause-exchange : goal.reply_window-reply-requires-clause-exchange
+reply_window-reply-requires-clause-exchange c = c.requires.exchange
+
+pub reply_window-reply-requires-clause-from_zero : goal.reply_window-reply-requires-clause-from_zero
+reply_window-reply-requires-clause-from_zero c =
+    rw (to_z-of_z w128 c.args.reading c.ranges.reading) c.requires.from_zero
+
+pub reply_window-reply-requires-clause-at_most_a_second : goal.reply_window-reply-requires-clause-at_most_a_second
+reply_window-reply-requires-clause-at_most_a_second c =
+    rw (to_z-of_z w128 c.args.reading c.ranges.reading) c.requires.at_most_a_second
+
+pub doubled_offset-least-requires-clause-t1 : goal.doubled_offset-least-requires-clause-t1
+doubled_offset-least-requires-clause-t1 c =
+    kept_tick c.request_window-request.result.end c.request_window-request.ensures.end_in_range
+
+pub doubled_offset-least-requires-clause-t2 : goal.doubled_offset-least-requires-clause-t2
+doubled_offset-least-requires-clause-t2 c = kept_stamp c.args.x.now.t2 c.requires.exchange.lawful.t2
+
+pub doubled_offset-least-requires-clause-t3 : goal.doubled_offset-least-requires-clause-t3
+doubled_offset-least-requires-clause-t3 c = kept_stamp c.args.x.now.t3 c.requires.exchange.lawful.t3
+
+pub doubled_offset-least-requires-clause-t4 : goal.doubled_offset-least-requires-clause-t4
+doubled_offset-least-requires-clause-t4 c =
+    kept_tick c.reply_window-reply.result.end c.reply_window-reply.ensures.end_in_range
+
+pub doubled_offset-greatest-requires-clause-t1 : goal.doubled_offset-greatest-requires-clause-t1
+doubled_offset-greatest-requires-clause-t1 c =
+    kept_tick c.request_window-request.result.start c.request_window-request.ensures.start_in_range
+
 pub doubled_offset-greatest-requires-clause-t2 : goal.doubled_offset-greatest-requires-clause-t2
-doubled_offset-greatest-requires-clause-t2 c = omega (arith, ints)
+doubled_offset-greatest-requires-clause-t2 c = kept_stamp c.args.x.now.t2 c.requires.exchange.lawful.t2
 
 pub doubled_offset-greatest-requires-clause-t3 : goal.doubled_offset-greatest-requires-clause-t3
-doubled_offset-greatest-requires-clause-t3 c = omega (arith, ints)
+doubled_offset-greatest-requires-clause-t3 c = kept_stamp c.args.x.now.t3 c.requires.exchange.lawful.t3
+
+pub doubled_offset-greatest-requires-clause-t4 : goal.doubled_offset-greatest-requires-clause-t4
+doubled_offset-greatest-requires-clause-t4 c =
+    kept_tick c.reply_window-reply.result.start c.reply_window-reply.ensures.start_in_range
+
+pub halved_down-requires : goal.halved_down-requires
+halved_down-requires c = kept_doubled c.doubled_offset-least.result c.doubled_offset-least.ensures.in_range
+
+pub halved_up-requires : goal.halved_up-requires
+halved_up-requires c = kept_doubled c.doubled_offset-greatest.result c.doubled_offset-greatest.ensures.in_range
+
+pub returns-clause-from : goal.returns-clause-from
+returns-clause-from c =
+    let t1 = end_is (request_end c.args.x.now) c.args.reading c.request_window-request.result.end c.ranges.reading
+    c.request_window-request.ensures.end_in_range c.request_window-request.ensures.end in
+    let t2 = stamp_is c.args.x.now.t2 c.requires.exchange.lawful.t2 in
+    let t3 = stamp_is c.args.x.now.t3 c.requires.exchange.lawful.t3 in
+    let t4 = end_is (reply_end c.args.x.now) c.args.reading c.reply_window-reply.result.end c.ranges.reading
+    c.reply_window-reply.ensures.end_in_range c.reply_window-reply.ensures.end in
+    let doubled =
+    to_z-of_z w128 c.doubled_offset-least.result (record { sfits = c.doubled_offset-least.type_inv })
+    ∙ c.doubled_offset-least.ensures.value
+    ∙ (λ i. offset_doubled (t1 i) (t2 i) (t3 i) (t4 i)) in
+    to_z-of_z w128 c.halved_down.result (record { sfits = c.halved_down.type_inv })
+    ∙ c.halved_down.ensures.value ∙ ap half_down doubled
+
+pub returns-clause-to : goal.returns-clause-to
+returns-clause-to c =
+    let t1 = end_is (request_start c.args.x.now) c.args.reading c.request_window-request.result.start c.ranges.reading
+    c.request_window-request.ensures.start_in_range c.request_window-request.ensures.start in
+    let t2 = stamp_is c.args.x.now.t2 c.requires.exchange.lawful.t2 in
+    let t3 = stamp_is c.args.x.now.t3 c.requires.exchange.lawful.t3 in
+    let t4 = end_is (reply_start c.args.x.now) c.args.reading c.reply_window-reply.result.start c.ranges.reading
+    c.reply_window-reply.ensures.start_in_range c.reply_window-reply.ensures.start in
+    let doubled =
+    to_z-of_z w128 c.doubled_offset-greatest.result (record { sfits = c.doubled_offset-greatest.type_inv })
+    ∙ c.doubled_offset-greatest.ensures.value
+    ∙ (λ i. offset_doubled (t1 i) (t2 i) (t3 i) (t4 i)) in
+    to_z-of_z w128 c.halved_up.result (record { sfits = c.halved_up.type_inv })
+    ∙ c.halved_up.ensures ∙ ap half_up doubled

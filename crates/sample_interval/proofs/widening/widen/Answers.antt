@@ -1,9 +1,22 @@
-use Rattle.std.proofs.Common.{arith, ◌≡◌, ◌<◌, ◌^◌, ◌∙◌, ap, pos, subst, sym, unsigned_abs}
-use Rattle.std.proofs.lemmas.Int.{ints, to_z_pos, to_z-of_z}
+use Rattle.std.proofs.Common.{arith, ◌≡◌, ◌<◌, ◌≤◌, ◌≤ℤ◌, ◌^◌, ◌∙◌, ap, pos, subst, sym, unsigned_abs}
+use Rattle.std.proofs.lemmas.Int.{to_z_pos, to_z-of_z, fits_signed_from_abs}
 use mir.Syntax.{w128}
 use Rattle.sample_interval.specs.Widening.{IsWidening, widening}
 use Rattle.sample_interval.proofs.WideningLemmas.{IsWidening-div_ceil, IsWidening-le_distance}
+use Rattle.sample_interval.proofs.WideningLemmas.{product_fits, rate_below, parts_left, within_a_word, at_most}
 use Rattle.sample_interval.proofs.widening.widen.Goals as goal
+
+pub overflow_mul-rate : goal.overflow_mul-rate
+overflow_mul-rate c =
+    product_fits c.from-rate.result c.unsigned_abs.result c.args.drift_ppb c.args.distance c.requires.rate
+    c.requires.from_zero c.requires.in_range c.from-rate.ensures
+    (c.unsigned_abs.ensures.value ∙ ap unsigned_abs (to_z-of_z w128 c.args.distance c.ranges.distance))
+
+pub overflow_sub-rate : goal.overflow_sub-rate
+overflow_sub-rate c = rate_below c.from-rate.result c.args.drift_ppb c.requires.rate c.from-rate.ensures
+
+pub div_ceil-requires : goal.div_ceil-requires
+div_ceil-requires c = parts_left c.from-rate.result c.args.drift_ppb c.requires.rate c.from-rate.ensures
 
 widens : (c : goal.After-div_ceil) → IsWidening c.args.drift_ppb (unsigned_abs c.args.distance) c.div_ceil.result
 widens c =
@@ -17,12 +30,16 @@ value c =
     c.widening_is_one_number.ensures.one c.args.drift_ppb (unsigned_abs c.args.distance) c.div_ceil.result
     (omega arith) (widens c)
 
-fits : (c : goal.After-div_ceil) → c.div_ceil.result < 2 ^ 127
-fits c =
-    let le =
+within_distance : (c : goal.After-div_ceil) → c.div_ceil.result ≤ unsigned_abs c.args.distance
+within_distance c =
     IsWidening-le_distance c.args.drift_ppb (unsigned_abs c.args.distance) c.div_ceil.result c.requires.rate
-    (widens c) in
-    omega (arith, ints)
+    (widens c)
+
+fits : (c : goal.After-div_ceil) → c.div_ceil.result < 2 ^ 127
+fits c = within_a_word c.div_ceil.result c.args.distance c.requires.from_zero c.requires.in_range (within_distance c)
+
+pub overflow_cast-result : goal.overflow_cast-result
+overflow_cast-result c = fits_signed_from_abs w128 (pos c.div_ceil.result) (fits c)
 
 pub returns-clause-exact : goal.returns-clause-exact
 returns-clause-exact c = to_z_pos w128 _ (fits c) ∙ ap pos (value c)
@@ -31,3 +48,8 @@ pub returns-clause-least : goal.returns-clause-least
 returns-clause-least c =
     subst (λ w. IsWidening c.args.drift_ppb (unsigned_abs c.args.distance) (unsigned_abs w))
     (sym (to_z_pos w128 _ (fits c))) (widens c)
+
+pub returns-clause-at_most_the_distance : goal.returns-clause-at_most_the_distance
+returns-clause-at_most_the_distance c =
+    subst (λ z. z ≤ℤ c.args.distance) (sym (to_z_pos w128 _ (fits c)))
+    (at_most c.div_ceil.result c.args.distance c.requires.from_zero (within_distance c))
