@@ -1,8 +1,8 @@
 use Rattle.std.proofs.Common.{◌∙◌, ap}
 use Rattle.std.proofs.lemmas.Int.{to_z-of_z}
 use mir.Syntax.{w128}
-use Rattle.sample_interval.specs.OnWire.{offset_doubled, half_down, half_up}
-use Rattle.sample_interval.specs.Window.{request_start, request_end, reply_start, reply_end}
+use Rattle.sample_interval.specs.OnWire.{offset_doubled, half_down}
+use Rattle.sample_interval.specs.Window.{request_end, reply_end}
 use Rattle.sample_interval.proofs.Kept.{kept_tick, kept_doubled, kept_stamp, stamp_is, end_is}
 use Rattle.sample_interval.proofs.on_wire.offset.Goals as goal
 
@@ -60,9 +60,6 @@ doubled_offset-greatest-requires-clause-t4 c =
 pub halved_down-requires : goal.halved_down-requires
 halved_down-requires c = kept_doubled c.doubled_offset-least.result c.doubled_offset-least.ensures.in_range
 
-pub halved_up-requires : goal.halved_up-requires
-halved_up-requires c = kept_doubled c.doubled_offset-greatest.result c.doubled_offset-greatest.ensures.in_range
-
 pub returns-clause-from : goal.returns-clause-from
 returns-clause-from c =
     let t1 = end_is (request_end c.args.x.now) c.args.reading c.request_window-request.result.end c.ranges.reading
@@ -77,18 +74,3 @@ returns-clause-from c =
     ∙ (λ i. offset_doubled (t1 i) (t2 i) (t3 i) (t4 i)) in
     to_z-of_z w128 c.halved_down.result (record { sfits = c.halved_down.type_inv })
     ∙ c.halved_down.ensures.value ∙ ap half_down doubled
-
-pub returns-clause-to : goal.returns-clause-to
-returns-clause-to c =
-    let t1 = end_is (request_start c.args.x.now) c.args.reading c.request_window-request.result.start c.ranges.reading
-    c.request_window-request.ensures.start_in_range c.request_window-request.ensures.start in
-    let t2 = stamp_is c.args.x.now.t2 c.requires.exchange.lawful.t2 in
-    let t3 = stamp_is c.args.x.now.t3 c.requires.exchange.lawful.t3 in
-    let t4 = end_is (reply_start c.args.x.now) c.args.reading c.reply_window-reply.result.start c.ranges.reading
-    c.reply_window-reply.ensures.start_in_range c.reply_window-reply.ensures.start in
-    let doubled =
-    to_z-of_z w128 c.doubled_offset-greatest.result (record { sfits = c.doubled_offset-greatest.type_inv })
-    ∙ c.doubled_offset-greatest.ensures.value
-    ∙ (λ i. offset_doubled (t1 i) (t2 i) (t3 i) (t4 i)) in
-    to_z-of_z w128 c.halved_up.result (record { sfits = c.halved_up.type_inv })
-    ∙ c.halved_up.ensures ∙ ap half_up doubled
