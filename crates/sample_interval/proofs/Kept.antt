@@ -39,3 +39,40 @@ stamp_is a h = let le : unsigned_abs a ≤ 2 ^ 71 = tick_of a h in kept a (omega
 pub end_is : (end : ℤ → ℤ) (reading a : ℤ) → FitsSigned w128 reading → unsigned_abs a ≤ 2 ^ 71 →
     a ≡ end (to_z w128 (of_z w128 reading)) → to_z w128 (of_z w128 a) ≡ end reading
 end_is end reading a fits le made = kept a (omega arith) ∙ made ∙ ap end (to_z-of_z w128 reading fits)
+
+-- a tick less a stamp, and then less or with a distance
+module _ (a b d : ℤ) (tick : unsigned_abs a ≤ 2 ^ 71) (stamp : IsInRange b) (distance : IsInRange d) where
+  rest_small : unsigned_abs (a -ℤ b) ≤ 2 ^ 72
+  rest_small = let le = tick_of b stamp in omega (arith, ints)
+
+  rest_is : to_z w128 (of_z w128 (to_z w128 (of_z w128 a) -ℤ to_z w128 (of_z w128 b))) ≡ a -ℤ b
+  rest_is = rw (kept a (omega arith), stamp_is b stamp) (kept (a -ℤ b) (let le = rest_small in omega arith))
+
+  less_small : unsigned_abs (a -ℤ b -ℤ d) < 2 ^ 127
+  less_small = let le = tick_of d distance in let less = rest_small in omega (arith, ints)
+
+  more_small : unsigned_abs (a -ℤ b +ℤ d) < 2 ^ 127
+  more_small = let le = tick_of d distance in let less = rest_small in omega (arith, ints)
+
+  pub rest_fits : FitsSigned w128 (to_z w128 (of_z w128 a) -ℤ to_z w128 (of_z w128 b))
+  rest_fits =
+      rw (kept a (omega arith), stamp_is b stamp)
+      (fits_signed_from_abs w128 (a -ℤ b) (let le = rest_small in omega arith))
+
+  pub less_fits : FitsSigned w128
+      (to_z w128 (of_z w128 (to_z w128 (of_z w128 a) -ℤ to_z w128 (of_z w128 b))) -ℤ to_z w128 (of_z w128 d))
+  less_fits = rw (rest_is, stamp_is d distance) (fits_signed_from_abs w128 (a -ℤ b -ℤ d) less_small)
+
+  pub more_fits : FitsSigned w128
+      (to_z w128 (of_z w128 (to_z w128 (of_z w128 a) -ℤ to_z w128 (of_z w128 b))) +ℤ to_z w128 (of_z w128 d))
+  more_fits = rw (rest_is, stamp_is d distance) (fits_signed_from_abs w128 (a -ℤ b +ℤ d) more_small)
+
+  pub less_is : to_z w128 (of_z w128
+      (to_z w128 (of_z w128 (to_z w128 (of_z w128 a) -ℤ to_z w128 (of_z w128 b))) -ℤ to_z w128 (of_z w128 d)))
+      ≡ a -ℤ b -ℤ d
+  less_is = rw (rest_is, stamp_is d distance) (kept (a -ℤ b -ℤ d) less_small)
+
+  pub more_is : to_z w128 (of_z w128
+      (to_z w128 (of_z w128 (to_z w128 (of_z w128 a) -ℤ to_z w128 (of_z w128 b))) +ℤ to_z w128 (of_z w128 d)))
+      ≡ a -ℤ b +ℤ d
+  more_is = rw (rest_is, stamp_is d distance) (kept (a -ℤ b +ℤ d) more_small)
