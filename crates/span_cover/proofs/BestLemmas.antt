@@ -3,6 +3,7 @@ use Rattle.std.proofs.Common.{⊎_elim, ◌≡◌, ◌≢◌, ℕ, zero, suc, �
 use Rattle.std.proofs.Common.{nat_eq, List, [], ◌∷◌, Option, None, Some, refl, sym, subst, arith, length, drop, get_or}
 use Rattle.std.proofs.Common.{◌-◌, neg_ℤ, MatchOption, to_z, of_z, ap, ◌∙◌}
 use Rattle.std.proofs.Math.Seq.{drop-cons}
+use Rattle.std.proofs.lemmas.List.{drop_all}
 use Rattle.std.specs.List.{slice_get}
 use Rattle.std.proofs.lemmas.Bool.{cases_lt}
 use Rattle.std.proofs.lemmas.Bool.Decides.{nat_tests}
@@ -141,6 +142,9 @@ chosen merit server n (s ∷ samples) =
 test_from_same : (a b : ℕ) → a ≡ b → nat_eq a b ≡ true
 test_from_same a b h = grind (arith, nat_tests)
 
+test_from_other : (a b : ℕ) → a ≢ b → nat_eq a b ≡ false
+test_from_other a b h = grind (arith, nat_tests)
+
 best_from-cons : (merit : Sample → ℤ) (server n : ℕ) (s : Sample) (samples : List Sample) → s.server ≡ server →
     best_from merit server n (s ∷ samples) ≡ better n (merit s) (best_from merit server (n + 1) samples)
 best_from-cons merit server n s samples same = rw (test_from_same s.server server same) refl
@@ -169,6 +173,23 @@ module _ (merit : Sample → ℤ) (server number : ℕ) (samples : List Sample) 
       best ≡ best_from merit server number (drop number samples) → result ≡ better (number - 1) weight best →
       result ≡ best_from merit server (number - 1) (drop (number - 1) samples)
   best_from-step some within same weight best result w b r = r ∙ rw (w, b) (sym (best_from-same some within same))
+
+  pub best_from-skipped : 0 < number → number ≤ length samples →
+      (get_or samples (number - 1) default).server ≢ server → (best : Option (ℕ × ℤ)) →
+      best ≡ best_from merit server number (drop number samples) →
+      best ≡ best_from merit server (number - 1) (drop (number - 1) samples)
+  best_from-skipped some within other best b =
+      let s = get_or samples (number - 1) default in
+      let next : number - 1 + 1 ≡ number = omega arith in
+      b ∙ sym (
+      ap (best_from merit server (number - 1)) (before some within)
+      ∙ rw (test_from_other s.server server other) refl
+      ∙ ap (λ (k : ℕ). best_from merit server k (drop number samples)) next)
+
+-- from the last number on there is none
+pub best_from-end : (merit : Sample → ℤ) (server : ℕ) (samples : List Sample) →
+    ◌≡◌ {A = Option (ℕ × ℤ)} None (best_from merit server (length samples) (drop (length samples) samples))
+best_from-end merit server samples = rw (drop_all (length samples) samples (omega arith)) refl
 
 -- ---- no two samples are the first best
 module _ (merit : Sample → ℤ) (samples : List Sample) (server : ℕ) where

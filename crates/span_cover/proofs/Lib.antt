@@ -2,3 +2,4 @@ pub mod PieceLemmas
 pub mod BestLemmas
 pub mod GatheringLemmas
 pub mod GroupLemmas
+pub mod PassedOn
