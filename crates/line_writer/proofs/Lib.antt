@@ -1,3 +1,4 @@
 pub mod Digits
+pub mod Last
 pub mod Pairs
 pub mod Threes
