@@ -1,14 +1,22 @@
 -- Pieces of text in the scratch array, each before those that stand there.
-use Rattle.std.proofs.Common.{◌≡◌, ℕ, ◌+◌, ◌-◌, ◌<◌, ◌≤◌, List, [], ◌∷◌, ◌++◌, length, get_or, set, drop, arith}
-use Rattle.std.proofs.Common.{refl, ap, ◌∙◌, sym, length-append, length-drop, length-set, drop-drop}
+use Rattle.std.proofs.Common.{◌≡◌, ℕ, suc, ◌+◌, ◌-◌, ◌<◌, ◌≤◌, List, [], ◌∷◌, ◌++◌, length, get_or, set, drop, Fits}
+use Rattle.std.proofs.Common.{w64, arith, refl, ap, ◌∙◌, sym, length-append, length-drop, length-set}
+use Rattle.std.proofs.Common.{drop-cons, drop-drop}
 use Rattle.std.proofs.lemmas.List.{drop-append-le}
 use Rattle.std.proofs.lemmas.Grind.{drop-set_at}
+use lib.Seq.{drop-set-add}
 
 -- the line may start this much further left
 pub left_within : (count start : ℕ) → count ≤ 4 → 4 ≤ start → count ≤ start
 left_within count start few from = omega arith
 
 module _ (start : ℕ) (from : 4 ≤ start) (to : start ≤ 516) where
+  pub pair_fits : Fits w64 (start - 2 + 1)
+  pair_fits = record { fits = omega arith }
+
+  pub after_second : start - 2 + 1 < 516
+  after_second = omega arith
+
   pub one_left : 1 ≤ start
   one_left = omega arith
 
@@ -29,6 +37,23 @@ module _ (start : ℕ) (from : 4 ≤ start) (to : start ≤ 516) where
 
   pub fourth_place : start - 4 < 516
   fourth_place = omega arith
+
+-- one byte and two, and the text after them
+pub byte_written : (xs old : List ℕ) (s a : ℕ) → drop s xs ≡ old → length xs ≡ 516 → 4 ≤ s → s ≤ 516 →
+    drop (s - 1) (set xs (s - 1) a) ≡ a ∷ old
+byte_written xs old s a is all from to =
+    let next : s - 1 + 1 ≡ s = omega arith in
+    drop-set_at xs (s - 1) (s - 1) a refl (omega arith)
+    ∙ ap (λ (k : ℕ). a ∷ drop k xs) next ∙ ap (λ (l : List ℕ). a ∷ l) is
+
+pub pair_written : (xs old : List ℕ) (s a b : ℕ) → drop s xs ≡ old → length xs ≡ 516 → 4 ≤ s → s ≤ 516 →
+    drop (s - 2) (set (set xs (s - 2) a) (s - 2 + 1) b) ≡ a ∷ b ∷ old
+pair_written xs old s a b is all from to =
+    let next : suc (s - 2 + 1) ≡ s = omega arith in
+    drop-set-add (s - 2) (set xs (s - 2) a) 1 b
+    ∙ ap (λ (l : List ℕ). set l 1 b) (drop-set_at xs (s - 2) (s - 2) a refl (omega arith))
+    ∙ ap (λ (l : List ℕ). a ∷ set l 0 b) (drop-cons xs (s - 2 + 1) 0 (omega arith))
+    ∙ ap (λ (k : ℕ). a ∷ b ∷ drop k xs) next ∙ ap (λ (l : List ℕ). a ∷ b ∷ l) is
 
 -- where the line starts once there are `count` bytes more
 module _ (scratch old : List ℕ) (start count : ℕ) (is : drop start scratch ≡ old) (all : length scratch ≡ 516)
