@@ -133,8 +133,11 @@ const ENTRIES: &str = "{\"pieces\":[{\"entries\":[";
 
 const UPTO_FIRST: &str = "{\"pieces\":[{\"upto\":0,\"entries\":[";
 
-/// The parts of a text, and what is answered.
-const COUNTS: [(&str, &str, u32, &str, &str); 12] = [
+/// The begin of a text, a part that stands so many times, the end, and what is answered.
+type Count = (&'static str, &'static str, u32, &'static str, &'static str);
+
+/// Texts at the limits of pieces and entries.
+const COUNTS: [Count; 12] = [
     (PIECES, PIECE, 99_999, LAST, "read"),
     (PIECES, "{},", 99_999, "{}]}", "shape 0"),
     (PIECES, "{},", 100_000, "{}]}", "fault 5"),
@@ -149,12 +152,20 @@ const COUNTS: [(&str, &str, u32, &str, &str); 12] = [
     (UPTO_FIRST, "[0,0],", 32, "[0]]}]}", "entries 0"),
 ];
 
+/// A row of that table.
+fn counted(
+    rt: &impl Abort,
+    alloc: Global,
+    (begin, part, times, end, expected): Count,
+) -> Result<(), Fail> {
+    let text = repeated(alloc, begin, part, times, end)?;
+    answers(rt, alloc, text.as_str(), expected)
+}
+
 #[test]
 fn counts(rt: HostRuntime) -> Result<(), Fail> {
-    let alloc = rt.alloc();
-    for (begin, part, times, end, expected) in COUNTS {
-        let text = repeated(alloc, begin, part, times, end)?;
-        answers(&rt, alloc, text.as_str(), expected)?;
+    for row in COUNTS {
+        counted(&rt, rt.alloc(), row)?;
     }
     Ok(())
 }

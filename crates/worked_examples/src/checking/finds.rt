@@ -60,9 +60,7 @@ const FINDS: [(Terms, u32, Answer); 8] = [
 fn finds(
     rt: &impl Abort,
     alloc: Global,
-    terms: Terms,
-    step_s: u32,
-    wanted: Answer,
+    (terms, step_s, wanted): (Terms, u32, Answer),
 ) -> Result<(), Fail> {
     let samples = [twenty_milliseconds()];
     let claim = read_claim(alloc, claim_of(alloc, terms)?.as_bytes())?;
@@ -75,8 +73,8 @@ fn finds(
 
 #[test]
 fn worked_sample(rt: HostRuntime) -> Result<(), Fail> {
-    for (terms, step_s, wanted) in FINDS {
-        finds(&rt, rt.alloc(), terms, step_s, wanted)?;
+    for row in FINDS {
+        finds(&rt, rt.alloc(), row)?;
     }
     Ok(())
 }

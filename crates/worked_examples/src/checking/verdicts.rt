@@ -136,30 +136,42 @@ fn groups(rt: HostRuntime) -> Result<(), Fail> {
     Ok(())
 }
 
+/// The verdict on a piece with one sample, and with this bound in ticks.
+fn verdict_of_one(alloc: Global, bound: u32) -> Result<Verdict, Fail> {
+    let certificate = read_certificate(alloc, K1.as_bytes())?;
+    let mut claim = read_claim(alloc, C1.as_bytes())?;
+    claim.bound = i128::from(bound);
+    let samples = [sample_of(0, -42_949_674, 42_953_969)];
+    Ok(check(&samples, &claim, &certificate))
+}
+
 /// A bound that is met exactly, and one a tick narrower.
 #[test]
 fn bounds(rt: HostRuntime) -> Result<(), Fail> {
-    let certificate = read_certificate(rt.alloc(), K1.as_bytes())?;
-    let mut claim = read_claim(rt.alloc(), C1.as_bytes())?;
-    let samples = [sample_of(0, -42_949_674, 42_953_969)];
-    claim.bound = 42_953_969;
-    assert_eq!(rt; check(&samples, &claim, &certificate), Verdict::Yes);
-    claim.bound = 42_953_968;
-    assert_eq!(rt; check(&samples, &claim, &certificate), no(0, Why::Exceeds));
+    let verdicts = [
+        verdict_of_one(rt.alloc(), 42_953_969)?,
+        verdict_of_one(rt.alloc(), 42_953_968)?,
+    ];
+    assert_eq!(rt; verdicts, [Verdict::Yes, no(0, Why::Exceeds)]);
     Ok(())
 }
 
 /// The verdict on a piece with samples of two servers that contradict each other, and these
 /// entries.
-fn judged_of_two(rt: &impl Abort, alloc: Global, entries: &str, why: Why) -> Result<(), Fail> {
+fn verdict_of_two(rt: &impl Abort, alloc: Global, entries: &str) -> Result<Verdict, Fail> {
     let servers = C1.replace(alloc, "\"192.0.2.1\"", "\"192.0.2.1\",\"192.0.2.2\"")?;
+    let text = K1.replace(alloc, "[0,0]", entries)?;
+    let certificate = read_certificate(alloc, text.as_bytes())?;
     let claim = read_claim(alloc, servers.as_bytes())?;
     assert!(rt; claim.servers.len() == 2);
     let samples = [sample_of(0, 0, 5), sample_of(1, 6, 9)];
-    let text = K1.replace(alloc, "[0,0]", entries)?;
-    let certificate = read_certificate(alloc, text.as_bytes())?;
+    Ok(check(&samples, &claim, &certificate))
+}
+
+/// That verdict is no, for this reason.
+fn judged_of_two(rt: &impl Abort, alloc: Global, entries: &str, why: Why) -> Result<(), Fail> {
     assert_eq!(rt;
-        check(&samples, &claim, &certificate),
+        verdict_of_two(rt, alloc, entries)?,
         no(0, why),
         "{entries}"
     );

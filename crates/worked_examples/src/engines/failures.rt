@@ -75,12 +75,11 @@ fn fails(
         assert_eq!(rt; ran.answer, Ok(outcome), "{command:?} {input:?}");
         return Ok(false);
     }
-    let device = Err(RunFault::Device(input));
-    assert_eq!(rt; ran.answer, device, "{command:?} {number}");
-    let seen = (ran.faults(), out.faults(), out.bytes().len());
-    assert_eq!(rt; seen, (1, 0, 0), "{command:?} {input:?} {number}");
-    let later = are_later_untouched(&mut ran, inputs, input);
-    assert!(rt; later, "{command:?} {input:?} {number}");
+    let is_later_untouched = are_later_untouched(&mut ran, inputs, input);
+    let counts = (ran.faults(), out.faults(), out.bytes().len());
+    let seen = (ran.answer, counts, is_later_untouched);
+    let wanted = (Err(RunFault::Device(input)), (1, 0, 0), true);
+    assert_eq!(rt; seen, wanted, "{command:?} {number}");
     Ok(true)
 }
 
@@ -132,9 +131,9 @@ fn breaks_off(
         true => Err(RunFault::Write(held as u64)),
         false => Ok(outcome),
     };
-    assert_eq!(rt; ran.answer, wanted, "{command:?} {most} {failing}");
-    assert_eq!(rt; (ran.faults(), out.faults()), (0, u64::from(is_broken)));
-    assert_eq!(rt; Some(out.bytes()), whole.get(..held));
+    let seen = (ran.answer, ran.faults(), out.faults(), Some(out.bytes()));
+    let wanted = (wanted, 0, u64::from(is_broken), whole.get(..held));
+    assert_eq!(rt; seen, wanted, "{command:?} {most} {failing}");
     assert!(rt; is_broken || held == whole.len());
     Ok(is_broken)
 }

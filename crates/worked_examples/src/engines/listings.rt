@@ -44,9 +44,9 @@ fn lists_cut(
 ) -> Result<(), Fail> {
     let mut out = ample(alloc)?;
     let (feed, answer) = run_list(alloc, TestFeed::new(file, cut, None), &mut out);
-    assert_eq!(rt; answer, wanted, "{cut:?}");
-    assert_eq!(rt; lines_of(rt, out.bytes(), lines), lines.len(), "{cut:?}");
-    assert_eq!(rt; (feed.faults(), out.faults()), (0, 0));
+    let count = lines_of(rt, out.bytes(), lines);
+    let seen = (answer, count, feed.faults(), out.faults());
+    assert_eq!(rt; seen, (wanted, lines.len(), 0, 0), "{cut:?}");
     Ok(())
 }
 
@@ -154,11 +154,11 @@ fn fails(rt: &impl Abort, alloc: Global, cut: Cut, failing: u64) -> Result<bool,
         return Ok(false);
     }
     let device = Err(RunFault::Device(Input::Capture));
-    assert_eq!(rt; answer, device, "{cut:?} {failing}");
-    assert_eq!(rt; (feed.faults(), out.faults()), (1, 0));
-    assert!(rt; count < 3, "{cut:?} {failing}");
+    let seen = (answer, feed.faults(), out.faults());
+    assert_eq!(rt; seen, (device, 1, 0), "{cut:?} {failing}");
     let whole = usize::from(failing > 130) + usize::from(failing > 236);
-    assert!(rt; cut != Cut::Fixed(1) || count == whole, "{failing}");
+    let is_so_far = count < 3 && (cut != Cut::Fixed(1) || count == whole);
+    assert!(rt; is_so_far, "{cut:?} {failing}");
     Ok(true)
 }
 
@@ -188,16 +188,14 @@ fn breaks_off(
     let feed = TestFeed::new(&V1, Cut::Growing, None);
     let (_, answer) = run_list(alloc, feed, &mut out);
     let held = out.bytes().len();
-    if out.faults() == 0 {
-        assert_eq!(rt; answer, Ok(Outcome::Yes));
-        assert_eq!(rt; out.bytes(), whole);
-        return Ok(false);
-    }
-    assert_eq!(rt; out.faults(), 1);
-    let written = Err(RunFault::Write(held as u64));
-    assert_eq!(rt; answer, written, "{most} {failing}");
-    assert_eq!(rt; Some(out.bytes()), whole.get(..held));
-    Ok(true)
+    let is_broken = out.faults() > 0;
+    let wanted = match is_broken {
+        true => (Err(RunFault::Write(held as u64)), 1, whole.get(..held)),
+        false => (Ok(Outcome::Yes), 0, Some(whole)),
+    };
+    let seen = (answer, out.faults(), Some(out.bytes()));
+    assert_eq!(rt; seen, wanted, "{most} {failing}");
+    Ok(is_broken)
 }
 
 /// Each push fails in turn, until a run meets none that does.

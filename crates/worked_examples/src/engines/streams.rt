@@ -59,25 +59,39 @@ impl<'a> Script<'a> {
     }
 }
 
+/// Whether a call goes well, the faults that are counted then, and the calls of the device.
+type Call = (bool, u64, usize);
+
+/// A pull on a device that does these steps.
+fn pull(steps: &[Step]) -> Call {
+    let mut device = Script::of(steps);
+    let mut feed = ReadFeed::new(&mut device);
+    let pulled = feed.pull(&mut [0; 4]);
+    (pulled.is_ok(), feed.faults(), device.calls)
+}
+
+/// A push on it.
+fn push(steps: &[Step]) -> Call {
+    let mut device = Script::of(steps);
+    let mut sink = WriteSink::new(&mut device);
+    let pushed = sink.push(b"pushed");
+    (pushed.is_ok(), sink.faults(), device.calls)
+}
+
+/// A `finish` on it.
+fn finish(steps: &[Step]) -> Call {
+    let mut device = Script::of(steps);
+    let mut sink = WriteSink::new(&mut device);
+    let finished = sink.finish();
+    (finished.is_ok(), sink.faults(), device.calls)
+}
+
 /// A pull, a push and a `finish` on a device that does these steps: whether it goes well, and how
 /// often it calls the device.
 fn goes(rt: &impl Abort, steps: &[Step], is_well: bool, calls: usize) {
     let wanted = (is_well, u64::from(!is_well), calls);
-    let mut device = Script::of(steps);
-    let mut feed = ReadFeed::new(&mut device);
-    let pulled = feed.pull(&mut [0; 4]);
-    let answer = (pulled.is_ok(), feed.faults(), device.calls);
-    assert_eq!(rt; answer, wanted, "{steps:?}");
-    let mut device = Script::of(steps);
-    let mut sink = WriteSink::new(&mut device);
-    let pushed = sink.push(b"pushed");
-    let answer = (pushed.is_ok(), sink.faults(), device.calls);
-    assert_eq!(rt; answer, wanted, "{steps:?}");
-    let mut device = Script::of(steps);
-    let mut sink = WriteSink::new(&mut device);
-    let finished = sink.finish();
-    let answer = (finished.is_ok(), sink.faults(), device.calls);
-    assert_eq!(rt; answer, wanted, "{steps:?}");
+    let seen = [pull(steps), push(steps), finish(steps)];
+    assert_eq!(rt; seen, [wanted; 3], "{steps:?}");
 }
 
 /// What a device does, whether a call of it goes well, and how often it's called.
