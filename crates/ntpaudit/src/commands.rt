@@ -176,20 +176,31 @@ fn envelope_command<'a>(alloc: Global) -> Result<Command<'a>, AllocError> {
         .arg(flag(alloc, "servers", servers))
 }
 
-/// The program with its commands.
-pub(crate) fn program<'a>(alloc: Global) -> Result<Command<'a>, AllocError> {
-    Command::new(alloc, "ntpaudit")
-        .version("0.2.2 (rattle-kit-13b logic dac8208d650f15bf)")
-        .about("What a packet capture of NTP shows about a clock")
-        .after_help(PROGRAM_HELP)
-        .subcommand_required(true)
+/// Adds the commands that show what a capture says: `list`, `samples` and `at`.
+fn with_readings<'a>(alloc: Global, program: Command<'a>) -> Result<Command<'a>, AllocError> {
+    program
         .subcommand(list_command(alloc)?)?
         .subcommand(samples_command(alloc)?)?
-        .subcommand(at_command(alloc)?)?
+        .subcommand(at_command(alloc)?)
+}
+
+/// Adds the commands that judge a claim: `check`, `find`, `refute` and `envelope`.
+fn with_judgements<'a>(alloc: Global, program: Command<'a>) -> Result<Command<'a>, AllocError> {
+    program
         .subcommand(check_command(alloc)?)?
         .subcommand(find_command(alloc)?)?
         .subcommand(refute_command(alloc)?)?
         .subcommand(envelope_command(alloc)?)
+}
+
+/// The program with its commands.
+pub(crate) fn program<'a>(alloc: Global) -> Result<Command<'a>, AllocError> {
+    let program = Command::new(alloc, "ntpaudit")
+        .version("0.2.2 (rattle-kit-13b logic dac8208d650f15bf)")
+        .about("What a packet capture of NTP shows about a clock")
+        .after_help(PROGRAM_HELP)
+        .subcommand_required(true);
+    with_judgements(alloc, with_readings(alloc, program)?)
 }
 
 /// The text of an operand, empty if it was left out.
