@@ -7,5 +7,7 @@ mod checking;
 #[cfg(test)]
 mod engines;
 #[cfg(test)]
+mod expectation;
+#[cfg(test)]
 mod readers;
 pub mod uses;

@@ -1,9 +1,9 @@
 //! Certificates, by hand. The table is text, a row a line.
 
+use crate::expectation::{assert_equal, assert_ok};
 use certificate::{CertificateFault, read_certificate, write_certificate};
 use std::alloc::{AllocError, Global};
 use std::process::Abort;
-use std::test::Fail;
 use vectors::K1;
 
 /// What is answered, and a text.
@@ -86,13 +86,12 @@ fn answer(alloc: Global, text: &str) -> Result<String, AllocError> {
 }
 
 /// A text is answered so.
-fn answers(rt: &impl Abort, alloc: Global, text: &str, expected: &str) -> Result<(), Fail> {
-    assert_eq!(rt; answer(alloc, text)?.as_str(), expected);
-    Ok(())
+fn answers(rt: &impl Abort, alloc: Global, text: &str, expected: &str) {
+    assert_equal(rt, assert_ok(rt, answer(alloc, text)).as_str(), expected);
 }
 
 /// A row of the table holds.
-fn holds(rt: &impl Abort, alloc: Global, row: &str) -> Result<(), Fail> {
+fn holds(rt: &impl Abort, alloc: Global, row: &str) {
     match row.split_once(" | ") {
         Some((expected, text)) => answers(rt, alloc, text, expected),
         None => panic!(rt; "{row}"),
@@ -100,11 +99,10 @@ fn holds(rt: &impl Abort, alloc: Global, row: &str) -> Result<(), Fail> {
 }
 
 #[test]
-fn texts(rt: HostRuntime) -> Result<(), Fail> {
+fn texts(rt: HostRuntime) {
     for row in TEXTS.lines() {
-        holds(&rt, rt.alloc(), row)?;
+        holds(&rt, rt.alloc(), row);
     }
-    Ok(())
 }
 
 /// A text: how it begins, a part of it that is repeated, how often, and its end.
@@ -153,57 +151,51 @@ const COUNTS: [Count; 12] = [
 ];
 
 /// A row of that table.
-fn counted(
-    rt: &impl Abort,
-    alloc: Global,
-    (begin, part, times, end, expected): Count,
-) -> Result<(), Fail> {
-    let text = repeated(alloc, begin, part, times, end)?;
-    answers(rt, alloc, text.as_str(), expected)
+fn counted(rt: &impl Abort, alloc: Global, (begin, part, times, end, expected): Count) {
+    let text = assert_ok(rt, repeated(alloc, begin, part, times, end));
+    answers(rt, alloc, text.as_str(), expected);
 }
 
 #[test]
-fn counts(rt: HostRuntime) -> Result<(), Fail> {
+fn counts(rt: HostRuntime) {
     for row in COUNTS {
-        counted(&rt, rt.alloc(), row)?;
+        counted(&rt, rt.alloc(), row);
     }
-    Ok(())
 }
 
 /// Arrays that nest so deep are answered so.
-fn nests(rt: &impl Abort, alloc: Global, depth: u32, expected: &str) -> Result<(), Fail> {
-    let open = repeated(alloc, "", "[", depth, "")?;
-    let text = repeated(alloc, open.as_str(), "]", depth, "")?;
-    answers(rt, alloc, text.as_str(), expected)
+fn nests(rt: &impl Abort, alloc: Global, depth: u32, expected: &str) {
+    let open = assert_ok(rt, repeated(alloc, "", "[", depth, ""));
+    let text = assert_ok(rt, repeated(alloc, open.as_str(), "]", depth, ""));
+    answers(rt, alloc, text.as_str(), expected);
 }
 
 #[test]
-fn depths(rt: HostRuntime) -> Result<(), Fail> {
-    nests(&rt, rt.alloc(), 127, "fault 2")?;
-    nests(&rt, rt.alloc(), 128, "fault 1")
+fn depths(rt: HostRuntime) {
+    nests(&rt, rt.alloc(), 127, "fault 2");
+    nests(&rt, rt.alloc(), 128, "fault 1");
 }
 
 #[test]
-fn written_again(rt: HostRuntime) -> Result<(), Fail> {
-    let certificate = read_certificate(rt.alloc(), K1.as_bytes())?;
-    let text = write_certificate(rt.alloc(), &certificate)?;
-    assert_eq!(rt; text.as_str(), K1);
-    Ok(())
+fn written_again(rt: HostRuntime) {
+    let certificate = assert_ok(&rt, read_certificate(rt.alloc(), K1.as_bytes()));
+    let text = assert_ok(&rt, write_certificate(rt.alloc(), &certificate));
+    assert_equal(&rt, text.as_str(), K1);
 }
 
 /// `K1` with this end is answered so.
-fn ends(rt: &impl Abort, alloc: Global, end: &str, expected: &str) -> Result<(), Fail> {
-    let mut text = String::from_str(alloc, K1)?;
-    text.push_str(end)?;
-    answers(rt, alloc, text.as_str(), expected)
+fn ends(rt: &impl Abort, alloc: Global, end: &str, expected: &str) {
+    let mut text = assert_ok(rt, String::from_str(alloc, K1));
+    assert_ok(rt, text.push_str(end));
+    answers(rt, alloc, text.as_str(), expected);
 }
 
 // What `find` writes ends with a line feed, which is no part of the certificate.
 #[test]
-fn ends_of_lines(rt: HostRuntime) -> Result<(), Fail> {
+fn ends_of_lines(rt: HostRuntime) {
     let alloc = rt.alloc();
-    ends(&rt, alloc, "\n", "read")?;
-    ends(&rt, alloc, "\n\n", "read")?;
-    ends(&rt, alloc, "\r\n", "read")?;
-    ends(&rt, alloc, "\n}", "fault 1")
+    ends(&rt, alloc, "\n", "read");
+    ends(&rt, alloc, "\n\n", "read");
+    ends(&rt, alloc, "\r\n", "read");
+    ends(&rt, alloc, "\n}", "fault 1");
 }

@@ -1,6 +1,11 @@
 //! Claims like the worked one.
 
+ghost use Rattle.claim_file.specs.Claim.{IsLawful, data_of};
+
+use crate::expectation::assert_ok;
+use claim_file::{Claim, read_claim};
 use std::alloc::{AllocError, Global};
+use std::process::Abort;
 use vectors::C1;
 
 /// What a claim says that isn't `C1`: its end, its bound in nanoseconds, and its drift.
@@ -25,4 +30,13 @@ pub(crate) fn claim_of(alloc: Global, terms: Terms) -> Result<String, AllocError
         "\"to\":\"{to}\",\"bound_ns\":{bound_ns},\"drift_ppb\":{drift_ppb}"
     )?;
     C1.replace(alloc, old, new.as_str())
+}
+
+/// The claim of a text, with this bound in ticks in place of the one that stands there.
+pub(crate) fn claim_with_bound(rt: &impl Abort, alloc: Global, text: &str, bound: u32) -> Claim
+    ensures lawful { IsLawful (data_of result) }
+{
+    let mut claim = assert_ok(rt, read_claim(alloc, text.as_bytes()));
+    claim.bound = i128::from(bound);
+    claim
 }

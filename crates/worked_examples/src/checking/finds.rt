@@ -2,12 +2,12 @@
 
 use crate::checking::claims::{AS_IS, LONG, LONG_TIGHT, TIGHT, Terms, claim_of};
 use crate::checking::pieces::twenty_milliseconds;
+use crate::expectation::{assert_equal_at, assert_ok};
 use claim_file::read_claim;
 use finder::{Envelope, FindFault, Found, LeastBound, find, find_envelope};
 use intersection::kinds::Hull;
 use std::alloc::Global;
 use std::process::Abort;
-use std::test::Fail;
 
 /// What the finder answers of the worked sample.
 #[derive(Clone, Copy, Debug, PartialEq, Eq)]
@@ -57,26 +57,23 @@ const FINDS: [(Terms, u32, Answer); 8] = [
 ];
 
 /// A row of that table.
-fn finds(
-    rt: &impl Abort,
-    alloc: Global,
-    (terms, step_s, wanted): (Terms, u32, Answer),
-) -> Result<(), Fail> {
+fn finds(rt: &impl Abort, alloc: Global, (terms, step_s, wanted): (Terms, u32, Answer)) {
     let samples = [twenty_milliseconds()];
-    let claim = read_claim(alloc, claim_of(alloc, terms)?.as_bytes())?;
+    let claim = assert_ok(
+        rt,
+        read_claim(alloc, assert_ok(rt, claim_of(alloc, terms)).as_bytes()),
+    );
     // So the prover knows that each step of the table is one that `find` takes.
     let step_s = step_s.max(1).min(86_400);
     let found = find(alloc, &samples, &claim, step_s);
-    assert_eq!(rt; answer_of(&found), wanted, "{terms:?} {step_s}");
-    Ok(())
+    assert_equal_at(rt, answer_of(&found), wanted, (terms, step_s));
 }
 
 #[test]
-fn worked_sample(rt: HostRuntime) -> Result<(), Fail> {
+fn worked_sample(rt: HostRuntime) {
     for row in FINDS {
-        finds(&rt, rt.alloc(), row)?;
+        finds(&rt, rt.alloc(), row);
     }
-    Ok(())
 }
 
 /// The least bound of the worked sample in nanoseconds, and the first piece that needs it: the
@@ -87,24 +84,26 @@ fn needs(
     terms: Terms,
     step_s: u32,
     (bound_ns, piece): (u128, u32),
-) -> Result<(), Fail> {
+) {
     let samples = [twenty_milliseconds()];
-    let claim = read_claim(alloc, claim_of(alloc, terms)?.as_bytes())?;
+    let claim = assert_ok(
+        rt,
+        read_claim(alloc, assert_ok(rt, claim_of(alloc, terms)).as_bytes()),
+    );
     let step_s = step_s.max(1).min(86_400);
     match find_envelope(alloc, &samples, &claim, step_s) {
         Ok(envelope) => {
             let wanted = LeastBound::Holds { bound_ns, piece };
-            assert_eq!(rt; envelope.least, wanted, "{terms:?} {step_s}");
+            assert_equal_at(rt, envelope.least, wanted, (terms, step_s));
         }
         Err(_) => panic!(rt; "{terms:?} {step_s}"),
     }
-    Ok(())
 }
 
 #[test]
-fn least_bounds(rt: HostRuntime) -> Result<(), Fail> {
+fn least_bounds(rt: HostRuntime) {
     let alloc = rt.alloc();
-    needs(&rt, alloc, TIGHT, 64, (10_001_001, 0))?;
-    needs(&rt, alloc, LONG_TIGHT, 64, (11_280_627, 0))?;
-    needs(&rt, alloc, LONG_TIGHT, 32, (11_280_627, 1))
+    needs(&rt, alloc, TIGHT, 64, (10_001_001, 0));
+    needs(&rt, alloc, LONG_TIGHT, 64, (11_280_627, 0));
+    needs(&rt, alloc, LONG_TIGHT, 32, (11_280_627, 1));
 }

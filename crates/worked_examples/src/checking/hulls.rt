@@ -1,5 +1,6 @@
 //! The hulls of lists of intervals, by hand.
 
+use crate::expectation::{assert_equal, assert_equal_at};
 use arrayvec::ArrayVec;
 use intersection::kinds::{Hull, Interval};
 use intersection::{hull, hull_walk, meet};
@@ -37,7 +38,7 @@ const HULLS: [(&[(i128, i128)], u8, Hull); 7] = [
 fn hulls(rt: HostRuntime) {
     for (intervals, f, wanted) in HULLS {
         let found = hull(&list_of(&rt, intervals), f);
-        assert_eq!(rt; found, wanted, "{intervals:?} {f}");
+        assert_equal_at(&rt, found, wanted, (intervals, f));
     }
 }
 
@@ -59,19 +60,21 @@ const WALKS: [(&[(i128, i128)], u8, Hull, u32); 5] = [
 fn walks(rt: HostRuntime) {
     for (intervals, f, wanted, looked) in WALKS {
         let walked = hull_walk(&list_of(&rt, intervals), f);
-        assert_eq!(rt; walked, (wanted, looked), "{intervals:?} {f}");
+        assert_equal_at(&rt, walked, (wanted, looked), (intervals, f));
     }
 }
 
 #[test]
 fn meets(rt: HostRuntime) {
     let left = Interval { lo: 0, hi: 5 };
-    assert_eq!(rt;
+    assert_equal(
+        &rt,
         meet(left, Interval { lo: 4, hi: 10 }),
-        Interval { lo: 4, hi: 5 }
+        Interval { lo: 4, hi: 5 },
     );
-    assert_eq!(rt;
+    assert_equal(
+        &rt,
         meet(left, Interval { lo: 6, hi: 9 }),
-        Interval { lo: 6, hi: 5 }
+        Interval { lo: 6, hi: 5 },
     );
 }

@@ -2,6 +2,7 @@
 ghost use Rattle.std.specs.Prelude.{◌≡◌, ◌<◌, ◌≤◌, ◌^◌, unsigned_abs};
 ghost use Rattle.sample_interval.specs.Sample.{IsLawfulSample};
 
+use crate::expectation::{assert_equal, assert_equal_at};
 use era_unfold::TICKS_PER_SECOND;
 use intersection::kinds::Interval;
 use sample_interval::kinds::Sample;
@@ -33,10 +34,11 @@ fn intervals_of_pieces(rt: HostRuntime) {
         (64, 20_000, -48_447_343, 48_449_920),
     ] {
         let end = TICK + seconds * TICKS_PER_SECOND as i128;
-        assert_eq!(rt;
+        assert_equal_at(
+            &rt,
             piece_interval(&sample, &sample, TICK, end, rate),
             Interval { lo, hi },
-            "{seconds} seconds"
+            seconds,
         );
     }
 }
@@ -45,17 +47,29 @@ fn intervals_of_pieces(rt: HostRuntime) {
 fn best_samples(rt: HostRuntime) {
     for (server, chosen) in [(0, Some((0, 0))), (1, None)] {
         let samples = [twenty_milliseconds()];
-        assert_eq!(rt; best(&samples, server, TICK, TICK, 0), chosen);
+        assert_equal(&rt, best(&samples, server, TICK, TICK, 0), chosen);
     }
 }
 
 #[test]
 fn ends_of_pieces(rt: HostRuntime) {
     let minute = TICK + 64 * TICKS_PER_SECOND as i128;
-    assert_eq!(rt; piece_end(TICK, minute, 64, 0), 4_294_967_570_877_906_944);
-    assert_eq!(rt; piece_end(TICK, minute, 32, 0), 4_294_967_433_438_953_472);
-    assert_eq!(rt; piece_end(TICK, minute, 32, 1), 4_294_967_570_877_906_944);
-    assert_eq!(rt; piece_end(TICK, minute, 48, 1), minute);
+    assert_equal(
+        &rt,
+        piece_end(TICK, minute, 64, 0),
+        4_294_967_570_877_906_944,
+    );
+    assert_equal(
+        &rt,
+        piece_end(TICK, minute, 32, 0),
+        4_294_967_433_438_953_472,
+    );
+    assert_equal(
+        &rt,
+        piece_end(TICK, minute, 32, 1),
+        4_294_967_570_877_906_944,
+    );
+    assert_equal(&rt, piece_end(TICK, minute, 48, 1), minute);
     let day = 4_295_396_792_729_600_000;
-    assert_eq!(rt; piece_end(TICK, day, 1, 99_999), day);
+    assert_equal(&rt, piece_end(TICK, day, 1, 99_999), day);
 }

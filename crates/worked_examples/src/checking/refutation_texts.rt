@@ -1,9 +1,9 @@
 //! The texts of refutations, by hand. The table is text, a row a line.
 
+use crate::expectation::{assert_equal_at, assert_ok};
 use certificate::{RefutationFault, read_refutation, write_refutation};
 use std::alloc::{AllocError, Global};
 use std::process::Abort;
-use std::test::Fail;
 
 /// What is answered, and a text: `same` if the refutation that it says is written as that text,
 /// else what is written of it.
@@ -63,18 +63,21 @@ fn answer(alloc: Global, text: &str) -> Result<String, AllocError> {
 }
 
 /// A row of the table holds.
-fn holds(rt: &impl Abort, alloc: Global, row: &str) -> Result<(), Fail> {
+fn holds(rt: &impl Abort, alloc: Global, row: &str) {
     match row.split_once(" | ") {
-        Some((expected, text)) => assert_eq!(rt; answer(alloc, text)?.as_str(), expected, "{row}"),
+        Some((expected, text)) => assert_equal_at(
+            rt,
+            assert_ok(rt, answer(alloc, text)).as_str(),
+            expected,
+            row,
+        ),
         None => panic!(rt; "{row}"),
     }
-    Ok(())
 }
 
 #[test]
-fn texts(rt: HostRuntime) -> Result<(), Fail> {
+fn texts(rt: HostRuntime) {
     for row in TEXTS.lines() {
-        holds(&rt, rt.alloc(), row)?;
+        holds(&rt, rt.alloc(), row);
     }
-    Ok(())
 }

@@ -2,6 +2,7 @@
 ghost use Rattle.sample_interval.specs.Exchange.{IsOfSomeClaim};
 
 use crate::checking::pieces::twenty_milliseconds;
+use crate::expectation::{assert_equal, assert_equal_at};
 use pairing::Exchange;
 use sample_interval::kinds::Sample;
 use sample_interval::{delay, offset, sample, widen};
@@ -37,23 +38,23 @@ fn widenings_round_up(rt: HostRuntime) {
         (1, 1, 1),
         (500_000_000, 7, 7),
     ] {
-        assert_eq!(rt; widen(rate, distance), widened, "{distance} at {rate}");
+        assert_equal_at(&rt, widen(rate, distance), widened, (distance, rate));
     }
 }
 
 #[test]
 fn exact_readings(rt: HostRuntime) {
     let x = exchange();
-    assert_eq!(rt; offset(&x, 0), (-4295, 1));
-    assert_eq!(rt; delay(&x, 0), (85_895_050, 85_903_641));
-    assert_eq!(rt; sample(&x, 0), twenty_milliseconds());
+    assert_equal(&rt, offset(&x, 0), (-4295, 1));
+    assert_equal(&rt, delay(&x, 0), (85_895_050, 85_903_641));
+    assert_equal(&rt, sample(&x, 0), twenty_milliseconds());
 }
 
 #[test]
 fn readings_within_a_microsecond(rt: HostRuntime) {
     let x = exchange();
-    assert_eq!(rt; offset(&x, 4295), (-8590, 4296));
-    assert_eq!(rt; delay(&x, 4295), (85_886_460, 85_912_231));
+    assert_equal(&rt, offset(&x, 4295), (-8590, 4296));
+    assert_equal(&rt, delay(&x, 4295), (85_886_460, 85_912_231));
     let expected = Sample {
         server: 0,
         low: -42_953_969,
@@ -63,5 +64,5 @@ fn readings_within_a_microsecond(rt: HostRuntime) {
         high_from: TICK + 85_895_050,
         high_to: TICK + 85_907_936,
     };
-    assert_eq!(rt; sample(&x, 4295), expected);
+    assert_equal(&rt, sample(&x, 4295), expected);
 }

@@ -2,15 +2,15 @@
 ghost use Rattle.std.specs.Prelude.{◌≡◌};
 ghost use Rattle.sample_interval.specs.Sample.{IsLawfulSample};
 
-use crate::checking::claims::{AS_IS, LONG, LONG_TIGHT, TIGHT, Terms, claim_of};
+use crate::checking::claims::{AS_IS, LONG, LONG_TIGHT, TIGHT, Terms, claim_of, claim_with_bound};
 use crate::checking::pieces::twenty_milliseconds;
+use crate::expectation::{assert_equal, assert_equal_at, assert_ok};
 use certificate::read_certificate;
 use checker::{Verdict, Why, check};
 use claim_file::read_claim;
 use sample_interval::kinds::Sample;
 use std::alloc::Global;
 use std::process::Abort;
-use std::test::Fail;
 use vectors::{C1, K1, TICK};
 
 // What a server says at the second: its number, and the ends of the error in ticks.
@@ -47,17 +47,22 @@ fn judged(
     entries: &str,
     upto: u64,
     reason: Option<(u32, Why)>,
-) -> Result<(), Fail> {
+) {
     let samples = [twenty_milliseconds()];
-    let claim = read_claim(alloc, claim_of(alloc, terms)?.as_bytes())?;
-    let text = format!(in alloc; "{{\"pieces\":[{{\"entries\":[{entries}],\"upto\":{upto}}}]}}")?;
-    let certificate = read_certificate(alloc, text.as_bytes())?;
+    let claim = assert_ok(
+        rt,
+        read_claim(alloc, assert_ok(rt, claim_of(alloc, terms)).as_bytes()),
+    );
+    let text = assert_ok(
+        rt,
+        format!(in alloc; "{{\"pieces\":[{{\"entries\":[{entries}],\"upto\":{upto}}}]}}"),
+    );
+    let certificate = assert_ok(rt, read_certificate(alloc, text.as_bytes()));
     let verdict = match reason {
         None => Verdict::Yes,
         Some((piece, why)) => no(piece, why),
     };
-    assert_eq!(rt; check(&samples, &claim, &certificate), verdict, "{text}");
-    Ok(())
+    assert_equal_at(rt, check(&samples, &claim, &certificate), verdict, text);
 }
 
 /// The rows on the worked sample, each with the piece that isn't shown, and why.
@@ -80,110 +85,101 @@ const ROWS: [(Terms, &str, u64, Option<(u32, Why)>); 9] = [
 
 /// The worked sample, under claims and certificates like the worked ones.
 #[test]
-fn one_piece(rt: HostRuntime) -> Result<(), Fail> {
+fn one_piece(rt: HostRuntime) {
     for (terms, entries, upto, reason) in ROWS {
-        judged(&rt, rt.alloc(), terms, entries, upto, reason)?;
+        judged(&rt, rt.alloc(), terms, entries, upto, reason);
     }
-    Ok(())
 }
 
 /// A certificate of no pieces.
 #[test]
-fn no_piece(rt: HostRuntime) -> Result<(), Fail> {
+fn no_piece(rt: HostRuntime) {
     let samples = [twenty_milliseconds()];
-    let claim = read_claim(rt.alloc(), C1.as_bytes())?;
-    let none = read_certificate(rt.alloc(), b"{\"pieces\":[]}")?;
-    assert_eq!(rt; check(&samples, &claim, &none), no(0, Why::Uncovered));
-    Ok(())
+    let claim = assert_ok(&rt, read_claim(rt.alloc(), C1.as_bytes()));
+    let none = assert_ok(&rt, read_certificate(rt.alloc(), b"{\"pieces\":[]}"));
+    assert_equal(&rt, check(&samples, &claim, &none), no(0, Why::Uncovered));
 }
 
 /// The verdict on a piece with samples of three servers, one of which may be false: in these
 /// groups, and with this bound in ticks.
-fn verdict_of_three(
-    rt: &impl Abort,
-    alloc: Global,
-    groups: &str,
-    bound: u8,
-) -> Result<Verdict, Fail> {
-    let servers = format!(in alloc;
-        "\"192.0.2.1\",\"192.0.2.2\",\"192.0.2.3\"],{groups}\"false_max\":1"
-    )?;
-    let text = C1.replace(alloc, "\"192.0.2.1\"],\"false_max\":0", servers.as_str())?;
-    let entries = K1.replace(alloc, "[0,0]", "[0,0],[1,1],[2,2]")?;
-    let certificate = read_certificate(alloc, entries.as_bytes())?;
-    let mut claim = read_claim(alloc, text.as_bytes())?;
+fn verdict_of_three(rt: &impl Abort, alloc: Global, groups: &str, bound: u32) -> Verdict {
+    let servers = assert_ok(
+        rt,
+        format!(in alloc; "\"192.0.2.1\",\"192.0.2.2\",\"192.0.2.3\"],{groups}\"false_max\":1"),
+    );
+    let text = assert_ok(
+        rt,
+        C1.replace(alloc, "\"192.0.2.1\"],\"false_max\":0", servers.as_str()),
+    );
+    let entries = assert_ok(rt, K1.replace(alloc, "[0,0]", "[0,0],[1,1],[2,2]"));
+    let certificate = assert_ok(rt, read_certificate(alloc, entries.as_bytes()));
+    let claim = claim_with_bound(rt, alloc, text.as_str(), bound);
     assert!(rt; claim.servers.len() == 3);
-    claim.bound = i128::from(bound);
     let samples = [
         sample_of(0, 0, 5),
         sample_of(1, 4, 10),
         sample_of(2, 20, 30),
     ];
-    Ok(check(&samples, &claim, &certificate))
+    check(&samples, &claim, &certificate)
 }
 
 #[test]
-fn groups(rt: HostRuntime) -> Result<(), Fail> {
+fn groups(rt: HostRuntime) {
     for (groups, bound, verdict) in [
         ("\"groups\":[[0,1],[2]],", 30, Verdict::Yes),
         ("\"groups\":[[0,1],[2]],", 29, no(0, Why::Exceeds)),
         ("", 5, Verdict::Yes),
         ("", 4, no(0, Why::Exceeds)),
     ] {
-        let given = verdict_of_three(&rt, rt.alloc(), groups, bound)?;
-        assert_eq!(rt; given, verdict, "{groups} {bound}");
+        let given = verdict_of_three(&rt, rt.alloc(), groups, bound);
+        assert_equal_at(&rt, given, verdict, (groups, bound));
     }
-    Ok(())
 }
 
 /// The verdict on a piece with one sample, and with this bound in ticks.
-fn verdict_of_one(alloc: Global, bound: u32) -> Result<Verdict, Fail> {
-    let certificate = read_certificate(alloc, K1.as_bytes())?;
-    let mut claim = read_claim(alloc, C1.as_bytes())?;
-    claim.bound = i128::from(bound);
+fn verdict_of_one(rt: &impl Abort, alloc: Global, bound: u32) -> Verdict {
+    let certificate = assert_ok(rt, read_certificate(alloc, K1.as_bytes()));
+    let claim = claim_with_bound(rt, alloc, C1, bound);
     let samples = [sample_of(0, -42_949_674, 42_953_969)];
-    Ok(check(&samples, &claim, &certificate))
+    check(&samples, &claim, &certificate)
 }
 
 /// A bound that is met exactly, and one a tick narrower.
 #[test]
-fn bounds(rt: HostRuntime) -> Result<(), Fail> {
+fn bounds(rt: HostRuntime) {
     let verdicts = [
-        verdict_of_one(rt.alloc(), 42_953_969)?,
-        verdict_of_one(rt.alloc(), 42_953_968)?,
+        verdict_of_one(&rt, rt.alloc(), 42_953_969),
+        verdict_of_one(&rt, rt.alloc(), 42_953_968),
     ];
-    assert_eq!(rt; verdicts, [Verdict::Yes, no(0, Why::Exceeds)]);
-    Ok(())
+    assert_equal(&rt, verdicts, [Verdict::Yes, no(0, Why::Exceeds)]);
 }
 
 /// The verdict on a piece with samples of two servers that contradict each other, and these
 /// entries.
-fn verdict_of_two(rt: &impl Abort, alloc: Global, entries: &str) -> Result<Verdict, Fail> {
-    let servers = C1.replace(alloc, "\"192.0.2.1\"", "\"192.0.2.1\",\"192.0.2.2\"")?;
-    let text = K1.replace(alloc, "[0,0]", entries)?;
-    let certificate = read_certificate(alloc, text.as_bytes())?;
-    let claim = read_claim(alloc, servers.as_bytes())?;
+fn verdict_of_two(rt: &impl Abort, alloc: Global, entries: &str) -> Verdict {
+    let servers = assert_ok(
+        rt,
+        C1.replace(alloc, "\"192.0.2.1\"", "\"192.0.2.1\",\"192.0.2.2\""),
+    );
+    let text = assert_ok(rt, K1.replace(alloc, "[0,0]", entries));
+    let certificate = assert_ok(rt, read_certificate(alloc, text.as_bytes()));
+    let claim = assert_ok(rt, read_claim(alloc, servers.as_bytes()));
     assert!(rt; claim.servers.len() == 2);
     let samples = [sample_of(0, 0, 5), sample_of(1, 6, 9)];
-    Ok(check(&samples, &claim, &certificate))
+    check(&samples, &claim, &certificate)
 }
 
 /// That verdict is no, for this reason.
-fn judged_of_two(rt: &impl Abort, alloc: Global, entries: &str, why: Why) -> Result<(), Fail> {
-    assert_eq!(rt;
-        verdict_of_two(rt, alloc, entries)?,
-        no(0, why),
-        "{entries}"
-    );
-    Ok(())
+fn judged_of_two(rt: &impl Abort, alloc: Global, entries: &str, why: Why) {
+    assert_equal_at(rt, verdict_of_two(rt, alloc, entries), no(0, why), entries);
 }
 
 /// Two servers that contradict each other, an entry that names both, and one too many.
 #[test]
-fn two_servers(rt: HostRuntime) -> Result<(), Fail> {
-    judged_of_two(&rt, rt.alloc(), "[0,0],[1,1]", Why::Contradiction)?;
-    judged_of_two(&rt, rt.alloc(), "[0,1]", Why::MixedServers)?;
-    judged_of_two(&rt, rt.alloc(), "[0,0],[2,1]", Why::BadSample)
+fn two_servers(rt: HostRuntime) {
+    judged_of_two(&rt, rt.alloc(), "[0,0],[1,1]", Why::Contradiction);
+    judged_of_two(&rt, rt.alloc(), "[0,1]", Why::MixedServers);
+    judged_of_two(&rt, rt.alloc(), "[0,0],[2,1]", Why::BadSample);
 }
 
 #[test]
@@ -198,6 +194,6 @@ fn numbers_of_reasons(rt: HostRuntime) {
         (Why::Exceeds, 7),
         (Why::Uncovered, 8),
     ] {
-        assert_eq!(rt; why.number(), number);
+        assert_equal(&rt, why.number(), number);
     }
 }

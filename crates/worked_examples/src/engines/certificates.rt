@@ -2,11 +2,11 @@
 
 use crate::engines::inputs::{LONG, claim_of, edited};
 use crate::engines::trial::{Command, Inputs, gives};
+use crate::expectation::assert_ok;
 use Command::{Check, Find};
 use report::Outcome;
 use std::alloc::Global;
 use std::process::Abort;
-use std::test::Fail;
 use vectors::{K1, V1};
 
 const CLIENT: &str = "client 192.0.2.10 servers 1 false_max 0\n";
@@ -26,7 +26,7 @@ const EXCEEDS: &str = "verdict no piece 0 exceeds\n";
 
 /// The rows on `K1` and claims like `C1` with another bound.
 #[test]
-fn checks(rt: HostRuntime) -> Result<(), Fail> {
+fn checks(rt: HostRuntime) {
     let alloc = rt.alloc();
     let nano = edited(&[(0, b"\x4d\x3c\xb2\xa1"), (134, b"\x00\x2d\x31\x01")]);
     let rows: [(&str, &[u8], Outcome, &str); 4] = [
@@ -36,9 +36,8 @@ fn checks(rt: HostRuntime) -> Result<(), Fail> {
         ("10000001", &nano, Outcome::No, EXCEEDS),
     ];
     for (bound, capture, outcome, verdict) in rows {
-        checks_bound(&rt, alloc, bound, capture, outcome, verdict)?;
+        checks_bound(&rt, alloc, bound, capture, outcome, verdict);
     }
-    Ok(())
 }
 
 /// `check` answers this of a capture, `K1` and a claim like `C1` with this bound.
@@ -49,11 +48,12 @@ fn checks_bound(
     capture: &[u8],
     outcome: Outcome,
     verdict: &str,
-) -> Result<(), Fail> {
-    let claim = claim_of(alloc, &[("10001001", bound)])?;
-    let span = format!(in alloc;
-        "span 1000000000 1000000000 bound_ns {bound} drift_ppb 0 reading_ns 0\n"
-    )?;
+) {
+    let claim = assert_ok(rt, claim_of(alloc, &[("10001001", bound)]));
+    let span = assert_ok(
+        rt,
+        format!(in alloc; "span 1000000000 1000000000 bound_ns {bound} drift_ppb 0 reading_ns 0\n"),
+    );
     let inputs = Inputs {
         claim: claim.as_bytes(),
         second: K1.as_bytes(),
@@ -68,14 +68,14 @@ fn checks_bound(
         PIECES,
         verdict,
     ];
-    gives(rt, alloc, Check, inputs, Ok(outcome), &lines)
+    gives(rt, alloc, Check, inputs, Ok(outcome), &lines);
 }
 
 /// A certificate that names a sample which the capture hasn't.
 #[test]
-fn bad_sample(rt: HostRuntime) -> Result<(), Fail> {
+fn bad_sample(rt: HostRuntime) {
     let alloc = rt.alloc();
-    let claim = claim_of(alloc, &[])?;
+    let claim = assert_ok(&rt, claim_of(alloc, &[]));
     let inputs = Inputs {
         claim: claim.as_bytes(),
         second: K1.as_bytes(),
@@ -90,7 +90,7 @@ fn bad_sample(rt: HostRuntime) -> Result<(), Fail> {
         PIECES,
         "verdict no piece 0 bad-sample\n",
     ];
-    gives(&rt, alloc, Check, inputs, Ok(Outcome::No), &lines)
+    gives(&rt, alloc, Check, inputs, Ok(Outcome::No), &lines);
 }
 
 const ONE_PIECE: &str = "{\"pieces\":[{\"entries\":[[0,0]],\"upto\":4294967570877906944}]}\n";
@@ -134,23 +134,22 @@ fn finds(
     claim: &str,
     outcome: Outcome,
     lines: &[&str],
-) -> Result<(), Fail> {
+) {
     let inputs = Inputs {
         claim: claim.as_bytes(),
         second: b"",
         capture: &V1,
     };
-    gives(rt, alloc, command, inputs, Ok(outcome), lines)
+    gives(rt, alloc, command, inputs, Ok(outcome), lines);
 }
 
 /// The rows on a moment, and on a span of 64 seconds with a drift, in one piece and in two.
 #[test]
-fn findings(rt: HostRuntime) -> Result<(), Fail> {
+fn findings(rt: HostRuntime) {
     let alloc = rt.alloc();
     for (step_s, edits, bound, outcome, lines) in FOUND {
-        let wide = claim_of(alloc, edits)?;
-        let claim = wide.as_str().replace(alloc, "10001001", bound)?;
-        finds(&rt, alloc, Find(step_s), claim.as_str(), outcome, lines)?;
+        let wide = assert_ok(&rt, claim_of(alloc, edits));
+        let claim = assert_ok(&rt, wide.as_str().replace(alloc, "10001001", bound));
+        finds(&rt, alloc, Find(step_s), claim.as_str(), outcome, lines);
     }
-    Ok(())
 }

@@ -2,11 +2,11 @@
 
 use crate::engines::inputs::{LONG, claim_of};
 use crate::engines::trial::{Command, Inputs, gives};
+use crate::expectation::assert_ok;
 use Command::Envelope;
 use report::Outcome;
 use std::alloc::Global;
 use std::process::Abort;
-use std::test::Fail;
 use vectors::V1;
 
 const SERVER: &str = "0 192.0.2.1 -42949674 42953969\n";
@@ -45,28 +45,27 @@ fn envelops(
     capture: &[u8],
     outcome: Outcome,
     lines: &[&str],
-) -> Result<(), Fail> {
-    let claim = claim_of(alloc, edits)?;
+) {
+    let claim = assert_ok(rt, claim_of(alloc, edits));
     let inputs = Inputs {
         claim: claim.as_bytes(),
         second: b"",
         capture,
     };
-    gives(rt, alloc, command, inputs, Ok(outcome), lines)
+    gives(rt, alloc, command, inputs, Ok(outcome), lines);
 }
 
 #[test]
-fn moments(rt: HostRuntime) -> Result<(), Fail> {
+fn moments(rt: HostRuntime) {
     for (servers, edit, outcome, lines) in MOMENTS {
         let command = Envelope(64, servers);
-        envelops(&rt, rt.alloc(), command, &[edit], &V1, outcome, lines)?;
+        envelops(&rt, rt.alloc(), command, &[edit], &V1, outcome, lines);
     }
-    Ok(())
 }
 
 /// There is no reply.
 #[test]
-fn no_reply(rt: HostRuntime) -> Result<(), Fail> {
+fn no_reply(rt: HostRuntime) {
     let lines = [UNBOUNDED, NONE];
     let request = &V1[..130];
     envelops(
@@ -77,12 +76,12 @@ fn no_reply(rt: HostRuntime) -> Result<(), Fail> {
         request,
         Outcome::No,
         &lines,
-    )
+    );
 }
 
 /// A span of 64 seconds with a drift, in one piece and in two.
 #[test]
-fn spans(rt: HostRuntime) -> Result<(), Fail> {
+fn spans(rt: HostRuntime) {
     let one = [
         "0 1000000000 1000000064 -48447343 48449920\n",
         "bound_ns 11280627 piece 0\n",
@@ -100,7 +99,7 @@ fn spans(rt: HostRuntime) -> Result<(), Fail> {
         &V1,
         Outcome::Yes,
         &one,
-    )?;
+    );
     envelops(
         &rt,
         rt.alloc(),
@@ -109,5 +108,5 @@ fn spans(rt: HostRuntime) -> Result<(), Fail> {
         &V1,
         Outcome::Yes,
         &two,
-    )
+    );
 }

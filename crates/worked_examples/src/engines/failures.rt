@@ -2,11 +2,11 @@
 
 use crate::engines::inputs::REFUTATION;
 use crate::engines::trial::{Command, Failing, Inputs, NONE, Ran, is_untouched, run};
+use crate::expectation::{assert_equal_at, assert_ok};
 use byte_stream::{Cut, Feed, Sink, TestSink};
 use report::{Input, Outcome, RunFault};
 use std::alloc::Global;
 use std::process::Abort;
-use std::test::Fail;
 use vectors::{C1, K1, V1};
 
 /// Each command that has a claim, and its outcome on the worked inputs.
@@ -66,21 +66,21 @@ fn fails(
     (command, outcome): (Command, Outcome),
     cut: Cut,
     (input, number): (Input, u64),
-) -> Result<bool, Fail> {
+) -> bool {
     let inputs = worked(command);
     let failing = failing_pull(input, number);
-    let mut out = TestSink::new(alloc, 1000, 1000, None, false)?;
+    let mut out = assert_ok(rt, TestSink::new(alloc, 1000, 1000, None, false));
     let mut ran = run(alloc, command, inputs, cut, failing, &mut out);
     if ran.faults() == 0 {
-        assert_eq!(rt; ran.answer, Ok(outcome), "{command:?} {input:?}");
-        return Ok(false);
+        assert_equal_at(rt, ran.answer, Ok(outcome), (command, input));
+        return false;
     }
     let is_later_untouched = are_later_untouched(&mut ran, inputs, input);
     let counts = (ran.faults(), out.faults(), out.bytes().len());
     let seen = (ran.answer, counts, is_later_untouched);
     let wanted = (Err(RunFault::Device(input)), (1, 0, 0), true);
-    assert_eq!(rt; seen, wanted, "{command:?} {number}");
-    Ok(true)
+    assert_equal_at(rt, seen, wanted, (command, number));
+    true
 }
 
 /// Each pull of an input fails in turn, until a run meets none that does.
@@ -90,26 +90,24 @@ fn each_pull_fails(
     command: (Command, Outcome),
     cut: Cut,
     input: Input,
-) -> Result<(), Fail> {
+) {
     for number in 1..1000 {
-        if !fails(rt, alloc, command, cut, (input, number))? {
+        if !fails(rt, alloc, command, cut, (input, number)) {
             break;
         }
     }
-    Ok(())
 }
 
 #[test]
-fn pulls(rt: HostRuntime) -> Result<(), Fail> {
+fn pulls(rt: HostRuntime) {
     for command in COMMANDS {
         let second = second_of(command.0).0;
         for cut in [Cut::Fixed(1), Cut::Fixed(7), Cut::Growing] {
             for input in [Input::Claim, second, Input::Capture] {
-                each_pull_fails(&rt, rt.alloc(), command, cut, input)?;
+                each_pull_fails(&rt, rt.alloc(), command, cut, input);
             }
         }
     }
-    Ok(())
 }
 
 const AT_ONCE: Cut = Cut::Fixed(usize::MAX);
@@ -122,8 +120,8 @@ fn breaks_off(
     (command, outcome): (Command, Outcome),
     whole: &[u8],
     (most, failing): (usize, u64),
-) -> Result<bool, Fail> {
-    let mut out = TestSink::new(alloc, 1000, most, Some(failing), false)?;
+) -> bool {
+    let mut out = assert_ok(rt, TestSink::new(alloc, 1000, most, Some(failing), false));
     let ran = run(alloc, command, worked(command), AT_ONCE, NONE, &mut out);
     let is_broken = out.faults() > 0;
     let held = out.bytes().len();
@@ -133,19 +131,14 @@ fn breaks_off(
     };
     let seen = (ran.answer, ran.faults(), out.faults(), Some(out.bytes()));
     let wanted = (wanted, 0, u64::from(is_broken), whole.get(..held));
-    assert_eq!(rt; seen, wanted, "{command:?} {most} {failing}");
+    assert_equal_at(rt, seen, wanted, (command, most, failing));
     assert!(rt; is_broken || held == whole.len());
-    Ok(is_broken)
+    is_broken
 }
 
 /// Each push fails in turn, until a run meets none that does.
-fn each_push_fails(
-    rt: &impl Abort,
-    alloc: Global,
-    command: (Command, Outcome),
-    most: usize,
-) -> Result<(), Fail> {
-    let mut whole = TestSink::new(alloc, 1000, 1000, None, false)?;
+fn each_push_fails(rt: &impl Abort, alloc: Global, command: (Command, Outcome), most: usize) {
+    let mut whole = assert_ok(rt, TestSink::new(alloc, 1000, 1000, None, false));
     let _ = run(
         alloc,
         command.0,
@@ -155,19 +148,17 @@ fn each_push_fails(
         &mut whole,
     );
     for failing in 1..1000 {
-        if !breaks_off(rt, alloc, command, whole.bytes(), (most, failing))? {
+        if !breaks_off(rt, alloc, command, whole.bytes(), (most, failing)) {
             break;
         }
     }
-    Ok(())
 }
 
 #[test]
-fn pushes(rt: HostRuntime) -> Result<(), Fail> {
+fn pushes(rt: HostRuntime) {
     for command in COMMANDS {
         for most in [1, 7, 1000] {
-            each_push_fails(&rt, rt.alloc(), command, most)?;
+            each_push_fails(&rt, rt.alloc(), command, most);
         }
     }
-    Ok(())
 }

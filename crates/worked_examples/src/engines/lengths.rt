@@ -1,12 +1,12 @@
 //! The longest certificate, made by a feed.
 
+use crate::expectation::{assert_equal_at, assert_ok};
 use audit::run_check;
 use byte_stream::{Cut, ReadFeed, Sink, TestFeed, TestSink};
 use report::{Input, Outcome, RunFault};
 use std::alloc::Global;
 use std::io::{self, Read};
 use std::process::Abort;
-use std::test::Fail;
 use vectors::{C1, K1, V1};
 
 /// The greatest length of a certificate, in bytes.
@@ -36,28 +36,22 @@ impl Read for Padded<'_> {
 }
 
 /// `check` answers this of `K1` with blanks up to this length.
-fn answers(
-    rt: &impl Abort,
-    alloc: Global,
-    length: u64,
-    answer: Result<Outcome, RunFault>,
-) -> Result<(), Fail> {
+fn answers(rt: &impl Abort, alloc: Global, length: u64, answer: Result<Outcome, RunFault>) {
     let mut claim = TestFeed::new(C1.as_bytes(), Cut::Growing, None);
     let mut certificate = ReadFeed::new(Padded {
         text: K1.as_bytes(),
         blanks: length.saturating_sub(K1.len() as u64),
     });
     let capture = TestFeed::new(&V1, Cut::Growing, None);
-    let mut out = TestSink::new(alloc, 1000, 1000, None, false)?;
+    let mut out = assert_ok(rt, TestSink::new(alloc, 1000, 1000, None, false));
     let (_, given) = run_check(alloc, &mut claim, capture, &mut certificate, &mut out);
-    assert_eq!(rt; (given, out.faults()), (answer, 0), "{length}");
-    Ok(())
+    assert_equal_at(rt, (given, out.faults()), (answer, 0), length);
 }
 
 /// The greatest length is read, and one more refused.
 #[test]
-fn certificates(rt: HostRuntime) -> Result<(), Fail> {
+fn certificates(rt: HostRuntime) {
     let too_big = RunFault::TooBig(Input::Certificate);
-    answers(&rt, rt.alloc(), MOST, Ok(Outcome::Yes))?;
-    answers(&rt, rt.alloc(), MOST + 1, Err(too_big))
+    answers(&rt, rt.alloc(), MOST, Ok(Outcome::Yes));
+    answers(&rt, rt.alloc(), MOST + 1, Err(too_big));
 }

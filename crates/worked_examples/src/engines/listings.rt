@@ -4,13 +4,13 @@ ghost use Rattle.std.specs.Prelude.{◌≡◌, [], Some, IfOk, true};
 
 use crate::engines::inputs::{edited, first_of};
 use crate::engines::trial::lines_of;
+use crate::expectation::{assert_equal, assert_equal_at, assert_ok};
 use byte_stream::{Cut, Sink, TestFeed, TestSink};
 use listing::{list_from, run_list};
 use pcap_reader::{CaptureFault, Feed, Whole};
 use report::{Input, Outcome, RunFault, output_buffer};
 use std::alloc::{AllocError, Global};
 use std::process::Abort;
-use std::test::Fail;
 use vectors::V1;
 
 const LINE_0: &str = "0 1000000000.000000 192.0.2.10:49152 192.0.2.1:123 v4 m3 l0 s0 p0 \
@@ -41,13 +41,12 @@ fn lists_cut(
     cut: Cut,
     lines: &[&str],
     wanted: Result<Outcome, RunFault>,
-) -> Result<(), Fail> {
-    let mut out = ample(alloc)?;
+) {
+    let mut out = assert_ok(rt, ample(alloc));
     let (feed, answer) = run_list(alloc, TestFeed::new(file, cut, None), &mut out);
     let count = lines_of(rt, out.bytes(), lines);
     let seen = (answer, count, feed.faults(), out.faults());
-    assert_eq!(rt; seen, (wanted, lines.len(), 0, 0), "{cut:?}");
-    Ok(())
+    assert_equal_at(rt, seen, (wanted, lines.len(), 0, 0), cut);
 }
 
 /// The same from memory, where the file has a whole header.
@@ -57,14 +56,13 @@ fn lists_whole(
     file: &[u8],
     lines: &[&str],
     wanted: Result<Outcome, RunFault>,
-) -> Result<(), Fail> {
+) {
     if let Ok(mut source) = Whole::begin(file) {
-        let mut out = ample(alloc)?;
-        let mut buffer = output_buffer(alloc)?;
-        assert_eq!(rt; list_from(&mut source, &mut buffer, &mut out), wanted);
-        assert_eq!(rt; lines_of(rt, out.bytes(), lines), lines.len());
+        let mut out = assert_ok(rt, ample(alloc));
+        let mut buffer = assert_ok(rt, output_buffer(alloc));
+        assert_equal(rt, list_from(&mut source, &mut buffer, &mut out), wanted);
+        assert_equal(rt, lines_of(rt, out.bytes(), lines), lines.len());
     }
-    Ok(())
 }
 
 /// The same from a feed however it cuts the bytes, and from memory.
@@ -74,11 +72,11 @@ fn lists(
     file: &[u8],
     lines: &[&str],
     wanted: Result<Outcome, RunFault>,
-) -> Result<(), Fail> {
+) {
     for cut in CUTS {
-        lists_cut(rt, alloc, file, cut, lines, wanted)?;
+        lists_cut(rt, alloc, file, cut, lines, wanted);
     }
-    lists_whole(rt, alloc, file, lines, wanted)
+    lists_whole(rt, alloc, file, lines, wanted);
 }
 
 /// What the listing of this many bytes of `V1` says.
@@ -104,20 +102,19 @@ const LATER_LINE: &str = "0 1000000000.001000000 192.0.2.10:49152 192.0.2.1:123 
 
 /// A capture in nanoseconds, and one whose sub-second field is a millisecond there.
 #[test]
-fn lists_nanoseconds(rt: HostRuntime) -> Result<(), Fail> {
+fn lists_nanoseconds(rt: HostRuntime) {
     let nano = edited(&[(0, b"\x4d\x3c\xb2\xa1")]);
     let later = edited(&[(0, b"\x4d\x3c\xb2\xa1"), (28, b"\x40\x42\x0f\x00")]);
     let closing = "records 1 packets 1\n";
     for (capture, line) in [(nano, NANO_LINE), (later, LATER_LINE)] {
         let request = first_of(&capture, 130);
-        lists(&rt, rt.alloc(), request, &[line, closing], Ok(Outcome::Yes))?;
+        lists(&rt, rt.alloc(), request, &[line, closing], Ok(Outcome::Yes));
     }
-    Ok(())
 }
 
 /// A capture in the other byte order.
 #[test]
-fn lists_other_byte_order(rt: HostRuntime) -> Result<(), Fail> {
+fn lists_other_byte_order(rt: HostRuntime) {
     let big_endian = edited(&[
         (0, b"\xa1\xb2\xc3\xd4\x00\x02\x00\x04"),
         (16, b"\x00\x04\x00\x00\x00\x00\x00\x01"),
@@ -127,64 +124,56 @@ fn lists_other_byte_order(rt: HostRuntime) -> Result<(), Fail> {
         (138, b"\x00\x00\x00\x5a\x00\x00\x00\x5a"),
     ]);
     let lines = [LINE_0, LINE_1, CLOSING];
-    lists(&rt, rt.alloc(), &big_endian, &lines, Ok(Outcome::Yes))
+    lists(&rt, rt.alloc(), &big_endian, &lines, Ok(Outcome::Yes));
 }
 
 #[test]
-fn lists_each_prefix(rt: HostRuntime) -> Result<(), Fail> {
+fn lists_each_prefix(rt: HostRuntime) {
     for length in 0..=V1.len() {
         let (lines, answer) = listing_of(length);
         if let Some(prefix) = V1.get(..length) {
-            lists(&rt, rt.alloc(), prefix, lines, answer)?;
+            lists(&rt, rt.alloc(), prefix, lines, answer);
         }
     }
-    Ok(())
 }
 
 /// A listing in which one pull fails: no closing line goes out. If each pull gives one byte, the
 /// lines of all records that were whole have gone out: a capture is shown as it comes. Whether it
 /// got to that pull: if not, it goes well.
-fn fails(rt: &impl Abort, alloc: Global, cut: Cut, failing: u64) -> Result<bool, Fail> {
-    let mut out = ample(alloc)?;
+fn fails(rt: &impl Abort, alloc: Global, cut: Cut, failing: u64) -> bool {
+    let mut out = assert_ok(rt, ample(alloc));
     let source = TestFeed::new(&V1, cut, Some(failing));
     let (feed, answer) = run_list(alloc, source, &mut out);
     let count = lines_of(rt, out.bytes(), &[LINE_0, LINE_1, CLOSING]);
     if feed.faults() == 0 {
-        assert_eq!(rt; (answer, count), (Ok(Outcome::Yes), 3));
-        return Ok(false);
+        assert_equal(rt, (answer, count), (Ok(Outcome::Yes), 3));
+        return false;
     }
     let device = Err(RunFault::Device(Input::Capture));
     let seen = (answer, feed.faults(), out.faults());
-    assert_eq!(rt; seen, (device, 1, 0), "{cut:?} {failing}");
+    assert_equal_at(rt, seen, (device, 1, 0), (cut, failing));
     let whole = usize::from(failing > 130) + usize::from(failing > 236);
     let is_so_far = count < 3 && (cut != Cut::Fixed(1) || count == whole);
     assert!(rt; is_so_far, "{cut:?} {failing}");
-    Ok(true)
+    true
 }
 
 /// Each pull fails in turn, until a run meets none that does.
 #[test]
-fn pulls_that_fail(rt: HostRuntime) -> Result<(), Fail> {
+fn pulls_that_fail(rt: HostRuntime) {
     for cut in CUTS {
         for failing in 1..1000 {
-            if !fails(&rt, rt.alloc(), cut, failing)? {
+            if !fails(&rt, rt.alloc(), cut, failing) {
                 break;
             }
         }
     }
-    Ok(())
 }
 
 /// A listing in which one push fails: exactly the bytes that the answer counts have gone out of
 /// the whole text. Whether it got to that push: if not, it goes well.
-fn breaks_off(
-    rt: &impl Abort,
-    alloc: Global,
-    whole: &[u8],
-    most: usize,
-    failing: u64,
-) -> Result<bool, Fail> {
-    let mut out = TestSink::new(alloc, 1000, most, Some(failing), false)?;
+fn breaks_off(rt: &impl Abort, alloc: Global, whole: &[u8], most: usize, failing: u64) -> bool {
+    let mut out = assert_ok(rt, TestSink::new(alloc, 1000, most, Some(failing), false));
     let feed = TestFeed::new(&V1, Cut::Growing, None);
     let (_, answer) = run_list(alloc, feed, &mut out);
     let held = out.bytes().len();
@@ -194,24 +183,23 @@ fn breaks_off(
         false => (Ok(Outcome::Yes), 0, Some(whole)),
     };
     let seen = (answer, out.faults(), Some(out.bytes()));
-    assert_eq!(rt; seen, wanted, "{most} {failing}");
-    Ok(is_broken)
+    assert_equal_at(rt, seen, wanted, (most, failing));
+    is_broken
 }
 
 /// Each push fails in turn, until a run meets none that does.
 #[test]
-fn pushes_that_fail(rt: HostRuntime) -> Result<(), Fail> {
-    let mut whole = ample(rt.alloc())?;
+fn pushes_that_fail(rt: HostRuntime) {
+    let mut whole = assert_ok(&rt, ample(rt.alloc()));
     let feed = TestFeed::new(&V1, Cut::Growing, None);
     let (_, _) = run_list(rt.alloc(), feed, &mut whole);
     for most in [1, 7, 1000] {
         for failing in 1..1000 {
-            if !breaks_off(&rt, rt.alloc(), whole.bytes(), most, failing)? {
+            if !breaks_off(&rt, rt.alloc(), whole.bytes(), most, failing) {
                 break;
             }
         }
     }
-    Ok(())
 }
 
 const EMPTY: &str = "records 0 packets 0\n";
@@ -241,24 +229,23 @@ fn lists_to(
     (most, failing, finish_fails): (usize, Option<u64>, bool),
     fault: RunFault,
     held: &str,
-) -> Result<(), Fail> {
-    let mut out = TestSink::new(alloc, 1000, most, failing, finish_fails)?;
+) {
+    let mut out = assert_ok(rt, TestSink::new(alloc, 1000, most, failing, finish_fails));
     let capture = first_of(&V1, length);
     let feed = TestFeed::new(capture, Cut::Fixed(1), None);
     let (_, answer) = run_list(alloc, feed, &mut out);
-    assert_eq!(rt; answer, Err(fault));
-    assert_eq!(rt; (out.bytes(), out.faults()), (held.as_bytes(), 1));
-    Ok(())
+    assert_equal(rt, answer, Err(fault));
+    assert_equal(rt, (out.bytes(), out.faults()), (held.as_bytes(), 1));
 }
 
 /// A sink that can't be finished, and what a fault found before outlives.
 #[test]
-fn sinks_that_fail(rt: HostRuntime) -> Result<(), Fail> {
+fn sinks_that_fail(rt: HostRuntime) {
     for (length, most, failing, finish_fails, fault, held) in SINKS {
         let sink = (most, failing, finish_fails);
-        lists_to(&rt, rt.alloc(), length, sink, fault, held)?;
+        lists_to(&rt, rt.alloc(), length, sink, fault, held);
     }
     let sink = (100, Some(2), false);
     let held = &LINE_0[..100];
-    lists_to(&rt, rt.alloc(), 235, sink, RunFault::Write(100), held)
+    lists_to(&rt, rt.alloc(), 235, sink, RunFault::Write(100), held);
 }

@@ -2,6 +2,7 @@
 
 use crate::engines::inputs::{REFUTATION, edited, first_of, padded};
 use crate::engines::trial::{Command, Inputs, gives};
+use crate::expectation::assert_ok;
 use Command::{At, Check, Envelope, Find, List, Refute, Samples, Seek};
 use certificate::{CertificateFault, RefutationFault};
 use claim_file::ClaimFault;
@@ -9,7 +10,6 @@ use pcap_reader::CaptureFault;
 use report::{Input, RunFault};
 use std::alloc::Global;
 use std::process::Abort;
-use std::test::Fail;
 use vectors::{C1, K1, SECOND, V1};
 
 /// The commands that read a capture, with the second input of each.
@@ -25,12 +25,7 @@ const COMMANDS: [(Command, &str); 8] = [
 ];
 
 /// Every engine refuses this capture so.
-fn refuses(
-    rt: &impl Abort,
-    alloc: Global,
-    capture: &[u8],
-    fault: CaptureFault,
-) -> Result<(), Fail> {
+fn refuses(rt: &impl Abort, alloc: Global, capture: &[u8], fault: CaptureFault) {
     for (command, second) in COMMANDS {
         let inputs = Inputs {
             claim: C1.as_bytes(),
@@ -38,31 +33,30 @@ fn refuses(
             capture,
         };
         let wanted = Err(RunFault::Capture(fault));
-        gives(rt, alloc, command, inputs, wanted, &[])?;
+        gives(rt, alloc, command, inputs, wanted, &[]);
     }
-    Ok(())
 }
 
 /// A refused capture is reported as what it is by every engine, and never as out of memory.
 #[test]
-fn captures(rt: HostRuntime) -> Result<(), Fail> {
+fn captures(rt: HostRuntime) {
     let alloc = rt.alloc();
-    refuses(&rt, alloc, &edited(&[(0, b"\x00")]), CaptureFault::Magic)?;
-    refuses(&rt, alloc, &edited(&[(4, b"\x03")]), CaptureFault::Version)?;
-    refuses(&rt, alloc, &edited(&[(20, b"\x71")]), CaptureFault::Link)?;
-    refuses(&rt, alloc, &V1[..23], CaptureFault::TornHeader)?;
-    refuses(&rt, alloc, &V1[..129], CaptureFault::TornRecord(24))?;
+    refuses(&rt, alloc, &edited(&[(0, b"\x00")]), CaptureFault::Magic);
+    refuses(&rt, alloc, &edited(&[(4, b"\x03")]), CaptureFault::Version);
+    refuses(&rt, alloc, &edited(&[(20, b"\x71")]), CaptureFault::Link);
+    refuses(&rt, alloc, &V1[..23], CaptureFault::TornHeader);
+    refuses(&rt, alloc, &V1[..129], CaptureFault::TornRecord(24));
     let long = edited(&[(32, b"\x01\x00\x04\x00")]);
-    refuses(&rt, alloc, first_of(&long, 40), CaptureFault::TooLong(24))
+    refuses(&rt, alloc, first_of(&long, 40), CaptureFault::TooLong(24));
 }
 
 /// A whole second in the sub-second field, in microseconds and in nanoseconds.
 #[test]
-fn fractions(rt: HostRuntime) -> Result<(), Fail> {
+fn fractions(rt: HostRuntime) {
     let micro = edited(&[(28, b"\x40\x42\x0f\x00")]);
     let nano = edited(&[(0, b"\x4d\x3c\xb2\xa1"), (28, b"\x00\xca\x9a\x3b")]);
-    refuses(&rt, rt.alloc(), &micro, CaptureFault::BadFraction(24))?;
-    refuses(&rt, rt.alloc(), &nano, CaptureFault::BadFraction(24))
+    refuses(&rt, rt.alloc(), &micro, CaptureFault::BadFraction(24));
+    refuses(&rt, rt.alloc(), &nano, CaptureFault::BadFraction(24));
 }
 
 /// A command refuses this claim, this second input or a torn capture so.
@@ -73,13 +67,13 @@ fn refuses_first(
     claim: &[u8],
     second: &[u8],
     fault: RunFault,
-) -> Result<(), Fail> {
+) {
     let inputs = Inputs {
         claim,
         second,
         capture: &V1[..23],
     };
-    gives(rt, alloc, command, inputs, Err(fault), &[])
+    gives(rt, alloc, command, inputs, Err(fault), &[]);
 }
 
 const NO_JSON: RunFault = RunFault::Claim(ClaimFault::Json);
@@ -114,61 +108,66 @@ const FIRST: [(Command, &str, &str, RunFault); 11] = [
 
 /// The claim is refused before the second input, and this before the capture.
 #[test]
-fn first_refusals(rt: HostRuntime) -> Result<(), Fail> {
+fn first_refusals(rt: HostRuntime) {
     for (command, claim, second, fault) in FIRST {
         let claim = claim.as_bytes();
-        refuses_first(&rt, rt.alloc(), command, claim, second.as_bytes(), fault)?;
+        refuses_first(&rt, rt.alloc(), command, claim, second.as_bytes(), fault);
     }
-    Ok(())
 }
 
 /// A time that is none is told before a number of false servers that is too great.
 #[test]
-fn first_of_claim(rt: HostRuntime) -> Result<(), Fail> {
+fn first_of_claim(rt: HostRuntime) {
     let old = "\"false_max\":0,\"from\":\"";
-    let claim = C1.replace(rt.alloc(), old, "\"false_max\":32,\"from\":\"x")?;
+    let claim = assert_ok(
+        &rt,
+        C1.replace(rt.alloc(), old, "\"false_max\":32,\"from\":\"x"),
+    );
     let fault = RunFault::Claim(ClaimFault::Time);
-    refuses_first(&rt, rt.alloc(), At(SECOND), claim.as_bytes(), b"{}", fault)
+    refuses_first(&rt, rt.alloc(), At(SECOND), claim.as_bytes(), b"{}", fault);
 }
 
 /// A claim with blanks up to 65,536 bytes is read, and with one more refused.
 #[test]
-fn long_claims(rt: HostRuntime) -> Result<(), Fail> {
+fn long_claims(rt: HostRuntime) {
     let alloc = rt.alloc();
-    let most = padded(alloc, C1, 65_536)?;
-    let longer = padded(alloc, C1, 65_537)?;
+    let most = assert_ok(&rt, padded(alloc, C1, 65_536));
+    let longer = assert_ok(&rt, padded(alloc, C1, 65_537));
     let fault = RunFault::TooBig(Input::Claim);
-    refuses_first(&rt, alloc, Find(64), most.as_slice(), b"", TORN)?;
-    refuses_first(&rt, alloc, Find(64), longer.as_slice(), b"", fault)
+    refuses_first(&rt, alloc, Find(64), most.as_slice(), b"", TORN);
+    refuses_first(&rt, alloc, Find(64), longer.as_slice(), b"", fault);
 }
 
 /// The same of a refutation.
 #[test]
-fn long_refutations(rt: HostRuntime) -> Result<(), Fail> {
+fn long_refutations(rt: HostRuntime) {
     let alloc = rt.alloc();
-    let most = padded(alloc, REFUTATION, 65_536)?;
-    let longer = padded(alloc, REFUTATION, 65_537)?;
+    let most = assert_ok(&rt, padded(alloc, REFUTATION, 65_536));
+    let longer = assert_ok(&rt, padded(alloc, REFUTATION, 65_537));
     let claim = C1.as_bytes();
     let fault = RunFault::TooBig(Input::Refutation);
-    refuses_first(&rt, alloc, Refute, claim, most.as_slice(), TORN)?;
-    refuses_first(&rt, alloc, Refute, claim, longer.as_slice(), fault)
+    refuses_first(&rt, alloc, Refute, claim, most.as_slice(), TORN);
+    refuses_first(&rt, alloc, Refute, claim, longer.as_slice(), fault);
 }
 
 /// That a span has too many pieces is found last, by these commands.
-fn refuses_span(rt: &impl Abort, alloc: Global, command: Command) -> Result<(), Fail> {
+fn refuses_span(rt: &impl Abort, alloc: Global, command: Command) {
     let last = "\"to\":\"2001-09-09T01:46:40Z\"";
-    let day = C1.replace(alloc, last, "\"to\":\"2001-09-10T05:33:21Z\"")?;
+    let day = assert_ok(
+        rt,
+        C1.replace(alloc, last, "\"to\":\"2001-09-10T05:33:21Z\""),
+    );
     let inputs = Inputs {
         claim: day.as_bytes(),
         second: b"",
         capture: &V1,
     };
-    gives(rt, alloc, command, inputs, Err(RunFault::Pieces), &[])?;
-    refuses_first(rt, alloc, command, day.as_bytes(), b"", TORN)
+    gives(rt, alloc, command, inputs, Err(RunFault::Pieces), &[]);
+    refuses_first(rt, alloc, command, day.as_bytes(), b"", TORN);
 }
 
 #[test]
-fn pieces(rt: HostRuntime) -> Result<(), Fail> {
-    refuses_span(&rt, rt.alloc(), Find(1))?;
-    refuses_span(&rt, rt.alloc(), Envelope(1, false))
+fn pieces(rt: HostRuntime) {
+    refuses_span(&rt, rt.alloc(), Find(1));
+    refuses_span(&rt, rt.alloc(), Envelope(1, false));
 }

@@ -2,11 +2,11 @@
 
 use crate::engines::inputs::{REFUTATION, claim_of, edited};
 use crate::engines::trial::{Command, Inputs, gives};
+use crate::expectation::assert_ok;
 use Command::{Refute, Seek};
 use report::Outcome;
 use std::alloc::Global;
 use std::process::Abort;
-use std::test::Fail;
 use vectors::V1;
 
 /// The bound of `C1`, and one by which `REFUTATION` stands.
@@ -51,8 +51,8 @@ fn refutes(
     capture: &[u8],
     refutation: &str,
     outcome: Outcome,
-) -> Result<(), Fail> {
-    let claim = claim_of(alloc, &[edit])?;
+) {
+    let claim = assert_ok(rt, claim_of(alloc, &[edit]));
     let inputs = Inputs {
         claim: claim.as_bytes(),
         second: refutation.as_bytes(),
@@ -62,22 +62,21 @@ fn refutes(
         Outcome::Yes => "refuted yes\n",
         Outcome::No => "refuted no\n",
     };
-    gives(rt, alloc, Refute, inputs, Ok(outcome), &[line])
+    gives(rt, alloc, Refute, inputs, Ok(outcome), &[line]);
 }
 
 #[test]
-fn refuted(rt: HostRuntime) -> Result<(), Fail> {
+fn refuted(rt: HostRuntime) {
     for (edit, refutation, outcome) in REFUTED {
-        refutes(&rt, rt.alloc(), edit, &V1, refutation, outcome)?;
+        refutes(&rt, rt.alloc(), edit, &V1, refutation, outcome);
     }
-    Ok(())
 }
 
 /// The reply was received after it was sent.
 #[test]
-fn turned(rt: HostRuntime) -> Result<(), Fail> {
+fn turned(rt: HostRuntime) {
     let turned = edited(&[(220, b"\xbf\x45\x48\x81")]);
-    refutes(&rt, rt.alloc(), TIGHT, &turned, REFUTATION, Outcome::No)
+    refutes(&rt, rt.alloc(), TIGHT, &turned, REFUTATION, Outcome::No);
 }
 
 /// What is sought in a capture, under a claim like `C1`: whether it's found, and these lines.
@@ -88,14 +87,14 @@ fn seeks(
     capture: &[u8],
     outcome: Outcome,
     lines: &[&str],
-) -> Result<(), Fail> {
-    let claim = claim_of(alloc, &[edit])?;
+) {
+    let claim = assert_ok(rt, claim_of(alloc, &[edit]));
     let inputs = Inputs {
         claim: claim.as_bytes(),
         second: b"",
         capture,
     };
-    gives(rt, alloc, Seek, inputs, Ok(outcome), lines)
+    gives(rt, alloc, Seek, inputs, Ok(outcome), lines);
 }
 
 const ZERO: (&str, &str) = ("\"bound_ns\":10001001", "\"bound_ns\":0");
@@ -111,21 +110,20 @@ const SOUGHT: [((&str, &str), Outcome, &[&str]); 4] = [
 ];
 
 #[test]
-fn sought(rt: HostRuntime) -> Result<(), Fail> {
+fn sought(rt: HostRuntime) {
     for (edit, outcome, lines) in SOUGHT {
-        seeks(&rt, rt.alloc(), edit, &V1, outcome, lines)?;
+        seeks(&rt, rt.alloc(), edit, &V1, outcome, lines);
     }
-    Ok(())
 }
 
 /// Replies from a second before and after.
 #[test]
-fn sought_aside(rt: HostRuntime) -> Result<(), Fail> {
+fn sought_aside(rt: HostRuntime) {
     let behind = edited(&[(220, b"\xbf\x45\x48\x7f"), (228, b"\xbf\x45\x48\x7f")]);
     let ahead = edited(&[(220, b"\xbf\x45\x48\x81"), (228, b"\xbf\x45\x48\x81")]);
     let fast = "{\"error\":4252017622,\"false\":[],\"reading\":4294967296000000000}\n";
     let slow = "{\"error\":-4252013327,\"false\":[],\"reading\":4294967296000000000}\n";
     let alloc = rt.alloc();
-    seeks(&rt, alloc, BOUND, &behind, Outcome::Yes, &[fast])?;
-    seeks(&rt, alloc, BOUND, &ahead, Outcome::Yes, &[slow])
+    seeks(&rt, alloc, BOUND, &behind, Outcome::Yes, &[fast]);
+    seeks(&rt, alloc, BOUND, &ahead, Outcome::Yes, &[slow]);
 }

@@ -1,10 +1,10 @@
 //! Answers reported, and texts on their way to a sink.
 
+use crate::expectation::{assert_equal, assert_ok};
 use byte_stream::TestSink;
 use report::{Input, Made, Outcome, RunFault, fault_line, publish, status};
 use std::alloc::Global;
 use std::process::Abort;
-use std::test::Fail;
 
 /// Each fault's number, exit status and line.
 const FAULTS: [(RunFault, u8, u8, &str); 5] = [
@@ -36,13 +36,12 @@ const FAULTS: [(RunFault, u8, u8, &str); 5] = [
 ];
 
 #[test]
-fn faults(rt: HostRuntime) -> Result<(), Fail> {
+fn faults(rt: HostRuntime) {
     for (fault, number, code, line) in FAULTS {
-        let told = fault_line(rt.alloc(), &fault)?;
+        let told = assert_ok(&rt, fault_line(rt.alloc(), &fault));
         let seen = (told.as_str(), fault.number(), status(&Err(fault)));
-        assert_eq!(rt; seen, (line, number, code));
+        assert_equal(&rt, seen, (line, number, code));
     }
-    Ok(())
 }
 
 /// A text of six bytes goes to a sink that takes so much at once, and whose push of this number or
@@ -53,22 +52,21 @@ fn goes_out(
     (most, failing, finish_fails): (usize, Option<u64>, bool),
     answer: Result<Outcome, RunFault>,
     held: usize,
-) -> Result<(), Fail> {
-    let mut out = TestSink::new(alloc, 100, most, failing, finish_fails)?;
+) {
+    let mut out = assert_ok(rt, TestSink::new(alloc, 100, most, failing, finish_fails));
     let made = Ok(Made {
-        text: b"a text".as_slice().to_vec(alloc)?,
+        text: assert_ok(rt, b"a text".as_slice().to_vec(alloc)),
         outcome: Outcome::No,
     });
-    assert_eq!(rt; publish(&mut out, &made), answer);
-    assert_eq!(rt; out.bytes().len(), held);
-    Ok(())
+    assert_equal(rt, publish(&mut out, &made), answer);
+    assert_equal(rt, out.bytes().len(), held);
 }
 
 /// A whole text goes out, or as much of it as the answer says.
 #[test]
-fn publications(rt: HostRuntime) -> Result<(), Fail> {
+fn publications(rt: HostRuntime) {
     let alloc = rt.alloc();
-    goes_out(&rt, alloc, (100, None, false), Ok(Outcome::No), 6)?;
-    goes_out(&rt, alloc, (4, Some(2), false), Err(RunFault::Write(4)), 4)?;
-    goes_out(&rt, alloc, (4, None, true), Err(RunFault::Write(6)), 6)
+    goes_out(&rt, alloc, (100, None, false), Ok(Outcome::No), 6);
+    goes_out(&rt, alloc, (4, Some(2), false), Err(RunFault::Write(4)), 4);
+    goes_out(&rt, alloc, (4, None, true), Err(RunFault::Write(6)), 6);
 }

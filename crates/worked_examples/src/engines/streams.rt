@@ -2,6 +2,7 @@
 
 ghost use Rattle.std.specs.Prelude.{◌≤◌, IfOk};
 
+use crate::expectation::{assert_equal, assert_equal_at};
 use byte_stream::{Feed, ReadFeed, Sink, WriteSink};
 use std::io::{self, ErrorKind, Read, Write};
 use std::process::Abort;
@@ -91,7 +92,7 @@ fn finish(steps: &[Step]) -> Call {
 fn goes(rt: &impl Abort, steps: &[Step], is_well: bool, calls: usize) {
     let wanted = (is_well, u64::from(!is_well), calls);
     let seen = [pull(steps), push(steps), finish(steps)];
-    assert_eq!(rt; seen, [wanted; 3], "{steps:?}");
+    assert_equal_at(rt, seen, [wanted; 3], steps);
 }
 
 /// What a device does, whether a call of it goes well, and how often it's called.
@@ -125,5 +126,5 @@ fn no_progress(rt: HostRuntime) {
     };
     let mut sink = WriteSink::new(&mut device);
     assert!(rt; sink.push(b"pushed").is_err());
-    assert_eq!(rt; device.calls, 1);
+    assert_equal(&rt, device.calls, 1);
 }

@@ -2,13 +2,13 @@
 
 ghost use Rattle.byte_stream.specs.State.{IsWritable};
 
+use crate::expectation::{assert_equal, assert_equal_at, assert_ok};
 use audit::{run_at, run_check, run_envelope, run_find, run_refute, run_samples, run_seek};
 use byte_stream::{Cut, Feed, Sink, TestFeed, TestSink};
 use listing::run_list;
 use report::{Outcome, RunFault};
 use std::alloc::Global;
 use std::process::Abort;
-use std::test::Fail;
 
 /// A command, with what it's asked for: a moment in Unix seconds, or the length of pieces and
 /// whether to show the servers.
@@ -112,18 +112,17 @@ pub(crate) fn gives(
     inputs: Inputs<'_>,
     wanted: Result<Outcome, RunFault>,
     lines: &[&str],
-) -> Result<(), Fail> {
+) {
     for (cut, finish_fails) in [
         (Cut::Fixed(1), false),
         (Cut::Fixed(1), true),
         (Cut::Growing, false),
         (Cut::Growing, true),
     ] {
-        let mut out = TestSink::new(alloc, 2000, 2000, None, finish_fails)?;
+        let mut out = assert_ok(rt, TestSink::new(alloc, 2000, 2000, None, finish_fails));
         let ran = run(alloc, command, inputs, cut, NONE, &mut out);
         went(rt, &ran, &out, wanted, finish_fails, lines);
     }
-    Ok(())
 }
 
 /// A run went so.
@@ -139,9 +138,13 @@ fn went(
         Ok(_) if finish_fails => Err(RunFault::Write(out.bytes().len() as u64)),
         answer => answer,
     };
-    assert_eq!(rt; ran.answer, answer, "{lines:?} {finish_fails}");
-    assert_eq!(rt; lines_of(rt, out.bytes(), lines), lines.len());
-    assert_eq!(rt; (ran.faults(), out.faults()), (0, u64::from(finish_fails)));
+    assert_equal_at(rt, ran.answer, answer, (lines, finish_fails));
+    assert_equal(rt, lines_of(rt, out.bytes(), lines), lines.len());
+    assert_equal(
+        rt,
+        (ran.faults(), out.faults()),
+        (0, u64::from(finish_fails)),
+    );
 }
 
 /// Nothing was taken of these bytes: the next one is their first.

@@ -1,8 +1,8 @@
 //! The heads of a capture's records, by hand.
 
+use crate::expectation::{assert_equal, assert_ok};
 use era_unfold::Unit;
 use pcap_reader::{RecordHead, RecordSource, Whole};
-use std::test::Fail;
 use vectors::V1;
 
 /// Where the numbers in the headers of `V1` stand, and how many bytes each has.
@@ -33,7 +33,7 @@ fn big_endian(mut file: [u8; 236]) -> [u8; 236] {
 
 /// What the headers of the records say, in both byte orders and both units.
 #[test]
-fn heads(rt: HostRuntime) -> Result<(), Fail> {
+fn heads(rt: HostRuntime) {
     let mut nano = V1;
     nano[..4].copy_from_slice(b"\x4d\x3c\xb2\xa1");
     for (file, unit) in [
@@ -42,7 +42,7 @@ fn heads(rt: HostRuntime) -> Result<(), Fail> {
         (nano, Unit::Nano),
         (big_endian(nano), Unit::Nano),
     ] {
-        let mut source = Whole::begin(&file)?;
+        let mut source = assert_ok(&rt, Whole::begin(&file));
         assert!(rt; source.bytes().is_empty());
         for (number, place, sub) in [(0, 24, 0), (1, 130, 20_000)] {
             let head = RecordHead {
@@ -54,8 +54,7 @@ fn heads(rt: HostRuntime) -> Result<(), Fail> {
                 captured: 90,
                 original: 90,
             };
-            assert_eq!(rt; source.next_record()?, Some(head));
+            assert_equal(&rt, assert_ok(&rt, source.next_record()), Some(head));
         }
     }
-    Ok(())
 }

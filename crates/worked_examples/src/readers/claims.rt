@@ -1,9 +1,9 @@
 //! Claims and times, by hand. The tables are text, a row a line.
 
+use crate::expectation::{assert_equal_at, assert_ok};
 use claim_file::{ClaimFault, read_claim, read_time};
 use std::alloc::{AllocError, Global};
 use std::process::Abort;
-use std::test::Fail;
 use vectors::C1;
 
 /// What is answered, and a text.
@@ -132,9 +132,13 @@ fn answer(alloc: Global, text: &str) -> Result<String, AllocError> {
 }
 
 /// A text is answered so.
-fn answers(rt: &impl Abort, alloc: Global, text: &str, expected: &str) -> Result<(), Fail> {
-    assert_eq!(rt; answer(alloc, text)?.as_str(), expected, "{text}");
-    Ok(())
+fn answers(rt: &impl Abort, alloc: Global, text: &str, expected: &str) {
+    assert_equal_at(
+        rt,
+        assert_ok(rt, answer(alloc, text)).as_str(),
+        expected,
+        text,
+    );
 }
 
 /// The two halves of a row.
@@ -146,53 +150,51 @@ fn halves<'a>(rt: &impl Abort, row: &'a str) -> (&'a str, &'a str) {
 }
 
 #[test]
-fn texts(rt: HostRuntime) -> Result<(), Fail> {
+fn texts(rt: HostRuntime) {
     for row in TEXTS.lines() {
         let (expected, text) = halves(&rt, row);
-        answers(&rt, rt.alloc(), text, expected)?;
+        answers(&rt, rt.alloc(), text, expected);
     }
-    Ok(())
 }
 
 /// A row of the table of edits holds.
-fn holds(rt: &impl Abort, alloc: Global, row: &str) -> Result<(), Fail> {
+fn holds(rt: &impl Abort, alloc: Global, row: &str) {
     let (expected, edit) = halves(rt, row);
     let (part, other) = halves(rt, edit);
-    let text = C1.replace(alloc, part, other)?;
-    answers(rt, alloc, text.as_str(), expected)
+    let text = assert_ok(rt, C1.replace(alloc, part, other));
+    answers(rt, alloc, text.as_str(), expected);
 }
 
 #[test]
-fn edits(rt: HostRuntime) -> Result<(), Fail> {
+fn edits(rt: HostRuntime) {
     for row in EDITS.lines() {
-        holds(&rt, rt.alloc(), row)?;
+        holds(&rt, rt.alloc(), row);
     }
-    Ok(())
 }
 
 /// A claim that names so many servers is answered so.
-fn names(rt: &impl Abort, alloc: Global, count: u32, expected: &str) -> Result<(), Fail> {
-    let mut servers = String::from_str(alloc, r#""1.0.0.0""#)?;
+fn names(rt: &impl Abort, alloc: Global, count: u32, expected: &str) {
+    let mut servers = assert_ok(rt, String::from_str(alloc, r#""1.0.0.0""#));
     for number in 1..count {
-        let server = format!(in alloc; ",\"1.0.0.{number}\"")?;
-        servers.push_str(server.as_str())?;
+        let server = assert_ok(rt, format!(in alloc; ",\"1.0.0.{number}\""));
+        assert_ok(rt, servers.push_str(server.as_str()));
     }
-    let text = C1.replace(alloc, r#""192.0.2.1""#, servers.as_str())?;
-    answers(rt, alloc, text.as_str(), expected)
+    let text = assert_ok(rt, C1.replace(alloc, r#""192.0.2.1""#, servers.as_str()));
+    answers(rt, alloc, text.as_str(), expected);
 }
 
 /// A claim may name 32 servers, and no more.
 #[test]
-fn server_counts(rt: HostRuntime) -> Result<(), Fail> {
-    names(&rt, rt.alloc(), 32, "read")?;
-    names(&rt, rt.alloc(), 33, "fault 5")
+fn server_counts(rt: HostRuntime) {
+    names(&rt, rt.alloc(), 32, "read");
+    names(&rt, rt.alloc(), 33, "fault 5");
 }
 
 /// A row of the table of times holds.
 fn is_at(rt: &impl Abort, row: &str) {
     match row.split_once('|') {
         Some((text, second)) => {
-            assert_eq!(rt; read_time(text), second.parse::<u32>().ok(), "{row}");
+            assert_equal_at(rt, read_time(text), second.parse::<u32>().ok(), row);
         }
         None => panic!(rt; "{row}"),
     }

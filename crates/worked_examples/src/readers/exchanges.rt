@@ -2,12 +2,12 @@
 
 ghost use Rattle.std.specs.Prelude.{None};
 
+use crate::expectation::{assert_equal, assert_equal_at, assert_ok};
 use claim_file::read_claim;
 use pairing::{Collected, Exchange, PairFault, collect};
 use pcap_reader::{Capture, Feed, FeedFault, Whole};
 use std::alloc::{AllocError, Global};
 use std::process::Abort;
-use std::test::Fail;
 use vectors::{C1, V1};
 
 /// Bytes of a frame that are filled anew: from where, to where, and with which byte.
@@ -69,10 +69,10 @@ fn capture_of(alloc: Global, pieces: [Piece; 3]) -> Result<Vec<u8>, AllocError> 
 }
 
 /// What is collected of a whole capture.
-fn collected(alloc: Global, claim: &str, file: &[u8]) -> Result<Collected, Fail> {
-    let claim = read_claim(alloc, claim.as_bytes())?;
-    let mut source = Whole::begin(file)?;
-    Ok(collect(alloc, &mut source, &claim)?)
+fn collected(rt: &impl Abort, alloc: Global, claim: &str, file: &[u8]) -> Collected {
+    let claim = assert_ok(rt, read_claim(alloc, claim.as_bytes()));
+    let mut source = assert_ok(rt, Whole::begin(file));
+    assert_ok(rt, collect(alloc, &mut source, &claim))
 }
 
 /// The counts in the order of their fields.
@@ -107,18 +107,18 @@ fn expect(
     pieces: [Piece; 3],
     want: [u32; 11],
     pairs: Pairs,
-) -> Result<(), Fail> {
-    let collected = collected(alloc, claim, &capture_of(alloc, pieces)?)?;
+) {
+    let file = assert_ok(rt, capture_of(alloc, pieces));
+    let collected = collected(rt, alloc, claim, &file);
     let given = [pair(&collected, 0), pair(&collected, 1)];
-    assert_eq!(rt; (counts(&collected), given), (want, pairs), "{pieces:?}");
+    assert_equal_at(rt, (counts(&collected), given), (want, pairs), pieces);
     assert!(rt; collected.exchanges.len() <= 2);
-    Ok(())
 }
 
 /// The exchange of `V1`, field by field.
 #[test]
-fn the_exchange(rt: HostRuntime) -> Result<(), Fail> {
-    let collected = collected(rt.alloc(), C1, &V1)?;
+fn the_exchange(rt: HostRuntime) {
+    let collected = collected(&rt, rt.alloc(), C1, &V1);
     let want = Exchange {
         server: 0,
         request: 0,
@@ -134,8 +134,7 @@ fn the_exchange(rt: HostRuntime) -> Result<(), Fail> {
         stratum: 1,
         reference: [0x47, 0x50, 0x53, 0],
     };
-    assert_eq!(rt; collected.exchanges.as_slice(), [want].as_slice());
-    Ok(())
+    assert_equal(&rt, collected.exchanges.as_slice(), [want].as_slice());
 }
 
 /// The server, the request and the reply of each exchange.
@@ -223,30 +222,24 @@ const PAIRS: [([Piece; 3], [u32; 11], Pairs); 14] = [
 ];
 
 #[test]
-fn pairs(rt: HostRuntime) -> Result<(), Fail> {
+fn pairs(rt: HostRuntime) {
     for (pieces, want, pairs) in PAIRS {
-        expect(&rt, rt.alloc(), C1, pieces, want, pairs)?;
+        expect(&rt, rt.alloc(), C1, pieces, want, pairs);
     }
-    Ok(())
 }
 
 /// The same timestamp to two servers, and this reply to it.
-fn expect_of_two(
-    rt: &impl Abort,
-    alloc: Global,
-    last: Piece,
-    pair: (u8, u32, u32),
-) -> Result<(), Fail> {
+fn expect_of_two(rt: &impl Abort, alloc: Global, last: Piece, pair: (u8, u32, u32)) {
     let pieces = [REQUEST, TO_SECOND, last];
     let want = [3, 2, 1, 0, 0, 0, 0, 0, 0, 0, 0];
-    expect(rt, alloc, TWO_SERVERS, pieces, want, [Some(pair), None])
+    expect(rt, alloc, TWO_SERVERS, pieces, want, [Some(pair), None]);
 }
 
 /// The reply of the first server, and of the second.
 #[test]
-fn two_servers(rt: HostRuntime) -> Result<(), Fail> {
-    expect_of_two(&rt, rt.alloc(), REPLY, (0, 0, 2))?;
-    expect_of_two(&rt, rt.alloc(), reply(29, 30, 2), (1, 1, 2))
+fn two_servers(rt: HostRuntime) {
+    expect_of_two(&rt, rt.alloc(), REPLY, (0, 0, 2));
+    expect_of_two(&rt, rt.alloc(), reply(29, 30, 2), (1, 1, 2));
 }
 
 /// A part of the reply's frame, the byte that fills it, and the counts and the exchanges that this
@@ -273,20 +266,19 @@ const HEADERS: [(usize, usize, u8, [u32; 11], Pairs); 14] = [
 ];
 
 #[test]
-fn headers(rt: HostRuntime) -> Result<(), Fail> {
+fn headers(rt: HostRuntime) {
     for (from, to, byte, want, pairs) in HEADERS {
         let pieces = [REQUEST, reply(from, to, byte), NONE];
-        expect(&rt, rt.alloc(), C1, pieces, want, pairs)?;
+        expect(&rt, rt.alloc(), C1, pieces, want, pairs);
     }
-    Ok(())
 }
 
 /// Leap indicator 3 and stratum 0 count once.
 #[test]
-fn leap_and_stratum(rt: HostRuntime) -> Result<(), Fail> {
+fn leap_and_stratum(rt: HostRuntime) {
     let both = [REQUEST, (130, (42, 43, 0xe4), (43, 44, 0)), NONE];
     let want = [2, 1, 1, 0, 1, 0, 0, 0, 0, 0, 0];
-    expect(&rt, rt.alloc(), C1, both, want, NO_PAIR)
+    expect(&rt, rt.alloc(), C1, both, want, NO_PAIR);
 }
 
 /// The header and the request of `V1`, and then its reply again and again.
@@ -317,34 +309,28 @@ impl Feed for Replies {
 }
 
 /// A request and so many more replies after the first are collected, or refused so.
-fn collects(
-    rt: &impl Abort,
-    alloc: Global,
-    more: u32,
-    fault: Option<PairFault>,
-) -> Result<(), Fail> {
-    let claim = read_claim(alloc, C1.as_bytes())?;
+fn collects(rt: &impl Abort, alloc: Global, more: u32, fault: Option<PairFault>) {
+    let claim = assert_ok(rt, read_claim(alloc, C1.as_bytes()));
     let Ok(mut source) = Capture::begin(alloc, Replies { at: 0, more }) else {
         panic!(rt; "no capture");
     };
     match collect(alloc, &mut source, &claim) {
         Ok(collected) => {
             let seen = (collected.exchanges.len(), collected.counts.replies);
-            assert_eq!(rt; (seen, fault), ((1_000_000, 1_000_000), None));
+            assert_equal(rt, (seen, fault), ((1_000_000, 1_000_000), None));
         }
-        Err(refused) => assert_eq!(rt; Some(refused), fault),
+        Err(refused) => assert_equal(rt, Some(refused), fault),
     }
-    Ok(())
 }
 
 /// A million exchanges, and one more.
 #[test]
-fn most_exchanges(rt: HostRuntime) -> Result<(), Fail> {
-    collects(&rt, rt.alloc(), 999_999, None)?;
+fn most_exchanges(rt: HostRuntime) {
+    collects(&rt, rt.alloc(), 999_999, None);
     collects(
         &rt,
         rt.alloc(),
         1_000_000,
         Some(PairFault::TooManyExchanges),
-    )
+    );
 }

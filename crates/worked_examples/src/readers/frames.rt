@@ -1,5 +1,6 @@
 //! Frames that are skipped, and why, by hand.
 
+use crate::expectation::assert_equal_at;
 use frame_reader::{Skip, datagram};
 use vectors::V1;
 
@@ -34,7 +35,7 @@ fn skips_for_the_first_reason(rt: HostRuntime) {
         (&[(14, 0x44), (17, 77)], Skip::IpHeader),
     ];
     for (edits, skip) in &skipped {
-        assert_eq!(rt; datagram(&edited(edits)), Err(*skip), "{edits:?}");
+        assert_equal_at(&rt, datagram(&edited(edits)), Err(*skip), edits);
     }
 }
 
@@ -42,6 +43,6 @@ fn skips_for_the_first_reason(rt: HostRuntime) {
 fn any_cut_is_short(rt: HostRuntime) {
     let frame = edited(&[]);
     for end in 0..90 {
-        assert_eq!(rt; datagram(&frame[..end]), Err(Skip::Short), "{end}");
+        assert_equal_at(&rt, datagram(&frame[..end]), Err(Skip::Short), end);
     }
 }

@@ -1,5 +1,6 @@
 //! NTP headers and root distances, by hand.
 
+use crate::expectation::{assert_equal, assert_equal_at};
 use ntp_packet::{NtpView, view};
 
 /// A server's reply: stratum 1, reference GPS.
@@ -88,7 +89,7 @@ fn fields_of(header: &NtpView<'_>) -> Fields {
 fn reads_every_field(rt: HostRuntime) {
     for (bytes, want) in [(REPLY, REPLY_FIELDS), (MIXED, MIXED_FIELDS)] {
         let got = view(&bytes).map(|header| fields_of(&header));
-        assert_eq!(rt; got, Some(want));
+        assert_equal(&rt, got, Some(want));
     }
 }
 
@@ -114,10 +115,6 @@ fn adds_up_the_root_distance(rt: HostRuntime) {
         payload[4..8].copy_from_slice(&delay.to_be_bytes());
         payload[8..12].copy_from_slice(&dispersion.to_be_bytes());
         let got = view(&payload).map(|header| header.root_distance());
-        assert_eq!(rt;
-            got,
-            Some(want),
-            "delay {delay} dispersion {dispersion} precision {precision}"
-        );
+        assert_equal_at(&rt, got, Some(want), (delay, dispersion, precision));
     }
 }

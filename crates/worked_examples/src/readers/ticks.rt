@@ -1,5 +1,6 @@
 //! Windows, timestamps and nanoseconds in ticks, by hand.
 
+use crate::expectation::assert_equal_at;
 use era_unfold::{ERA, Unit, high, low, ns_down, ns_up, unfold};
 
 #[test]
@@ -22,7 +23,7 @@ fn windows_of_microseconds(rt: HostRuntime) {
         (u32::MAX, 999_999, ERA - 4295, ERA),
     ] {
         let window = (low(sec, sub, Unit::Micro), high(sec, sub, Unit::Micro));
-        assert_eq!(rt; window, (first, last), "{sec} and {sub}");
+        assert_equal_at(&rt, window, (first, last), (sec, sub));
     }
 }
 
@@ -40,7 +41,7 @@ fn windows_of_nanoseconds(rt: HostRuntime) {
         (u32::MAX, 999_999_999, ERA - 5, ERA),
     ] {
         let window = (low(sec, sub, Unit::Nano), high(sec, sub, Unit::Nano));
-        assert_eq!(rt; window, (first, last), "{sec} and {sub}");
+        assert_equal_at(&rt, window, (first, last), (sec, sub));
     }
 }
 
@@ -57,7 +58,7 @@ fn nanoseconds_are_rounded(rt: HostRuntime) {
             79_228_162_514_264_337_590,
         ),
     ] {
-        assert_eq!(rt; (ns_down(n), ns_up(n)), (down, up), "{n}");
+        assert_equal_at(&rt, (ns_down(n), ns_up(n)), (down, up), n);
     }
 }
 
@@ -80,6 +81,6 @@ fn stamps_unfold_to_the_nearest_era(rt: HostRuntime) {
         // Before 1970.
         (epoch - 1, 0, -1),
     ] {
-        assert_eq!(rt; unfold(stamp, near), tick, "{stamp} near {near}");
+        assert_equal_at(&rt, unfold(stamp, near), tick, (stamp, near));
     }
 }

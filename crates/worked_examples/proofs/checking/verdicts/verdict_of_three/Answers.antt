@@ -15,7 +15,7 @@ check-requires-clause-samples g c =
 
 pub check-requires-clause-listed : goal.check-requires-clause-listed
 check-requires-clause-listed g c =
-    let n = length c.in_ok-claim.claim.servers.items in
+    let n = length c.claim_with_bound-claim.result.servers.items in
     let first : c.sample_of.result.server < n = omega (arith, c.sample_of.ensures.server, c.len.ensures) in
     let second : c.sample_of-2.result.server < n = omega (arith, c.sample_of-2.ensures.server, c.len.ensures) in
     let third : c.sample_of-3.result.server < n = omega (arith, c.sample_of-3.ensures.server, c.len.ensures) in
