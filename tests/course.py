@@ -2,7 +2,6 @@
 
 A course is made in whole numbers of a thousandth of a tick of 2^-32 s. Nothing here is shared with the program.
 """
-import random
 import struct
 from datetime import datetime, timezone
 
