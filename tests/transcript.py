@@ -7,11 +7,17 @@ A command begins with `$ `, and its further lines with `> `. sh runs each in the
 first but for data/, the folder of captures, and where what one command writes is there for the next.
 """
 import os
+import re
 import tempfile
 from contextlib import contextmanager
 from pathlib import Path
 
-from tally import DATA, run
+from tally import DATA, ROOT, run
+
+CASES = ROOT / "tests" / "cases"
+
+# What stands before a line of standard error.
+ERROR = "2> "
 
 # A program that goes wrong takes neither the machine's memory nor its disk: at most 4 GiB, and files of 512 MiB.
 LIMITS = "ulimit -v 4194304; ulimit -f 1048576\n"
@@ -28,6 +34,33 @@ def commands(lines):
         elif found:
             found[-1][1].append(line)
     return found
+
+
+def parts(shown):
+    """What the lines below a command ask for: the lines of standard output and of standard error, and the status."""
+    status = 0
+    if shown and (last := re.fullmatch(r"\[(\d+)\]", shown[-1])):
+        status, shown = int(last[1]), shown[:-1]
+    error = [line.removeprefix(ERROR) for line in shown if line.startswith(ERROR)]
+    return [line for line in shown if not line.startswith(ERROR)], error, status
+
+
+def cases():
+    """The cases in tests/cases: the name of each, and its commands with the lines below them."""
+    found = {}
+    for file in sorted(CASES.glob("*.txt")):
+        for case in re.split(r"^# ", file.read_text("utf-8"), flags=re.M)[1:]:
+            heading, *lines = case.split("\n")
+            name = f"{file.stem}/{re.split('[: ]', heading)[0]}"
+            if name in found or not commands(lines):
+                raise ValueError(f"{file}: {name} is there twice or has no command")
+            found[name] = commands(lines)
+    return found
+
+
+def printed(case):
+    """What the commands of a case print on standard output."""
+    return "".join(f"{line}\n" for _, shown in cases()[case] for line in parts(shown)[0]).encode()
 
 
 @contextmanager
