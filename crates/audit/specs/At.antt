@@ -10,13 +10,14 @@ use Rattle.span_cover.specs.declared.stretch.Stretch.{Stretch}
 use Rattle.intersection.specs.declared.kinds.Hull.{Hull}
 use Rattle.report.specs.declared.fault.Outcome.TheVariants.{Yes}
 use Rattle.report.specs.Reports.{Report, whole_text}
+use Rattle.line_writer.specs.declared.field.Style.TheVariants.{Plain}
 use Rattle.audit_text.specs.Parts.{parts_text}
 use Rattle.audit.specs.Evidence.{EvidenceData, IsEvidenceOf, OfClaimAndCapture, samples_in}
 use Rattle.audit.specs.Parts.{parts_at, tick_of}
 
 -- the text for what these servers say, with the hull over the groups
 abbrev pub hull_text : ClaimData → List Part → List ℕ
-hull_text claim parts = parts_text claim parts (piece_hull claim.groups claim.false_max parts)
+hull_text claim parts = parts_text Plain claim parts (piece_hull claim.groups claim.false_max parts)
 
 -- the whole text for a Unix second
 abbrev pub at_text : ℕ → EvidenceData → List ℕ

@@ -21,6 +21,7 @@ use Rattle.report.specs.ClaimInput.{claim_read}
 use Rattle.report.specs.declared.fault.Outcome.{Outcome}
 use Rattle.report.specs.declared.fault.Outcome.TheVariants as outcomes
 use Rattle.report.specs.Reports.{Report, whole_text}
+use Rattle.line_writer.specs.declared.field.Style.TheVariants.{Plain}
 use Rattle.audit_text.specs.CheckReport.{check_text}
 use Rattle.audit.specs.CaptureInput.{capture_read}
 use Rattle.audit.specs.Evidence.{EvidenceData, IsEvidenceOf, OfClaimAndCapture, samples_in}
@@ -39,7 +40,7 @@ verdict_on certificate e = verdict_of (samples_in e) e.claim certificate
 abbrev pub check_report : CertificateData → EvidenceData → Report
 check_report certificate e =
     whole_text
-    (check_text e.claim e.collection (length certificate.pieces) (verdict_on certificate e))
+    (check_text Plain e.claim e.collection (length certificate.pieces) (verdict_on certificate e))
     (outcome_of (verdict_on certificate e))
 
 -- The verdict is yes. So the error is within the bound in every course of events that fits the

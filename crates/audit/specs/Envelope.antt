@@ -13,6 +13,7 @@ use Rattle.finder.specs.Piece.{count_of}
 use Rattle.report.specs.declared.fault.Outcome.{Outcome}
 use Rattle.report.specs.declared.fault.Outcome.TheVariants.{Yes, No}
 use Rattle.report.specs.Reports.{Report, refused, whole_text}
+use Rattle.line_writer.specs.declared.field.Style.TheVariants.{Plain}
 use Rattle.audit_text.specs.Envelope.{envelope_text}
 use Rattle.audit.specs.Evidence.{EvidenceData, GiveEvidence, OfClaimAndCapture, samples_in}
 use Rattle.audit.specs.Find.{find_run_fault_of}
@@ -25,7 +26,7 @@ bound_outcome (NoneHolds piece) = No
 -- the report on an envelope, with what each server says if that is asked for
 abbrev pub report_of : Bool → EvidenceData → Result EnvelopeData FindFault → Report
 report_of servers e (Ok envelope) =
-    whole_text (envelope_text (samples_in e) e.claim servers envelope)
+    whole_text (envelope_text Plain (samples_in e) e.claim servers envelope)
     (bound_outcome envelope.least)
 report_of servers e (Err fault) = refused (find_run_fault_of fault)
 

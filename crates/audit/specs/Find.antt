@@ -18,6 +18,7 @@ use Rattle.report.specs.declared.fault.Outcome.TheVariants as outcomes
 use Rattle.report.specs.declared.fault.RunFault.{RunFault}
 use Rattle.report.specs.declared.fault.RunFault.TheVariants.{Pieces, Memory}
 use Rattle.report.specs.Reports.{Report, refused, whole_text}
+use Rattle.line_writer.specs.declared.field.Style.TheVariants.{Plain}
 use Rattle.audit_text.specs.Nothing.{nothing_text}
 use Rattle.audit.specs.Check.{verdict_on}
 use Rattle.audit.specs.Evidence.{EvidenceData, GiveEvidence, OfClaimAndCapture, samples_in}
@@ -26,7 +27,7 @@ use Rattle.audit.specs.Evidence.{EvidenceData, GiveEvidence, OfClaimAndCapture, 
 -- piece that fails and its hull
 unfoldable pub found_text : FoundData → List ℕ
 found_text (certificate c) = certificate_text c ++ codes "\n"
-found_text (nothing piece hull) = nothing_text piece hull
+found_text (nothing piece hull) = nothing_text Plain piece hull
 
 -- the outcome: yes if there is a certificate
 abbrev pub found_outcome : FoundData → Outcome

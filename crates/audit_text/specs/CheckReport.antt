@@ -1,11 +1,10 @@
 -- The text of `check`: what is claimed, what the capture has, what is advised, and the verdict.
 use Rattle.std.specs.Prelude.{ℕ, zero, suc, ◌+◌, ◌==◌, nat_lt, if◌then◌else◌}
 use Rattle.std.specs.Prelude.{List, [], ◌∷◌, ◌++◌, length, codes}
-use Rattle.std.specs.Fmt.{decimal}
 use Rattle.std.specs.List.{list_all, list_any}
 use Rattle.std.specs.Str.{bytes_eq}
-use Rattle.hex.specs.Hex.{encode_lower}
-use Rattle.line_writer.specs.Text.{address}
+use Rattle.line_writer.specs.Field.{FieldData, line_of, Word, Named, Second, Nanoseconds, Billionths, Address, Reference, Nothing}
+use Rattle.line_writer.specs.declared.field.Style.{Style}
 use Rattle.claim_file.specs.Claim.{ClaimData, group_count}
 use Rattle.pairing.specs.declared.exchange.Exchange.{Exchange}
 use Rattle.pairing.specs.Pairing.{Collection}
@@ -17,26 +16,24 @@ use Rattle.audit_text.specs.Second.{second_of}
 use Rattle.audit_text.specs.CountsLine.{counts_line}
 
 -- how many groups there are, if one holds several servers
-unfoldable pub groups_field : ℕ → ℕ → List ℕ
+abbrev pub groups_field : ℕ → ℕ → FieldData
 groups_field groups servers =
-    if nat_lt groups servers then codes " groups " ++ decimal groups else []
+    if nat_lt groups servers then Named (codes "groups") groups else Nothing
 
 -- whose clock is claimed of, and against whom
-unfoldable pub client_line : ClaimData → List ℕ
-client_line claim =
-    codes "client " ++ address claim.client ++
-    codes " servers " ++ decimal (length claim.servers) ++
-    codes " false_max " ++ decimal claim.false_max ++
-    groups_field (group_count claim.groups) (length claim.servers) ++ codes "\n"
+unfoldable pub client_line : Style → ClaimData → List ℕ
+client_line style claim = line_of style (
+    Word (codes "client") ∷ Address claim.client ∷
+    Named (codes "servers") (length claim.servers) ∷ Named (codes "false_max") claim.false_max ∷
+    groups_field (group_count claim.groups) (length claim.servers) ∷ [])
 
 -- the span, and the numbers that are claimed
-unfoldable pub span_line : ClaimData → List ℕ
-span_line claim =
-    codes "span " ++ decimal (second_of claim.first) ++
-    codes " " ++ decimal (second_of claim.last) ++
-    codes " bound_ns " ++ decimal claim.bound_ns ++
-    codes " drift_ppb " ++ decimal claim.drift_ppb ++
-    codes " reading_ns " ++ decimal claim.reading_ns ++ codes "\n"
+unfoldable pub span_line : Style → ClaimData → List ℕ
+span_line style claim = line_of style (
+    Word (codes "span") ∷ Second (second_of claim.first) ∷ Second (second_of claim.last) ∷
+    Word (codes "bound_ns") ∷ Nanoseconds claim.bound_ns ∷
+    Word (codes "drift_ppb") ∷ Billionths claim.drift_ppb ∷
+    Word (codes "reading_ns") ∷ Nanoseconds claim.reading_ns ∷ [])
 
 -- whether an exchange is with the server of this number
 abbrev pub is_source : List Exchange → ℕ → ℕ
@@ -52,22 +49,17 @@ abbrev pub enough_sources : ℕ
 enough_sources = 4
 
 -- the advice to ask more servers, if few have a sample
-unfoldable pub sources_advice : ℕ → List ℕ
-sources_advice count =
-    if nat_lt count enough_sources then codes "advice sources " ++ decimal count ++ codes "\n"
-    else []
+unfoldable pub sources_advice : Style → ℕ → List ℕ
+sources_advice style count =
+    if nat_lt count enough_sources
+    then line_of style (Word (codes "advice") ∷ Named (codes "sources") count ∷ []) else []
 
 -- the advice that all servers name one reference identifier: they may all depend on one clock
-unfoldable pub reference_advice : List Exchange → List ℕ
-reference_advice [] = []
-reference_advice (x ∷ xs) =
+unfoldable pub reference_advice : Style → List Exchange → List ℕ
+reference_advice style [] = []
+reference_advice style (x ∷ xs) =
     if list_all (λ y. bytes_eq y.reference x.reference) xs
-    then codes "advice reference " ++ encode_lower x.reference ++ codes "\n"
-    else []
-
--- how many pieces the certificate has
-unfoldable pub pieces_line : ℕ → List ℕ
-pieces_line pieces = codes "pieces " ++ decimal pieces ++ codes "\n"
+    then line_of style (Word (codes "advice reference") ∷ Reference x.reference ∷ []) else []
 
 -- the word for each reason
 abbrev pub why_word : Why → List ℕ
@@ -81,25 +73,16 @@ why_word Exceeds = codes "exceeds"
 why_word Uncovered = codes "uncovered"
 
 -- the verdict
-unfoldable pub verdict_line : Verdict → List ℕ
-verdict_line Yes = codes "verdict yes\n"
-verdict_line (No piece why) =
-    codes "verdict no piece " ++ decimal piece ++ codes " " ++ why_word why ++ codes "\n"
-
--- what is advised
-unfoldable pub advice : ClaimData → List Exchange → List ℕ
-advice claim xs = sources_advice (source_count xs (length claim.servers)) ++ reference_advice xs
-
--- the lines of the claim
-unfoldable pub claim_lines : ClaimData → List ℕ
-claim_lines claim = client_line claim ++ span_line claim
-
--- the lines of the certificate and the verdict
-unfoldable pub verdict_lines : ℕ → Verdict → List ℕ
-verdict_lines pieces verdict = pieces_line pieces ++ verdict_line verdict
+unfoldable pub verdict_line : Style → Verdict → List ℕ
+verdict_line style Yes = line_of style (Word (codes "verdict yes") ∷ [])
+verdict_line style (No piece why) = line_of style (
+    Word (codes "verdict no") ∷ Named (codes "piece") piece ∷ Word (why_word why) ∷ [])
 
 -- the whole text, for a certificate of this many pieces
-unfoldable pub check_text : ClaimData → Collection → ℕ → Verdict → List ℕ
-check_text claim collection pieces verdict =
-    claim_lines claim ++ counts_line collection.counts (length collection.exchanges) ++
-    advice claim collection.exchanges ++ verdict_lines pieces verdict
+unfoldable pub check_text : Style → ClaimData → Collection → ℕ → Verdict → List ℕ
+check_text style claim collection pieces verdict =
+    client_line style claim ++ span_line style claim ++
+    counts_line style collection.counts (length collection.exchanges) ++
+    sources_advice style (source_count collection.exchanges (length claim.servers)) ++
+    reference_advice style collection.exchanges ++
+    line_of style (Named (codes "pieces") pieces ∷ []) ++ verdict_line style verdict

@@ -1,37 +1,16 @@
 -- The line that says what became of a capture's records.
-use Rattle.std.specs.Prelude.{ℕ, List, ◌++◌, codes}
-use Rattle.std.specs.Fmt.{decimal}
+use Rattle.std.specs.Prelude.{ℕ, List, [], ◌∷◌, codes}
+use Rattle.line_writer.specs.Field.{line_of, Named}
+use Rattle.line_writer.specs.declared.field.Style.{Style}
 use Rattle.pairing.specs.declared.counts.Counts.{Counts}
 
--- a number after its name
-unfoldable pub named_number : List ℕ → ℕ → List ℕ
-named_number name n = name ++ decimal n
-
--- records, requests, replies and samples
-unfoldable pub packet_counts : Counts → ℕ → List ℕ
-packet_counts counts samples =
-    named_number (codes "records ") counts.records ++
-    named_number (codes " requests ") counts.requests ++
-    named_number (codes " replies ") counts.replies ++
-    named_number (codes " samples ") samples
-
--- replies that are refused for what their own header says
-unfoldable pub header_counts : Counts → List ℕ
-header_counts counts =
-    named_number (codes " version ") counts.version ++
-    named_number (codes " leap ") counts.leap ++
-    named_number (codes " stratum ") counts.stratum ++
-    named_number (codes " precision ") counts.precision ++
-    named_number (codes " zero ") counts.zero_stamp
-
+-- records, requests, replies and samples; replies that are refused for what their own header says;
 -- replies with no request or several, and warnings of a leap second
-unfoldable pub pairing_counts : Counts → List ℕ
-pairing_counts counts =
-    named_number (codes " norequest ") counts.no_request ++
-    named_number (codes " ambiguous ") counts.ambiguous ++
-    named_number (codes " warnings ") counts.warnings ++ codes "\n"
-
--- the whole line, with its line feed
-unfoldable pub counts_line : Counts → ℕ → List ℕ
-counts_line counts samples =
-    packet_counts counts samples ++ header_counts counts ++ pairing_counts counts
+unfoldable pub counts_line : Style → Counts → ℕ → List ℕ
+counts_line style counts samples = line_of style (
+    Named (codes "records") counts.records ∷ Named (codes "requests") counts.requests ∷
+    Named (codes "replies") counts.replies ∷ Named (codes "samples") samples ∷
+    Named (codes "version") counts.version ∷ Named (codes "leap") counts.leap ∷
+    Named (codes "stratum") counts.stratum ∷ Named (codes "precision") counts.precision ∷
+    Named (codes "zero") counts.zero_stamp ∷ Named (codes "norequest") counts.no_request ∷
+    Named (codes "ambiguous") counts.ambiguous ∷ Named (codes "warnings") counts.warnings ∷ [])

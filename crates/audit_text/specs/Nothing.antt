@@ -1,9 +1,12 @@
 -- The text of `find` if no certificate is found.
-use Rattle.std.specs.Prelude.{ℕ, List, ◌++◌, codes}
-use Rattle.std.specs.Fmt.{decimal}
+use Rattle.std.specs.Prelude.{ℕ, List, [], ◌∷◌, codes}
+use Rattle.line_writer.specs.Field.{line_of, Word, Named}
+use Rattle.line_writer.specs.declared.field.Style.{Style}
 use Rattle.intersection.specs.declared.kinds.Hull.{Hull}
-use Rattle.audit_text.specs.HullLine.{hull_line}
+use Rattle.audit_text.specs.HullLine.{hull_low, hull_high}
 
 -- the number of the piece that fails, and its hull
-unfoldable pub nothing_text : ℕ → Hull → List ℕ
-nothing_text piece hull = codes "nothing piece " ++ decimal piece ++ codes " " ++ hull_line hull
+unfoldable pub nothing_text : Style → ℕ → Hull → List ℕ
+nothing_text style piece hull = line_of style (
+    Word (codes "nothing") ∷ Named (codes "piece") piece ∷
+    Word (codes "hull") ∷ hull_low hull ∷ hull_high hull ∷ [])

@@ -3,18 +3,18 @@
 ghost use Rattle.std.specs.Prelude.{◌≡◌, ◌+◌, ◌<◌, ◌≤◌, ◌==◌, ◌++◌, IfOk, length, map};
 ghost use Rattle.std.specs.List.{list_all, list_any};
 ghost use Rattle.std.specs.Str.{bytes_eq};
-ghost use Rattle.line_writer.specs.declared.line.TheConstants.{CAPACITY};
+ghost use Rattle.line_writer.specs.Field.{field_data};
 ghost use Rattle.claim_file.specs.Claim.{IsLawful, data_of, group_count};
 ghost use Rattle.pairing.specs.Exchange.{most_exchanges};
 ghost use Rattle.pairing.specs.Held.{exchange_shown, held_data};
 ghost use Rattle.audit_text.specs.CheckReport as spec;
-ghost use Rattle.audit_text.specs.CheckReport.{groups_field, source_count, why_word};
+ghost use Rattle.audit_text.specs.CheckReport.{client_line, groups_field, reference_advice, source_count, sources_advice, span_line, verdict_line, why_word};
 
 use crate::counts_line::add_counts;
 use crate::second::second_of;
 use checker::{Verdict, Why};
 use claim_file::Claim;
-use line_writer::Line;
+use line_writer::{Field, Style, add_line};
 use pairing::{Held, HeldExchange, ToExchange};
 use std::alloc::{AllocError, Global};
 
@@ -33,52 +33,53 @@ fn group_count(groups: &[u8]) -> u32
 }
 
 /// How many groups there are, if one holds several servers.
-#[tactic(auto, unfolding(crate::specs::CheckReport::groups_field))]
-fn put_groups(line: &mut Line, groups: u32, servers: u32)
-    requires { length line.old + 18 ≤ CAPACITY }
-    ensures text { line.new ≡ groups_field groups servers ++ line.old }
-    ensures at_most { length line.new ≤ length line.old + 18 }
+fn groups_field(groups: u32, servers: u64) -> Field<'static>
+    ensures { field_data result ≡ groups_field groups servers }
 {
-    if groups < servers {
-        line.put_number(groups);
-        line.put_text(" groups ");
+    if u64::from(groups) < servers {
+        Field::Named("groups", u64::from(groups))
+    } else {
+        Field::Nothing
     }
 }
 
-/// Writes the line of the client and its servers in place of what `line` held.
-fn write_client_line(line: &mut Line, claim: &Claim)
+/// Adds the line of the client and its servers.
+#[tactic(auto, unfolding(crate::specs::CheckReport::client_line))]
+fn add_client(text: &mut Vec<u8>, style: Style, claim: &Claim) -> Result<(), AllocError>
     requires { IsLawful (data_of claim.now) }
-    ensures { line.new ≡ spec.client_line (data_of claim.now) }
+    ensures { IfOk result (λ _. text.new.items ≡
+        text.old.items ++ client_line style (data_of claim.now)) }
 {
-    let servers = claim.servers.len() as u32;
-    line.clear();
-    line.put_byte(b'\n');
-    put_groups(line, group_count(&claim.groups), servers);
-    line.put_number(claim.false_max);
-    line.put_text(" false_max ");
-    line.put_number(servers);
-    line.put_text(" servers ");
-    line.put_address(&claim.client);
-    line.put_text("client ");
+    let servers = claim.servers.len() as u64;
+    let fields = [
+        Field::Word("client"),
+        Field::Address(claim.client),
+        Field::Named("servers", servers),
+        Field::Named("false_max", u64::from(claim.false_max)),
+        groups_field(group_count(&claim.groups), servers),
+    ];
+    add_line(text, style, &fields)
 }
 
-/// Writes the line of the span and of the numbers that are claimed in place of what `line` held.
-fn write_span_line(line: &mut Line, claim: &Claim)
+/// Adds the line of the span and of the numbers that are claimed.
+#[tactic(auto, unfolding(crate::specs::CheckReport::span_line))]
+fn add_span(text: &mut Vec<u8>, style: Style, claim: &Claim) -> Result<(), AllocError>
     requires { IsLawful (data_of claim.now) }
-    ensures { line.new ≡ spec.span_line (data_of claim.now) }
+    ensures { IfOk result (λ _. text.new.items ≡
+        text.old.items ++ span_line style (data_of claim.now)) }
 {
-    line.clear();
-    line.put_byte(b'\n');
-    line.put_number(claim.reading_ns);
-    line.put_text(" reading_ns ");
-    line.put_number(claim.drift_ppb);
-    line.put_text(" drift_ppb ");
-    line.put_number(claim.bound_ns);
-    line.put_text(" bound_ns ");
-    line.put_number(second_of(claim.last));
-    line.put_byte(b' ');
-    line.put_number(second_of(claim.first));
-    line.put_text("span ");
+    let fields = [
+        Field::Word("span"),
+        Field::Second(second_of(claim.first)),
+        Field::Second(second_of(claim.last)),
+        Field::Word("bound_ns"),
+        Field::Nanoseconds(u128::from(claim.bound_ns)),
+        Field::Word("drift_ppb"),
+        Field::Billionths(claim.drift_ppb),
+        Field::Word("reading_ns"),
+        Field::Nanoseconds(u128::from(claim.reading_ns)),
+    ];
+    add_line(text, style, &fields)
 }
 
 /// Whether an exchange is with this server.
@@ -104,17 +105,19 @@ fn source_count(exchanges: &[HeldExchange], servers: u8) -> u8
     count
 }
 
-/// Writes the advice to ask more servers in place of what `line` held, or no text.
+/// Adds the advice to ask more servers, if few have a sample.
 #[tactic(auto, unfolding(crate::specs::CheckReport::sources_advice))]
-fn write_sources_advice(line: &mut Line, count: u8)
-    ensures { line.new ≡ spec.sources_advice count }
+fn add_sources_advice(text: &mut Vec<u8>, style: Style, count: u8) -> Result<(), AllocError>
+    ensures { IfOk result (λ _. text.new.items ≡ text.old.items ++ sources_advice style count) }
 {
-    line.clear();
     if count < ENOUGH_SOURCES {
-        line.put_byte(b'\n');
-        line.put_number(count);
-        line.put_text("advice sources ");
+        let fields = [
+            Field::Word("advice"),
+            Field::Named("sources", u64::from(count)),
+        ];
+        return add_line(text, style, &fields);
     }
+    Ok(())
 }
 
 /// Whether all these exchanges have one reference identifier.
@@ -127,37 +130,29 @@ fn have_reference(exchanges: &[HeldExchange], reference: [u8; 4]) -> bool
         .all(|held| held.to_exchange().reference == reference)
 }
 
-/// Writes the advice on servers that name one reference in place of what `line` held, or no text.
+/// Adds the advice on servers that name one reference, if all do.
 #[tactic(auto, unfolding(crate::specs::CheckReport::reference_advice))]
-fn write_reference_advice(line: &mut Line, exchanges: &[HeldExchange])
-    ensures { line.new ≡ spec.reference_advice (map exchange_shown exchanges.now) }
+fn add_reference_advice(
+    text: &mut Vec<u8>,
+    style: Style,
+    exchanges: &[HeldExchange],
+) -> Result<(), AllocError>
+    ensures { IfOk result (λ _. text.new.items ≡
+        text.old.items ++ reference_advice style (map exchange_shown exchanges.now)) }
 {
-    line.clear();
     if let [first, rest @ ..] = exchanges {
         let reference = first.to_exchange().reference;
         if have_reference(rest, reference) {
-            line.put_byte(b'\n');
-            line.put_hexadecimal(&reference);
-            line.put_text("advice reference ");
+            let fields = [Field::Word("advice reference"), Field::Reference(reference)];
+            return add_line(text, style, &fields);
         }
     }
-}
-
-/// Writes the line of the pieces in place of what `line` held.
-#[tactic(auto, unfolding(crate::specs::CheckReport::pieces_line))]
-fn write_pieces_line(line: &mut Line, pieces: u32)
-    ensures { line.new ≡ spec.pieces_line pieces }
-{
-    line.clear();
-    line.put_byte(b'\n');
-    line.put_number(pieces);
-    line.put_text("pieces ");
+    Ok(())
 }
 
 /// The word for a reason.
 fn why_word(why: &Why) -> &'static str
-    ensures word { result.now ≡ why_word why.now }
-    ensures at_most { length result.now ≤ 15 }
+    ensures { result.now ≡ why_word why.now }
 {
     match why {
         Why::Cut => "cut",
@@ -171,70 +166,23 @@ fn why_word(why: &Why) -> &'static str
     }
 }
 
-/// Writes the line of the verdict in place of what `line` held.
+/// Adds the line of the verdict.
 #[tactic(auto, unfolding(crate::specs::CheckReport::verdict_line))]
-fn write_verdict_line(line: &mut Line, verdict: &Verdict)
-    ensures { line.new ≡ spec.verdict_line verdict.now }
+fn add_verdict(text: &mut Vec<u8>, style: Style, verdict: &Verdict) -> Result<(), AllocError>
+    ensures { IfOk result (λ _. text.new.items ≡
+        text.old.items ++ verdict_line style verdict.now) }
 {
-    line.clear();
     match verdict {
-        Verdict::Yes => line.put_text("verdict yes\n"),
+        Verdict::Yes => add_line(text, style, &[Field::Word("verdict yes")]),
         Verdict::No { piece, why } => {
-            line.put_byte(b'\n');
-            line.put_text(why_word(why));
-            line.put_byte(b' ');
-            line.put_number(*piece);
-            line.put_text("verdict no piece ");
+            let fields = [
+                Field::Word("verdict no"),
+                Field::Named("piece", u64::from(*piece)),
+                Field::Word(why_word(why)),
+            ];
+            add_line(text, style, &fields)
         }
     }
-}
-
-/// The advice lines.
-#[tactic(auto, unfolding(crate::specs::CheckReport::advice))]
-fn add_advice(
-    text: &mut Vec<u8>,
-    line: &mut Line,
-    claim: &Claim,
-    exchanges: &[HeldExchange],
-) -> Result<(), AllocError>
-    requires { IsLawful (data_of claim.now) }
-    ensures { IfOk result (λ _. text.new.items ≡
-        text.old.items ++ spec.advice (data_of claim.now) (map exchange_shown exchanges.now)) }
-{
-    write_sources_advice(line, source_count(exchanges, claim.servers.len() as u8));
-    text.extend_from_slice(line.as_bytes())?;
-    write_reference_advice(line, exchanges);
-    text.extend_from_slice(line.as_bytes())
-}
-
-/// The lines of the claim.
-#[tactic(auto, unfolding(crate::specs::CheckReport::claim_lines))]
-fn add_claim(text: &mut Vec<u8>, line: &mut Line, claim: &Claim) -> Result<(), AllocError>
-    requires { IsLawful (data_of claim.now) }
-    ensures { IfOk result (λ _. text.new.items ≡
-        text.old.items ++ spec.claim_lines (data_of claim.now)) }
-{
-    write_client_line(line, claim);
-    text.extend_from_slice(line.as_bytes())?;
-    write_span_line(line, claim);
-    text.extend_from_slice(line.as_bytes())
-}
-
-/// The lines of the certificate and the verdict.
-#[tactic(auto, unfolding(crate::specs::CheckReport::verdict_lines))]
-fn add_verdict(
-    text: &mut Vec<u8>,
-    line: &mut Line,
-    pieces: u32,
-    verdict: &Verdict,
-) -> Result<(), AllocError>
-    ensures { IfOk result (λ _. text.new.items ≡
-        text.old.items ++ spec.verdict_lines pieces verdict.now) }
-{
-    write_pieces_line(line, pieces);
-    text.extend_from_slice(line.as_bytes())?;
-    write_verdict_line(line, verdict);
-    text.extend_from_slice(line.as_bytes())
 }
 
 /// The text of `check`: what is claimed, what became of the capture's records, what is advised, and
@@ -242,6 +190,7 @@ fn add_verdict(
 #[tactic(auto, unfolding(crate::specs::CheckReport::check_text))]
 pub fn check_text(
     alloc: Global,
+    style: Style,
     claim: &Claim,
     held: &Held,
     pieces: u32,
@@ -250,13 +199,23 @@ pub fn check_text(
     requires lawful { IsLawful (data_of claim.now) }
     requires few { length held.now.exchanges.items ≤ most_exchanges }
     ensures { IfOk result (λ text. text.items ≡
-        spec.check_text (data_of claim.now) (held_data held.now) pieces verdict.now) }
+        spec.check_text style (data_of claim.now) (held_data held.now) pieces verdict.now) }
 {
     let mut text = Vec::new(alloc);
-    let mut line = Line::new();
-    add_claim(&mut text, &mut line, claim)?;
-    add_counts(&mut text, &mut line, held)?;
-    add_advice(&mut text, &mut line, claim, &held.exchanges)?;
-    add_verdict(&mut text, &mut line, pieces, verdict)?;
+    add_client(&mut text, style, claim)?;
+    add_span(&mut text, style, claim)?;
+    add_counts(&mut text, style, held)?;
+    add_sources_advice(
+        &mut text,
+        style,
+        source_count(&held.exchanges, claim.servers.len() as u8),
+    )?;
+    add_reference_advice(&mut text, style, &held.exchanges)?;
+    add_line(
+        &mut text,
+        style,
+        &[Field::Named("pieces", u64::from(pieces))],
+    )?;
+    add_verdict(&mut text, style, verdict)?;
     Ok(text)
 }

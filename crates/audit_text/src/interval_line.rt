@@ -1,23 +1,31 @@
 //! The line of a server's interval.
 
-ghost use Rattle.std.specs.Prelude.{◌≡◌, ◌<◌, ◌≤◌, length};
+ghost use Rattle.std.specs.Prelude.{◌≡◌, ◌<◌, ◌++◌, IfOk, length};
 ghost use Rattle.claim_file.specs.Claim.{data_of};
-ghost use Rattle.audit_text.specs.IntervalLine as spec;
+ghost use Rattle.audit_text.specs.IntervalLine.{interval_line};
 
-use crate::sample_line::put_interval;
+use crate::sample_line::server_of;
 use claim_file::Claim;
-use line_writer::Line;
+use line_writer::{Field, Style, add_line};
 use span_cover::Part;
+use std::alloc::AllocError;
 
-/// Writes the line of a server's interval in place of what `line` held.
+/// Adds the line of a server's interval.
 #[tactic(auto, unfolding(crate::specs::IntervalLine::interval_line))]
-pub(crate) fn write_interval_line(line: &mut Line, claim: &Claim, part: &Part)
+pub(crate) fn add_interval(
+    text: &mut Vec<u8>,
+    style: Style,
+    claim: &Claim,
+    part: &Part,
+) -> Result<(), AllocError>
     requires { part.now.server < length claim.now.servers.items }
-    ensures text { line.new ≡ spec.interval_line (data_of claim.now) part.now }
-    ensures at_most { length line.new ≤ 98 }
+    ensures { IfOk result (λ _. text.new.items ≡
+        text.old.items ++ interval_line style (data_of claim.now) part.now) }
 {
-    line.clear();
-    line.put_byte(b'\n');
-    put_interval(line, " ", part.interval.lo, part.interval.hi);
-    line.put_address(&claim.servers[usize::from(part.server)]);
+    let fields = [
+        Field::Address(server_of(claim, part.server)),
+        Field::Low(part.interval.lo),
+        Field::High(part.interval.hi),
+    ];
+    add_line(text, style, &fields)
 }

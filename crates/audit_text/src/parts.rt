@@ -4,11 +4,11 @@ ghost use Rattle.std.specs.Prelude.{◌≡◌, ◌<◌, IfOk, length, All};
 ghost use Rattle.claim_file.specs.Claim.{data_of};
 ghost use Rattle.audit_text.specs.Parts as spec;
 
-use crate::hull_line::write_hull_line;
-use crate::interval_line::write_interval_line;
+use crate::hull_line::add_hull;
+use crate::interval_line::add_interval;
 use claim_file::Claim;
 use intersection::kinds::Hull;
-use line_writer::Line;
+use line_writer::Style;
 use span_cover::Part;
 use std::alloc::{AllocError, Global};
 
@@ -17,21 +17,19 @@ use std::alloc::{AllocError, Global};
 #[tactic(auto, unfolding(crate::specs::Parts::parts_text))]
 pub fn parts_text(
     alloc: Global,
+    style: Style,
     claim: &Claim,
     parts: &[Part],
     hull: Hull,
 ) -> Result<Vec<u8>, AllocError>
     requires { All (λ part. part.server < length claim.now.servers.items) parts.now }
     ensures { IfOk result (λ text.
-        text.items ≡ spec.parts_text (data_of claim.now) parts.now hull) }
+        text.items ≡ spec.parts_text style (data_of claim.now) parts.now hull) }
 {
     let mut text = Vec::new(alloc);
-    let mut line = Line::new();
     for part in parts {
-        write_interval_line(&mut line, claim, part);
-        text.extend_from_slice(line.as_bytes())?;
+        add_interval(&mut text, style, claim, part)?;
     }
-    write_hull_line(&mut line, hull);
-    text.extend_from_slice(line.as_bytes())?;
+    add_hull(&mut text, style, hull)?;
     Ok(text)
 }

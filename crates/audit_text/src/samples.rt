@@ -8,16 +8,16 @@ ghost use Rattle.audit_text.specs.Samples as spec;
 ghost use Rattle.audit_text.specs.Samples.{sample_lines};
 
 use crate::counts_line::add_counts;
-use crate::sample_line::write_sample_line;
+use crate::sample_line::add_sample;
 use claim_file::Claim;
-use line_writer::Line;
+use line_writer::Style;
 use pairing::{Held, HeldExchange, ToExchange};
 use std::alloc::{AllocError, Global};
 
 /// The line of each sample, in the order of the exchanges.
 fn add_samples(
     text: &mut Vec<u8>,
-    line: &mut Line,
+    style: Style,
     claim: &Claim,
     exchanges: &[HeldExchange],
 ) -> Result<(), AllocError>
@@ -25,11 +25,10 @@ fn add_samples(
     requires exchanges { AreLawful (length claim.now.servers.items)
         (map exchange_shown exchanges.now) }
     ensures { IfOk result (λ _. text.new.items ≡
-        text.old.items ++ sample_lines (data_of claim.now) 0 (map exchange_shown exchanges.now)) }
+        text.old.items ++ sample_lines style (data_of claim.now) 0 (map exchange_shown exchanges.now)) }
 {
     for (number, held) in exchanges.iter().enumerate() {
-        write_sample_line(line, claim, number as u32, &held.to_exchange());
-        text.extend_from_slice(line.as_bytes())?;
+        add_sample(text, style, claim, number as u32, &held.to_exchange())?;
     }
     Ok(())
 }
@@ -37,15 +36,19 @@ fn add_samples(
 /// The text of `samples`: a line for each exchange, numbered from 0 in their order, with what it
 /// says about the clock, and the counts.
 #[tactic(auto, unfolding(crate::specs::Samples::samples_text))]
-pub fn samples_text(alloc: Global, claim: &Claim, held: &Held) -> Result<Vec<u8>, AllocError>
+pub fn samples_text(
+    alloc: Global,
+    style: Style,
+    claim: &Claim,
+    held: &Held,
+) -> Result<Vec<u8>, AllocError>
     requires lawful { IsLawful (data_of claim.now) }
     requires exchanges { AreLawful (length claim.now.servers.items) (held_data held.now).exchanges }
     ensures { IfOk result (λ text.
-        text.items ≡ spec.samples_text (data_of claim.now) (held_data held.now)) }
+        text.items ≡ spec.samples_text style (data_of claim.now) (held_data held.now)) }
 {
     let mut text = Vec::new(alloc);
-    let mut line = Line::new();
-    add_samples(&mut text, &mut line, claim, &held.exchanges)?;
-    add_counts(&mut text, &mut line, held)?;
+    add_samples(&mut text, style, claim, &held.exchanges)?;
+    add_counts(&mut text, style, held)?;
     Ok(text)
 }

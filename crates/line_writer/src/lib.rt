@@ -7,9 +7,11 @@
 
 mod decimal;
 mod endpoint;
+mod field;
 mod hexadecimal;
 mod line;
 mod number;
 
+pub use field::{Field, Style, add_line, put_fields};
 pub use line::{CAPACITY, Line};
 pub use number::Number;

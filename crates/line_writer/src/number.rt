@@ -98,10 +98,10 @@ impl Number for i128 {
     }
 }
 
-#[tactic(auto, using(crate::proofs::Digits::digits_of_128_bits))]
 /// Writes the digits of a number: those past 64 bits one at a time.
+#[tactic(auto, using(crate::proofs::Digits::digits_of_128_bits))]
 #[inline]
-fn put_wide(line: &mut Line, n: u128)
+pub(crate) fn put_wide(line: &mut Line, n: u128)
     requires { length line.old + 39 ≤ CAPACITY }
     ensures text { line.new ≡ decimal n ++ line.old }
     ensures at_most { length line.new ≤ length line.old + 39 }

@@ -7,18 +7,20 @@ use Rattle.std.specs.Fmt.{decimal, digits, digits_onto, digit_glyph}
 use Rattle.std.specs.Str.{IsUtf8, IsAscii}
 use Rattle.std.proofs.lemmas.Str.{IsUtf8-from_ascii}
 use Rattle.pcap_reader.specs.declared.fault.CaptureFault.{CaptureFault}
-use Rattle.pcap_reader.specs.declared.fault.CaptureFault.TheVariants.{TornRecord, TooLong, BadFraction}
+use Rattle.pcap_reader.specs.declared.fault.CaptureFault.TheVariants.{TornRecord}
 use Rattle.claim_file.specs.declared.fault.ClaimFault.{ClaimFault}
 use Rattle.claim_file.specs.declared.fault.ClaimFault.TheVariants.{Field}
 use Rattle.certificate.specs.declared.fault.CertificateFault.{CertificateFault}
-use Rattle.certificate.specs.declared.fault.CertificateFault.TheVariants.{Shape, TooManyEntries}
+use Rattle.certificate.specs.declared.fault.CertificateFault.TheVariants.{Shape}
 use Rattle.certificate.specs.declared.refutation_fault.RefutationFault.{RefutationFault}
 use Rattle.certificate.specs.declared.refutation_fault.RefutationFault.TheVariants as refutations
 use Rattle.report.specs.declared.fault.Input.{Input}
-use Rattle.report.specs.declared.fault.Input.TheVariants.{Claim, Capture, Certificate, Refutation}
+use Rattle.report.specs.declared.fault.Input.TheVariants.{Claim}
 use Rattle.report.specs.declared.fault.RunFault.{RunFault}
 use Rattle.report.specs.declared.fault.RunFault.TheVariants as faults
-use Rattle.report.specs.FaultText.{fault_text, capture_text, claim_text, certificate_text, refutation_text, input_word}
+use Rattle.report.specs.FaultText.{fault_text, fault_fields, input_word}
+use Rattle.line_writer.specs.Field.{FieldData, fields_text, next_text, rest_text, text_of, Word, Number, Named, Nothing}
+use Rattle.line_writer.specs.declared.field.Style.TheVariants.{Plain}
 
 -- each byte is below 128
 abbrev is_low : List ℕ → Bool
@@ -55,51 +57,72 @@ decimal_is_low : (n : ℕ) → T (is_low (decimal n))
 unfolding digits
 decimal_is_low n = digits_are_low 64 n [] tt
 
-capture_is_low : (fault : CaptureFault) → T (is_low (capture_text fault))
-unfolding capture_text digits
-capture_is_low (TornRecord place) =
-    low_append (codes "ntpaudit: capture 5 torn-record at ") (decimal place) tt (decimal_is_low place)
-capture_is_low (TooLong place) =
-    low_append (codes "ntpaudit: capture 6 too-long at ") (decimal place) tt (decimal_is_low place)
-capture_is_low (BadFraction place) =
-    low_append (codes "ntpaudit: capture 7 bad-fraction at ") (decimal place) tt (decimal_is_low place)
-capture_is_low fault = tt
+-- a field with words below 128 alone
+abbrev is_plain : FieldData → Bool
+is_plain (Word word) = is_low word
+is_plain (Number n) = true
+is_plain (Named name n) = is_low name
+is_plain Nothing = true
+is_plain _ = false
 
-claim_is_low : (fault : ClaimFault) → T (is_low (claim_text fault))
-unfolding claim_text digits
-claim_is_low (Field code) = low_append (codes "ntpaudit: claim 2 field field ") (decimal code) tt (decimal_is_low code)
-claim_is_low fault = tt
+abbrev are_plain : List FieldData → Bool
+are_plain [] = true
+are_plain (field ∷ fields) = is_plain field && are_plain fields
 
-certificate_is_low : (fault : CertificateFault) → T (is_low (certificate_text fault))
-unfolding certificate_text digits
-certificate_is_low (Shape piece) =
-    low_append (codes "ntpaudit: certificate 3 shape piece ") (decimal piece) tt (decimal_is_low piece)
-certificate_is_low (TooManyEntries piece) =
-    low_append (codes "ntpaudit: certificate 4 too-many-entries piece ") (decimal piece) tt (decimal_is_low piece)
-certificate_is_low fault = tt
+field_is_low : (field : FieldData) → T (is_plain field) → T (is_low (text_of Plain field))
+field_is_low (Word word) low = low
+field_is_low (Number n) low = decimal_is_low n
+field_is_low (Named name n) low = low_append (name ++ codes " ") _ (low_append name _ low tt) (decimal_is_low n)
+field_is_low Nothing low = tt
+field_is_low _ low = absurd low
 
-refutation_is_low : (fault : RefutationFault) → T (is_low (refutation_text fault))
-unfolding refutation_text digits
-refutation_is_low refutations.Json = tt
-refutation_is_low refutations.Shape = tt
-refutation_is_low refutations.Memory = tt
+next_is_low : (field : FieldData) → T (is_plain field) → T (is_low (next_text Plain field))
+next_is_low Nothing low = tt
+next_is_low (Word word) low = field_is_low (Word word) low
+next_is_low (Number n) low = field_is_low (Number n) low
+next_is_low (Named name n) low = field_is_low (Named name n) low
+next_is_low _ low = absurd low
 
-input_is_low : (words : List ℕ) (input : Input) → T (is_low words) → T (is_low (words ++ input_word input))
-input_is_low words Claim low = low_append words _ low tt
-input_is_low words Capture low = low_append words _ low tt
-input_is_low words Certificate low = low_append words _ low tt
-input_is_low words Refutation low = low_append words _ low tt
+rest_is_low : (fields : List FieldData) → T (are_plain fields) → T (is_low (rest_text Plain fields))
+rest_is_low [] low = tt
+rest_is_low (field ∷ fields) low =
+    low_append (next_text Plain field) _ (next_is_low field (and_l _ _ low)) (rest_is_low fields (and_r _ _ low))
 
-fault_is_low : (fault : RunFault) → T (is_low (fault_text fault))
-fault_is_low (faults.Capture fault) = capture_is_low fault
-fault_is_low (faults.Claim fault) = claim_is_low fault
-fault_is_low (faults.Certificate fault) = certificate_is_low fault
-fault_is_low (faults.Refutation fault) = refutation_is_low fault
-fault_is_low (faults.TooBig input) = input_is_low (codes "ntpaudit: too-big ") input tt
-fault_is_low (faults.Device input) = input_is_low (codes "ntpaudit: device ") input tt
-fault_is_low (faults.Write sent) =
-    low_append (codes "ntpaudit: device output after ") (decimal sent) tt (decimal_is_low sent)
-fault_is_low fault = tt
+fields_are_low : (fields : List FieldData) → T (are_plain fields) → T (is_low (fields_text Plain fields))
+fields_are_low [] low = tt
+fields_are_low (field ∷ fields) low =
+    low_append (text_of Plain field) _ (field_is_low field (and_l _ _ low)) (rest_is_low fields (and_r _ _ low))
+
+captures_are_plain : (fault : CaptureFault) → T (are_plain (fault_fields (faults.Capture fault)))
+captures_are_plain (TornRecord place) = tt
+captures_are_plain fault = tt
+
+claims_are_plain : (fault : ClaimFault) → T (are_plain (fault_fields (faults.Claim fault)))
+claims_are_plain (Field code) = tt
+claims_are_plain fault = tt
+
+certificates_are_plain : (fault : CertificateFault) → T (are_plain (fault_fields (faults.Certificate fault)))
+certificates_are_plain (Shape piece) = tt
+certificates_are_plain fault = tt
+
+refutations_are_plain : (fault : RefutationFault) → T (are_plain (fault_fields (faults.Refutation fault)))
+refutations_are_plain refutations.Json = tt
+refutations_are_plain fault = tt
+
+input_is_low : (input : Input) → T (is_low (input_word input) && true)
+input_is_low Claim = tt
+input_is_low input = tt
+
+faults_are_plain : (fault : RunFault) → T (are_plain (fault_fields fault))
+faults_are_plain (faults.Capture fault) = captures_are_plain fault
+faults_are_plain (faults.Claim fault) = claims_are_plain fault
+faults_are_plain (faults.Certificate fault) = certificates_are_plain fault
+faults_are_plain (faults.Refutation fault) = refutations_are_plain fault
+faults_are_plain (faults.TooBig input) = input_is_low input
+faults_are_plain (faults.Device input) = input_is_low input
+faults_are_plain fault = tt
 
 pub fault_is_utf8 : (fault : RunFault) → IsUtf8 (fault_text fault)
-fault_is_utf8 fault = IsUtf8-from_ascii (fault_text fault) (low_is_ascii (fault_text fault) (fault_is_low fault))
+fault_is_utf8 fault =
+    IsUtf8-from_ascii (fault_text fault)
+    (low_is_ascii (fault_text fault) (fields_are_low (fault_fields fault) (faults_are_plain fault)))

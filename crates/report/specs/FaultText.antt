@@ -1,6 +1,7 @@
 -- The line of a run's fault, without its line feed.
-use Rattle.std.specs.Prelude.{ℕ, List, [], ◌++◌, codes}
-use Rattle.std.specs.Fmt.{decimal}
+use Rattle.std.specs.Prelude.{ℕ, List, [], ◌∷◌, codes}
+use Rattle.line_writer.specs.Field.{FieldData, fields_text, Word, Named, Number, Nothing}
+use Rattle.line_writer.specs.declared.field.Style.TheVariants.{Plain}
 use Rattle.pcap_reader.specs.Fault.{number_of as capture_number}
 use Rattle.pcap_reader.specs.declared.fault.CaptureFault.{CaptureFault}
 use Rattle.pcap_reader.specs.declared.fault.CaptureFault.TheVariants.{TornHeader, Magic, Version, Link, TornRecord, TooLong, BadFraction, TooMany, Read, Memory, Failed}
@@ -33,17 +34,11 @@ capture_word Memory = codes "memory"
 capture_word Failed = codes "failed"
 
 -- the place of a fault of a record, and nothing for the others
-abbrev pub place_text : CaptureFault → List ℕ
-place_text (TornRecord place) = codes " at " ++ decimal place
-place_text (TooLong place) = codes " at " ++ decimal place
-place_text (BadFraction place) = codes " at " ++ decimal place
-place_text _ = []
-
--- the line for a capture's fault
-unfoldable pub capture_text : CaptureFault → List ℕ
-capture_text fault =
-    codes "ntpaudit: capture " ++ decimal (capture_number fault) ++ codes " " ++ capture_word fault
-    ++ place_text fault
+abbrev pub place_of : CaptureFault → FieldData
+place_of (TornRecord place) = Named (codes "at") place
+place_of (TooLong place) = Named (codes "at") place
+place_of (BadFraction place) = Named (codes "at") place
+place_of _ = Nothing
 
 -- the word for each fault of a claim
 abbrev pub claim_word : ClaimFault → List ℕ
@@ -57,15 +52,9 @@ claim_word claims.Memory = codes "memory"
 claim_word claims.Groups = codes "groups"
 
 -- the code of a field's fault, and nothing for the others
-abbrev pub field_text : ClaimFault → List ℕ
-field_text (claims.Field code) = codes " field " ++ decimal code
-field_text _ = []
-
--- the line for a claim's fault
-unfoldable pub claim_text : ClaimFault → List ℕ
-claim_text fault =
-    codes "ntpaudit: claim " ++ decimal (claim_number fault) ++ codes " " ++ claim_word fault
-    ++ field_text fault
+abbrev pub code_of : ClaimFault → FieldData
+code_of (claims.Field code) = Named (codes "field") code
+code_of _ = Nothing
 
 -- the word for each fault of a certificate
 abbrev pub certificate_word : CertificateFault → List ℕ
@@ -77,28 +66,16 @@ certificate_word certificates.TooManyPieces = codes "too-many-pieces"
 certificate_word certificates.Memory = codes "memory"
 
 -- the number of a piece whose fault it is, and nothing for the others
-abbrev pub piece_text : CertificateFault → List ℕ
-piece_text (certificates.Shape piece) = codes " piece " ++ decimal piece
-piece_text (certificates.TooManyEntries piece) = codes " piece " ++ decimal piece
-piece_text _ = []
-
--- the line for a certificate's fault
-unfoldable pub certificate_text : CertificateFault → List ℕ
-certificate_text fault =
-    codes "ntpaudit: certificate " ++ decimal (certificate_number fault) ++ codes " "
-    ++ certificate_word fault ++ piece_text fault
+abbrev pub piece_of : CertificateFault → FieldData
+piece_of (certificates.Shape piece) = Named (codes "piece") piece
+piece_of (certificates.TooManyEntries piece) = Named (codes "piece") piece
+piece_of _ = Nothing
 
 -- the word for each fault of a refutation
 abbrev pub refutation_word : RefutationFault → List ℕ
 refutation_word refutations.Json = codes "json"
 refutation_word refutations.Shape = codes "shape"
 refutation_word refutations.Memory = codes "memory"
-
--- the line for a refutation's fault
-unfoldable pub refutation_text : RefutationFault → List ℕ
-refutation_text fault =
-    codes "ntpaudit: refutation " ++ decimal (refutation_number fault) ++ codes " "
-    ++ refutation_word fault
 
 -- the word for an input
 abbrev pub input_word : Input → List ℕ
@@ -107,15 +84,30 @@ input_word inputs.Capture = codes "capture"
 input_word inputs.Certificate = codes "certificate"
 input_word inputs.Refutation = codes "refutation"
 
+-- an input is refused: which one, its fault's number and word, and where in it
+abbrev pub refused : Input → ℕ → List ℕ → FieldData → List FieldData
+refused input number word place =
+    Word (codes "ntpaudit:") ∷ Word (input_word input) ∷ Number number ∷ Word word ∷ place ∷ []
+
+-- what the line of each fault says
+abbrev pub fault_fields : RunFault → List FieldData
+fault_fields (faults.Capture fault) =
+    refused inputs.Capture (capture_number fault) (capture_word fault) (place_of fault)
+fault_fields (faults.Claim fault) =
+    refused inputs.Claim (claim_number fault) (claim_word fault) (code_of fault)
+fault_fields (faults.Certificate fault) =
+    refused inputs.Certificate (certificate_number fault) (certificate_word fault) (piece_of fault)
+fault_fields (faults.Refutation fault) =
+    refused inputs.Refutation (refutation_number fault) (refutation_word fault) Nothing
+fault_fields faults.Exchanges = Word (codes "ntpaudit: exchanges over 1000000") ∷ []
+fault_fields faults.Pieces = Word (codes "ntpaudit: pieces over 100000") ∷ []
+fault_fields (faults.TooBig input) =
+    Word (codes "ntpaudit: too-big") ∷ Word (input_word input) ∷ []
+fault_fields (faults.Device input) =
+    Word (codes "ntpaudit: device") ∷ Word (input_word input) ∷ []
+fault_fields (faults.Write sent) = Named (codes "ntpaudit: device output after") sent ∷ []
+fault_fields faults.Memory = Word (codes "ntpaudit: memory") ∷ []
+
 -- the line for each fault
 abbrev pub fault_text : RunFault → List ℕ
-fault_text (faults.Capture fault) = capture_text fault
-fault_text (faults.Claim fault) = claim_text fault
-fault_text (faults.Certificate fault) = certificate_text fault
-fault_text (faults.Refutation fault) = refutation_text fault
-fault_text faults.Exchanges = codes "ntpaudit: exchanges over 1000000"
-fault_text faults.Pieces = codes "ntpaudit: pieces over 100000"
-fault_text (faults.TooBig input) = codes "ntpaudit: too-big " ++ input_word input
-fault_text (faults.Device input) = codes "ntpaudit: device " ++ input_word input
-fault_text (faults.Write sent) = codes "ntpaudit: device output after " ++ decimal sent
-fault_text faults.Memory = codes "ntpaudit: memory"
+fault_text fault = fields_text Plain (fault_fields fault)

@@ -1,184 +1,242 @@
 //! The line of a fault.
 
 ghost use Rattle.std.specs.Prelude.{◌≡◌, ◌+◌, ◌≤◌, ◌++◌, length, IfOk, string_bytes};
-ghost use Rattle.std.specs.Fmt.{decimal};
 ghost use Rattle.line_writer.specs.declared.line.TheConstants.{CAPACITY};
-ghost use Rattle.report.specs.FaultText.{fault_text, capture_text, capture_word, place_text, claim_text, claim_word, field_text, input_word};
-ghost use Rattle.report.specs.FaultText.{certificate_text, certificate_word, piece_text, refutation_text, refutation_word};
+ghost use Rattle.line_writer.specs.declared.field.Style.TheVariants.{Plain};
+ghost use Rattle.line_writer.specs.Field.{field_data, fields_text, most_of};
+ghost use Rattle.report.specs.FaultText as spec;
+ghost use Rattle.report.specs.FaultText.{fault_text, refused};
 
 use crate::fault::{Input, RunFault};
 use certificate::{CertificateFault, RefutationFault};
 use claim_file::ClaimFault;
-use line_writer::Line;
+use line_writer::{Field, Line, Style, put_fields};
 use pcap_reader::CaptureFault;
 use std::alloc::{AllocError, Global};
 use std::str;
 
-/// Writes a word and what its number counts, with the number.
-fn put_numbered(line: &mut Line, words: &str, number: u64)
-    requires { length line.old + length words.now + 20 ≤ CAPACITY }
-    ensures text { line.new ≡ words.now ++ decimal number ++ line.old }
-    ensures at_most { length line.new ≤ length line.old + length words.now + 20 }
-{
-    line.put_number(number);
-    line.put_text(words);
-}
-
-/// Writes the word for a capture's fault, and the place of the record whose fault it is.
-fn put_capture_word(line: &mut Line, fault: &CaptureFault)
-    requires { length line.old + 43 ≤ CAPACITY }
-    ensures text { line.new ≡ capture_word fault.now ++ place_text fault.now ++ line.old }
-    ensures at_most { length line.new ≤ length line.old + 43 }
+/// The word for a capture's fault.
+fn capture_word(fault: &CaptureFault) -> &'static str
+    ensures word { result.now ≡ spec.capture_word fault.now }
+    ensures short { length result.now ≤ 16 }
 {
     match fault {
-        CaptureFault::TornHeader => line.put_text("torn-header"),
-        CaptureFault::Magic => line.put_text("magic"),
-        CaptureFault::Version => line.put_text("version"),
-        CaptureFault::Link => line.put_text("link"),
-        CaptureFault::TornRecord(place) => put_numbered(line, "torn-record at ", *place),
-        CaptureFault::TooLong(place) => put_numbered(line, "too-long at ", *place),
-        CaptureFault::BadFraction(place) => put_numbered(line, "bad-fraction at ", *place),
-        CaptureFault::TooMany => line.put_text("too-many"),
-        CaptureFault::Read => line.put_text("read"),
-        CaptureFault::Memory => line.put_text("memory"),
-        CaptureFault::Failed => line.put_text("failed"),
+        CaptureFault::TornHeader => "torn-header",
+        CaptureFault::Magic => "magic",
+        CaptureFault::Version => "version",
+        CaptureFault::Link => "link",
+        CaptureFault::TornRecord(_) => "torn-record",
+        CaptureFault::TooLong(_) => "too-long",
+        CaptureFault::BadFraction(_) => "bad-fraction",
+        CaptureFault::TooMany => "too-many",
+        CaptureFault::Read => "read",
+        CaptureFault::Memory => "memory",
+        CaptureFault::Failed => "failed",
     }
 }
 
-/// Writes the line for a capture's fault.
-#[tactic(auto, unfolding(crate::specs::FaultText::capture_text))]
-fn put_capture(line: &mut Line, fault: &CaptureFault)
-    requires { length line.old + 69 ≤ CAPACITY }
-    ensures { line.new ≡ capture_text fault.now ++ line.old }
-{
-    put_capture_word(line, fault);
-    line.put_byte(b' ');
-    line.put_number(fault.number());
-    line.put_text("ntpaudit: capture ");
-}
-
-/// Writes the word for a claim's fault, and the code of the field whose fault it is.
-fn put_claim_word(line: &mut Line, fault: &ClaimFault)
-    requires { length line.old + 43 ≤ CAPACITY }
-    ensures text { line.new ≡ claim_word fault.now ++ field_text fault.now ++ line.old }
-    ensures at_most { length line.new ≤ length line.old + 43 }
+/// The place of the record whose fault it is.
+fn place_of(fault: &CaptureFault) -> Field<'static>
+    ensures place { field_data result ≡ spec.place_of fault.now }
+    ensures short { most_of (field_data result) ≤ 41 }
 {
     match fault {
-        ClaimFault::Json => line.put_text("json"),
-        ClaimFault::Field(code) => put_numbered(line, "field field ", u64::from(*code)),
-        ClaimFault::Address => line.put_text("address"),
-        ClaimFault::Time => line.put_text("time"),
-        ClaimFault::Range => line.put_text("range"),
-        ClaimFault::RepeatedServer => line.put_text("repeated-server"),
-        ClaimFault::Memory => line.put_text("memory"),
-        ClaimFault::Groups => line.put_text("groups"),
+        CaptureFault::TornRecord(place)
+        | CaptureFault::TooLong(place)
+        | CaptureFault::BadFraction(place) => Field::Named("at", *place),
+        _ => Field::Nothing,
     }
 }
 
-/// Writes the line for a claim's fault.
-#[tactic(auto, unfolding(crate::specs::FaultText::claim_text))]
-fn put_claim(line: &mut Line, fault: &ClaimFault)
-    requires { length line.old + 69 ≤ CAPACITY }
-    ensures { line.new ≡ claim_text fault.now ++ line.old }
-{
-    put_claim_word(line, fault);
-    line.put_byte(b' ');
-    line.put_number(fault.number());
-    line.put_text("ntpaudit: claim ");
-}
-
-/// Writes the word for a certificate's fault, and the number of the piece whose fault it is.
-fn put_certificate_word(line: &mut Line, fault: &CertificateFault)
-    requires { length line.old + 43 ≤ CAPACITY }
-    ensures text { line.new ≡ certificate_word fault.now ++ piece_text fault.now ++ line.old }
-    ensures at_most { length line.new ≤ length line.old + 43 }
+/// The word for a claim's fault.
+fn claim_word(fault: &ClaimFault) -> &'static str
+    ensures word { result.now ≡ spec.claim_word fault.now }
+    ensures short { length result.now ≤ 16 }
 {
     match fault {
-        CertificateFault::Json => line.put_text("json"),
-        CertificateFault::Top => line.put_text("top"),
-        CertificateFault::Shape(piece) => put_numbered(line, "shape piece ", u64::from(*piece)),
-        CertificateFault::TooManyEntries(piece) => {
-            put_numbered(line, "too-many-entries piece ", u64::from(*piece));
+        ClaimFault::Json => "json",
+        ClaimFault::Field(_) => "field",
+        ClaimFault::Address => "address",
+        ClaimFault::Time => "time",
+        ClaimFault::Range => "range",
+        ClaimFault::RepeatedServer => "repeated-server",
+        ClaimFault::Memory => "memory",
+        ClaimFault::Groups => "groups",
+    }
+}
+
+/// The code of the field whose fault it is.
+fn code_of(fault: &ClaimFault) -> Field<'static>
+    ensures code { field_data result ≡ spec.code_of fault.now }
+    ensures short { most_of (field_data result) ≤ 41 }
+{
+    match fault {
+        ClaimFault::Field(code) => Field::Named("field", u64::from(*code)),
+        _ => Field::Nothing,
+    }
+}
+
+/// The word for a certificate's fault.
+fn certificate_word(fault: &CertificateFault) -> &'static str
+    ensures word { result.now ≡ spec.certificate_word fault.now }
+    ensures short { length result.now ≤ 16 }
+{
+    match fault {
+        CertificateFault::Json => "json",
+        CertificateFault::Top => "top",
+        CertificateFault::Shape(_) => "shape",
+        CertificateFault::TooManyEntries(_) => "too-many-entries",
+        CertificateFault::TooManyPieces => "too-many-pieces",
+        CertificateFault::Memory => "memory",
+    }
+}
+
+/// The number of the piece whose fault it is.
+fn piece_of(fault: &CertificateFault) -> Field<'static>
+    ensures piece { field_data result ≡ spec.piece_of fault.now }
+    ensures short { most_of (field_data result) ≤ 41 }
+{
+    match fault {
+        CertificateFault::Shape(piece) | CertificateFault::TooManyEntries(piece) => {
+            Field::Named("piece", u64::from(*piece))
         }
-        CertificateFault::TooManyPieces => line.put_text("too-many-pieces"),
-        CertificateFault::Memory => line.put_text("memory"),
+        _ => Field::Nothing,
     }
 }
 
-/// Writes the line for a certificate's fault.
-#[tactic(auto, unfolding(crate::specs::FaultText::certificate_text))]
-fn put_certificate(line: &mut Line, fault: &CertificateFault)
-    requires { length line.old + 69 ≤ CAPACITY }
-    ensures { line.new ≡ certificate_text fault.now ++ line.old }
-{
-    put_certificate_word(line, fault);
-    line.put_byte(b' ');
-    line.put_number(fault.number());
-    line.put_text("ntpaudit: certificate ");
-}
-
-/// Writes the word for a refutation's fault.
-fn put_refutation_word(line: &mut Line, fault: &RefutationFault)
-    requires { length line.old + 43 ≤ CAPACITY }
-    ensures text { line.new ≡ refutation_word fault.now ++ line.old }
-    ensures at_most { length line.new ≤ length line.old + 43 }
+/// The word for a refutation's fault.
+fn refutation_word(fault: &RefutationFault) -> &'static str
+    ensures word { result.now ≡ spec.refutation_word fault.now }
+    ensures short { length result.now ≤ 16 }
 {
     match fault {
-        RefutationFault::Json => line.put_text("json"),
-        RefutationFault::Shape => line.put_text("shape"),
-        RefutationFault::Memory => line.put_text("memory"),
+        RefutationFault::Json => "json",
+        RefutationFault::Shape => "shape",
+        RefutationFault::Memory => "memory",
     }
 }
 
-/// Writes the line for a refutation's fault.
-#[tactic(auto, unfolding(crate::specs::FaultText::refutation_text))]
-fn put_refutation(line: &mut Line, fault: &RefutationFault)
-    requires { length line.old + 69 ≤ CAPACITY }
-    ensures { line.new ≡ refutation_text fault.now ++ line.old }
-{
-    put_refutation_word(line, fault);
-    line.put_byte(b' ');
-    line.put_number(fault.number());
-    line.put_text("ntpaudit: refutation ");
-}
-
-/// Writes the word for an input.
-fn put_input(line: &mut Line, input: &Input)
-    requires { length line.old + 11 ≤ CAPACITY }
-    ensures text { line.new ≡ input_word input.now ++ line.old }
-    ensures at_most { length line.new ≤ length line.old + 11 }
+/// The word for an input.
+fn input_word(input: &Input) -> &'static str
+    ensures word { result.now ≡ spec.input_word input.now }
+    ensures short { length result.now ≤ 16 }
 {
     match input {
-        Input::Claim => line.put_text("claim"),
-        Input::Capture => line.put_text("capture"),
-        Input::Certificate => line.put_text("certificate"),
-        Input::Refutation => line.put_text("refutation"),
+        Input::Claim => "claim",
+        Input::Capture => "capture",
+        Input::Certificate => "certificate",
+        Input::Refutation => "refutation",
     }
 }
 
-/// Writes the line of a fault before what stands in `line`, with no line feed. It has at most 69
-/// bytes, and no memory is taken for it.
+/// Writes the line of an input that is refused: which one, its fault's number and word, and where.
+fn put_refused(
+    line: &mut Line,
+    input: &Input,
+    number: u8,
+    word: &'static str,
+    place: Field<'static>,
+)
+    requires room { length line.old + 128 ≤ CAPACITY }
+    requires word { length word.now ≤ 16 }
+    requires place { most_of (field_data place) ≤ 41 }
+    ensures { line.new ≡ fields_text Plain
+        (refused input.now number word.now (field_data place.entry)) ++ line.old }
+{
+    let fields = [
+        Field::Word("ntpaudit:"),
+        Field::Word(input_word(input)),
+        Field::Number(u64::from(number)),
+        Field::Word(word),
+        place,
+    ];
+    put_fields(line, Style::Plain, &fields);
+}
+
+/// Writes the line of a fault before what stands in `line`, with no line feed, in at most 128
+/// bytes. No memory is taken for it.
 pub(crate) fn put_fault(line: &mut Line, fault: &RunFault)
-    requires { length line.old + 69 ≤ CAPACITY }
+    requires { length line.old + 128 ≤ CAPACITY }
     ensures { line.new ≡ fault_text fault.now ++ line.old }
 {
     match fault {
-        RunFault::Capture(fault) => put_capture(line, fault),
-        RunFault::Claim(fault) => put_claim(line, fault),
-        RunFault::Certificate(fault) => put_certificate(line, fault),
-        RunFault::Refutation(fault) => put_refutation(line, fault),
-        RunFault::Exchanges => line.put_text("ntpaudit: exchanges over 1000000"),
-        RunFault::Pieces => line.put_text("ntpaudit: pieces over 100000"),
+        RunFault::Capture(fault) => {
+            let place = place_of(fault);
+            put_refused(
+                line,
+                &Input::Capture,
+                fault.number(),
+                capture_word(fault),
+                place,
+            );
+        }
+        RunFault::Claim(fault) => {
+            put_refused(
+                line,
+                &Input::Claim,
+                fault.number(),
+                claim_word(fault),
+                code_of(fault),
+            );
+        }
+        RunFault::Certificate(fault) => {
+            let word = certificate_word(fault);
+            put_refused(
+                line,
+                &Input::Certificate,
+                fault.number(),
+                word,
+                piece_of(fault),
+            );
+        }
+        RunFault::Refutation(fault) => {
+            let word = refutation_word(fault);
+            put_refused(
+                line,
+                &Input::Refutation,
+                fault.number(),
+                word,
+                Field::Nothing,
+            );
+        }
+        RunFault::Exchanges => put_fields(
+            line,
+            Style::Plain,
+            &[Field::Word("ntpaudit: exchanges over 1000000")],
+        ),
+        RunFault::Pieces => put_fields(
+            line,
+            Style::Plain,
+            &[Field::Word("ntpaudit: pieces over 100000")],
+        ),
         RunFault::TooBig(input) => {
-            put_input(line, input);
-            line.put_text("ntpaudit: too-big ");
+            put_fields(
+                line,
+                Style::Plain,
+                &[
+                    Field::Word("ntpaudit: too-big"),
+                    Field::Word(input_word(input)),
+                ],
+            );
         }
         RunFault::Device(input) => {
-            put_input(line, input);
-            line.put_text("ntpaudit: device ");
+            put_fields(
+                line,
+                Style::Plain,
+                &[
+                    Field::Word("ntpaudit: device"),
+                    Field::Word(input_word(input)),
+                ],
+            );
         }
-        RunFault::Write(sent) => put_numbered(line, "ntpaudit: device output after ", *sent),
-        RunFault::Memory => line.put_text("ntpaudit: memory"),
+        RunFault::Write(sent) => {
+            put_fields(
+                line,
+                Style::Plain,
+                &[Field::Named("ntpaudit: device output after", *sent)],
+            );
+        }
+        RunFault::Memory => put_fields(line, Style::Plain, &[Field::Word("ntpaudit: memory")]),
     }
 }
 

@@ -14,6 +14,7 @@ use crate::parts::{parts_at, tick_of};
 use audit_text::parts_text;
 use checker::laws::hulls_hold_the_error;
 use claim_file::Claim;
+use line_writer::Style;
 use report::{Made, Outcome, RunFault};
 use span_cover::{Part, piece_hull};
 use std::alloc::{AllocError, Global};
@@ -25,7 +26,7 @@ fn hull_text(alloc: Global, claim: &Claim, parts: &[Part]) -> Result<Vec<u8>, Al
     ensures { IfOk result (λ text. text.items ≡ spec.hull_text (data_of claim.now) parts.now) }
 {
     let hull = piece_hull(parts, claim.groups.as_slice(), claim.false_max);
-    parts_text(alloc, claim, parts, hull)
+    parts_text(alloc, Style::Plain, claim, parts, hull)
 }
 
 /// The whole text for a Unix second.

@@ -13,6 +13,7 @@ use crate::evidence::Evidence;
 use audit_text::check_text;
 use certificate::Certificate;
 use checker::{Verdict, check_exchanges};
+use line_writer::Style;
 use report::{Made, Outcome, RunFault};
 use std::alloc::{AllocError, Global};
 
@@ -43,7 +44,7 @@ pub(crate) fn make_check(
     let claim = &evidence.claim;
     let verdict = check_exchanges(&evidence.held.exchanges, claim, certificate);
     let pieces = certificate.pieces.len() as u32;
-    match check_text(alloc, claim, &evidence.held, pieces, &verdict) {
+    match check_text(alloc, Style::Plain, claim, &evidence.held, pieces, &verdict) {
         Ok(text) => Ok(Made {
             text,
             outcome: outcome_of(&verdict),

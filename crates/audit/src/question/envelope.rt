@@ -14,6 +14,7 @@ use crate::step::Step;
 use audit_text::envelope_text;
 use finder::laws::best_hulls_hold_the_error;
 use finder::{LeastBound, find_envelope_over};
+use line_writer::Style;
 use report::{Made, Outcome, RunFault};
 use std::alloc::{AllocError, Global};
 
@@ -46,7 +47,7 @@ pub(crate) fn make_envelope(
     let claim = &evidence.claim;
     let samples = samples_of(evidence);
     match find_envelope_over(alloc, samples, claim, step.seconds) {
-        Ok(envelope) => match envelope_text(alloc, samples, claim, servers, &envelope) {
+        Ok(envelope) => match envelope_text(alloc, Style::Plain, samples, claim, servers, &envelope) {
             Ok(text) => Ok(Made {
                 text,
                 outcome: outcome_of(envelope.least),

@@ -17,6 +17,7 @@ use crate::step::Step;
 use audit_text::nothing_text;
 use certificate::{Certificate, write_certificate};
 use finder::{FindFault, Found, find_over};
+use line_writer::Style;
 use report::{Made, Outcome, RunFault};
 use std::alloc::{AllocError, Global};
 
@@ -57,7 +58,7 @@ fn found_text(alloc: Global, found: &Found) -> Result<Vec<u8>, AllocError>
 {
     match found {
         Found::Certificate(certificate) => certificate_line(alloc, certificate),
-        Found::Nothing { piece, hull } => nothing_text(alloc, *piece, *hull),
+        Found::Nothing { piece, hull } => nothing_text(alloc, Style::Plain, *piece, *hull),
     }
 }
 

@@ -8,6 +8,7 @@ ghost use Rattle.audit.specs.Samples.{samples_report};
 
 use crate::evidence::Evidence;
 use audit_text::samples_text;
+use line_writer::Style;
 use report::{Made, Outcome, RunFault};
 use std::alloc::{AllocError, Global};
 
@@ -17,7 +18,7 @@ pub(crate) fn make_samples(alloc: Global, evidence: &Evidence) -> Result<Made, R
     ensures made { IsMadeFor (samples_report (evidence_data evidence.now)) result }
     ensures fault { IfErr result IsOfMaking }
 {
-    match samples_text(alloc, &evidence.claim, &evidence.held) {
+    match samples_text(alloc, Style::Plain, &evidence.claim, &evidence.held) {
         Ok(text) => Ok(Made {
             text,
             outcome: Outcome::Yes,

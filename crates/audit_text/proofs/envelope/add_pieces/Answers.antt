@@ -15,11 +15,10 @@ loop-number-preserved g c =
     let pieces = c.args.pieces.now in
     let number = c.loop-number.number in
     let piece = c.index-pieces-number.result in
-    let own = c.in_ok-extend_from_slice.ensures.items
-    ∙ ap (λ l. c.if-servers.text.items ++ l) (c.as_bytes.ensures.text ∙ c.write_piece_line.ensures) in
+    let own = c.in_ok-add_piece.ensures in
     let old = c.loop-number.text.items in
     let more = c.if-servers.text.items in
-    let lines = server_lines samples claim number (piece_data piece) in
+    let lines = server_lines c.args.style samples claim number (piece_data piece) in
     let asked : more ≡ old ++ (if c.args.servers then lines else []) =
     elim c.if-servers.branch [
       | then-servers+in_ok-add_servers w ↦
@@ -29,7 +28,7 @@ loop-number-preserved g c =
           ap (λ (v : Vec ℕ Global). v.items) w.text-is ∙ sym (append-nil old)
           ∙ ap (λ b. old ++ (if b then lines else [])) (sym w.if-servers.false)
     ] in
-    piece_added samples claim c.args.servers pieces number piece old more _ _
+    piece_added c.args.style samples claim c.args.servers pieces number piece old more _ _
     c.loop-number-test.true c.index-pieces-number.is asked own c.loop-number.invariant
 
 pub add_servers-requires : goal.add_servers-requires
@@ -45,5 +44,5 @@ add_servers-requires g c =
 
 pub returns : goal.returns
 returns g c =
-    pieces_done (g.S.SampleSource.samples c.args.samples) (data_of c.args.claim.now) c.args.servers
+    pieces_done c.args.style (g.S.SampleSource.samples c.args.samples) (data_of c.args.claim.now) c.args.servers
     c.args.pieces.now c.loop-number.number c.loop-number-test.false _ _ c.loop-number.invariant

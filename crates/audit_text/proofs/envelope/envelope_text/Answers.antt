@@ -6,6 +6,4 @@ pub returns : goal.returns
 unfolding envelope_text
 returns g c =
     let pieces = rw (c.new-text.ensures.items, c.deref.ensures.value) at c.in_ok-add_pieces.ensures in
-    let bound = c.as_bytes.ensures.text ∙ c.write_bound_line.ensures in
-    c.in_ok-extend_from_slice.ensures.items ∙ ap (λ l. c.add_pieces.new.text.items ++ l) bound
-    ∙ ap (λ l. l ++ bound_line c.args.envelope.now.least) pieces
+    c.in_ok-add_bound.ensures ∙ ap (λ l. l ++ bound_line c.args.style c.args.envelope.now.least) pieces

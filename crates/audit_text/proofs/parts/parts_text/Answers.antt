@@ -9,17 +9,14 @@ use Rattle.audit_text.proofs.parts.parts_text.Goals as goal
 pub loop-part-preserved : goal.loop-part-preserved
 loop-part-preserved c =
     let old = c.loop-part.text.items in
-    listed_more (interval_line (data_of c.args.claim.now)) c.args.parts.now c.loop-part.part-index _
-    c.loop-part-test.true [] old c.extend_from_slice.new.self.items
-    (c.in_ok-extend_from_slice.ensures.items
-    ∙ ap (λ l. old ++ l) (c.as_bytes.ensures.text ∙ c.write_interval_line.ensures.text)) c.loop-part.invariant
+    listed_more (interval_line c.args.style (data_of c.args.claim.now)) c.args.parts.now c.loop-part.part-index _
+    c.loop-part-test.true [] old c.add_interval.new.text.items
+    c.in_ok-add_interval.ensures c.loop-part.invariant
 
 pub returns : goal.returns
 unfolding parts_text
 returns c =
     let text = c.loop-part.text.items in
-    c.in_ok-extend_from_slice-2.ensures.items
-    ∙ ap (λ l. text ++ l) (c.as_bytes-2.ensures.text ∙ c.write_hull_line.ensures.text)
-    ∙ ap (λ l. l ++ hull_line c.args.hull)
-    (listed_all (interval_line (data_of c.args.claim.now)) c.args.parts.now c.loop-part.part-index
+    c.in_ok-add_hull.ensures ∙ ap (λ l. l ++ hull_line c.args.style c.args.hull)
+    (listed_all (interval_line c.args.style (data_of c.args.claim.now)) c.args.parts.now c.loop-part.part-index
     c.loop-part-test.false [] text c.loop-part.invariant)

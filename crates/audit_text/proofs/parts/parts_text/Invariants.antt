@@ -5,4 +5,4 @@ use Rattle.audit_text.specs.IntervalLine.{interval_line}
 use Rattle.audit_text.proofs.parts.parts_text.Given as goal
 
 abbrev pub invariant-loop-part : goal.invariant-loop-part
-invariant-loop-part l = l.text.items ≡ flat_map (interval_line (data_of l.claim)) (take l.part-index l.parts)
+invariant-loop-part l = l.text.items ≡ flat_map (interval_line l.style (data_of l.claim)) (take l.part-index l.parts)

@@ -7,15 +7,15 @@ use Rattle.audit_text.proofs.SampleLemmas.{line_added, lines_done}
 use Rattle.audit_text.proofs.ShownLemmas.{keeps_limits, stands_at}
 use Rattle.audit_text.proofs.samples.add_samples.Goals as goal
 
-pub write_sample_line-requires-clause-exchange : goal.write_sample_line-requires-clause-exchange
-write_sample_line-requires-clause-exchange c = record {
+pub add_sample-requires-clause-exchange : goal.add_sample-requires-clause-exchange
+add_sample-requires-clause-exchange c = record {
   servers = length c.args.claim.now.servers.items;
   lawful = keeps_limits c.args.exchanges.now c.loop-number.number _ c.loop-number-test.true
       c.to_exchange.result c.to_exchange.ensures _ c.requires.exchanges.each;
 }
 
-pub write_sample_line-requires-clause-listed : goal.write_sample_line-requires-clause-listed
-write_sample_line-requires-clause-listed c =
+pub add_sample-requires-clause-listed : goal.add_sample-requires-clause-listed
+add_sample-requires-clause-listed c =
     (keeps_limits c.args.exchanges.now c.loop-number.number _ c.loop-number-test.true
     c.to_exchange.result c.to_exchange.ensures _ c.requires.exchanges.each).listed
 
@@ -27,10 +27,8 @@ loop-number-preserved c =
     let x = c.to_exchange.result in
     let stands = stands_at held i _ c.loop-number-test.true x c.to_exchange.ensures x in
     let within : i < length (map exchange_shown held) = rw (length-map held exchange_shown) c.loop-number-test.true in
-    line_added claim (map exchange_shown held) i x within c.loop-number.text.items _ _
-    (c.in_ok-extend_from_slice.ensures.items
-    ∙ ap (λ l. c.loop-number.text.items ++ l)
-    (c.as_bytes.ensures.text ∙ (c.write_sample_line.ensures ∙ ap (sample_line claim i) stands)))
+    line_added c.args.style claim (map exchange_shown held) i x within c.loop-number.text.items _ _
+    (c.in_ok-add_sample.ensures ∙ ap (λ e. c.loop-number.text.items ++ sample_line c.args.style claim i e) stands)
     c.loop-number.invariant
 
 pub returns : goal.returns
@@ -38,5 +36,5 @@ returns c =
     let held = c.args.exchanges.now in
     let past : length (map exchange_shown held) ≤ c.loop-number.number =
     rw (length-map held exchange_shown) c.loop-number-test.false in
-    lines_done (data_of c.args.claim.now) (map exchange_shown held) c.loop-number.number past
+    lines_done c.args.style (data_of c.args.claim.now) (map exchange_shown held) c.loop-number.number past
     _ _ c.loop-number.invariant

@@ -8,5 +8,5 @@ abbrev pub invariant-loop-number : goal.invariant-loop-number
 invariant-loop-number l =
     let claim = data_of l.claim in
     let exchanges = map exchange_shown l.exchanges in
-    l.text.items ++ sample_lines claim l.number (drop l.number exchanges)
-    ≡ l.initial.text.items ++ sample_lines claim 0 exchanges
+    l.text.items ++ sample_lines l.style claim l.number (drop l.number exchanges)
+    ≡ l.initial.text.items ++ sample_lines l.style claim 0 exchanges

@@ -1,0 +1,44 @@
+use Rattle.std.proofs.Common.{◌≡◌, ◌∙◌, ◌++◌, ◌^◌, ◌<◌, ℕ, ℤ, List, [], ◌∷◌, ap, sym, arith, codes, rules, to_z, of_z, unsigned_abs}
+use Rattle.std.proofs.lemmas.Int.{ints, to_z-of_z, fits_signed_from_abs}
+use Rattle.std.specs.Result.{IfOk}
+use mir.Syntax.{w128}
+use Rattle.line_writer.specs.Field.{line_of, Number, Address, Label, Low, High}
+use Rattle.claim_file.specs.Claim.{data_of}
+use Rattle.sample_interval.specs.OnWire.{offset_from, offset_to, delay_from, delay_to}
+use Rattle.sample_interval.specs.Sample.{sample_of}
+use Rattle.sample_interval.specs.declared.kinds.Sample.{Sample}
+use Rattle.audit_text.specs.SampleLine.{sample_line}
+use Rattle.audit_text.proofs.sample_line.add_sample.Goals as goal
+
+fits : (a : ℤ) → unsigned_abs a < 2 ^ 127 → to_z w128 (of_z w128 a) ≡ a
+fits a h = to_z-of_z w128 a (fits_signed_from_abs w128 a h)
+
+pub returns : goal.returns
+unfolding sample_line
+returns c =
+    let claim = c.args.claim.now in
+    let lawful = c.requires.lawful in
+    let x = c.args.x.now in
+    let small : unsigned_abs claim.reading < 2 ^ 127 =
+    omega (arith, ints, lawful.reading_not_negative, lawful.reading_in_range) in
+    let reading = fits claim.reading small in
+    let offset = c.offset-offset_from.result in
+    let delay = c.delay-delay_from.result in
+    let error = c.sample-error.result in
+    let kept : ℤ → ℤ = λ z. to_z w128 (of_z w128 z) in
+    let told : IfOk c.add_line.result (λ _. c.add_line.new.text.items ≡ c.args.text.now.items ++ line_of c.args.style (
+    Number c.from.result ∷ Address c.server_of.result ∷ Number c.from-2.result ∷ Number c.from-3.result ∷
+    Label (codes "offset") ∷ Low (kept offset.0) ∷ High (kept offset.1) ∷ Label (codes "delay") ∷ Low (kept delay.0) ∷ High (kept delay.1) ∷
+    Label (codes "low") ∷ Low (kept error.low) ∷ Label (codes "high") ∷ High (kept error.high) ∷ [])) = c.add_line.ensures in
+    rw (
+      sym c.from.ensures,
+      sym c.from-2.ensures,
+      sym c.from-3.ensures,
+      sym (to_z-of_z w128 offset.0 (search rules) ∙ c.offset-offset_from.ensures.from ∙ ap (offset_from x) reading),
+      sym (to_z-of_z w128 offset.1 (search rules) ∙ c.offset-offset_from.ensures.to ∙ ap (offset_to x) reading),
+      sym (to_z-of_z w128 delay.0 (search rules) ∙ c.delay-delay_from.ensures.from ∙ ap (delay_from x) reading),
+      sym (to_z-of_z w128 delay.1 (search rules) ∙ c.delay-delay_from.ensures.to ∙ ap (delay_to x) reading),
+      sym (fits error.low (omega (arith, c.sample-error.ensures.lawful.low)) ∙ ap (λ (s : Sample). s.low) (c.sample-error.ensures.exact ∙ ap (sample_of x) reading)),
+      sym (fits error.high (omega (arith, c.sample-error.ensures.lawful.high)) ∙ ap (λ (s : Sample). s.high) (c.sample-error.ensures.exact ∙ ap (sample_of x) reading)),
+      sym c.server_of.ensures,
+    ) told
