@@ -16,4 +16,5 @@ pub mod FramesLemmas
 pub mod ExchangedLemmas
 pub mod ClaimedLemmas
 pub mod UniquenessLemmas
+pub mod Completeness
 pub mod HeadlineLemmas

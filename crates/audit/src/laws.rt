@@ -16,7 +16,7 @@ ghost use Rattle.pcap_reader.specs.declared.format.Format.{Format};
 ghost use Rattle.pcap_reader.specs.Capture.{Record, IsCapture};
 ghost use Rattle.audit.specs.Headline.{ShowsHeadline};
 ghost use Rattle.audit.specs.Claimed.{IsClaimText};
-ghost use Rattle.audit.specs.Exchanged.{IsUsable, IsExchangeIn};
+ghost use Rattle.audit.specs.Exchanged.{IsUsable, IsExchangeIn, IsAmong};
 ghost use Rattle.audit.specs.Captured.{CapturedFrame, IsCaptureOf, frame_of};
 ghost use Rattle.audit.specs.Held.{HoldsPacket, HoldsShown, packet_with};
 ghost use Rattle.audit.specs.Nanoseconds.{GivesNanoseconds};
@@ -29,7 +29,9 @@ use claim_file::laws::{
     addresses_are_dotted, claims_are_lawful, nanoseconds_become_ticks, servers_are_in_their_groups,
     times_are_spelled,
 };
-use era_unfold::laws::{every_stamp_is_unfolded, ratios_are_rounded_as_little_as_can_be};
+use era_unfold::laws::{
+    every_stamp_is_unfolded, ratios_are_rounded_as_little_as_can_be, unfolded_is_one_number,
+};
 use frame_reader::laws::given_where_held;
 use pairing::laws::{
     exchanges_are_those_of_the_pairs, reply_is_of_one_server, request_is_to_one_server,
@@ -103,6 +105,25 @@ pub fn exchanges_are_in_the_frames()
     reply_is_of_one_server();
     ratios_are_rounded_as_little_as_can_be();
     every_stamp_is_unfolded();
+    exchanges_are_those_of_the_pairs();
+}
+
+/// Each exchange in the frames of a capture is collected, whatever its leap indicator, its stratum
+/// and its reference are.
+pub fn exchanges_in_the_frames_are_collected()
+    ensures { (bytes : List ℕ) (format : Format) (records : List Record) (claim : ClaimData) →
+        IsBytes bytes → IsCapture bytes format records →
+        AllPairs (λ a b. a ≢ b) claim.servers → (x : Exchange) →
+        IsExchangeIn claim format.unit (map frame_of records) x →
+        IsAmong (exchanges_of claim records) x }
+{
+    packet_is_given_where_held();
+    usable_replies_are_not_refused();
+    request_is_to_one_server();
+    reply_is_of_one_server();
+    ratios_are_rounded_as_little_as_can_be();
+    every_stamp_is_unfolded();
+    unfolded_is_one_number();
     exchanges_are_those_of_the_pairs();
 }
 
