@@ -1,5 +1,5 @@
 -- Each exchange in the frames of a capture is collected.
-use Rattle.std.proofs.Common.{◌≡◌, ◌≢◌, ℕ, zero, suc, ◌+◌, ◌<◌, ◌&&◌, ◌==◌, ℤ, pos, Bool, true, false, inl, List, [], ◌∷◌, length, map, get_or, Option, Some, None, refl, sym, ap, ◌∙◌, subst, arith}
+use Rattle.std.proofs.Common.{◌≡◌, ◌≢◌, ℕ, zero, suc, ◌&&◌, ◌==◌, ℤ, pos, Bool, true, false, inl, List, [], ◌∷◌, map, Option, Some, None, refl, sym, ap, ◌∙◌, subst, arith}
 use Rattle.std.specs.Prelude.{AllPairs, Contains, slice_get, filter, filter_map}
 use Rattle.std.specs.List.{cons_option}
 use Rattle.std.specs.Option.{option_and_then, option_map}
@@ -16,7 +16,7 @@ use Rattle.claim_file.specs.Claim.{ClaimData}
 use Rattle.pairing.specs.declared.exchange.Exchange.{Exchange}
 use Rattle.pairing.specs.Message.{Request, Reply, request_of, reply_of, reply_in, reply_from}
 use Rattle.pairing.specs.Pair.{IsPair}
-use Rattle.pairing.specs.Pairing.{requests_of, replies_of, requests_for, answers, exchange_of, exchanges_of, low_of, high_of}
+use Rattle.pairing.specs.Pairing.{requests_of, replies_of, answers, exchange_of, exchanges_of, low_of, high_of}
 use Rattle.audit.specs.Captured.{CapturedFrame, frame_of}
 use Rattle.audit.specs.Held.{HoldsPacket, packet_with}
 use Rattle.audit.specs.Exchanged.{HoldsRequest, IsWindowOf, IsExchangeIn, SameExchange, IsAmong}

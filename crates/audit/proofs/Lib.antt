@@ -18,3 +18,5 @@ pub mod ClaimedLemmas
 pub mod UniquenessLemmas
 pub mod Completeness
 pub mod HeadlineLemmas
+pub mod Excess
+pub mod ClaimLimits

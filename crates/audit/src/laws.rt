@@ -15,6 +15,7 @@ ghost use Rattle.pcap_reader.specs.declared.format.Endian.{Endian};
 ghost use Rattle.pcap_reader.specs.declared.format.Format.{Format};
 ghost use Rattle.pcap_reader.specs.Capture.{Record, IsCapture};
 ghost use Rattle.audit.specs.Headline.{ShowsHeadline};
+ghost use Rattle.audit.specs.Contested.{CourseContests, RefutationContests};
 ghost use Rattle.audit.specs.Claimed.{IsClaimText};
 ghost use Rattle.audit.specs.Exchanged.{IsUsable, IsExchangeIn, IsAmong};
 ghost use Rattle.audit.specs.Captured.{CapturedFrame, IsCaptureOf, frame_of};
@@ -22,8 +23,8 @@ ghost use Rattle.audit.specs.Held.{HoldsPacket, HoldsShown, packet_with};
 ghost use Rattle.audit.specs.Nanoseconds.{GivesNanoseconds};
 
 use checker::laws::{
-    bounds_hold_in_nanoseconds, pieces_hold_every_reading, verdicts_are_traceable,
-    yes_is_acceptance,
+    accepted_refutations_have_a_course, bounds_hold_in_nanoseconds, pieces_hold_every_reading,
+    test_is_passed_where_refuted, verdicts_are_traceable, yes_is_acceptance,
 };
 use claim_file::laws::{
     addresses_are_dotted, claims_are_lawful, nanoseconds_become_ticks, servers_are_in_their_groups,
@@ -34,7 +35,8 @@ use era_unfold::laws::{
 };
 use frame_reader::laws::given_where_held;
 use pairing::laws::{
-    exchanges_are_those_of_the_pairs, reply_is_of_one_server, request_is_to_one_server,
+    exchanges_are_those_of_the_pairs, exchanges_keep_their_limits, reply_is_of_one_server,
+    request_is_to_one_server,
 };
 use pcap_reader::laws::{one_reading, what_is_read_is_a_capture};
 
@@ -161,4 +163,30 @@ pub fn yes_shows_the_headline()
     yes_is_acceptance();
     pieces_hold_every_reading();
     bounds_of_bytes_hold_in_nanoseconds();
+}
+
+/// If a claim and a capture are read, and in some course of events that fits them the clock is off
+/// by more than the bound at a reading of the span, that is shown of their bytes, said in relations
+/// alone: of all exchanges in the frames, none of which is missing.
+pub fn course_beyond_the_bound_contests_the_claim()
+    ensures { CourseContests }
+{
+    claims_are_what_their_text_says();
+    claims_are_lawful();
+    what_is_read_is_a_capture();
+    records_are_frames();
+    exchanges_are_in_the_frames();
+    exchanges_in_the_frames_are_collected();
+}
+
+/// The same if some refutation is accepted, whose error doesn't change.
+pub fn accepted_refutation_contests_the_claim()
+    ensures { RefutationContests }
+{
+    claims_are_lawful();
+    what_is_read_is_a_capture();
+    exchanges_keep_their_limits();
+    test_is_passed_where_refuted();
+    accepted_refutations_have_a_course();
+    course_beyond_the_bound_contests_the_claim();
 }
