@@ -187,7 +187,7 @@ module _ (laws : Laws) (claim : ClaimData) (apart : AllPairs (λ a b. a ≢ b) c
       ∙ ap (option_map (request_to r.head p)) asked
       ∙ ap (λ (n : ℕ). Some (record { server = server; port = port; stamp = n; head = r.head })) holds.stamped
 
-  three_pass : (a b c d e f : ℕ) → a ≡ b → c ≡ d → e ≡ f → (a == b && (c == d && e == f)) ≡ true
+  pub three_pass : (a b c d e f : ℕ) → a ≡ b → c ≡ d → e ≡ f → (a == b && (c == d && e == f)) ≡ true
   three_pass a b c d e f x y z = grind (arith, nat_tests)
 
 -- ---- times
@@ -214,7 +214,7 @@ module _ (laws : Laws) where
         ceiling = rw (second, part, sym is) next;
       }
 
-  distance_is : (header : List ℕ) → IsUsable header → distance_of header ≡ pos (root_delay_of header * 32768
+  pub distance_is : (header : List ℕ) → IsUsable header → distance_of header ≡ pos (root_delay_of header * 32768
       + root_dispersion_of header * 65536 + precision_ticks_of (precision_of header))
   unfolding root_distance_of
   distance_is header usable =
@@ -231,7 +231,7 @@ pub record AreInPlace (unit : TimeUnit) (records : List Record) : Type 0 where
   pub bytes : (k : ℕ) (r : Record) → slice_get records k ≡ Some r → IsBytes r.bytes
 
 -- the same packet, with addresses and ports said in other words
-moved : {s s₂ : List ℕ} {p p₂ : ℕ} {d d₂ : List ℕ} {q q₂ : ℕ} (frame header : List ℕ) → s ≡ s₂ → p ≡ p₂ → d ≡ d₂
+pub moved : {s s₂ : List ℕ} {p p₂ : ℕ} {d d₂ : List ℕ} {q q₂ : ℕ} (frame header : List ℕ) → s ≡ s₂ → p ≡ p₂ → d ≡ d₂
     → q ≡ q₂ → HoldsPacket frame s p d q header → HoldsPacket frame s₂ p₂ d₂ q₂ header
 moved {s} {s₂} {p} {p₂} {d} {d₂} {q} {q₂} frame header a b c e held =
     subst (λ (x : List ℕ). HoldsPacket frame x p₂ d₂ q₂ header) a
@@ -248,7 +248,7 @@ module _ (laws : Laws) (claim : ClaimData) (apart : AllPairs (λ a b. a ≢ b) c
       let number : head.number ≡ k = ap (λ (h : RecordHead). h.number) is ∙ given.numbered k r at in
       ap (slice_get (map frame_of records)) number ∙ frame_at records k r at
 
-  window_at : (k : ℕ) (r : Record) (head : RecordHead) → head ≡ r.head → slice_get records k ≡ Some r
+  pub window_at : (k : ℕ) (r : Record) (head : RecordHead) → head ≡ r.head → slice_get records k ≡ Some r
       → IsWindowOf unit (frame_of r) (low_of head) (high_of head)
   window_at k r head is at =
       window_of laws unit head (ap (λ (h : RecordHead). h.unit) is ∙ given.in_unit k r at) (frame_of r)

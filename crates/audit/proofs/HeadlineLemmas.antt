@@ -1,6 +1,7 @@
 -- What was read of a capture, and the pieces of a span.
-use Rattle.std.proofs.Common.{◌≡◌, ◌∙◌, ℕ, zero, suc, ℤ, pos, List, [], ◌∷◌, Bool, true, false, length, Option, Some, None, Result, Ok, Err, refl, sym, ap}
+use Rattle.std.proofs.Common.{◌≡◌, ◌∙◌, ℕ, zero, suc, ◌≤◌, ℤ, pos, List, [], ◌∷◌, Bool, true, false, length, Option, Some, None, Result, Ok, Err, refl, sym, ap}
 use Rattle.std.specs.Prelude.{IsSomeAnd, slice_get, nat_lt, if◌then◌else◌}
+use Rattle.std.proofs.lemmas.Bool.{ltb-false}
 use Rattle.certificate.specs.Certificate.{PieceData}
 use Rattle.claim_file.specs.Claim.{ClaimData}
 use Rattle.pairing.specs.declared.fault.PairFault.{PairFault}
@@ -22,6 +23,7 @@ abbrev pub Collected : ClaimData → List ℕ → Collection → Type 0
 Collected claim bytes collection = (records : List Record)
     × (capture_of bytes ≡ Ok (record { records = records; fault = None }))
     × (collection.exchanges ≡ exchanges_of claim records)
+    × (length (exchanges_of claim records) ≤ most_exchanges)
 
 of_pairs : (r : Result Collection PairFault) (c : Collection) → collection_or_fault r ≡ Ok c → r ≡ Ok c
 of_pairs (Ok d) c is = cc
@@ -33,28 +35,32 @@ unbroken None r c is = (refl, is)
 unbroken (Some fault) r c is = absurd cc
 
 few : (many : Bool) (made c : Collection) → (if many then Err TooManyExchanges else Ok made) ≡ Ok c →
-    c.exchanges ≡ made.exchanges
-few true made c is = cc
-few false made c is = let same : made ≡ c = cc in sym (ap (λ (d : Collection). d.exchanges) same)
+    (c.exchanges ≡ made.exchanges) × (many ≡ false)
+few true made c is = absurd cc
+few false made c is = let same : made ≡ c = cc in (sym (ap (λ (d : Collection). d.exchanges) same), refl)
 
 module _ (claim : ClaimData) (bytes : List ℕ) (collection : Collection) where
   few_collected : (records : List Record) → collection_of claim records ≡ Ok collection →
-      collection.exchanges ≡ exchanges_of claim records
+      (collection.exchanges ≡ exchanges_of claim records)
+      × (length (exchanges_of claim records) ≤ most_exchanges)
   unfolding collection_of
   few_collected records is =
-      few (nat_lt most_exchanges (length (exchanges_of claim records))) (record {
+      let found = few (nat_lt most_exchanges (length (exchanges_of claim records))) (record {
         exchanges = exchanges_of claim records;
         counts = counts_of claim records;
-      }) collection is
+      }) collection is in
+      (found.0, ltb-false most_exchanges (length (exchanges_of claim records)) found.1)
 
   of_coming : (coming : Coming) → answer_of claim coming ≡ Ok collection → capture_of bytes ≡ Ok coming →
       Collected claim bytes collection
   unfolding answer_of
   of_coming coming answered is =
-      let whole = unbroken coming.fault (collection_of claim coming.records) collection answered in (
+      let whole = unbroken coming.fault (collection_of claim coming.records) collection answered in
+      let made = few_collected coming.records whole.1 in (
         coming.records,
         is ∙ ap (λ (fault : Option CaptureFault). Ok (record { records = coming.records; fault = fault })) whole.0,
-        few_collected coming.records whole.1,
+        made.0,
+        made.1,
       )
 
   of_read : (c : Result Coming CaptureFault) → collection_read claim c ≡ Ok collection → capture_of bytes ≡ c →

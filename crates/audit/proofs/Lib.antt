@@ -16,4 +16,7 @@ pub mod FramesLemmas
 pub mod ExchangedLemmas
 pub mod ClaimedLemmas
 pub mod UniquenessLemmas
+pub mod Completeness
 pub mod HeadlineLemmas
+pub mod Excess
+pub mod ClaimLimits

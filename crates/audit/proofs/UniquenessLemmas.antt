@@ -67,13 +67,13 @@ groups_same (Some x) (Some y) e =
 
 -- ---- values
 
-floor_same : (n d a b : ℕ) → IsFloor n d a → IsFloor n d b → a ≡ b
+pub floor_same : (n d a b : ℕ) → IsFloor n d a → IsFloor n d b → a ≡ b
 floor_same n d a b x y =
     let least = x.greatest b y.not_above in
     let most = y.greatest a x.not_above in
     omega (arith, least, most)
 
-ceiling_same : (n d a b : ℕ) → IsCeiling n d a → IsCeiling n d b → a ≡ b
+pub ceiling_same : (n d a b : ℕ) → IsCeiling n d a → IsCeiling n d b → a ≡ b
 ceiling_same n d a b x y =
     let most = x.least b y.not_below in
     let least = y.least a x.not_below in

@@ -1,5 +1,5 @@
 -- What a claim's text says, as a relation.
-use Rattle.std.specs.Prelude.{◌≡◌, ℕ, ◌*◌, ℤ, pos, ◌↔◌, List, map, codes, length, option_map, Option, Some, slice_get}
+use Rattle.std.specs.Prelude.{◌≡◌, ◌≢◌, ℕ, ◌*◌, ◌^◌, ◌<◌, ◌≤◌, ℤ, pos, ◌≤ℤ◌, ◌↔◌, List, ◌∷◌, map, codes, length, All, AllPairs, option_map, Option, Some, slice_get}
 use Rattle.std.specs.List.{AllZip}
 use Rattle.std.specs.Net.Grammar.{IsDotted}
 use Rattle.era_unfold.specs.Nanoseconds.{nanoseconds_per_second}
@@ -56,3 +56,16 @@ pub record IsClaimText (text : List ℕ) (claim : ClaimData) : Type 0 where
   pub each_in_a_group : length claim.groups ≡ length claim.servers
   pub groups : (server group : ℕ) → (slice_get claim.groups server ≡ Some group)
       ↔ IsInGroup (length claim.servers) listed server group
+
+-- The claim keeps every limit: 1 to 32 servers, whose addresses differ and aren't the client's, in
+-- groups with numbers below their count; a span that doesn't end before it begins; at most 31
+-- groups false, a drift of at most a half, a bound of at most a million seconds and an allowance of
+-- at most one.
+pub record IsWithinLimits (claim : ClaimData) : Type 0 where
+  pub servers : (1 ≤ length claim.servers) × (length claim.servers ≤ 32)
+  pub addresses_differ : AllPairs (λ a b. a ≢ b) (claim.client ∷ claim.servers)
+  pub groups_in_range : All (λ group. group < length claim.servers) claim.groups
+  pub span_forward : claim.first ≤ℤ claim.last
+  pub few_false : claim.false_max ≤ 31
+  pub drift : claim.drift_ppb ≤ 500000000
+  pub in_nanoseconds : (claim.bound_ns ≤ 10 ^ 15) × (claim.reading_ns ≤ 10 ^ 9)

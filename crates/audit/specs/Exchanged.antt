@@ -74,3 +74,24 @@ pub record IsExchangeIn (claim : ClaimData) (unit : TimeUnit) (frames : List Cap
   pub t4 : IsWindowOf unit reply x.t4_low x.t4_high
   pub distance : x.distance ≡ pos (root_delay_of header * 32768
       + root_dispersion_of header * 65536 + precision_ticks_of (precision_of header))
+
+-- two exchanges agree in all that these frames say of them; the leap indicator, the stratum and the
+-- reference are left open
+pub record SameExchange (x y : Exchange) : Type 0 where
+  pub server : x.server ≡ y.server
+  pub request : x.request ≡ y.request
+  pub reply : x.reply ≡ y.reply
+  pub t1_low : x.t1_low ≡ y.t1_low
+  pub t1_high : x.t1_high ≡ y.t1_high
+  pub t4_low : x.t4_low ≡ y.t4_low
+  pub t4_high : x.t4_high ≡ y.t4_high
+  pub t2 : x.t2 ≡ y.t2
+  pub t3 : x.t3 ≡ y.t3
+  pub distance : x.distance ≡ y.distance
+
+-- one of these exchanges agrees with it in all that
+pub record IsAmong (xs : List Exchange) (x : Exchange) : Type 0 where
+  pub place : ℕ
+  pub found : Exchange
+  pub stands : slice_get xs place ≡ Some found
+  pub same : SameExchange x found

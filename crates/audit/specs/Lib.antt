@@ -17,3 +17,4 @@ pub mod Exchanged
 pub mod Captured
 pub mod Claimed
 pub mod Headline
+pub mod Contested

@@ -15,24 +15,28 @@ ghost use Rattle.pcap_reader.specs.declared.format.Endian.{Endian};
 ghost use Rattle.pcap_reader.specs.declared.format.Format.{Format};
 ghost use Rattle.pcap_reader.specs.Capture.{Record, IsCapture};
 ghost use Rattle.audit.specs.Headline.{ShowsHeadline};
+ghost use Rattle.audit.specs.Contested.{CourseContests, RefutationContests};
 ghost use Rattle.audit.specs.Claimed.{IsClaimText};
-ghost use Rattle.audit.specs.Exchanged.{IsUsable, IsExchangeIn};
+ghost use Rattle.audit.specs.Exchanged.{IsUsable, IsExchangeIn, IsAmong};
 ghost use Rattle.audit.specs.Captured.{CapturedFrame, IsCaptureOf, frame_of};
 ghost use Rattle.audit.specs.Held.{HoldsPacket, HoldsShown, packet_with};
 ghost use Rattle.audit.specs.Nanoseconds.{GivesNanoseconds};
 
 use checker::laws::{
-    bounds_hold_in_nanoseconds, pieces_hold_every_reading, verdicts_are_traceable,
-    yes_is_acceptance,
+    accepted_refutations_have_a_course, bounds_hold_in_nanoseconds, pieces_hold_every_reading,
+    test_is_passed_where_refuted, verdicts_are_traceable, yes_is_acceptance,
 };
 use claim_file::laws::{
     addresses_are_dotted, claims_are_lawful, nanoseconds_become_ticks, servers_are_in_their_groups,
     times_are_spelled,
 };
-use era_unfold::laws::{every_stamp_is_unfolded, ratios_are_rounded_as_little_as_can_be};
+use era_unfold::laws::{
+    every_stamp_is_unfolded, ratios_are_rounded_as_little_as_can_be, unfolded_is_one_number,
+};
 use frame_reader::laws::given_where_held;
 use pairing::laws::{
-    exchanges_are_those_of_the_pairs, reply_is_of_one_server, request_is_to_one_server,
+    exchanges_are_those_of_the_pairs, exchanges_keep_their_limits, reply_is_of_one_server,
+    request_is_to_one_server,
 };
 use pcap_reader::laws::{one_reading, what_is_read_is_a_capture};
 
@@ -106,6 +110,25 @@ pub fn exchanges_are_in_the_frames()
     exchanges_are_those_of_the_pairs();
 }
 
+/// Each exchange in the frames of a capture is collected, whatever its leap indicator, its stratum
+/// and its reference are.
+pub fn exchanges_in_the_frames_are_collected()
+    ensures { (bytes : List ℕ) (format : Format) (records : List Record) (claim : ClaimData) →
+        IsBytes bytes → IsCapture bytes format records →
+        AllPairs (λ a b. a ≢ b) claim.servers → (x : Exchange) →
+        IsExchangeIn claim format.unit (map frame_of records) x →
+        IsAmong (exchanges_of claim records) x }
+{
+    packet_is_given_where_held();
+    usable_replies_are_not_refused();
+    request_is_to_one_server();
+    reply_is_of_one_server();
+    ratios_are_rounded_as_little_as_can_be();
+    every_stamp_is_unfolded();
+    unfolded_is_one_number();
+    exchanges_are_those_of_the_pairs();
+}
+
 /// What is read of a claim's bytes is what their text says.
 pub fn claims_are_what_their_text_says()
     ensures { (text : List ℕ) (claim : ClaimData) → claim_of text ≡ Ok claim →
@@ -140,4 +163,30 @@ pub fn yes_shows_the_headline()
     yes_is_acceptance();
     pieces_hold_every_reading();
     bounds_of_bytes_hold_in_nanoseconds();
+}
+
+/// If a claim and a capture are read, and in some course of events that fits them the clock is off
+/// by more than the bound at a reading of the span, that is shown of their bytes, said in relations
+/// alone: of all exchanges in the frames, none of which is missing.
+pub fn course_beyond_the_bound_contests_the_claim()
+    ensures { CourseContests }
+{
+    claims_are_what_their_text_says();
+    claims_are_lawful();
+    what_is_read_is_a_capture();
+    records_are_frames();
+    exchanges_are_in_the_frames();
+    exchanges_in_the_frames_are_collected();
+}
+
+/// The same if some refutation is accepted, whose error doesn't change.
+pub fn accepted_refutation_contests_the_claim()
+    ensures { RefutationContests }
+{
+    claims_are_lawful();
+    what_is_read_is_a_capture();
+    exchanges_keep_their_limits();
+    test_is_passed_where_refuted();
+    accepted_refutations_have_a_course();
+    course_beyond_the_bound_contests_the_claim();
 }

@@ -1,0 +1,17 @@
+-- A lawful claim keeps the limits of a claim's text.
+use Rattle.std.proofs.Common.{◌≢◌, sym}
+use Rattle.std.proofs.lemmas.List.Kept.{AllPairs-cons}
+use Rattle.claim_file.specs.Claim.{ClaimData, IsLawful}
+use Rattle.audit.specs.Claimed.{IsWithinLimits}
+
+pub within_limits : (claim : ClaimData) → IsLawful claim → IsWithinLimits claim
+within_limits claim lawful = record {
+  servers = (lawful.some_server, lawful.few_servers);
+  addresses_differ = AllPairs-cons (λ a b. a ≢ b) claim.client claim.servers
+      (λ k d below same. lawful.client_is_no_server k d below (sym same)) lawful.addresses_differ;
+  groups_in_range = lawful.groups_in_range;
+  span_forward = lawful.span_forward;
+  few_false = lawful.few_false;
+  drift = lawful.drift_in_range;
+  in_nanoseconds = (lawful.bound_ns_in_range, lawful.reading_ns_in_range);
+}

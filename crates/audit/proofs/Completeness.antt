@@ -1,0 +1,248 @@
+-- Each exchange in the frames of a capture is collected.
+use Rattle.std.proofs.Common.{◌≡◌, ◌≢◌, ℕ, zero, suc, ◌&&◌, ◌==◌, ℤ, pos, Bool, true, false, inl, List, [], ◌∷◌, map, Option, Some, None, refl, sym, ap, ◌∙◌, subst, arith}
+use Rattle.std.specs.Prelude.{AllPairs, Contains, slice_get, filter, filter_map}
+use Rattle.std.specs.List.{cons_option}
+use Rattle.std.specs.Option.{option_and_then, option_map}
+use Rattle.std.proofs.lemmas.Bool.{cond-true, cond-false}
+use Rattle.std.proofs.lemmas.Bool.Decides.{nat_tests}
+use Rattle.std.proofs.lemmas.Option.{slice_get-get_or}
+use Rattle.byte_stream.specs.Bytes.{IsBytes}
+use Rattle.era_unfold.specs.declared.unit.Unit.{Unit as TimeUnit}
+use Rattle.era_unfold.specs.Stamp.{IsUnfolded}
+use Rattle.pcap_reader.specs.Capture.{Record}
+use Rattle.ntp_packet.specs.Header.{mode_of, origin_of, receive_of, transmit_of}
+use Rattle.ntp_packet.specs.Packet.{ntp_port}
+use Rattle.claim_file.specs.Claim.{ClaimData}
+use Rattle.pairing.specs.declared.exchange.Exchange.{Exchange}
+use Rattle.pairing.specs.Message.{Request, Reply, request_of, reply_of, reply_in, reply_from}
+use Rattle.pairing.specs.Pair.{IsPair}
+use Rattle.pairing.specs.Pairing.{requests_of, replies_of, answers, exchange_of, exchanges_of, low_of, high_of}
+use Rattle.audit.specs.Captured.{CapturedFrame, frame_of}
+use Rattle.audit.specs.Held.{HoldsPacket, packet_with}
+use Rattle.audit.specs.Exchanged.{HoldsRequest, IsWindowOf, IsExchangeIn, SameExchange, IsAmong}
+use Rattle.audit.proofs.CapturedLemmas.{SaidBy, frame_at, said_by}
+use Rattle.audit.proofs.ExchangedLemmas.{Laws, AreInPlace, request_at, gives_request, three_pass, distance_is, moved, window_at}
+use Rattle.audit.proofs.UniquenessLemmas.{floor_same, ceiling_same}
+
+-- ---- lists
+
+module _ {X Y : Type 0} (f : X → Option Y) where
+  kept_among : (o : Option Y) (ys : List Y) (y : Y) → Contains ys y → Contains (cons_option o ys) y
+  kept_among None ys y there = there
+  kept_among (Some z) ys y (k, below, is) = (suc k, omega (arith, below), is)
+
+  first_among : (o : Option Y) (ys : List Y) (y : Y) → o ≡ Some y → Contains (cons_option o ys) y
+  first_among None ys y is = absurd cc
+  first_among (Some z) ys y is = let same : z ≡ y = cc in (0, omega arith, same)
+
+  -- what is given of one of these stands in what is given of all
+  given_among : (xs : List X) (k : ℕ) (x : X) (y : Y) → slice_get xs k ≡ Some x → f x ≡ Some y
+      → Contains (filter_map f xs) y
+  given_among [] k x y at is = absurd cc
+  given_among (first ∷ xs) zero x y at is =
+      let same : first ≡ x = cc in
+      first_among (f first) (filter_map f xs) y (ap f same ∙ is)
+  given_among (first ∷ xs) (suc k) x y at is =
+      kept_among (f first) (filter_map f xs) y (given_among xs k x y at is)
+
+  module _ (p : Y → Bool) where
+    dropped : (z : Y) (ys rest : List Y) → (p z ≡ true → ⊥) → filter p ys ≡ rest → (b : Bool) → p z ≡ b
+        → filter p (z ∷ ys) ≡ rest
+    dropped z ys rest fails is true e = absurd (fails e)
+    dropped z ys rest fails is false e = cond-false (p z) (z ∷ filter p ys) (filter p ys) e ∙ is
+
+    skipped : (o : Option Y) (ys rest : List Y) → ((y : Y) → o ≡ Some y → p y ≡ true → ⊥)
+        → filter p ys ≡ rest → filter p (cons_option o ys) ≡ rest
+    skipped None ys rest fails is = is
+    skipped (Some z) ys rest fails is = dropped z ys rest (fails z refl) is (p z) refl
+
+    taken : (o : Option Y) (ys : List Y) (y : Y) → o ≡ Some y → p y ≡ true → filter p ys ≡ []
+        → filter p (cons_option o ys) ≡ y ∷ []
+    taken None ys y is passes none = absurd cc
+    taken (Some z) ys y is passes none =
+        let same : z ≡ y = cc in
+        cond-true (p z) (z ∷ filter p ys) (filter p ys) (ap p same ∙ passes)
+        ∙ ap (λ (l : List Y). z ∷ l) none ∙ ap (λ (w : Y). w ∷ []) same
+
+    -- if nothing that is given passes, nothing is kept
+    none_kept : (xs : List X)
+        → ((k : ℕ) (x : X) (y : Y) → slice_get xs k ≡ Some x → f x ≡ Some y → p y ≡ true → ⊥)
+        → filter p (filter_map f xs) ≡ []
+    none_kept [] fails = refl
+    none_kept (first ∷ xs) fails =
+        skipped (f first) (filter_map f xs) [] (λ y is passes. fails 0 first y refl is passes)
+        (none_kept xs (λ k x y at is passes. fails (suc k) x y at is passes))
+
+    -- if what passes is given at one place only, it alone is kept
+    lone_kept : (xs : List X) (k : ℕ) (x : X) (y : Y) → slice_get xs k ≡ Some x → f x ≡ Some y → p y ≡ true
+        → ((j : ℕ) (z : X) (w : Y) → slice_get xs j ≡ Some z → f z ≡ Some w → p w ≡ true → j ≡ k)
+        → filter p (filter_map f xs) ≡ y ∷ []
+    lone_kept [] k x y at is passes only = absurd cc
+    lone_kept (first ∷ xs) zero x y at is passes only =
+        let same : first ≡ x = cc in
+        taken (f first) (filter_map f xs) y (ap f same ∙ is) passes
+        (none_kept xs (λ j z w there gives passes'.
+        let e : suc j ≡ 0 = only (suc j) z w there gives passes' in omega (arith, e)))
+    lone_kept (first ∷ xs) (suc k) x y at is passes only =
+        skipped (f first) (filter_map f xs) (y ∷ [])
+        (λ w gives passes'. let e : 0 ≡ suc k = only 0 first w refl gives passes' in omega (arith, e))
+        (lone_kept xs k x y at is passes (λ j z w there gives passes'.
+        let e : suc j ≡ suc k = only (suc j) z w there gives passes' in omega (arith, e)))
+
+-- ---- what is one
+
+-- a frame has one window
+window_same : (unit : TimeUnit) (frame : CapturedFrame) (a b c d : ℤ) → IsWindowOf unit frame a b
+    → IsWindowOf unit frame c d → (a ≡ c) × (b ≡ d)
+window_same unit frame a b c d x y = (
+  x.low_is ∙ ap pos (floor_same _ _ x.low_tick y.low_tick x.floor y.floor) ∙ sym y.low_is,
+  x.high_is ∙ ap pos (ceiling_same _ _ x.high_tick y.high_tick x.ceiling y.ceiling) ∙ sym y.high_is,
+)
+
+three_same : (a b c d e f : ℕ) → (a == b && (c == d && e == f)) ≡ true → (a ≡ b) × (c ≡ d) × (e ≡ f)
+three_same a b c d e f h = grind (arith, nat_tests)
+
+-- ---- requests and replies
+
+module _ (laws : Laws) (claim : ClaimData) (apart : AllPairs (λ a b. a ≢ b) claim.servers) where
+  -- a record that holds a reply gives it
+  gives_reply : (r : Record) (server : ℕ) (address : List ℕ) (port : ℕ) (header : List ℕ)
+      → slice_get claim.servers server ≡ Some address → IsBytes r.bytes
+      → HoldsPacket r.bytes address ntp_port claim.client port header → mode_of header ≡ 4
+      → reply_of claim r ≡ Some (record { server = server; port = port; header = header; head = r.head })
+  unfolding reply_of
+  gives_reply r server address port header listed bytes holds mode =
+      let found = laws.held r.bytes address ntp_port claim.client port header bytes (inl refl) holds in
+      let p = packet_with address ntp_port claim.client port header found.0 in
+      let answered = (laws.reply claim p server apart).1 (record {
+        from_server = listed;
+        from_port = refl;
+        to_client = refl;
+        mode = mode;
+      }) in
+      ap (option_and_then (reply_in claim r.head)) found.1 ∙ ap (option_map (reply_from r.head p)) answered
+
+  -- a record that gives a request holds it
+  holds_request : (r : Record) (q : Request) (address : List ℕ) → IsBytes r.bytes → request_of claim r ≡ Some q
+      → slice_get claim.servers q.server ≡ Some address
+      → HoldsRequest r.bytes claim.client q.port address q.stamp
+  holds_request r q address bytes gives listed =
+      let at = request_at laws claim apart r q bytes gives in
+      let port : q.port ≡ at.packet.datagram.source_port = ap (λ (x : Request). x.port) at.is in
+      let stamp : q.stamp ≡ transmit_of at.packet.header = ap (λ (x : Request). x.stamp) at.is in
+      let to_server : at.packet.datagram.destination ≡ address = (let there = at.asks.to_server in cc) in
+      record {
+        header = at.packet.header;
+        held = moved r.bytes at.packet.header at.asks.from_client (sym port) to_server at.asks.to_port at.held;
+        version = at.asks.version;
+        mode = at.asks.mode;
+        stamped = sym stamp;
+      }
+
+  -- the same of a request that a reply may be one to
+  holds_named : (r : Record) (q : Request) (reply : Reply) (address : List ℕ) → IsBytes r.bytes
+      → request_of claim r ≡ Some q → answers reply q ≡ true → slice_get claim.servers reply.server ≡ Some address
+      → HoldsRequest r.bytes claim.client reply.port address (origin_of reply.header)
+  holds_named r q reply address bytes gives passes listed =
+      let same = three_same reply.server q.server reply.port q.port (origin_of reply.header) q.stamp passes in
+      let holds = holds_request r q address bytes gives (ap (slice_get claim.servers) (sym same.0) ∙ listed) in
+      subst (λ (port : ℕ). HoldsRequest r.bytes claim.client port address (origin_of reply.header)) (sym same.1)
+      (subst (λ (stamp : ℕ). HoldsRequest r.bytes claim.client q.port address stamp) (sym same.2) holds)
+
+-- ---- exchanges
+
+-- each pair gives its exchange, and a timestamp stands for one tick near a moment
+pub record MoreLaws : Type 0 where
+  pub complete : (claim : ClaimData) (records : List Record) (q : Request) (reply : Reply)
+      → IsPair claim records q reply → Contains (exchanges_of claim records) (exchange_of q reply)
+  pub one_tick : (stamp : ℕ) (near s t : ℤ) → IsUnfolded stamp near s → IsUnfolded stamp near t → s ≡ t
+
+module _ (laws : Laws) (more : MoreLaws) (claim : ClaimData) (apart : AllPairs (λ a b. a ≢ b) claim.servers)
+    (unit : TimeUnit) (records : List Record) (given : AreInPlace unit records) where
+  module _ (x : Exchange) (is : IsExchangeIn claim unit (map frame_of records) x) where
+    asked : SaidBy records x.request is.request
+    asked = said_by records x.request is.request is.request_stands
+
+    answered : SaidBy records x.reply is.reply
+    answered = said_by records x.reply is.reply is.reply_stands
+
+    abbrev q : Request
+    q = record {
+      server = x.server;
+      port = is.port;
+      stamp = origin_of is.header;
+      head = asked.by.head;
+    }
+
+    abbrev reply : Reply
+    reply = record {
+      server = x.server;
+      port = is.port;
+      header = is.header;
+      head = answered.by.head;
+    }
+
+    pair : IsPair claim records q reply
+    unfolding requests_of replies_of
+    pair =
+        let gives_q = gives_request laws claim apart asked.by x.server is.server is.port (origin_of is.header)
+        is.server_listed (given.bytes x.request asked.by asked.stands)
+        (subst (λ (f : CapturedFrame). HoldsRequest f.bytes claim.client is.port is.server (origin_of is.header))
+        (sym asked.is) is.asks) in
+        let gives_r = gives_reply laws claim apart answered.by x.server is.server is.port is.header
+        is.server_listed (given.bytes x.reply answered.by answered.stands)
+        (subst (λ (f : CapturedFrame). HoldsPacket f.bytes is.server ntp_port claim.client is.port is.header)
+        (sym answered.is) is.answers) is.mode in
+        let passes = three_pass laws claim apart x.server x.server is.port is.port (origin_of is.header)
+        (origin_of is.header) refl refl refl in
+        record {
+          given = given_among (reply_of claim) records x.reply answered.by reply answered.stands gives_r;
+          accepted = (laws.usable is.header).1 is.usable;
+          only = lone_kept (request_of claim) (answers reply) records x.request asked.by q asked.stands gives_q
+              passes (λ j r other there gives passes'.
+              is.only j (frame_of r) (frame_at records j r there)
+              (holds_named laws claim apart r other reply is.server (given.bytes j r there) gives passes'
+              is.server_listed));
+        }
+
+    same : SameExchange x (exchange_of q reply)
+    same =
+        let window : IsWindowOf unit is.request (low_of asked.by.head) (high_of asked.by.head) =
+        subst (λ (f : CapturedFrame). IsWindowOf unit f (low_of asked.by.head) (high_of asked.by.head)) asked.is
+        (window_at laws claim apart unit records given x.request asked.by asked.by.head refl asked.stands) in
+        let window' : IsWindowOf unit is.reply (low_of answered.by.head) (high_of answered.by.head) =
+        subst (λ (f : CapturedFrame). IsWindowOf unit f (low_of answered.by.head) (high_of answered.by.head))
+        answered.is
+        (window_at laws claim apart unit records given x.reply answered.by answered.by.head refl answered.stands) in
+        let t1 = window_same unit is.request x.t1_low x.t1_high (low_of asked.by.head) (high_of asked.by.head) is.t1
+        window in
+        let t4 = window_same unit is.reply x.t4_low x.t4_high (low_of answered.by.head) (high_of answered.by.head)
+        is.t4 window' in
+        let near : (stamp : ℕ) (s : ℤ) → IsUnfolded stamp (low_of asked.by.head) s → IsUnfolded stamp x.t1_low s =
+        λ stamp s unfolds. subst (λ (moment : ℤ). IsUnfolded stamp moment s) (sym t1.0) unfolds in
+        let y = exchange_of q reply in
+        record {
+          server = refl;
+          request = sym (given.numbered x.request asked.by asked.stands);
+          reply = sym (given.numbered x.reply answered.by answered.stands);
+          t1_low = t1.0;
+          t1_high = t1.1;
+          t4_low = t4.0;
+          t4_high = t4.1;
+          t2 = more.one_tick (receive_of is.header) x.t1_low x.t2 y.t2 is.t2
+              (near (receive_of is.header) y.t2 (laws.stamp (receive_of is.header) (low_of asked.by.head)));
+          t3 = more.one_tick (transmit_of is.header) x.t1_low x.t3 y.t3 is.t3
+              (near (transmit_of is.header) y.t3 (laws.stamp (transmit_of is.header) (low_of asked.by.head)));
+          distance = is.distance ∙ sym (distance_is laws is.header is.usable);
+        }
+
+    pub collected : IsAmong (exchanges_of claim records) x
+    collected =
+        let there = more.complete claim records q reply pair in
+        let y = exchange_of q reply in
+        record {
+          place = there.0;
+          found = y;
+          stands = slice_get-get_or (exchanges_of claim records) there.0 y there.1 ∙ ap Some there.2;
+          same = same;
+        }

@@ -1,0 +1,123 @@
+-- An error beyond the bound: in parts of a tick, in nanoseconds, and of an accepted refutation.
+use Rattle.std.proofs.Common.{◌≡◌, ℕ, suc, ◌*◌, ◌<◌, ◌≤◌, ℤ, pos, negsuc, ◌*ℤ◌, ◌<ℤ◌, unsigned_abs, nat_lt, Bool, true, false, inl, List, length, get_or, Some, refl, ap, ◌∙◌, subst, arith}
+use Rattle.std.specs.Prelude.{slice_get}
+use Rattle.std.proofs.Math.Nat.{mul-le-mul_right}
+use Rattle.std.proofs.lemmas.Bool.{ltb-true, ltb-false}
+use Rattle.std.proofs.lemmas.Int.{ints}
+use Rattle.std.proofs.lemmas.List.{length-map}
+use Rattle.std.proofs.lemmas.Option.{slice_get-get_or}
+use Rattle.byte_stream.specs.Bytes.{IsBytes}
+use Rattle.era_unfold.specs.Nanoseconds.{nanoseconds_per_second}
+use Rattle.era_unfold.specs.Ratio.{IsFloor}
+use Rattle.era_unfold.specs.Window.{ticks_per_second}
+use Rattle.intersection.specs.Fineness.{times_le}
+use Rattle.pcap_reader.specs.declared.format.Format.{Format}
+use Rattle.pcap_reader.specs.Capture.{Record, IsCapture}
+use Rattle.certificate.specs.Refutation.{RefutationData}
+use Rattle.claim_file.specs.Claim.{ClaimData}
+use Rattle.pairing.specs.Answer.{AreGiven}
+use Rattle.pairing.specs.declared.exchange.Exchange.{Exchange}
+use Rattle.sample_interval.specs.Moment.{error_of}
+use Rattle.checker.specs.Refutation.{IsAgainst, HasCourse}
+use Rattle.audit.specs.Captured.{frame_of}
+use Rattle.audit.specs.Claimed.{IsClaimText}
+use Rattle.audit.specs.Contested.{HasCourseBeyond, IsBeyond, IsBeyondNanoseconds}
+use Rattle.audit.proofs.CapturedLemmas.{captured, each_record}
+use Rattle.audit.proofs.ExchangedLemmas.{in_place}
+
+-- ---- sizes
+
+abs_times : (e : ℤ) (n : ℕ) → unsigned_abs (e *ℤ pos n) ≡ unsigned_abs e * n
+abs_times (pos e) n = omega (arith, ints)
+abs_times (negsuc e) n = omega (arith, ints)
+
+-- n times a strict order
+times_lt : (a b n : ℕ) → 0 < n → a < b → a * n < b * n
+times_lt a b n some less =
+    let h : suc a * n ≤ b * n = mul-le-mul_right n (let le : suc a ≤ b = omega (arith, less) in le) in
+    omega (arith, h, some)
+
+-- what is beyond a rounded bound in ticks is beyond the bound in nanoseconds
+above_floor : (bound_ns bound size : ℕ) → IsFloor (bound_ns * ticks_per_second) nanoseconds_per_second bound
+    → bound < size → bound_ns * ticks_per_second < size * nanoseconds_per_second
+above_floor bound_ns bound size floor beyond =
+    at (nat_lt (bound_ns * ticks_per_second) (size * nanoseconds_per_second)) refl
+  where
+    at : (b : Bool) → nat_lt (bound_ns * ticks_per_second) (size * nanoseconds_per_second) ≡ b
+        → bound_ns * ticks_per_second < size * nanoseconds_per_second
+    at true e = ltb-true (bound_ns * ticks_per_second) (size * nanoseconds_per_second) e
+    at false e =
+        let least = floor.greatest size
+        (ltb-false (bound_ns * ticks_per_second) (size * nanoseconds_per_second) e) in
+        absurd (omega (arith, least, beyond))
+
+module _ (text : List ℕ) (claim : ClaimData) (said : IsClaimText text claim) (xs : List Exchange)
+    (has : HasCourseBeyond claim xs) where
+  size : ℕ
+  size = unsigned_abs has.error
+
+  size_is : unsigned_abs (error_of has.course.observation) ≡ size * has.course.fineness
+  unfolding size
+  size_is = ap unsigned_abs has.error_is ∙ abs_times has.error has.course.fineness
+
+  beyond_ticks : said.bound < size
+  unfolding size
+  beyond_ticks =
+      let beyond : pos said.bound <ℤ pos (unsigned_abs has.error) =
+      subst (λ (z : ℤ). z <ℤ pos (unsigned_abs has.error)) said.bound_in_ticks has.beyond in
+      omega (arith, ints)
+
+  pub beyond_in_ticks : IsBeyond has.course claim.bound
+  beyond_in_ticks =
+      let n = has.course.fineness in
+      let less : said.bound * n < size * n = times_lt said.bound size n has.fits.some_fineness beyond_ticks in
+      rw (said.bound_in_ticks, size_is) (omega (arith, ints))
+
+  pub beyond_in_nanoseconds : IsBeyondNanoseconds has.course claim.bound_ns
+  beyond_in_nanoseconds =
+      let n = has.course.fineness in
+      let above = above_floor claim.bound_ns said.bound size said.bound_is beyond_ticks in
+      let less = times_lt (claim.bound_ns * ticks_per_second) (size * nanoseconds_per_second) n
+      has.fits.some_fineness above in
+      rw size_is (omega (arith, less))
+
+-- ---- refutations
+
+-- the course of an accepted refutation
+pub course_beyond : (claim : ClaimData) (xs : List Exchange) (r : RefutationData) → IsAgainst claim r
+    → HasCourse claim xs r → HasCourseBeyond claim xs
+course_beyond claim xs r against (course, of) =
+    let n = course.fineness in
+    let span = against.in_span in
+    record {
+      course = course;
+      fits = of.fits;
+      in_span = rw of.observed (
+        times_le claim.first (pos r.reading) n span.0,
+        times_le (pos r.reading) claim.last n
+            span.1,
+      );
+      error = r.error;
+      error_is = of.off_throughout.one_error course.observation (inl refl);
+      beyond = against.beyond_bound;
+    }
+
+-- ---- the records of a capture
+
+-- a source may give the records of a capture
+pub given_records : (bytes : List ℕ) (format : Format) (records : List Record) → IsBytes bytes
+    → IsCapture bytes format records → AreGiven records
+given_records bytes format records all capture =
+    let place = in_place bytes format records all capture in
+    let at : (k : ℕ) (d : Record) → k < length records → slice_get records k ≡ Some (get_or records k d) =
+    λ k d below. slice_get-get_or records k d below in
+    record {
+      few = (let most = (captured bytes format records capture).few in
+          let sized = length-map records frame_of in omega (arith, most, sized));
+      each = λ k d below. record {
+        head = (each_record format.unit records capture.are_records k (get_or records k d) (at k d below)).1.lawful;
+        bytes = place.bytes k (get_or records k d) (at k d below);
+      };
+      numbered = λ k d below.
+          ap (slice_get records) (place.numbered k (get_or records k d) (at k d below)) ∙ at k d below;
+    }

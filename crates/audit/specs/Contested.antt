@@ -1,0 +1,78 @@
+-- What is shown against a claim from bytes, in relations alone.
+use Rattle.std.specs.Prelude.{◌≡◌, ℕ, ◌*◌, ◌<◌, ℤ, pos, ◌*ℤ◌, ◌<ℤ◌, unsigned_abs, true, List, Some, Ok, slice_get}
+use Rattle.byte_stream.specs.Bytes.{IsBytes}
+use Rattle.era_unfold.specs.declared.unit.Unit.{Unit as TimeUnit}
+use Rattle.era_unfold.specs.Nanoseconds.{nanoseconds_per_second}
+use Rattle.era_unfold.specs.Window.{ticks_per_second}
+use Rattle.pcap_reader.specs.declared.format.Endian.{Endian}
+use Rattle.certificate.specs.Refutation.{RefutationData}
+use Rattle.claim_file.specs.Claim.{ClaimData}
+use Rattle.pairing.specs.Pairing.{Collection}
+use Rattle.pairing.specs.declared.exchange.Exchange.{Exchange}
+use Rattle.report.specs.ClaimInput.{claim_read}
+use Rattle.sample_interval.specs.Moment.{error_of, IsInWindow}
+use Rattle.checker.specs.Course.{Course, Fits}
+use Rattle.checker.specs.RefutationTest.{is_refuted}
+use Rattle.audit.specs.CaptureInput.{capture_read}
+use Rattle.audit.specs.Captured.{CapturedFrame, IsCaptureOf}
+use Rattle.audit.specs.Claimed.{IsClaimText, IsWithinLimits}
+use Rattle.audit.specs.Exchanged.{IsExchangeIn, IsAmong}
+
+-- the clock's error, when it is observed, is more than a bound to one side
+abbrev pub IsBeyond : Course → ℤ → Type 0
+IsBeyond course bound =
+    (bound *ℤ pos course.fineness) <ℤ pos (unsigned_abs (error_of course.observation))
+
+-- the same of a bound in nanoseconds
+abbrev pub IsBeyondNanoseconds : Course → ℕ → Type 0
+IsBeyondNanoseconds course bound_ns =
+    (course.fineness * (bound_ns * ticks_per_second))
+    < (nanoseconds_per_second * unsigned_abs (error_of course.observation))
+
+-- Some course of events fits a claim and exchanges. Its observation is at a reading of the span, and
+-- its error there is a whole number of ticks, beyond the bound.
+pub record HasCourseBeyond (claim : ClaimData) (xs : List Exchange) : Type 0 where
+  pub course : Course
+  pub fits : Fits claim xs course
+  pub in_span : IsInWindow course.fineness claim.first claim.last course.observation.reading
+  pub error : ℤ
+  pub error_is : error_of course.observation ≡ (error *ℤ pos course.fineness)
+  pub beyond : claim.bound <ℤ pos (unsigned_abs error)
+
+-- The claim's bytes are the text of a claim that keeps its limits, and the capture's bytes are a
+-- capture of frames. These are the exchanges in the frames, and none is missing. Some course of
+-- events fits the claim and all of them. The client's clock is observed in it at a reading of the
+-- span, and its error there is beyond the bound, in ticks and in nanoseconds.
+pub record IsContestedShown (claim_bytes capture_bytes : List ℕ) : Type 0 where
+  pub claim : ClaimData
+  pub order : Endian
+  pub unit : TimeUnit
+  pub frames : List CapturedFrame
+  pub exchanges : List Exchange
+  pub claim_is : IsClaimText claim_bytes claim
+  pub in_limits : IsWithinLimits claim
+  pub capture_is : IsCaptureOf capture_bytes order unit frames
+  pub exchanges_are : (k : ℕ) (x : Exchange) → slice_get exchanges k ≡ Some x
+      → IsExchangeIn claim unit frames x
+  pub none_is_missing : (x : Exchange) → IsExchangeIn claim unit frames x → IsAmong exchanges x
+  pub course : Course
+  pub fits : Fits claim exchanges course
+  pub in_span : IsInWindow course.fineness claim.first claim.last course.observation.reading
+  pub beyond : IsBeyond course claim.bound
+  pub beyond_nanoseconds : IsBeyondNanoseconds course claim.bound_ns
+
+-- if the bytes of a claim and of a capture are read, and there is a course like that for what they
+-- give, it is shown for them; a byte is below 256
+abbrev pub CourseContests : Type 0
+CourseContests = (claim_bytes capture_bytes : List ℕ) (claim : ClaimData) (collection : Collection)
+    → IsBytes capture_bytes → claim_read claim_bytes ≡ Ok claim
+    → capture_read claim capture_bytes ≡ Ok collection
+    → HasCourseBeyond claim collection.exchanges → IsContestedShown claim_bytes capture_bytes
+
+-- the same if some refutation is accepted
+abbrev pub RefutationContests : Type 0
+RefutationContests = (claim_bytes capture_bytes : List ℕ) (claim : ClaimData)
+    (collection : Collection) (refutation : RefutationData) → IsBytes capture_bytes
+    → claim_read claim_bytes ≡ Ok claim → capture_read claim capture_bytes ≡ Ok collection
+    → is_refuted claim collection.exchanges refutation ≡ true
+    → IsContestedShown claim_bytes capture_bytes
