@@ -2,19 +2,14 @@
 
 A course is made in whole numbers of a thousandth of a tick of 2^-32 s. Nothing here is shared with the program.
 """
-import random
 import struct
 from datetime import datetime, timezone
 
-TICKS = 1 << 32
+from rules import BILLION, TICKS, Sample, ceiling
+
 FINE = 1000                                   # parts of a tick: the fineness of every course
 EPOCH = 2208988800                            # 1970 in seconds of NTP era 0
-BILLION = 10**9
 CLIENT = bytes((192, 0, 2, 10))
-
-
-def ceiling(numerator, denominator):
-    return -(-numerator // denominator)
 
 
 class Record:
@@ -159,6 +154,13 @@ class Course:
         out += [struct.pack("<IIII", r.sec, r.sub, len(frame), len(frame)) + frame for _, r, frame in records]
         return b"".join(out)
 
+    def samples(self):
+        """What the capture says of each exchange, in the order of the replies."""
+        def allowed(record):
+            return record.low - self.allowance, record.high + self.allowance
+        return [Sample(x.server, allowed(x.request), allowed(x.reply), x.receive, x.transmit, x.distance)
+                for x in self.exchanges]
+
     def claim(self, bound_ns):
         return {"client": "192.0.2.10", "servers": [f"192.0.2.{20 + s}" for s in range(sum(map(len, self.groups)))],
                 "groups": self.groups, "false_max": self.false_max, "from": spelled(self.first),
@@ -174,54 +176,6 @@ def split_into_groups(count, rng):
         else:
             groups.append([server])
     return groups
-
-
-class Samples:
-    """The samples of a course's exchanges, and the checker's rules on them."""
-
-    def __init__(self, course):
-        self.course = course
-        a = course.allowance
-        self.low = [(x.request.low - a - x.receive - x.distance, x.request.low - a, x.request.high + a)
-                    for x in course.exchanges]
-        self.high = [(x.reply.high + a - x.transmit + x.distance, x.reply.low - a, x.reply.high + a)
-                     for x in course.exchanges]
-        self.server = [x.server for x in course.exchanges]
-
-    def widened(self, place, p, q):
-        return ceiling(self.course.ppb * max(q - place[1], place[2] - p), BILLION - self.course.ppb)
-
-    def least(self, number, p, q):
-        return self.low[number][0] - self.widened(self.low[number], p, q)
-
-    def greatest(self, number, p, q):
-        return self.high[number][0] + self.widened(self.high[number], p, q)
-
-    def best(self, server, p, q, among=None):
-        """A server's best samples for a piece, of all of them or of these numbers; None where it has none."""
-        own = [k for k, s in enumerate(self.server) if s == server and (among is None or k in among)]
-        return own and [max(own, key=lambda k: (self.least(k, p, q), -k)), min(own, key=lambda k: (self.greatest(k, p, q), k))]
-
-    def intervals(self, entries, p, q):
-        """The interval of each server that has an entry."""
-        return {self.server[a]: (self.least(a, p, q), self.greatest(b, p, q)) for a, b in entries}
-
-    def hull(self, entries, p, q):
-        """The hull over the groups of the entries: None where it's unbounded, () where it's empty."""
-        intervals, ranges = self.intervals(entries, p, q), []
-        for group in self.course.groups:
-            if own := [intervals[server] for server in group if server in intervals]:
-                ranges.append((max(low for low, _ in own), min(high for _, high in own)))
-        f = self.course.false_max
-        if len(ranges) <= f:
-            return None
-        ends = sorted({end for r in ranges for end in r})
-        fit = [x for x in ends if sum(not lo <= x <= hi for lo, hi in ranges) <= f]
-        return (fit[0], fit[-1]) if fit else ()
-
-    def best_entries(self, p, q, among=None):
-        bests = [self.best(server, p, q, among) for server in sorted(set(self.server))]
-        return [best for best in bests if best]
 
 
 class PartedCourse(Course):

@@ -27,18 +27,23 @@ def program():
     return str(kept if kept.exists() else ROOT / "dist" / "ntpaudit")
 
 
+def count(name, wrong):
+    """Counts a case, and prints what is wrong with it: nothing where that's an empty text."""
+    global passed
+    if wrong:
+        failed.append(name)
+        print(f"FAILED {name}: {wrong}", flush=True)
+    else:
+        passed += 1
+
+
 def check(name, **pairs):
     """Counts a case: each pair is what was seen and what is wanted, or what was seen and a test of it."""
-    global passed
     wrong = []
     for what, (seen, wanted) in pairs.items():
         if not (wanted(seen) if callable(wanted) else seen == wanted):
             wrong.append(f"{what} {short(seen)}" + ("" if callable(wanted) else f", wanted {short(wanted)}"))
-    if wrong:
-        failed.append(name)
-        print(f"FAILED {name}: {'; '.join(wrong)}", flush=True)
-    else:
-        passed += 1
+    count(name, "; ".join(wrong))
 
 
 def short(seen):

@@ -1,0 +1,247 @@
+"""The rules of docs/DEFINITIONS.md on the samples of a claim, restated: what an exchange says of the clock's error, and
+what hulls, certificates, envelopes and refutations have to be.
+
+This shares nothing with the program, and it is slow: it looks at every sample, and at every point that an interval's
+end could be. tests/tools/samples_from_list applies it to what `list` prints, and tests/courses to courses of events.
+
+A claim is the value of its file, and servers and samples go by their numbers. Times are in ticks of 2^-32 s.
+"""
+import datetime
+import json
+
+TICKS = 1 << 32
+BILLION = 10**9
+
+
+def ceiling(numerator, denominator):
+    return -(-numerator // denominator)
+
+
+# ---- a claim
+
+
+def ticks_of(time):
+    return int(datetime.datetime.fromisoformat(time.replace("Z", "+00:00")).timestamp()) * TICKS
+
+
+def span_of(claim):
+    return ticks_of(claim["from"]), ticks_of(claim["to"])
+
+
+def bound_of(claim):
+    return claim["bound_ns"] * TICKS // BILLION
+
+
+def groups_of(claim):
+    return claim.get("groups", [[server] for server in range(len(claim["servers"]))])
+
+
+def allowed(claim, low, high):
+    """A record's time window, with the reading allowance on both sides."""
+    allowance = ceiling(claim["reading_ns"] * TICKS, BILLION)
+    return low - allowance, high + allowance
+
+
+def pieces_of(claim, step):
+    """The pieces of so many seconds, each with its begin and its end. A span of one moment has one."""
+    begin, last = span_of(claim)
+    found = []
+    while not found or begin < last:
+        found.append((begin, min(begin + step * TICKS, last)))
+        begin = found[-1][1]
+    return found
+
+
+# ---- samples
+
+
+class Sample:
+    """An exchange: its server, the windows in which the request left and the reply came, the reply's two timestamps, and
+    its root distance. Where the clock doesn't drift its error lies between `low` and `high`."""
+
+    def __init__(self, server, sent, received, t2, t3, distance):
+        self.server, self.sent, self.received = server, sent, received
+        self.t2, self.t3, self.distance = t2, t3, distance
+        self.low = sent[0] - t2 - distance
+        self.high = received[1] - t3 + distance
+
+    @property
+    def offset(self):
+        both = self.t2 + self.t3
+        return (both - self.sent[1] - self.received[1]) // 2, ceiling(both - self.sent[0] - self.received[0], 2)
+
+    @property
+    def delay(self):
+        served = self.t3 - self.t2
+        return self.received[0] - self.sent[1] - served, self.received[1] - self.sent[0] - served
+
+
+def widening(claim, window, begin, end):
+    """What the clock can have drifted between a window and a piece: the least whole W with W (10^9 - ppb) >= ppb times
+    the way between them."""
+    ppb = claim["drift_ppb"]
+    return ceiling(ppb * max(end - window[0], window[1] - begin), BILLION - ppb)
+
+
+def moved_low(claim, sample, begin, end):
+    return sample.low - widening(claim, sample.sent, begin, end)
+
+
+def moved_high(claim, sample, begin, end):
+    return sample.high + widening(claim, sample.received, begin, end)
+
+
+def best_entries(claim, samples, begin, end, among=None):
+    """For each server that has a sample, of all or of these numbers: the first sample with the greatest low end over the
+    piece, and the first with the least high end."""
+    lows, highs = {}, {}
+    for k, sample in enumerate(samples):
+        if among is None or k in among:
+            lows.setdefault(sample.server, []).append((-moved_low(claim, sample, begin, end), k))
+            highs.setdefault(sample.server, []).append((moved_high(claim, sample, begin, end), k))
+    return [[min(lows[server])[1], min(highs[server])[1]] for server in sorted(lows)]
+
+
+def intervals(claim, samples, entries, begin, end):
+    """The interval of each server that has an entry."""
+    return {samples[a].server: (moved_low(claim, samples[a], begin, end), moved_high(claim, samples[b], begin, end))
+            for a, b in entries}
+
+
+def hull(claim, samples, entries, begin, end):
+    """The hull over the groups of the entries, where an interval of a group is what all its servers have in common: None
+    where it's unbounded, () where it's empty."""
+    of_servers, of_groups = intervals(claim, samples, entries, begin, end), []
+    for group in groups_of(claim):
+        if own := [of_servers[server] for server in group if server in of_servers]:
+            of_groups.append((max(low for low, _ in own), min(high for _, high in own)))
+    if len(of_groups) <= claim["false_max"]:
+        return None
+    ends = [end for both in of_groups for end in both]
+    points = [p for p in ends if sum(p < low or high < p for low, high in of_groups) <= claim["false_max"]]
+    return (min(points), max(points)) if points else ()
+
+
+# ---- what the commands print
+
+
+def hull_words(hull):
+    return "unbounded" if hull is None else f"{hull[0]} {hull[1]}" if hull else "empty"
+
+
+def moment(claim, samples, time):
+    """The lines of `at`."""
+    entries = best_entries(claim, samples, time, time)
+    lines = [f"{claim['servers'][server]} {low} {high}"
+             for server, (low, high) in intervals(claim, samples, entries, time, time).items()]
+    return [*lines, f"hull {hull_words(hull(claim, samples, entries, time, time))}"]
+
+
+def compact(value):
+    return json.dumps(value, separators=(",", ":"))
+
+
+def certificate(claim, samples, step):
+    """The line of `find`: a certificate, or the first piece that fails."""
+    pieces = []
+    for k, (begin, end) in enumerate(pieces_of(claim, step)):
+        entries = best_entries(claim, samples, begin, end)
+        found = hull(claim, samples, entries, begin, end)
+        if not found or max(-found[0], found[1]) > bound_of(claim):
+            return f"nothing piece {k} hull {hull_words(found)}"
+        pieces.append({"entries": entries, "upto": end})
+    return compact({"pieces": pieces})
+
+
+def verdict(claim, samples, certificate):
+    """What `check` says of a certificate."""
+    begin, last = span_of(claim)
+    for number, piece in enumerate(certificate["pieces"]):
+        end, seen = piece["upto"], set()
+        if not begin <= end <= last:
+            return f"no piece {number} cut"
+        for a, b in piece["entries"]:
+            if max(a, b) >= len(samples):
+                return f"no piece {number} bad-sample"
+            if samples[a].server != samples[b].server:
+                return f"no piece {number} mixed-servers"
+            if samples[a].server in seen:
+                return f"no piece {number} repeated-server"
+            seen.add(samples[a].server)
+        found = hull(claim, samples, piece["entries"], begin, end)
+        if not found:
+            return f"no piece {number} " + ("unbounded" if found is None else "contradiction")
+        if max(-found[0], found[1]) > bound_of(claim):
+            return f"no piece {number} exceeds"
+        begin = end
+    if not certificate["pieces"] or begin != last:
+        return f"no piece {len(certificate['pieces'])} uncovered"
+    return "yes"
+
+
+def envelope(claim, samples, step):
+    """The pieces, each with its begin, its end, its intervals and its hull; and the least bound inside which all hulls
+    lie, with the first piece that needs it: None where a piece has no hull, the first of which is given."""
+    pieces = []
+    for begin, end in pieces_of(claim, step):
+        entries = best_entries(claim, samples, begin, end)
+        pieces.append((begin, end, intervals(claim, samples, entries, begin, end), hull(claim, samples, entries, begin, end)))
+    without = [k for k, (*_, found) in enumerate(pieces) if not found]
+    if without:
+        return pieces, None, without[0]
+    needs = [ceiling(max(0, -low, high) * BILLION, TICKS) for *_, (low, high) in pieces]
+    return pieces, max(needs), needs.index(max(needs))
+
+
+def envelope_lines(claim, samples, step, with_servers):
+    """The lines of `envelope`."""
+    (pieces, least, worst), lines = envelope(claim, samples, step), []
+    for k, (begin, end, of_servers, found) in enumerate(pieces):
+        if with_servers:
+            lines += [f"{k} {claim['servers'][server]} {low} {high}" for server, (low, high) in of_servers.items()]
+        lines.append(f"{k} {begin // TICKS} {end // TICKS} {hull_words(found)}")
+    return [*lines, f"bound_ns {'none' if least is None else least} piece {worst}"]
+
+
+# ---- refutations
+
+
+def admits(sample, error):
+    """Whether the moments of an exchange can come one after another, if the clock is off by this error throughout."""
+    (w, _), (_, z), t2, t3, r = sample.sent, sample.received, sample.t2, sample.t3, sample.distance
+    return (w - error <= t2 + r and t3 - r <= z - error and w <= z and w - error <= t3 + r and t2 - r <= t3 + r
+            and t2 - r <= z - error)
+
+
+def liars(samples, error):
+    """The servers with an exchange that doesn't leave room for the error."""
+    return sorted({sample.server for sample in samples if not admits(sample, error)})
+
+
+def group_count(claim, servers):
+    """In how many groups these servers are."""
+    return sum(any(server in servers for server in group) for group in groups_of(claim))
+
+
+def refutation(claim, samples):
+    """What `find --refutation` finds: the least error beyond the bound that few enough groups refuse, the positive ones
+    first. Only the first error, and ends, need be tried."""
+    over = bound_of(claim) + 1
+    ends = {sample.sent[0] - t - sample.distance for sample in samples for t in (sample.t2, sample.t3)} | \
+           {sample.received[1] - t + sample.distance for sample in samples for t in (sample.t2, sample.t3)}
+    tried = sorted(e for e in ends | {over} if e >= over) + sorted((e for e in ends | {-over} if e <= -over), reverse=True)
+    for error in tried:
+        named = liars(samples, error)
+        if group_count(claim, named) <= claim["false_max"] and -2**63 <= error < 2**63:
+            return {"error": error, "false": named, "reading": span_of(claim)[0]}
+    return None
+
+
+def stands(claim, samples, refutation):
+    """Whether `refute` accepts a refutation."""
+    error, named, reading = refutation["error"], refutation["false"], refutation["reading"]
+    begin, last = span_of(claim)
+    return (abs(error) > bound_of(claim) and begin <= reading <= last
+            and len(set(named)) == len(named) and all(server < len(claim["servers"]) for server in named)
+            and group_count(claim, named) <= claim["false_max"]
+            and all(admits(sample, error) for sample in samples if sample.server not in named))
