@@ -32,12 +32,17 @@ class Clock:
 
         def step(most):
             return lean * most if lean and rng.random() < 0.9 else rng.randint(-most, most)
+
+        def whole(moved):
+            # a whole tick on the way there, if there is one
+            tick = FINE * (moved // FINE if moved > error else ceiling(moved, FINE))
+            return tick if min(error, moved) <= tick <= max(error, moved) else moved
         for time in times:
             # on the way to this moment the clock passes some whole seconds
             for _ in range(2):
                 second = (before + error) // (TICKS * FINE) + rng.choice((1, 1, 2, 5))
                 gap = second * TICKS * FINE - (before + error)
-                moved = error + step(ppb * gap // (BILLION + ppb))
+                moved = whole(error + step(ppb * gap // (BILLION + ppb)))
                 if before < (passed := second * TICKS * FINE - moved) < time:
                     self.error[passed] = self.at_second[second] = error = moved
                     before = passed
@@ -106,7 +111,7 @@ class Course:
         self.groups = split_into_groups(count, rng)
         self.false_max = rng.randint(0, max(0, (len(self.groups) - 1) // 2))
         false = rng.sample(range(len(self.groups)), rng.randint(0, self.false_max))
-        liars = {server for group in false for server in self.groups[group]}
+        self.liars = sorted(server for group in false for server in self.groups[group])
         self.ppb = rng.choice((0, 1, 1000, 50000, 10**6, 5 * 10**8))
         self.unit = rng.choice((10**6, 10**9))
         self.reading_ns = rng.choice((0, 0, 1, 1000, 10**6))
@@ -119,7 +124,7 @@ class Course:
         for server in range(count):
             for _ in range(rng.randint(1, 6)):
                 start = begin + rng.randint(0, (self.seconds + 1) * TICKS) * FINE + rng.randint(0, FINE - 1)
-                self.exchanges.append(make_exchange(server, server not in liars, self.mean, start, rng))
+                self.exchanges.append(make_exchange(server, server not in self.liars, self.mean, start, rng))
         self.exchanges.sort(key=lambda x: x.t4)
         self.run(begin, rng)
 

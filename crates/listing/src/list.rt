@@ -1,7 +1,7 @@
 //! The engine of `list` over any source of records.
 
-ghost use Rattle.std.specs.Prelude.{◌≡◌, ◌-◌, ◌^◌, ◌+◌, ◌<◌, ◌≤◌, [], ◌∷◌, OnOk, vec_capacity};
-ghost use Rattle.pcap_reader.specs.Source.{IsFresh};
+ghost use Rattle.std.specs.Prelude.{◌≡◌, ◌-◌, ◌^◌, ◌+◌, ◌<◌, ◌≤◌, ◌⊎◌, [], ◌∷◌, IsTrue, OnOk, vec_capacity};
+ghost use Rattle.pcap_reader.specs.Source.{IsFresh, IsNextShown};
 ghost use Rattle.report.specs.declared.output.TheConstants.{OUTPUT_CAPACITY};
 ghost use Rattle.report.specs.Output.{IsReady, Puts, put_count, fresh_output};
 ghost use Rattle.report.specs.State.{output_state, sink_name};
@@ -47,6 +47,23 @@ fn close_list<S: Sink>(
     out.put(line.as_bytes())
 }
 
+/// Pushes what is gathered, unless the next answer needs no waiting.
+fn push_before_waiting<S: Sink>(is_ready: bool, out: &mut Output<'_, S>) -> Result<(), RunFault>
+    requires { IsReady (output_state S.state out.old) }
+    ensures same_sink { sink_name out.new ≡ sink_name out.old }
+    ensures puts_nothing { Puts (output_state S.state out.old)
+        (output_state S.state out.new) [] result }
+    ensures keeps { IsTrue is_ready →
+        output_state S.state out.new ≡ output_state S.state out.old }
+    ensures pushes { OnOk result
+        (IsTrue is_ready ⊎ ((output_state S.state out.new).gathered ≡ [])) }
+{
+    if is_ready {
+        return Ok(());
+    }
+    out.flush()
+}
+
 /// Pushes what is gathered if the source would wait for its device, so that a capture that is still
 /// being made is listed as far as it has come.
 fn catch_up<R: RecordSource, S: Sink>(source: &R, out: &mut Output<'_, S>) -> Result<(), RunFault>
@@ -54,11 +71,10 @@ fn catch_up<R: RecordSource, S: Sink>(source: &R, out: &mut Output<'_, S>) -> Re
     ensures same_sink { sink_name out.new ≡ sink_name out.old }
     ensures puts_nothing { Puts (output_state S.state out.old)
         (output_state S.state out.new) [] result }
+    ensures caught_up { OnOk result (IsNextShown (R.state source.now)
+        ⊎ ((output_state S.state out.new).gathered ≡ [])) }
 {
-    if source.is_ready() {
-        return Ok(());
-    }
-    out.flush()
+    push_before_waiting(source.is_ready(), out)
 }
 
 /// Puts the lines of all records and the closing line.

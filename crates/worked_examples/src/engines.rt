@@ -3,6 +3,7 @@
 mod certificates;
 mod envelopes;
 mod failures;
+mod fault_lines;
 mod inputs;
 mod lengths;
 mod listings;

@@ -117,6 +117,17 @@ fn failures(rt: HostRuntime) {
     }
 }
 
+/// A device that is interrupted 999 times gets to work at the next call. After 1,000 interruptions
+/// the call has failed, and isn't made again.
+#[test]
+fn interruptions(rt: HostRuntime) {
+    let mut steps = [Fails(ErrorKind::Interrupted); 1_001];
+    steps[1_000] = Takes(2);
+    goes(&rt, &steps, false, 1_000);
+    steps[999] = Takes(2);
+    goes(&rt, &steps, true, 1_000);
+}
+
 /// A write that takes nothing is a failure too.
 #[test]
 fn no_progress(rt: HostRuntime) {

@@ -1,6 +1,7 @@
-//! Frames that are skipped, and why, by hand.
+//! Frames that are skipped, and why, and frames that hold a datagram, by hand.
 
-use crate::expectation::assert_equal_at;
+use crate::expectation::{assert_equal, assert_equal_at};
+use frame_reader::kinds::Datagram;
 use frame_reader::{Skip, datagram};
 use vectors::V1;
 
@@ -45,4 +46,41 @@ fn any_cut_is_short(rt: HostRuntime) {
     for end in 0..90 {
         assert_equal_at(&rt, datagram(&frame[..end]), Err(Skip::Short), end);
     }
+}
+
+/// The datagram of the request of `V1`: its payload is the frame's last 48 bytes.
+const REQUEST: Datagram<'static> = Datagram {
+    source: [192, 0, 2, 10],
+    destination: [192, 0, 2, 1],
+    source_port: 49_152,
+    destination_port: 123,
+    payload: &[
+        0x23, 0x00, 0x06, 0x00, 0x00, 0x00, 0x00, 0x00, 0x00, 0x00, 0x00, 0x00, 0x00, 0x00, 0x00,
+        0x00, 0x00, 0x00, 0x00, 0x00, 0x00, 0x00, 0x00, 0x00, 0x00, 0x00, 0x00, 0x00, 0x00, 0x00,
+        0x00, 0x00, 0x00, 0x00, 0x00, 0x00, 0x00, 0x00, 0x00, 0x00, 0x11, 0x22, 0x33, 0x44, 0x55,
+        0x66, 0x77, 0x88,
+    ],
+};
+
+/// What stands behind the datagram is padding: it belongs to neither the packet nor the payload.
+#[test]
+fn padding(rt: HostRuntime) {
+    let mut frame = [0xff; 100];
+    frame[..90].copy_from_slice(&V1[40..130]);
+    assert_equal(&rt, datagram(&frame[..90]), Ok(REQUEST));
+    assert_equal(&rt, datagram(&frame), Ok(REQUEST));
+}
+
+/// The request of `V1` behind one VLAN tag, and behind two.
+#[test]
+fn tags(rt: HostRuntime) {
+    let mut frame = [0; 98];
+    frame[..12].copy_from_slice(&V1[40..52]);
+    frame[12..16].copy_from_slice(b"\x81\x00\x00\x05");
+    frame[16..94].copy_from_slice(&V1[52..130]);
+    assert_equal(&rt, datagram(&frame[..94]), Ok(REQUEST));
+    assert_equal(&rt, datagram(&frame[..16]), Err(Skip::Short));
+    frame[16..20].copy_from_slice(b"\x81\x00\x00\x05");
+    frame[20..].copy_from_slice(&V1[52..130]);
+    assert_equal(&rt, datagram(&frame), Err(Skip::OtherType));
 }
