@@ -1,0 +1,4 @@
+pub mod CoverMembers
+pub mod CoverCounts
+pub mod CoverSearch
+pub mod CoverBusiest
