@@ -2,3 +2,5 @@ pub mod CoverMembers
 pub mod CoverCounts
 pub mod CoverSearch
 pub mod CoverBusiest
+pub mod CoverRows
+pub mod CoverWithin
