@@ -4,3 +4,4 @@ pub mod CoverSearch
 pub mod CoverBusiest
 pub mod CoverRows
 pub mod CoverWithin
+pub mod CoverFound
