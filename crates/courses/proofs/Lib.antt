@@ -1,0 +1,13 @@
+pub mod Scaling
+pub mod Steps
+pub mod Agreement
+pub mod KeptMarks
+pub mod TrueExchanges
+pub mod Converse
+pub mod Slope
+pub mod Allowed
+pub mod LowestError
+pub mod LowestMarks
+pub mod LowestCourse
+pub mod SteadyClock
+pub mod Covers

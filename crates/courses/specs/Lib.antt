@@ -1,0 +1,5 @@
+pub mod Keeping
+pub mod TrueMarks
+pub mod DriftRefutation
+pub mod LowestCourse
+pub mod Cover

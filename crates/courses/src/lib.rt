@@ -1,0 +1,2 @@
+//! What courses of events can do: which marks a course keeps, and whether any course fits.
+#![tactic(auto)]
