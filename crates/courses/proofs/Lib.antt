@@ -11,3 +11,4 @@ pub mod LowestMarks
 pub mod LowestCourse
 pub mod SteadyClock
 pub mod Covers
+pub mod DriftTest
