@@ -3,3 +3,4 @@ pub mod TrueMarks
 pub mod DriftRefutation
 pub mod LowestCourse
 pub mod Cover
+pub mod DriftSettlement
