@@ -9,7 +9,7 @@ use Rattle.certificate.specs.Refutation.{RefutationData}
 use Rattle.pairing.specs.declared.exchange.Exchange.{Exchange}
 use Rattle.marks.specs.declared.mark.Mark.{Mark}
 use Rattle.marks.specs.Mark.{low_mark, high_mark, IsPossible, AreCompatible}
-use Rattle.sample_interval.specs.Moment.{Moment}
+use Rattle.sample_interval.specs.Moment.{Moment, error_of}
 use Rattle.sample_interval.specs.Window.{request_start, reply_end}
 use Rattle.checker.specs.Course.{Course, Fits, IsClientMoment}
 use Rattle.checker.specs.Refutation.{is_liar, IsAgainst}
@@ -29,56 +29,55 @@ at_reading n reading error place time shows off =
 through : (a b c d : ℤ) → a ≤ℤ b → b ≤ℤ c → c ≤ℤ d → a ≤ℤ d
 through a b c d p q r = omega (arith, ints)
 
+module _ (claim : ClaimData) (xs : List Exchange) (course : Course) (k : ℕ) (x : Exchange)
+    (at : slice_get xs k ≡ Some x) where
+  is_request : IsClientMoment course (length xs) (course.request k)
+  is_request = inr (k, slice_get_within xs k x at, inl refl)
+
+  is_reply : IsClientMoment course (length xs) (course.reply k)
+  is_reply = inr (k, slice_get_within xs k x at, inr refl)
+
+  -- its two moments keep its two marks
+  module _ (fits : Fits claim xs course) (true' : course.is_false x.server ≡ false) where
+    pub keeps_low : KeepsLow course.fineness (low_mark claim.reading x) (course.request k)
+    keeps_low =
+        let order = fits.ordered k x at true' in
+        let near = fits.within_root_distance k x at true' in (
+          (fits.in_windows k x at).0.0,
+          leaves_in_time course.fineness (request_start x claim.reading) x.t2 x.t3 x.distance
+              (course.request k).time (course.received k) (course.sent k) (course.reply k).time order.0 order.1
+              order.2 near.0 near.1,
+        )
+
+    pub keeps_high : KeepsHigh course.fineness (high_mark claim.reading x) (course.reply k)
+    keeps_high =
+        let order = fits.ordered k x at true' in
+        let near = fits.within_root_distance k x at true' in (
+          (fits.in_windows k x at).1.1,
+          arrives_in_time course.fineness (reply_end x claim.reading) x.t2 x.t3 x.distance
+              (course.request k).time (course.received k) (course.sent k) (course.reply k).time order.0 order.1
+              order.2 near.0 near.1,
+        )
+
+    pub possible : claim.drift_ppb ≤ 500000000 → IsPossible claim.reading x
+    possible slow =
+        let order = fits.ordered k x at true' in
+        let near = fits.within_root_distance k x at true' in
+        let windows = fits.in_windows k x at in
+        let forth = through (course.request k).time (course.received k) (course.sent k) (course.reply k).time
+        order.0 order.1 order.2 in
+        let readings = moments_in_order claim.drift_ppb (course.request k) (course.reply k) (omega arith)
+        (fits.drift (course.request k) (course.reply k) is_request is_reply) forth in
+        record {
+          leaves_before_arrival = cancel (request_start x claim.reading) (reply_end x claim.reading) course.fineness
+              fits.some_fineness (through _ _ _ _ windows.0.0 readings windows.1.1);
+          receives_before_answer = stamps_in_order course.fineness (reply_end x claim.reading) x.t2 x.t3 x.distance
+              (course.request k).time (course.received k) (course.sent k) (course.reply k).time order.0 order.1
+              order.2 near.0 near.1 fits.some_fineness;
+        }
+
 module _ (claim : ClaimData) (slow : claim.drift_ppb ≤ 500000000) (xs : List Exchange) (course : Course)
     (fits : Fits claim xs course) where
-  n : ℕ
-  n = course.fineness
-
-  module _ (k : ℕ) (x : Exchange) (at : slice_get xs k ≡ Some x) where
-    is_request : IsClientMoment course (length xs) (course.request k)
-    is_request = inr (k, slice_get_within xs k x at, inl refl)
-
-    is_reply : IsClientMoment course (length xs) (course.reply k)
-    is_reply = inr (k, slice_get_within xs k x at, inr refl)
-
-    module _ (true' : course.is_false x.server ≡ false) where
-      pub keeps_low : KeepsLow course.fineness (low_mark claim.reading x) (course.request k)
-      keeps_low =
-          let order = fits.ordered k x at true' in
-          let near = fits.within_root_distance k x at true' in (
-            (fits.in_windows k x at).0.0,
-            leaves_in_time course.fineness (request_start x claim.reading) x.t2 x.t3
-                x.distance (course.request k).time (course.received k) (course.sent k) (course.reply k).time order.0 order.1
-                order.2 near.0 near.1,
-          )
-
-      pub keeps_high : KeepsHigh course.fineness (high_mark claim.reading x) (course.reply k)
-      keeps_high =
-          let order = fits.ordered k x at true' in
-          let near = fits.within_root_distance k x at true' in (
-            (fits.in_windows k x at).1.1,
-            arrives_in_time course.fineness (reply_end x claim.reading) x.t2 x.t3
-                x.distance (course.request k).time (course.received k) (course.sent k) (course.reply k).time order.0 order.1
-                order.2 near.0 near.1,
-          )
-
-      pub possible : IsPossible claim.reading x
-      possible =
-          let order = fits.ordered k x at true' in
-          let near = fits.within_root_distance k x at true' in
-          let windows = fits.in_windows k x at in
-          let forth = through (course.request k).time (course.received k) (course.sent k) (course.reply k).time
-          order.0 order.1 order.2 in
-          let readings = moments_in_order claim.drift_ppb (course.request k) (course.reply k) (omega arith)
-          (fits.drift (course.request k) (course.reply k) is_request is_reply) forth in
-          record {
-            leaves_before_arrival = cancel (request_start x claim.reading) (reply_end x claim.reading) course.fineness
-                fits.some_fineness (through _ _ _ _ windows.0.0 readings windows.1.1);
-            receives_before_answer = stamps_in_order course.fineness (reply_end x claim.reading) x.t2 x.t3 x.distance
-                (course.request k).time (course.received k) (course.sent k) (course.reply k).time order.0 order.1
-                order.2 near.0 near.1 fits.some_fineness;
-          }
-
   pub two_agree : (low high : Mark) (a b : Moment) → IsClientMoment course (length xs) a
       → IsClientMoment course (length xs) b → KeepsLow course.fineness low a → KeepsHigh course.fineness high b
       → AreCompatible claim.drift_ppb low high
@@ -91,12 +90,12 @@ module _ (claim : ClaimData) (slow : claim.drift_ppb ≤ 500000000) (xs : List E
     pub agree : DoAgree claim is_false xs
     agree = record {
       possible = all_true is_false xs (IsPossible claim.reading)
-          (λ k x at true'. possible k x at (others x.server true'));
+          (λ k x at true'. possible claim xs course k x at fits (others x.server true') slow);
       compatible = all_pairs is_false xs claim.drift_ppb claim.reading
           (λ i j x y at_i at_j true_x true_y.
           two_agree (low_mark claim.reading x) (high_mark claim.reading y) (course.request i) (course.reply j)
-          (is_request i x at_i) (is_reply j y at_j) (keeps_low i x at_i (others x.server true_x))
-          (keeps_high j y at_j (others y.server true_y)));
+          (is_request claim xs course i x at_i) (is_reply claim xs course j y at_j) (keeps_low claim xs course i x at_i fits (others x.server true_x))
+          (keeps_high claim xs course j y at_j fits (others y.server true_y)));
     }
 
     module _ (mark : Mark) (low : KeepsLow course.fineness mark course.observation)
@@ -104,30 +103,38 @@ module _ (claim : ClaimData) (slow : claim.drift_ppb ≤ 500000000) (xs : List E
       pub low_agrees : All (AreCompatible claim.drift_ppb mark) (high_marks claim.reading is_false xs)
       low_agrees = all_marks is_false xs (AreCompatible claim.drift_ppb mark) (high_mark claim.reading)
           (λ j y at_j true_y. two_agree mark (high_mark claim.reading y) course.observation (course.reply j)
-          (inl refl) (is_reply j y at_j) low (keeps_high j y at_j (others y.server true_y)))
+          (inl refl) (is_reply claim xs course j y at_j) low (keeps_high claim xs course j y at_j fits (others y.server true_y)))
 
       pub high_agrees : All (λ other. AreCompatible claim.drift_ppb other mark) (low_marks claim.reading is_false xs)
       high_agrees = all_marks is_false xs (λ other. AreCompatible claim.drift_ppb other mark) (low_mark claim.reading)
           (λ i x at_i true_x. two_agree (low_mark claim.reading x) mark (course.request i) course.observation
-          (is_request i x at_i) (inl refl) (keeps_low i x at_i (others x.server true_x)) high)
+          (is_request claim xs course i x at_i) (inl refl) (keeps_low claim xs course i x at_i fits (others x.server true_x)) high)
 
 same_le : (a b : ℤ) → a ≡ b → a ≤ℤ b
 same_le a b e = omega (arith, ints)
 
+module _ (n : ℕ) (mark : Mark) (moment : Moment) (shown : moment.reading ≡ mark.place *ℤ pos n)
+    (off : error_of moment ≡ mark.error *ℤ pos n) where
+  pub observed_low : KeepsLow n mark moment
+  observed_low =
+      let time = at_reading n mark.place mark.error moment.reading moment.time shown off in
+      (same_le _ _ (sym shown), same_le _ _ time)
+
+  pub observed_high : KeepsHigh n mark moment
+  observed_high =
+      let time = at_reading n mark.place mark.error moment.reading moment.time shown off in
+      (same_le _ _ shown, same_le _ _ (sym time))
+
 pub refuted_where_shown : (claim : ClaimData) (xs : List Exchange) (r : RefutationData) (course : Course)
     → claim.drift_ppb ≤ 500000000 → IsAgainst claim r → Shows claim xs r course → IsRefutedWithDrift claim xs r
 refuted_where_shown claim xs r course slow against shows =
-    let moment = course.observation in
-    let shown = shows.observed.reading in
-    let time = at_reading course.fineness (pos r.reading) r.error moment.reading moment.time shown shows.observed.error in
-    let low : KeepsLow course.fineness (mark_of r) moment =
-    (same_le _ _ (sym shown), same_le _ _ time) in
-    let high : KeepsHigh course.fineness (mark_of r) moment =
-    (same_le _ _ shown, same_le _ _ (sym time)) in
+    let seen = shows.observed in
+    let low = observed_low course.fineness (mark_of r) course.observation seen.reading seen.error in
+    let high = observed_high course.fineness (mark_of r) course.observation seen.reading seen.error in
+    let liar = is_liar r.liars in
     record {
       against = against;
-      agree = agree claim slow xs course shows.fits (is_liar r.liars) shows.others_true;
-      reading_low = low_agrees claim slow xs course shows.fits (is_liar r.liars) shows.others_true (mark_of r) low high;
-      reading_high = high_agrees claim slow xs course shows.fits (is_liar r.liars) shows.others_true (mark_of r) low
-          high;
+      agree = agree claim slow xs course shows.fits liar shows.others_true;
+      reading_low = low_agrees claim slow xs course shows.fits liar shows.others_true (mark_of r) low high;
+      reading_high = high_agrees claim slow xs course shows.fits liar shows.others_true (mark_of r) low high;
     }

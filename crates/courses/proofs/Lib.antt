@@ -9,6 +9,8 @@ pub mod Allowed
 pub mod LowestError
 pub mod LowestMarks
 pub mod LowestCourse
+pub mod Pairs
+pub mod DriftCourse
 pub mod SteadyClock
 pub mod Covers
 pub mod DriftTest

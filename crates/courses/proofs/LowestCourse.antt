@@ -121,9 +121,6 @@ module _ (xs : List Exchange) (agree : AllPairs SameRequest xs) where
 
 module _ (claim : ClaimData) (slow : claim.drift_ppb ≤ 500000000) (some : pos 0 ≤ℤ claim.reading)
     (is_false : ℕ → Bool) (first : Mark) (reading : ℤ) (xs : List Exchange) where
-  ppb : ℕ
-  ppb = claim.drift_ppb
-
   abbrev lows : List Mark
   lows = low_marks claim.reading is_false xs
 
@@ -224,8 +221,10 @@ module _ (claim : ClaimData) (slow : claim.drift_ppb ≤ 500000000) (some : pos 
         within_root_distance = distances;
       }
 
-  pub lowest_shares : AllPairs SameRequest xs → SharesRequests xs course
+module _ (claim : ClaimData) (is_false : ℕ → Bool) (first : Mark) (reading : ℤ) (xs : List Exchange) where
+  pub lowest_shares : AllPairs SameRequest xs → SharesRequests xs (lowest_course claim is_false first reading xs)
   lowest_shares agree i j x y at_i at_j same =
       let start : request_start x claim.reading ≡ request_start y claim.reading =
       ap (λ (t : ℤ). t -ℤ claim.reading) (one_start xs agree i j x y at_i at_j same) in
-      rw (at_i, at_j) (ap moment start)
+      rw (at_i, at_j)
+      (ap (lowest_moment claim.drift_ppb first (low_marks claim.reading is_false xs)) start)

@@ -3,7 +3,8 @@
 -- What a false server says may be anything. Each other exchange leaves a low mark and a high mark,
 -- and it is possible by itself. Pairs are enough: a course keeps all these marks exactly if each low
 -- mark is compatible with each high mark.
-use Rattle.std.specs.Prelude.{ℕ, ℤ, Bool, not, List, map, filter, All}
+use Rattle.std.specs.Prelude.{◌≡◌, ℕ, ℤ, Bool, false, not, List, map, filter, All}
+use Rattle.checker.specs.Course.{Course, Fits}
 use Rattle.claim_file.specs.Claim.{ClaimData}
 use Rattle.pairing.specs.declared.exchange.Exchange.{Exchange}
 use Rattle.marks.specs.Mark.{low_mark, high_mark, IsPossible, AreCompatible}
@@ -31,3 +32,8 @@ pub record DoAgree (claim : ClaimData) (is_false : ℕ → Bool) (xs : List Exch
   pub possible : All (IsPossible claim.reading) (true_exchanges is_false xs)
   pub compatible : AreAllCompatible claim.drift_ppb (low_marks claim.reading is_false xs)
       (high_marks claim.reading is_false xs)
+
+-- some course fits in which no server is false but these
+abbrev pub FitsWithFalse : ClaimData → (ℕ → Bool) → List Exchange → Type 0
+FitsWithFalse claim is_false xs = (course : Course) × Fits claim xs course
+    × ((server : ℕ) → is_false server ≡ false → course.is_false server ≡ false)
