@@ -11,5 +11,9 @@
 //! it is settled whether any course fits (specs/Cover). [`laws`] has the theorems and their steps.
 #![tactic(auto)]
 
+mod kept_marks;
 pub mod laws;
+mod refutation;
 mod refutation_laws;
+
+pub use refutation::check_refutation_with_drift;
