@@ -4,3 +4,4 @@ pub mod DriftRefutation
 pub mod LowestCourse
 pub mod Cover
 pub mod DriftSettlement
+pub mod ConflictTable

@@ -1,5 +1,6 @@
 //! What holds of refutations of which the clock may drift, and why.
-ghost use Rattle.std.specs.Prelude.{◌≡◌, ◌↔◌, Bool, IsTrue, ℕ, List, length, All, AllPairs};
+ghost use Rattle.std.specs.Prelude.{◌≡◌, ◌↔◌, Bool, IsTrue, ℕ, ◌≤◌, ℤ, ◌≤ℤ◌};
+ghost use Rattle.std.specs.Prelude.{List, length, All, AllPairs};
 ghost use Rattle.certificate.specs.Certificate.{CertificateData};
 ghost use Rattle.certificate.specs.Refutation.{RefutationData};
 ghost use Rattle.checker.specs.Course.{Course, Fits};
@@ -9,10 +10,11 @@ ghost use Rattle.checker.specs.Verdict.{verdict_of};
 ghost use Rattle.checker.specs.declared.verdict.Verdict.TheVariants.{Yes};
 ghost use Rattle.claim_file.specs.Claim.{ClaimData, IsLawful};
 ghost use Rattle.courses.specs.DriftRefutation.{IsRefutedWithDrift, IsObservedOff, Shows};
-ghost use Rattle.courses.specs.DriftRefutation.{HasDriftCourse};
+ghost use Rattle.courses.specs.DriftRefutation.{IsRefutedByMarks, HasDriftCourse};
 ghost use Rattle.courses.specs.DriftSettlement.{SettlesWithDrift};
 ghost use Rattle.pairing.specs.Exchange.{IsLawful as IsLawfulExchange, SameRequest};
 ghost use Rattle.pairing.specs.declared.exchange.Exchange.{Exchange};
+ghost use Rattle.sample_interval.specs.Widening.{IsRate};
 
 use checker::laws::verdicts_are_traceable;
 
@@ -66,6 +68,21 @@ pub fn refutations_without_drift_stand()
     ensures no_others { (claim : ClaimData) (xs : List Exchange) (refutation : RefutationData) →
         claim.drift_ppb ≡ 0 → IsRefutedWithDrift claim xs refutation →
         IsRefuted claim xs refutation }
+{}
+
+/// A refutation's own mark counts as one of each kind: it is accepted exactly if, with its mark put
+/// in among the low ones and among the high ones, each low mark is compatible with each high mark.
+pub fn own_mark_joins_the_others()
+    ensures { (claim : ClaimData) (xs : List Exchange) (refutation : RefutationData) →
+        IsRefutedWithDrift claim xs refutation ↔ IsRefutedByMarks claim xs refutation }
+{}
+
+/// What refutes a claim refutes it with every narrower bound and with every faster drift.
+pub fn narrower_bounds_and_faster_drifts_are_refuted_too()
+    ensures { (claim : ClaimData) (narrower : ℤ) (faster : ℕ) (xs : List Exchange)
+        (refutation : RefutationData) → narrower ≤ℤ claim.bound → claim.drift_ppb ≤ faster →
+        IsRate faster → IsRefutedWithDrift claim xs refutation →
+        IsRefutedWithDrift (record claim { bound = narrower; drift_ppb = faster }) xs refutation }
 {}
 
 /// An exact answer on a refutation says all of this.
