@@ -15,3 +15,4 @@ pub mod OwnMark
 pub mod SteadyClock
 pub mod Covers
 pub mod ConflictTables
+pub mod WorkedDrift

@@ -5,3 +5,4 @@ pub mod LowestCourse
 pub mod Cover
 pub mod DriftSettlement
 pub mod ConflictTable
+pub mod WorkedDrift

@@ -30,7 +30,7 @@ pub use crate::refutation_laws::{
     accepted_refutations_have_a_course, courses_of_refutations_break_the_claim,
     narrower_bounds_and_faster_drifts_are_refuted_too, own_mark_joins_the_others,
     refutations_are_settled, refutations_stand_where_a_course_shows_them,
-    refutations_without_drift_stand, yes_and_refutation_never_meet,
+    refutations_without_drift_stand, worked_drift_is_seen, yes_and_refutation_never_meet,
 };
 
 /// Of what the clock itself advances, the error rises by at most P/(B+P) and falls by at most
