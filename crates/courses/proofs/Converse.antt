@@ -94,7 +94,8 @@ module _ (claim : ClaimData) (slow : claim.drift_ppb ≤ 500000000) (xs : List E
       compatible = all_pairs is_false xs claim.drift_ppb claim.reading
           (λ i j x y at_i at_j true_x true_y.
           two_agree (low_mark claim.reading x) (high_mark claim.reading y) (course.request i) (course.reply j)
-          (is_request claim xs course i x at_i) (is_reply claim xs course j y at_j) (keeps_low claim xs course i x at_i fits (others x.server true_x))
+          (is_request claim xs course i x at_i) (is_reply claim xs course j y at_j)
+          (keeps_low claim xs course i x at_i fits (others x.server true_x))
           (keeps_high claim xs course j y at_j fits (others y.server true_y)));
     }
 
@@ -103,12 +104,14 @@ module _ (claim : ClaimData) (slow : claim.drift_ppb ≤ 500000000) (xs : List E
       pub low_agrees : All (AreCompatible claim.drift_ppb mark) (high_marks claim.reading is_false xs)
       low_agrees = all_marks is_false xs (AreCompatible claim.drift_ppb mark) (high_mark claim.reading)
           (λ j y at_j true_y. two_agree mark (high_mark claim.reading y) course.observation (course.reply j)
-          (inl refl) (is_reply claim xs course j y at_j) low (keeps_high claim xs course j y at_j fits (others y.server true_y)))
+          (inl refl) (is_reply claim xs course j y at_j) low
+          (keeps_high claim xs course j y at_j fits (others y.server true_y)))
 
       pub high_agrees : All (λ other. AreCompatible claim.drift_ppb other mark) (low_marks claim.reading is_false xs)
       high_agrees = all_marks is_false xs (λ other. AreCompatible claim.drift_ppb other mark) (low_mark claim.reading)
           (λ i x at_i true_x. two_agree (low_mark claim.reading x) mark (course.request i) course.observation
-          (is_request claim xs course i x at_i) (inl refl) (keeps_low claim xs course i x at_i fits (others x.server true_x)) high)
+          (is_request claim xs course i x at_i) (inl refl)
+          (keeps_low claim xs course i x at_i fits (others x.server true_x)) high)
 
 same_le : (a b : ℤ) → a ≡ b → a ≤ℤ b
 same_le a b e = omega (arith, ints)

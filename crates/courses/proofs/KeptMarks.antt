@@ -49,7 +49,8 @@ distance_is : (a b : ℤ) → a ≤ℤ b → b -ℤ a ≡ pos (unsigned_abs (b -
 distance_is a b h = omega (arith, ints)
 
 -- the error rises by at most P/(B+P) and falls by at most P/(B-P) of what the clock advances
-module _ (ppb : ℕ) (a b : Moment) (slow : ppb < billion) (h : DriftsWithin ppb a b) (forth : a.reading ≤ℤ b.reading) where
+module _ (ppb : ℕ) (a b : Moment) (slow : ppb < billion) (h : DriftsWithin ppb a b)
+    (forth : a.reading ≤ℤ b.reading) where
   pub error_rises : (pos (billion + ppb) *ℤ (error_of b -ℤ error_of a)) ≤ℤ (pos ppb *ℤ (b.reading -ℤ a.reading))
   error_rises =
       let r : ℕ = unsigned_abs (b.reading -ℤ a.reading) in

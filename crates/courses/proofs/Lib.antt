@@ -5,12 +5,15 @@ pub mod KeptMarks
 pub mod TrueExchanges
 pub mod Converse
 pub mod Slope
-pub mod Allowed
+pub mod AllowedDrift
 pub mod LowestError
 pub mod LowestMarks
 pub mod LowestCourse
 pub mod Pairs
 pub mod DriftCourse
+pub mod OwnMark
 pub mod SteadyClock
 pub mod Covers
+pub mod ConflictTables
+pub mod WorkedDrift
 pub mod DriftTest

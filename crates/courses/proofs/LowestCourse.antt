@@ -208,8 +208,10 @@ module _ (claim : ClaimData) (slow : claim.drift_ppb ≤ 500000000) (some : pos 
 
         distances : KeepsRootDistance course k x
         distances =
-            rw at
-            (near n x.t2 x.distance _ (receipt_between _ _ _ _ _ _ room), near n x.t3 x.distance _ (answer_between _ _ _ _ _ _ room))
+            rw at (
+              near n x.t2 x.distance _ (receipt_between _ _ _ _ _ _ room),
+              near n x.t3 x.distance _ (answer_between _ _ _ _ _ _ room),
+            )
 
       pub lowest_fits : false_group_count claim.groups is_false ≤ claim.false_max → Fits claim xs course
       lowest_fits few = record {

@@ -11,7 +11,7 @@ use Rattle.sample_interval.specs.Widening.{billion}
 use Rattle.courses.specs.LowestCourse.{fineness_of, most_rise, most_fall, error_left, lowest_error, lowest_moment}
 use Rattle.courses.proofs.Scaling.{scaled_beyond}
 use Rattle.courses.proofs.Slope.{Changes, Changes-asked, Changes-greatest}
-use Rattle.courses.proofs.Allowed.{drifts, drifts_back, no_sooner}
+use Rattle.courses.proofs.AllowedDrift.{drifts, drifts_back, no_sooner}
 
 -- ---- the greatest of several numbers
 

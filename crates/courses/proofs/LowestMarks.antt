@@ -61,7 +61,8 @@ module _ (ppb : ℕ) (low high : Mark) (agree : AreCompatible ppb low high) wher
   behind_left : high.place <ℤ low.place → error_left ppb high.place low ≤ℤ (high.error *ℤ pos (fineness_of ppb))
   behind_left back =
       let d : ℕ = unsigned_abs (low.place -ℤ high.place) in
-      let left = asked_before (most_rise ppb) (most_fall ppb) (low.error *ℤ pos (fineness_of ppb)) low.place high.place d
+      let left = asked_before (most_rise ppb) (most_fall ppb) (low.error *ℤ pos (fineness_of ppb)) low.place
+      high.place d
       (omega (arith, ints)) (omega (arith, ints)) in
       rw left (by_lt_z high.error low.error
       (λ above.
@@ -108,6 +109,14 @@ module _ (n : ℕ) (place error found : ℤ) where
       let difference = times-sub (place -ℤ error) place error n refl in
       omega (arith, ints, difference)
 
+-- a mark is compatible with itself
+pub with_itself : (ppb : ℕ) (mark : Mark) → AreCompatible ppb mark mark
+with_itself ppb mark = record {
+  falls = λ forth. bounded (billion - ppb) ppb 0 _ _ (omega (arith, ints))
+      (λ x at. nothing (billion - ppb) x ppb (omega (arith, ints)));
+  rises = λ back. absurd (omega (arith, ints));
+}
+
 module _ (ppb : ℕ) (first : Mark) (others : List Mark) where
   no_lower_than_first : (first.error *ℤ pos (fineness_of ppb)) ≤ℤ lowest_error ppb first others first.place
   no_lower_than_first =
@@ -153,16 +162,9 @@ module _ (ppb : ℕ) (first : Mark) (others : List Mark) where
         (no_higher high agrees all),
   )
 
-  -- a mark is compatible with itself
-  with_itself : AreCompatible ppb first first
-  with_itself = record {
-    falls = λ forth. bounded (billion - ppb) ppb 0 _ _ (omega (arith, ints)) (λ x at. nothing (billion - ppb) x ppb (omega (arith, ints)));
-    rises = λ back. absurd (omega (arith, ints));
-  }
-
   -- where the first mark is a high one too, the error at its place is its error
   pub first_is_met : All (λ low. AreCompatible ppb low first) others
       → error_of (lowest_moment ppb first others first.place) ≡ first.error *ℤ pos (fineness_of ppb)
   first_is_met all =
-      let error = equal_from _ _ (no_higher first with_itself all) no_lower_than_first in
+      let error = equal_from _ _ (no_higher first (with_itself ppb first) all) no_lower_than_first in
       shown_error _ _ ∙ error

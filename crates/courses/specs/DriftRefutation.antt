@@ -4,13 +4,14 @@
 -- It is accepted if some course of events shows it: one in which no server is false but these, the
 -- error drifts as the claim grants, and at the reading it is the refutation's. Whether there is one
 -- is settled by pairs of marks: what the refutation says is a low mark and a high mark of its own.
-use Rattle.std.specs.Prelude.{◌≡◌, ℕ, pos, ◌*ℤ◌, false, List, All}
+use Rattle.std.specs.Prelude.{◌≡◌, ℕ, pos, ◌*ℤ◌, false, List, ◌∷◌, All}
 use Rattle.certificate.specs.Refutation.{RefutationData}
 use Rattle.checker.specs.Course.{Course, Fits}
 use Rattle.checker.specs.Refutation.{is_liar, IsAgainst, SharesRequests}
 use Rattle.claim_file.specs.Claim.{ClaimData}
-use Rattle.courses.specs.TrueMarks.{low_marks, high_marks, DoAgree}
-use Rattle.marks.specs.Mark.{AreCompatible}
+use Rattle.courses.specs.TrueMarks.{true_exchanges, low_marks, high_marks}
+use Rattle.courses.specs.TrueMarks.{AreAllCompatible, DoAgree}
+use Rattle.marks.specs.Mark.{IsPossible, AreCompatible}
 use Rattle.marks.specs.declared.mark.Mark.{Mark}
 use Rattle.pairing.specs.declared.exchange.Exchange.{Exchange}
 use Rattle.sample_interval.specs.Moment.{error_of}
@@ -32,6 +33,15 @@ pub record IsRefutedWithDrift (claim : ClaimData) (xs : List Exchange)
   -- and as a high one with each low mark
   pub reading_high : All (λ low. AreCompatible claim.drift_ppb low (mark_of refutation))
       (low_marks claim.reading (is_liar refutation.liars) xs)
+
+-- the same with its own mark among the others, as a low one and as a high one
+pub record IsRefutedByMarks (claim : ClaimData) (xs : List Exchange) (refutation : RefutationData)
+    : Type 0 where
+  pub against : IsAgainst claim refutation
+  pub possible : All (IsPossible claim.reading) (true_exchanges (is_liar refutation.liars) xs)
+  pub compatible : AreAllCompatible claim.drift_ppb
+      (mark_of refutation ∷ low_marks claim.reading (is_liar refutation.liars) xs)
+      (mark_of refutation ∷ high_marks claim.reading (is_liar refutation.liars) xs)
 
 -- ---- the courses that it stands for
 

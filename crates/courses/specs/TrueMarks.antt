@@ -1,8 +1,8 @@
 -- The marks that a course of events has to keep, if some servers are false.
 --
 -- What a false server says may be anything. Each other exchange leaves a low mark and a high mark,
--- and it is possible by itself. Pairs are enough: a course keeps all these marks exactly if each low
--- mark is compatible with each high mark.
+-- and it is possible by itself. Pairs are enough: a course keeps all these marks exactly if each
+-- low mark is compatible with each high mark.
 use Rattle.std.specs.Prelude.{◌≡◌, ℕ, ℤ, Bool, false, not, List, map, filter, All}
 use Rattle.checker.specs.Course.{Course, Fits}
 use Rattle.claim_file.specs.Claim.{ClaimData}

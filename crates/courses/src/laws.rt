@@ -12,6 +12,7 @@ ghost use Rattle.claim_file.specs.Claim.{ClaimData, IsLawful};
 ghost use Rattle.checker.specs.Course.{Course, Fits};
 ghost use Rattle.checker.specs.Groups.{holds_false, false_group_count};
 ghost use Rattle.checker.specs.Refutation.{SharesRequests};
+ghost use Rattle.courses.specs.ConflictTable.{IsConflictTable, HasSmallTableCover};
 ghost use Rattle.courses.specs.Cover.{IsCover, size_of, HasSmallCover, SomeCourse};
 ghost use Rattle.courses.specs.DriftSettlement.{SettlesFit};
 ghost use Rattle.courses.specs.Keeping.{KeepsLow, KeepsHigh};
@@ -27,8 +28,9 @@ ghost use Rattle.sample_interval.specs.Widening.{billion, IsRate};
 
 pub use crate::refutation_laws::{
     accepted_refutations_have_a_course, courses_of_refutations_break_the_claim,
+    narrower_bounds_and_faster_drifts_are_refuted_too, own_mark_joins_the_others,
     refutations_are_settled, refutations_stand_where_a_course_shows_them,
-    refutations_without_drift_stand, yes_and_refutation_never_meet,
+    refutations_without_drift_stand, worked_drift_is_seen, yes_and_refutation_never_meet,
 };
 
 /// Of what the clock itself advances, the error rises by at most P/(B+P) and falls by at most
@@ -166,6 +168,16 @@ pub fn some_course_fits_where_a_cover_is_small()
     ensures { (claim : ClaimData) (xs : List Exchange) → IsLawful claim →
         All (IsLawfulExchange (length claim.servers)) xs →
         SomeCourse claim xs ↔ HasSmallCover claim xs }
+{}
+
+/// A table of broken groups and conflicts has a small cover exactly if the exchanges have one. So a
+/// search in the table settles whether a course fits.
+pub fn tables_settle_covers()
+    ensures { (claim : ClaimData) (xs : List Exchange) (is_broken : ℕ → Bool)
+        (is_edge : ℕ → ℕ → Bool) → IsLawful claim →
+        All (IsLawfulExchange (length claim.servers)) xs →
+        IsConflictTable claim xs is_broken is_edge →
+        HasSmallCover claim xs ↔ HasSmallTableCover claim is_broken is_edge }
 {}
 
 /// An exact answer on whether a course fits is one on covers, and the other way about.
