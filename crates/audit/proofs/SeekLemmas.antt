@@ -41,7 +41,7 @@ pub record Sought (e : EvidenceData) (found : Option Refutation) : Type 0 where
 
 module _ (laws : Laws) (e : EvidenceData) (limits : Limits e) where
   standing : (refutation : RefutationData) → IsRefuted e.claim e.collection.exchanges refutation →
-      IsStanding refutation e
+      IsStanding false refutation e
   standing refutation accepted = record {
     accepted = accepted;
     course = laws.course e.claim e.collection.exchanges refutation limits.lawful limits.each limits.agree accepted;

@@ -1,5 +1,5 @@
 -- What an outcome shows, from the bytes of the inputs.
-use Rattle.std.proofs.Common.{◌≡◌, ◌∙◌, ℕ, List, Option, Some, None, Result, Ok, Err, refl, sym, ap, subst, inl, inr}
+use Rattle.std.proofs.Common.{◌≡◌, ◌∙◌, ℕ, Bool, List, Option, Some, None, Result, Ok, Err, refl, sym, ap, subst, inl, inr}
 use Rattle.std.specs.Prelude.{IfSome, IfOk, IfErr}
 use Rattle.byte_stream.specs.Bytes.{IsBytes}
 use Rattle.byte_stream.specs.State.{FeedState}
@@ -46,12 +46,13 @@ certificate_of (Ok d) c is = cc
 certificate_of (Err fault) c is = cc
 
 -- the refutation was read
-refutation_of : (second : Option (List ℕ)) (task : TaskData) (r : RefutationData) → task ≡ refute_by r →
-    IfSome (task_read refute second) (λ read. read ≡ Ok task) →
+refutation_of : (drift : Bool) (second : Option (List ℕ)) (task : TaskData) (r : RefutationData) →
+    task ≡ refute_by drift r → IfSome (task_read (refute drift) second) (λ read. read ≡ Ok task) →
     IfSome second (λ bytes. refutation_read bytes ≡ Ok r)
-refutation_of None task r is read = tt
-refutation_of (Some bytes) task r is read = refutation_in (refutation_read bytes) (read ∙ ap Ok is) where
-  refutation_in : (result : Result RefutationData RunFault) → refute_read result ≡ Ok (refute_by r) → result ≡ Ok r
+refutation_of drift None task r is read = tt
+refutation_of drift (Some bytes) task r is read = refutation_in (refutation_read bytes) (read ∙ ap Ok is) where
+  refutation_in : (result : Result RefutationData RunFault) → refute_read drift result ≡ Ok (refute_by drift r) →
+      result ≡ Ok r
   refutation_in (Ok other) same = cc
   refutation_in (Err fault) same = cc
 
@@ -139,18 +140,18 @@ module _ (c : ClaimData) where
   }
 
   -- the refutation with the evidence that the bytes give
-  refuted : (P : RefutationData → EvidenceData → Type 0) (outcome : Outcome) →
-      ((r : RefutationData) (e : EvidenceData) → ShowsOf (refute_by r) e outcome → P r e) →
-      (claim second capture : Option (List ℕ)) → Is claim → ShowsAfter refute c second capture outcome →
+  refuted : (drift : Bool) (P : RefutationData → EvidenceData → Type 0) (outcome : Outcome) →
+      ((r : RefutationData) (e : EvidenceData) → ShowsOf (refute_by drift r) e outcome → P r e) →
+      (claim second capture : Option (List ℕ)) → Is claim → ShowsAfter (refute drift) c second capture outcome →
       IfSome claim (λ b. IfSome capture (GiveRefutation P second b))
-  refuted P outcome told None second capture is after = tt
-  refuted P outcome told (Some b) second None is after = tt
-  refuted P outcome told (Some b) second (Some f) is after =
+  refuted drift P outcome told None second capture is after = tt
+  refuted drift P outcome told (Some b) second None is after = tt
+  refuted drift P outcome told (Some b) second (Some f) is after =
       let e = evidence_of c after.collection in
       let r = after.is_task.0 in
       record {
         refutation = r;
-        refutation_is = refutation_of second after.task r after.is_task.1 after.task_is;
+        refutation_is = refutation_of drift second after.task r after.is_task.1 after.task_is;
         evidence = record {
           evidence = e;
           evidence_is = record { claim_is = is; collection_is = after.collection_is };
@@ -183,10 +184,12 @@ module _ (laws : BytesLaws) (claim second capture : FeedState) (c : ClaimData) (
     by_pieces = traced_by_pieces c laws claim.remaining second.remaining capture.remaining is after;
   }
   from_bytes check outcomes.No after = denied c claim.remaining second.remaining capture.remaining is after
-  from_bytes refute outcomes.Yes after =
-      refuted c IsStanding outcomes.Yes (λ r e shows. shows) claim.remaining second.remaining capture.remaining is after
-  from_bytes refute outcomes.No after =
-      refuted c IsFallen outcomes.No (λ r e shows. shows) claim.remaining second.remaining capture.remaining is after
+  from_bytes (refute drift) outcomes.Yes after =
+      refuted c drift (IsStanding drift) outcomes.Yes (λ r e shows. shows)
+      claim.remaining second.remaining capture.remaining is after
+  from_bytes (refute drift) outcomes.No after =
+      refuted c drift (IsFallen drift) outcomes.No (λ r e shows. shows)
+      claim.remaining second.remaining capture.remaining is after
   from_bytes (envelope step servers) outcome after =
       alone (IsEnvelopeOf step outcome) (envelope step servers) outcome after
       (of_task _ outcome after.task _ after.is_task after.shows)

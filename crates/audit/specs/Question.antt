@@ -27,14 +27,14 @@ use Rattle.audit.specs.declared.question.Question.TheVariants as questions
 use Rattle.audit.specs.declared.question.Task.{Task}
 use Rattle.audit.specs.declared.question.Task.TheVariants as tasks
 
--- a question, as numbers: a time in Unix seconds, the length of a piece in seconds; and whether
--- it is shown what each server says
+-- a question, as numbers: a time in Unix seconds, the length of a piece in seconds; whether the
+-- error of a refutation may drift; and whether it is shown what each server says
 pub data QuestionData : Type 0 where
   samples : QuestionData
   at : ℕ → QuestionData
   find : ℕ → QuestionData
   check : QuestionData
-  refute : QuestionData
+  refute : Bool → QuestionData
   envelope : ℕ → Bool → QuestionData
   seek : QuestionData
 
@@ -44,7 +44,7 @@ pub data TaskData : Type 0 where
   show_at : ℕ → TaskData
   find_with : ℕ → TaskData
   check_of : CertificateData → TaskData
-  refute_by : RefutationData → TaskData
+  refute_by : Bool → RefutationData → TaskData
   show_envelope : ℕ → Bool → TaskData
   seek_refutation : TaskData
 
@@ -55,7 +55,7 @@ data_of questions.Samples = samples
 data_of (questions.At second) = at second
 data_of (questions.Find step) = find step.seconds
 data_of questions.Check = check
-data_of questions.Refute = refute
+data_of (questions.Refute drift) = refute drift
 data_of (questions.Envelope step servers) = envelope step.seconds servers
 data_of questions.Seek = seek
 
@@ -64,7 +64,7 @@ task_data tasks.Samples = show_samples
 task_data (tasks.At second) = show_at second
 task_data (tasks.Find step) = find_with step.seconds
 task_data (tasks.Check certificate) = check_of (certificate_data certificate)
-task_data (tasks.Refute refutation) = refute_by (refutation_data refutation)
+task_data (tasks.Refute drift refutation) = refute_by drift (refutation_data refutation)
 task_data (tasks.Envelope step servers) = show_envelope step.seconds servers
 task_data tasks.Seek = seek_refutation
 
@@ -81,9 +81,9 @@ check_read (Ok certificate) = Ok (check_of certificate)
 check_read (Err fault) = Err fault
 
 -- the refutation that is to be judged
-abbrev pub refute_read : Result RefutationData RunFault → Result TaskData RunFault
-refute_read (Ok refutation) = Ok (refute_by refutation)
-refute_read (Err fault) = Err fault
+abbrev pub refute_read : Bool → Result RefutationData RunFault → Result TaskData RunFault
+refute_read drift (Ok refutation) = Ok (refute_by drift refutation)
+refute_read drift (Err fault) = Err fault
 
 -- what a question becomes by the bytes of its second input, as far as they are known: without such
 -- an input it becomes itself
@@ -92,7 +92,8 @@ task_read samples second = Some (Ok show_samples)
 task_read (at unix_second) second = Some (Ok (show_at unix_second))
 task_read (find step) second = Some (Ok (find_with step))
 task_read check second = option_map (λ bytes. check_read (certificate_read bytes)) second
-task_read refute second = option_map (λ bytes. refute_read (refutation_read bytes)) second
+task_read (refute drift) second =
+    option_map (λ bytes. refute_read drift (refutation_read bytes)) second
 task_read (envelope step servers) second = Some (Ok (show_envelope step servers))
 task_read seek second = Some (Ok seek_refutation)
 
@@ -102,7 +103,8 @@ IsTaskOf samples task = task ≡ show_samples
 IsTaskOf (at unix_second) task = task ≡ show_at unix_second
 IsTaskOf (find step) task = task ≡ find_with step
 IsTaskOf check task = (certificate : CertificateData) × (task ≡ check_of certificate)
-IsTaskOf refute task = (refutation : RefutationData) × (task ≡ refute_by refutation)
+IsTaskOf (refute drift) task =
+    (refutation : RefutationData) × (task ≡ refute_by drift refutation)
 IsTaskOf (envelope step servers) task = task ≡ show_envelope step servers
 IsTaskOf seek task = task ≡ seek_refutation
 
@@ -114,7 +116,7 @@ HasSecond question known = IfSome (task_read question known) IsOk
 -- the limit only if the answer is that this input is too big
 abbrev pub most_second : {A : Type 0} → QuestionData → Result A RunFault → ℕ
 most_second check answer = most_read inputs.Certificate max_certificate answer
-most_second refute answer = most_read inputs.Refutation max_refutation answer
+most_second (refute drift) answer = most_read inputs.Refutation max_refutation answer
 most_second _ answer = 0
 
 -- the faults of reading it
@@ -131,7 +133,7 @@ IsOfSecond _ = ⊥
 -- a question that has no second input
 abbrev pub AsksNoSecond : QuestionData → Type 0
 AsksNoSecond check = ⊥
-AsksNoSecond refute = ⊥
+AsksNoSecond (refute drift) = ⊥
 AsksNoSecond _ = Unit {0}
 
 -- ---- the report, and what its outcome shows
@@ -142,7 +144,7 @@ report_on show_samples e = samples_report e
 report_on (show_at second) e = at_report second e
 report_on (find_with step) e = find_report step e
 report_on (check_of certificate) e = check_report certificate e
-report_on (refute_by refutation) e = refute_report refutation e
+report_on (refute_by drift refutation) e = refute_report drift refutation e
 report_on (show_envelope step servers) e = envelope_report step servers e
 report_on seek_refutation e = seek_report e
 
@@ -153,8 +155,8 @@ ShowsOf (find_with step) e Yes = IsFoundOf step e
 ShowsOf (find_with step) e No = IsNothingOf step e
 ShowsOf (check_of certificate) e Yes = HasVerdictYes certificate e
 ShowsOf (check_of certificate) e No = HasVerdictNo certificate e
-ShowsOf (refute_by refutation) e Yes = IsStanding refutation e
-ShowsOf (refute_by refutation) e No = IsFallen refutation e
+ShowsOf (refute_by drift refutation) e Yes = IsStanding drift refutation e
+ShowsOf (refute_by drift refutation) e No = IsFallen drift refutation e
 ShowsOf (show_envelope step servers) e outcome = IsEnvelopeOf step outcome e
 ShowsOf seek_refutation e Yes = IsSoughtOf e
 ShowsOf seek_refutation e No = IsSoughtInVain e
@@ -167,8 +169,8 @@ Shows (find step) claim second capture Yes = IsAccepted step claim capture
 Shows (find step) claim second capture No = IsNotFound step claim capture
 Shows check claim second capture Yes = IsTraced claim second capture
 Shows check claim second capture No = IsNotTraced claim second capture
-Shows refute claim second capture Yes = IsContested claim second capture
-Shows refute claim second capture No = IsUncontested claim second capture
+Shows (refute drift) claim second capture Yes = IsContested drift claim second capture
+Shows (refute drift) claim second capture No = IsUncontested drift claim second capture
 Shows (envelope step servers) claim second capture outcome =
     IsEnveloped step outcome claim capture
 Shows seek claim second capture Yes = IsRefutable claim capture

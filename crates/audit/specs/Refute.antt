@@ -3,9 +3,12 @@ use Rattle.std.specs.Prelude.{◌≡◌, ℕ, List, Bool, true, false, Option, I
 use Rattle.byte_stream.specs.State.{FeedState}
 use Rattle.certificate.specs.Certificate.{CertificateData}
 use Rattle.certificate.specs.Refutation.{RefutationData}
-use Rattle.checker.specs.Refutation.{HasCourse, IsRefuted}
+use Rattle.checker.specs.Course.{Course}
+use Rattle.checker.specs.Refutation.{HasCourse, IsAgainst, IsRefuted}
 use Rattle.checker.specs.RefutationTest.{is_refuted}
 use Rattle.checker.specs.declared.verdict.Verdict.TheVariants as verdicts
+use Rattle.courses.specs.DriftRefutation.{HasDriftCourse, IsRefutedWithDrift, Shows}
+use Rattle.courses.specs.DriftTest.{is_refuted_with_drift}
 use Rattle.report.specs.RefutationInput.{refutation_read}
 use Rattle.report.specs.declared.fault.Outcome.{Outcome}
 use Rattle.report.specs.declared.fault.Outcome.TheVariants.{Yes, No}
@@ -19,25 +22,47 @@ abbrev pub refuted_outcome : Bool → Outcome
 refuted_outcome true = Yes
 refuted_outcome false = No
 
--- whether a refutation stands on the exchanges of a capture
-abbrev pub stands_on : RefutationData → EvidenceData → Bool
-stands_on refutation e = is_refuted e.claim e.collection.exchanges refutation
+-- whether a refutation stands on the exchanges of a capture: one whose error may drift, or one
+-- whose error never changes
+abbrev pub stands_on : Bool → RefutationData → EvidenceData → Bool
+stands_on true refutation e = is_refuted_with_drift e.claim e.collection.exchanges refutation
+stands_on false refutation e = is_refuted e.claim e.collection.exchanges refutation
 
 -- the report of `refute` on a refutation, a claim and the exchanges of a capture
-abbrev pub refute_report : RefutationData → EvidenceData → Report
-refute_report refutation e =
-    whole_text (refuted_text (stands_on refutation e)) (refuted_outcome (stands_on refutation e))
+abbrev pub refute_report : Bool → RefutationData → EvidenceData → Report
+refute_report drift refutation e =
+    whole_text (refuted_text (stands_on drift refutation e))
+    (refuted_outcome (stands_on drift refutation e))
+
+-- the refutation is accepted
+abbrev pub IsOfRefuted : Bool → RefutationData → EvidenceData → Type 0
+IsOfRefuted true refutation e = IsRefutedWithDrift e.claim e.collection.exchanges refutation
+IsOfRefuted false refutation e = IsRefuted e.claim e.collection.exchanges refutation
+
+-- a course of events fits the exchanges in which the clock is off by its error: at its reading, or
+-- throughout
+abbrev pub HasCourseOf : Bool → RefutationData → EvidenceData → Type 0
+HasCourseOf true refutation e = HasDriftCourse e.claim e.collection.exchanges refutation
+HasCourseOf false refutation e = HasCourse e.claim e.collection.exchanges refutation
 
 -- The refutation is accepted. So a course of events fits the exchanges in which the clock is off by
 -- its error, beyond the bound, and no certificate has a verdict of yes.
-pub record IsStanding (refutation : RefutationData) (e : EvidenceData) : Type 0 where
-  pub accepted : IsRefuted e.claim e.collection.exchanges refutation
-  pub course : HasCourse e.claim e.collection.exchanges refutation
+pub record IsStanding (drift : Bool) (refutation : RefutationData) (e : EvidenceData) : Type 0 where
+  pub accepted : IsOfRefuted drift refutation e
+  pub course : HasCourseOf drift refutation e
   pub no_yes : (certificate : CertificateData) → ¬ (verdict_on certificate e ≡ verdicts.Yes)
 
--- It isn't accepted.
-abbrev pub IsFallen : RefutationData → EvidenceData → Type 0
-IsFallen refutation e = ¬ (IsRefuted e.claim e.collection.exchanges refutation)
+-- no course of events shows the refutation, of any fineness and with any of its servers false
+abbrev pub IsShownByNone : Bool → RefutationData → EvidenceData → Type 0
+IsShownByNone true refutation e = IsAgainst e.claim refutation
+    → (course : Course) → ¬ (Shows e.claim e.collection.exchanges refutation course)
+IsShownByNone false refutation e = Unit {0}
+
+-- It isn't accepted. So if its error may drift, and what it says by itself is against the claim, no
+-- course shows it.
+pub record IsFallen (drift : Bool) (refutation : RefutationData) (e : EvidenceData) : Type 0 where
+  pub refused : ¬ (IsOfRefuted drift refutation e)
+  pub shown_by_none : IsShownByNone drift refutation e
 
 -- A refutation, the one that its bytes say if they are known, and the evidence that the bytes of
 -- claim and capture give are such that this holds of them.
@@ -48,11 +73,11 @@ pub record GiveRefutation (P : RefutationData → EvidenceData → Type 0)
   pub evidence : GiveEvidence (P refutation) claim capture
 
 -- At a yes the refutation stands, if the bytes of claim and capture are known.
-abbrev pub IsContested : FeedState → FeedState → FeedState → Type 0
-IsContested claim second capture =
-    OfClaimAndCapture claim capture (GiveRefutation IsStanding second.remaining)
+abbrev pub IsContested : Bool → FeedState → FeedState → FeedState → Type 0
+IsContested drift claim second capture =
+    OfClaimAndCapture claim capture (GiveRefutation (IsStanding drift) second.remaining)
 
 -- At a no it falls, if these bytes are known.
-abbrev pub IsUncontested : FeedState → FeedState → FeedState → Type 0
-IsUncontested claim second capture =
-    OfClaimAndCapture claim capture (GiveRefutation IsFallen second.remaining)
+abbrev pub IsUncontested : Bool → FeedState → FeedState → FeedState → Type 0
+IsUncontested drift claim second capture =
+    OfClaimAndCapture claim capture (GiveRefutation (IsFallen drift) second.remaining)

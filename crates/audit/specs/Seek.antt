@@ -1,6 +1,6 @@
 -- The report of `find --refutation`: a refutation, or that none is found; and what its outcome
 -- says.
-use Rattle.std.specs.Prelude.{◌≡◌, ℕ, List, ◌++◌, codes, Option, Some, None}
+use Rattle.std.specs.Prelude.{◌≡◌, ℕ, false, List, ◌++◌, codes, Option, Some, None}
 use Rattle.byte_stream.specs.State.{FeedState}
 use Rattle.certificate.specs.Refutation.{RefutationData}
 use Rattle.certificate.specs.RefutationWriting.{refutation_text}
@@ -36,7 +36,7 @@ pub record IsSoughtOf (e : EvidenceData) : Type 0 where
   pub refutation : RefutationData
   pub found_is : sought_in e ≡ Some refutation
   pub nearest : IsSought e.claim e.collection.exchanges refutation
-  pub stands : IsStanding refutation e
+  pub stands : IsStanding false refutation e
 
 -- None is found of it, and none is accepted.
 pub record IsSoughtInVain (e : EvidenceData) : Type 0 where

@@ -106,18 +106,46 @@ pub fn run_refute<C: Feed, F: Feed, T: Feed, S: Sink>(
 ) -> (F, Result<Outcome, RunFault>)
     requires { MayRun (run_state
         (C.state claim.old) (T.state refutation.old) (F.state capture) (S.state out.old)) }
-    ensures runs { RunsFor refute (run_state
+    ensures runs { RunsFor (refute false) (run_state
         (C.state claim.old) (T.state refutation.old) (F.state capture) (S.state out.old))
         (run_state
         (C.state claim.new) (T.state refutation.new) (F.state result.0) (S.state out.new))
         refutation.old refutation.new capture result.0 result.1 }
     ensures contested { result.1 ≡ Ok Outcome.Yes →
-        IsContested (C.state claim.old) (T.state refutation.old) (F.state capture) }
+        IsContested false (C.state claim.old) (T.state refutation.old) (F.state capture) }
     ensures uncontested { result.1 ≡ Ok Outcome.No →
-        IsUncontested (C.state claim.old) (T.state refutation.old) (F.state capture) }
+        IsUncontested false (C.state claim.old) (T.state refutation.old) (F.state capture) }
 {
     let hasher = BuildHasherDefault::<FoldHasher>::new();
-    let question = Question::Refute;
+    let question = Question::Refute { drift: false };
+    run(alloc, question, claim, refutation, capture, out, hasher)
+}
+
+/// Settles whether a refutation stands against the claim if the clock's error may drift as the
+/// claim grants: the answer is `Yes` exactly if a course of events fits the exchanges in which just
+/// the servers that it names are false, and in which the clock is off by its error at its reading.
+/// The error is beyond the claimed bound, and the reading lies in the claimed span.
+pub fn run_refute_with_drift<C: Feed, F: Feed, T: Feed, S: Sink>(
+    alloc: Global,
+    claim: &mut C,
+    capture: F,
+    refutation: &mut T,
+    out: &mut S,
+) -> (F, Result<Outcome, RunFault>)
+    requires { MayRun (run_state
+        (C.state claim.old) (T.state refutation.old) (F.state capture) (S.state out.old)) }
+    ensures runs { RunsFor (refute true) (run_state
+        (C.state claim.old) (T.state refutation.old) (F.state capture) (S.state out.old))
+        (run_state
+        (C.state claim.new) (T.state refutation.new) (F.state result.0) (S.state out.new))
+        refutation.old refutation.new capture result.0 result.1 }
+    ensures contested { result.1 ≡ Ok Outcome.Yes →
+        IsContested true (C.state claim.old) (T.state refutation.old) (F.state capture) }
+    ensures uncontested { result.1 ≡ Ok Outcome.No →
+        IsUncontested true (C.state claim.old) (T.state refutation.old) (F.state capture) }
+{
+    let hasher = BuildHasherDefault::<FoldHasher>::new();
+    let question = Question::Refute { drift: true };
     run(alloc, question, claim, refutation, capture, out, hasher)
 }
 

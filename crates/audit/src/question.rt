@@ -50,7 +50,10 @@ pub enum Question {
     /// Does a certificate, the second input, show the claim?
     Check,
     /// Does a refutation, the second input, stand against the claim?
-    Refute,
+    Refute {
+        /// Whether the clock's error may drift, as the claim grants, or never changes.
+        drift: bool,
+    },
     /// How far off may the clock have been, piece by piece?
     Envelope {
         /// How long the pieces are.
@@ -74,7 +77,12 @@ pub(crate) enum Task {
     /// Settle the claim by a certificate.
     Check(Certificate),
     /// Settle whether a refutation stands.
-    Refute(Refutation),
+    Refute {
+        /// Whether the clock's error may drift.
+        drift: bool,
+        /// The refutation.
+        refutation: Refutation,
+    },
     /// Show how far off the clock may have been in each piece.
     Envelope {
         /// How long the pieces are.
@@ -114,8 +122,8 @@ pub(crate) fn read_task<T: Feed>(
             Ok(certificate) => Ok(Task::Check(certificate)),
             Err(fault) => Err(fault),
         },
-        Question::Refute => match read_refutation_from(alloc, second) {
-            Ok(refutation) => Ok(Task::Refute(refutation)),
+        Question::Refute { drift } => match read_refutation_from(alloc, second) {
+            Ok(refutation) => Ok(Task::Refute { drift, refutation }),
             Err(fault) => Err(fault),
         },
         Question::Envelope { step, servers } => Ok(Task::Envelope { step, servers }),
@@ -137,7 +145,7 @@ pub(crate) fn make(alloc: Global, task: &Task, evidence: &Evidence) -> Result<Ma
         Task::At(second) => make_at(alloc, *second, evidence),
         Task::Find(step) => make_find(alloc, *step, evidence),
         Task::Check(certificate) => make_check(alloc, certificate, evidence),
-        Task::Refute(refutation) => make_refute(alloc, refutation, evidence),
+        Task::Refute { drift, refutation } => make_refute(alloc, *drift, refutation, evidence),
         Task::Envelope { step, servers } => make_envelope(alloc, *step, *servers, evidence),
         Task::Seek => make_seek(alloc, evidence),
     }

@@ -142,7 +142,7 @@ differ_to (x ∷ xs) differ =
 
 -- ---- what is said by the refutation itself
 
-against_from : (claim : ClaimData) (r : RefutationData) → is_against claim r ≡ true → IsAgainst claim r
+pub against_from : (claim : ClaimData) (r : RefutationData) → is_against claim r ≡ true → IsAgainst claim r
 against_from claim r e =
     let (outside, false') = both_true _ _ e in
     let (o2, o3) = both_true _ _ outside in
@@ -157,7 +157,7 @@ against_from claim r e =
       few_false = at_most_from _ _ f3;
     }
 
-against_to : (claim : ClaimData) (r : RefutationData) → IsAgainst claim r → is_against claim r ≡ true
+pub against_to : (claim : ClaimData) (r : RefutationData) → IsAgainst claim r → is_against claim r ≡ true
 against_to claim r h =
     let listed : list_all (λ liar. nat_lt liar (length claim.servers)) r.liars ≡ true =
     list_all-from_AllPass _ r.liars (λ k d below. below_to _ _ (h.liars_listed k d below)) in

@@ -26,5 +26,5 @@ mod refutation;
 mod refutation_laws;
 mod verdict;
 
-pub use refutation::{check_refutation, false_group_count};
+pub use refutation::{check_refutation, false_group_count, is_against};
 pub use verdict::{Verdict, Why, check, check_exchanges};

@@ -1,6 +1,6 @@
 //! Whether a refutation stands.
 
-ghost use Rattle.std.specs.Prelude.{◌≡◌, ◌≤◌, ◌+ℤ◌, ◌-ℤ◌};
+ghost use Rattle.std.specs.Prelude.{◌≡◌, ◌≤◌, ◌+ℤ◌, ◌-ℤ◌, ◌↔◌, IsTrue};
 ghost use Rattle.std.specs.Prelude.{nat_lt, length, map, All};
 ghost use Rattle.std.specs.List.{list_all};
 ghost use Rattle.certificate.specs.Refutation.{data_of as refutation_data};
@@ -9,7 +9,7 @@ ghost use Rattle.pairing.specs.Exchange.{IsLawful as IsLawfulExchange};
 ghost use Rattle.sample_interval.specs.Exchange.{IsOfSomeClaim};
 ghost use Rattle.sample_interval.specs.Window.{request_start, reply_end};
 ghost use Rattle.checker.specs.Groups.{holds_false, false_group_count};
-ghost use Rattle.checker.specs.Refutation.{is_liar};
+ghost use Rattle.checker.specs.Refutation.{IsAgainst, is_liar};
 ghost use Rattle.checker.specs.RefutationTest as spec;
 ghost use Rattle.checker.specs.Settlement.{Settles};
 
@@ -50,11 +50,24 @@ fn is_refuted<X: ToExchange>(exchanges: &[X], claim: &Claim, refutation: &Refuta
     ensures { result ≡ spec.is_refuted
         (claim_data claim.now) (map X.shown exchanges.now) (refutation_data refutation.now) }
 {
-    is_against(claim, refutation) && all_admit(exchanges, claim, refutation)
+    speaks_against(claim, refutation) && all_admit(exchanges, claim, refutation)
 }
 
-/// Whether what a refutation says by itself is against the claim.
-fn is_against(claim: &Claim, refutation: &Refutation) -> bool
+/// Whether what a refutation says by itself is against the claim: its error is beyond the bound to
+/// one side or the other, its reading lies in the span, and the servers that it names as false are
+/// different numbers of listed servers, of at most `false_max` groups. It takes no memory.
+pub fn is_against(claim: &Claim, refutation: &Refutation) -> bool
+    requires { IsLawful (claim_data claim.now) }
+    ensures exact { IsTrue result
+        ↔ IsAgainst (claim_data claim.now) (refutation_data refutation.now) }
+    ensures tested { result
+        ≡ spec.is_against (claim_data claim.now) (refutation_data refutation.now) }
+{
+    speaks_against(claim, refutation)
+}
+
+/// The same as a test.
+fn speaks_against(claim: &Claim, refutation: &Refutation) -> bool
     requires { length claim.now.groups.items ≤ 32 }
     ensures { result ≡ spec.is_against (claim_data claim.now) (refutation_data refutation.now) }
 {

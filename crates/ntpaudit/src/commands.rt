@@ -134,8 +134,11 @@ fn check_command<'a>(alloc: Global) -> Result<Command<'a>, AllocError> {
 /// The command `refute`.
 fn refute_command<'a>(alloc: Global) -> Result<Command<'a>, AllocError> {
     let refutation = Arg::new(alloc, "REFUTATION").help("The refutation, a JSON file");
+    let drift = "Let the clock's error drift as the claim grants, in place of one error throughout";
     let about = "Settle whether a refutation stands against a claim";
-    evidence_command(alloc, "refute", about, REFUTE_HELP)?.arg(refutation.required(true))
+    evidence_command(alloc, "refute", about, REFUTE_HELP)?
+        .arg(refutation.required(true))?
+        .arg(flag(alloc, "drift", drift))
 }
 
 /// The option `--step`, with these words about it.
@@ -263,7 +266,9 @@ fn check(alloc: Global, matches: &ArgMatches) -> Result<Invocation, AllocError> 
 
 /// What `refute` calls for.
 fn refute(alloc: Global, matches: &ArgMatches) -> Result<Invocation, AllocError> {
-    let question = Question::Refute;
+    let question = Question::Refute {
+        drift: matches.get_flag("drift"),
+    };
     ask_with(alloc, matches, question, Input::Refutation, "REFUTATION")
 }
 

@@ -1,0 +1,78 @@
+-- The course that an accepted refutation stands for, and what it does to the claim.
+use Rattle.std.proofs.Common.{◌≡◌, ℕ, ◌<◌, ◌*◌, ℤ, pos, ◌*ℤ◌, ◌≤ℤ◌, ◌<ℤ◌, unsigned_abs, List, length, refl, arith}
+use Rattle.std.specs.Prelude.{All, AllPairs}
+use Rattle.std.proofs.lemmas.Int.{ints, unsigned_abs-mul}
+use Rattle.certificate.specs.Refutation.{RefutationData}
+use Rattle.claim_file.specs.Claim.{ClaimData, IsLawful}
+use Rattle.intersection.specs.Fineness.{times_le}
+use Rattle.pairing.specs.Exchange.{IsLawful as IsLawfulExchange, SameRequest}
+use Rattle.pairing.specs.declared.exchange.Exchange.{Exchange}
+use Rattle.sample_interval.specs.Moment.{error_of}
+use Rattle.checker.specs.Course.{Course, Fits}
+use Rattle.checker.specs.Refutation.{is_liar, IsAgainst}
+use Rattle.checker.specs.Traceability.{IsObservedIn, IsWithin, IsTraceable, samples_of}
+use Rattle.courses.specs.TrueMarks.{low_marks}
+use Rattle.courses.specs.LowestCourse.{lowest_course}
+use Rattle.courses.specs.DriftRefutation.{mark_of, IsRefutedWithDrift, IsObservedOff, HasDriftCourse}
+use Rattle.courses.proofs.Scaling.{cancel}
+use Rattle.courses.proofs.LowestMarks.{first_is_met}
+use Rattle.courses.proofs.LowestCourse.{lowest_fits, lowest_shares}
+
+-- ---- the claim is broken
+
+beyond : (bound error found : ℤ) (n : ℕ) → 0 < n → bound <ℤ pos (unsigned_abs error)
+    → found ≡ error *ℤ pos n → pos (unsigned_abs found) ≤ℤ (bound *ℤ pos n) → ⊥
+beyond bound error found n some far off within =
+    let size : unsigned_abs found ≡ unsigned_abs error * n = rw off (unsigned_abs-mul error (pos n)) in
+    let scaled : (pos (unsigned_abs error) *ℤ pos n) ≤ℤ (bound *ℤ pos n) = omega (arith, ints) in
+    let least = cancel (pos (unsigned_abs error)) bound n some scaled in
+    omega (arith, ints)
+
+module _ (claim : ClaimData) (r : RefutationData) (course : Course) (against : IsAgainst claim r)
+    (observed : IsObservedOff r course) where
+  pub observed_in_span : IsObservedIn course claim.first claim.last
+  observed_in_span =
+      let span = against.in_span in
+      let from = times_le claim.first (pos r.reading) course.fineness span.0 in
+      let to = times_le (pos r.reading) claim.last course.fineness span.1 in
+      rw observed.reading (from, to)
+
+  pub observed_beyond : (xs : List Exchange) → Fits claim xs course → IsWithin course claim.bound → ⊥
+  observed_beyond xs fits within =
+      beyond claim.bound r.error (error_of course.observation) course.fineness fits.some_fineness
+      against.beyond_bound observed.error within
+
+-- ---- the course
+
+module _ (claim : ClaimData) (xs : List Exchange) (r : RefutationData) (lawful : IsLawful claim)
+    (each : All (IsLawfulExchange (length claim.servers)) xs) (refuted : IsRefutedWithDrift claim xs r) where
+  abbrev course : Course
+  course = lowest_course claim (is_liar r.liars) (mark_of r) (pos r.reading) xs
+
+  course_fits : Fits claim xs course
+  course_fits =
+      lowest_fits claim lawful.drift_in_range lawful.reading_not_negative (is_liar r.liars) (mark_of r)
+      (pos r.reading) xs (length claim.servers) each refuted.agree refuted.reading_low refuted.against.few_false
+
+  observed_off : IsObservedOff r course
+  observed_off = record {
+    reading = refl;
+    error = first_is_met claim.drift_ppb (mark_of r) (low_marks claim.reading (is_liar r.liars) xs)
+        refuted.reading_high;
+  }
+
+  pub has_course : AllPairs SameRequest xs → HasDriftCourse claim xs r
+  has_course agree = record {
+    course = course;
+    fits = course_fits;
+    just_liars_false = λ server. refl;
+    shares_requests = lowest_shares claim (is_liar r.liars) (mark_of r) (pos r.reading) xs agree;
+    observed = observed_off;
+  }
+
+  -- so nothing is traceable to the samples of these exchanges
+  pub not_traceable : IsTraceable claim (samples_of xs claim) → ⊥
+  not_traceable traceable =
+      let in_span = observed_in_span claim r course refuted.against observed_off in
+      observed_beyond claim r course refuted.against observed_off xs course_fits
+      (traceable xs course refl course_fits in_span)

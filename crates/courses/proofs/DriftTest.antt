@@ -1,0 +1,151 @@
+-- The test of a refutation with drift is true exactly if it is accepted.
+use Rattle.std.proofs.Common.{◌≡◌, ℕ, zero, suc, ◌+◌, ◌-◌, ℤ, pos, ◌+ℤ◌, ◌-ℤ◌, ◌*ℤ◌, ◌≤ℤ◌, ◌<ℤ◌, Bool, true, false, true≢false, ◌&&◌, List, [], ◌∷◌, length, refl, sym, ◌∙◌, arith}
+use Rattle.std.specs.Prelude.{int_le, All, if◌then◌else◌, IsTrue, ◌↔◌}
+use Rattle.std.specs.List.{list_all, slice_index_or}
+use Rattle.std.proofs.lemmas.Int.{ints}
+use Rattle.std.proofs.lemmas.List.Sums.{AllPass-from_list_all, list_all-from_AllPass}
+use Rattle.certificate.specs.Refutation.{RefutationData}
+use Rattle.checker.specs.Refutation.{is_liar, IsAgainst}
+use Rattle.checker.specs.RefutationTest.{is_against}
+use Rattle.claim_file.specs.Claim.{ClaimData}
+use Rattle.courses.specs.DriftRefutation.{IsRefutedWithDrift, mark_of}
+use Rattle.courses.specs.DriftTest.{is_possible, are_compatible, all_compatible, do_agree, is_refuted_with_drift}
+use Rattle.courses.specs.TrueMarks.{true_exchanges, low_marks, high_marks, AreAllCompatible}
+use Rattle.marks.specs.Mark.{IsPossible, AreCompatible}
+use Rattle.marks.specs.declared.mark.Mark.{Mark}
+use Rattle.pairing.specs.declared.exchange.Exchange.{Exchange}
+use Rattle.sample_interval.specs.Widening.{billion}
+
+-- ---- tests
+
+both_true : (a b : Bool) → (a && b) ≡ true → (a ≡ true) × (b ≡ true)
+both_true true b e = (refl, e)
+both_true false b e = absurd cc
+
+le_from : (a b : ℤ) → int_le a b ≡ true → a ≤ℤ b
+le_from a b e = grind (arith, ints)
+
+le_to : (a b : ℤ) → a ≤ℤ b → int_le a b ≡ true
+le_to a b h = grind (arith, ints)
+
+le_fails : (a b : ℤ) → b <ℤ a → int_le a b ≡ false
+le_fails a b h = grind (arith, ints)
+
+lt_from_failure : (a b : ℤ) → int_le a b ≡ false → b <ℤ a
+lt_from_failure a b e = grind (arith, ints)
+
+branch_from : (test yes' no' : Bool) → (if test then yes' else no') ≡ true
+    → (test ≡ true → yes' ≡ true) × (test ≡ false → no' ≡ true)
+branch_from true yes' no' e = (λ _. e, λ fails. absurd (true≢false fails))
+branch_from false yes' no' e = (λ passes. absurd (true≢false (sym passes)), λ _. e)
+
+branch_to : (test yes' no' : Bool) → (test ≡ true → yes' ≡ true) → (test ≡ false → no' ≡ true)
+    → (if test then yes' else no') ≡ true
+branch_to true yes' no' h k = h refl
+branch_to false yes' no' h k = k refl
+
+-- ---- an exchange by itself, and two marks
+
+possible_from : (allowance : ℤ) (x : Exchange) → is_possible allowance x ≡ true → IsPossible allowance x
+possible_from allowance x e =
+    let (a, b) = both_true _ _ e in
+    record { leaves_before_arrival = le_from _ _ a; receives_before_answer = le_from _ _ b }
+
+possible_to : (allowance : ℤ) (x : Exchange) → IsPossible allowance x → is_possible allowance x ≡ true
+possible_to allowance x h = rw (le_to _ _ h.leaves_before_arrival, le_to _ _ h.receives_before_answer) refl
+
+compatible_from : (ppb : ℕ) (low high : Mark) → are_compatible ppb low high ≡ true → AreCompatible ppb low high
+compatible_from ppb low high e =
+    let parts = branch_from (int_le low.place high.place) _ _ e in
+    record {
+      falls = λ before. le_from _ _ (parts.0 (le_to _ _ before));
+      rises = λ after. le_from _ _ (parts.1 (le_fails _ _ after));
+    }
+
+compatible_to : (ppb : ℕ) (low high : Mark) → AreCompatible ppb low high → are_compatible ppb low high ≡ true
+compatible_to ppb low high h =
+    branch_to (int_le low.place high.place) _ _
+    (λ before. le_to _ _ (h.falls (le_from _ _ before)))
+    (λ after. le_to _ _ (h.rises (lt_from_failure _ _ after)))
+
+-- ---- lists of marks
+
+all_from : (ppb : ℕ) (lows highs : List Mark) → all_compatible ppb lows highs ≡ true → AreAllCompatible ppb lows highs
+all_from ppb lows highs e = λ i d below.
+    λ j d' below'. compatible_from ppb _ _ (AllPass-from_list_all _ highs (AllPass-from_list_all _ lows e i d below) j d' below')
+
+all_to : (ppb : ℕ) (lows highs : List Mark) → AreAllCompatible ppb lows highs → all_compatible ppb lows highs ≡ true
+all_to ppb lows highs h =
+    list_all-from_AllPass _ lows (λ i d below. list_all-from_AllPass _ highs
+    (λ j d' below'. compatible_to ppb _ _ (h i d below j d' below')))
+
+-- the parts of a list with one in front
+first_of : (m : Mark) (ms : List Mark) (P : Mark → Type 0) → All P (m ∷ ms) → P m
+first_of m ms P h = h 0 m (omega arith)
+
+rest_of : (m : Mark) (ms : List Mark) (P : Mark → Type 0) → All P (m ∷ ms) → All P ms
+rest_of m ms P h = λ i d below. h (suc i) d (omega arith)
+
+with_first : (m : Mark) (ms : List Mark) (P : Mark → Type 0) → P m → All P ms → All P (m ∷ ms)
+with_first m ms P first rest zero d below = first
+with_first m ms P first rest (suc i) d below = rest i d (omega arith)
+
+nothing : (a : ℤ) → (a -ℤ a) ≡ pos 0
+nothing a = omega (arith, ints)
+
+nothing_times : (a b : ℤ) → (a *ℤ pos 0) ≤ℤ (b *ℤ pos 0)
+nothing_times a b = grind (arith, ints)
+
+-- a mark is compatible with itself
+itself : (ppb : ℕ) (m : Mark) → AreCompatible ppb m m
+itself ppb m = record {
+  falls = λ _. rw (nothing m.error, nothing m.place) (nothing_times (pos (billion - ppb)) (pos ppb));
+  rises = λ after. absurd (omega (arith, ints));
+}
+
+-- ---- the whole
+
+module _ (claim : ClaimData) (xs : List Exchange) (r : RefutationData) where
+  pub refuted_from : is_refuted_with_drift claim xs r ≡ true → (is_against claim r ≡ true → IsAgainst claim r)
+      → IsRefutedWithDrift claim xs r
+  refuted_from e against_from =
+      let (against, agree) = both_true _ _ e in
+      let (possible, compatible) = both_true _ _ agree in
+      let is_false = is_liar r.liars in
+      let lows = low_marks claim.reading is_false xs in
+      let highs = high_marks claim.reading is_false xs in
+      let own = mark_of r in
+      let all = all_from claim.drift_ppb (own ∷ lows) (own ∷ highs) compatible in
+      let others = rest_of own lows (λ low. All (AreCompatible claim.drift_ppb low) (own ∷ highs)) all in
+      record {
+        against = against_from against;
+        agree = record {
+          possible = λ i d below. possible_from claim.reading _
+              (AllPass-from_list_all _ (true_exchanges is_false xs) possible i d below);
+          compatible = λ i d below.
+              rest_of own highs (AreCompatible claim.drift_ppb (slice_index_or lows i d)) (others i d below);
+        };
+        reading_low = rest_of own highs (AreCompatible claim.drift_ppb own)
+            (first_of own lows (λ low. All (AreCompatible claim.drift_ppb low) (own ∷ highs)) all);
+        reading_high = λ i d below.
+            first_of own highs (AreCompatible claim.drift_ppb (slice_index_or lows i d)) (others i d below);
+      }
+
+  pub refuted_to : IsRefutedWithDrift claim xs r → (IsAgainst claim r → is_against claim r ≡ true)
+      → is_refuted_with_drift claim xs r ≡ true
+  refuted_to h against_to =
+      let is_false = is_liar r.liars in
+      let ppb = claim.drift_ppb in
+      let lows = low_marks claim.reading is_false xs in
+      let highs = high_marks claim.reading is_false xs in
+      let own = mark_of r in
+      let possible : list_all (is_possible claim.reading) (true_exchanges is_false xs) ≡ true =
+      list_all-from_AllPass _ (true_exchanges is_false xs)
+      (λ i d below. possible_to claim.reading _ (h.agree.possible i d below)) in
+      let all : all_compatible ppb (own ∷ lows) (own ∷ highs) ≡ true =
+      all_to ppb (own ∷ lows) (own ∷ highs)
+      (with_first own lows (λ low. All (AreCompatible ppb low) (own ∷ highs))
+      (with_first own highs (AreCompatible ppb own) (itself ppb own) h.reading_low)
+      (λ i d below. with_first own highs (AreCompatible ppb (slice_index_or lows i d))
+      (h.reading_high i d below) (h.agree.compatible i d below))) in
+      rw (against_to h.against, possible, all) refl

@@ -1,0 +1,232 @@
+-- The lowest course fits: the servers that aren't false receive and answer in time.
+use Rattle.std.proofs.Common.{◌≡◌, ℕ, ◌+◌, ◌-◌, ◌*◌, ◌<◌, ◌≤◌, ℤ, pos, ◌+ℤ◌, ◌-ℤ◌, ◌*ℤ◌, ◌≤ℤ◌, Bool, false, ⊎_elim, List, Some, length, refl, sym, ap, ◌∙◌, subst, arith}
+use Rattle.std.specs.Prelude.{All, AllPairs, slice_get, nat_lt}
+use Rattle.std.specs.Int.{int_max, int_min}
+use Rattle.std.specs.List.{slice_index_or}
+use Rattle.std.proofs.lemmas.Int.{ints, clamps}
+use Rattle.std.proofs.lemmas.Bool.Decides.{nat_tests}
+use Rattle.std.proofs.lemmas.Option.{get_or_from_slice_get, slice_get_within}
+use Rattle.std.proofs.Math.Nat.{mul-le-mul_left}
+use Rattle.intersection.specs.Fineness.{times_le, times-add}
+use Rattle.claim_file.specs.Claim.{ClaimData}
+use Rattle.pairing.specs.declared.exchange.Exchange.{Exchange}
+use Rattle.marks.specs.declared.mark.Mark.{Mark}
+use Rattle.pairing.specs.Exchange.{IsLawful as IsLawfulExchange, SameRequest}
+use Rattle.marks.specs.Mark.{low_mark, high_mark, IsPossible, AreCompatible}
+use Rattle.sample_interval.specs.Moment.{Moment, DriftsWithin, IsWithinDistance}
+use Rattle.sample_interval.specs.Widening.{billion}
+use Rattle.sample_interval.specs.Window.{request_start, request_end, reply_start, reply_end}
+use Rattle.checker.specs.Course.{Course, Fits, IsClientMoment, ReadsInWindows, ComesInOrder, KeepsRootDistance}
+use Rattle.checker.specs.Groups.{false_group_count}
+use Rattle.checker.specs.Refutation.{SharesRequests}
+use Rattle.courses.specs.Keeping.{KeepsLow, KeepsHigh}
+use Rattle.courses.specs.TrueMarks.{low_marks, high_marks, DoAgree}
+use Rattle.courses.specs.LowestCourse.{fineness_of, lowest_moment, of_exchange, lowest_course}
+use Rattle.courses.proofs.Scaling.{times-sub}
+use Rattle.courses.proofs.TrueExchanges.{by_test, each_at, true_at, marks_at, all_marks, pair_at}
+use Rattle.courses.proofs.LowestError.{lowest_drifts, lowest_time_goes_on}
+use Rattle.courses.proofs.LowestMarks.{keeps_others, keeps_high}
+
+-- ---- times of one exchange, over plain numbers
+
+module _ (n : ℕ) (time place t2 t3 distance : ℤ) where
+  before_stamps : time ≤ℤ ((place -ℤ ((place -ℤ int_min t2 t3) -ℤ distance)) *ℤ pos n)
+      → (time ≤ℤ ((t2 +ℤ distance) *ℤ pos n)) × (time ≤ℤ ((t3 +ℤ distance) *ℤ pos n))
+  before_stamps h =
+      let mark = place -ℤ ((place -ℤ int_min t2 t3) -ℤ distance) in
+      let first = times_le mark (t2 +ℤ distance) n (omega (arith, ints, clamps)) in
+      let second = times_le mark (t3 +ℤ distance) n (omega (arith, ints, clamps)) in
+      (omega (arith, ints, first), omega (arith, ints, second))
+
+  after_stamps : ((place -ℤ ((place -ℤ int_max t2 t3) +ℤ distance)) *ℤ pos n) ≤ℤ time
+      → (((t2 -ℤ distance) *ℤ pos n) ≤ℤ time) × (((t3 -ℤ distance) *ℤ pos n) ≤ℤ time)
+  after_stamps h =
+      let mark = place -ℤ ((place -ℤ int_max t2 t3) +ℤ distance) in
+      let first = times_le (t2 -ℤ distance) mark n (omega (arith, ints, clamps)) in
+      let second = times_le (t3 -ℤ distance) mark n (omega (arith, ints, clamps)) in
+      (omega (arith, ints, first), omega (arith, ints, second))
+
+-- a server has room for its two times: the first and the last of each, and of leaving and arriving
+record HasRoom (leaves arrives from2 to2 from3 to3 : ℤ) : Type 0 where
+  leaves_first : leaves ≤ℤ arrives
+  leaves_by_t2 : leaves ≤ℤ to2
+  leaves_by_t3 : leaves ≤ℤ to3
+  t2_forward : from2 ≤ℤ to2
+  t2_by_t3 : from2 ≤ℤ to3
+  t3_forward : from3 ≤ℤ to3
+  arrives_after_t2 : from2 ≤ℤ arrives
+  arrives_after_t3 : from3 ≤ℤ arrives
+
+module _ (leaves arrives from2 to2 from3 to3 : ℤ) (room : HasRoom leaves arrives from2 to2 from3 to3) where
+  in_order : (leaves ≤ℤ int_max leaves from2) × (int_max leaves from2 ≤ℤ int_max (int_max leaves from2) from3)
+      × (int_max (int_max leaves from2) from3 ≤ℤ arrives)
+  in_order = (
+    omega (arith, ints, clamps),
+    omega (arith, ints, clamps),
+    omega (arith, ints, clamps, room),
+  )
+
+  receipt_between : (from2 ≤ℤ int_max leaves from2) × (int_max leaves from2 ≤ℤ to2)
+  receipt_between = (omega (arith, ints, clamps), omega (arith, ints, clamps, room))
+
+  answer_between : (from3 ≤ℤ int_max (int_max leaves from2) from3) × (int_max (int_max leaves from2) from3 ≤ℤ to3)
+  answer_between = (omega (arith, ints, clamps), omega (arith, ints, clamps, room))
+
+near : (n : ℕ) (stamp distance time : ℤ)
+    → (((stamp -ℤ distance) *ℤ pos n) ≤ℤ time) × (time ≤ℤ ((stamp +ℤ distance) *ℤ pos n))
+    → IsWithinDistance n stamp distance time
+near n stamp distance time between =
+    let least = times-sub (stamp -ℤ distance) stamp distance n refl in
+    let most = times-add (stamp +ℤ distance) stamp distance n refl in
+    omega (arith, ints, least, most, between)
+
+around : (stamp distance : ℤ) → pos 0 ≤ℤ distance → (stamp -ℤ distance) ≤ℤ (stamp +ℤ distance)
+around stamp distance some = omega (arith, ints)
+
+widened : (low high allowance : ℤ) → low ≤ℤ high → pos 0 ≤ℤ allowance → (low -ℤ allowance) ≤ℤ (high +ℤ allowance)
+widened low high allowance forward some = omega (arith, ints)
+
+same_le : (a : ℤ) → a ≤ℤ a
+same_le a = omega (arith, ints)
+
+some_product : (g s : ℕ) → 0 < g → 0 < s → 0 < g * s
+some_product g s some_g some_s =
+    let one : g * 1 ≤ g * s = mul-le-mul_left g some_s in
+    omega arith
+
+-- ---- elements of a list
+
+module _ {X : Type 0} where
+  module _ (R : X → X → Type 0) (xs : List X) (all : AllPairs R xs) where
+    two_at : (i j : ℕ) (x y : X) → i < j → slice_get xs i ≡ Some x → slice_get xs j ≡ Some y → R x y
+    two_at i j x y before at_i at_j =
+        let found = all i j x before (slice_get_within xs j y at_j) in
+        subst (λ (b : X). R x b) (get_or_from_slice_get xs j y x at_j)
+        (subst (λ (a : X). R a (slice_index_or xs j x)) (get_or_from_slice_get xs i x x at_i) found)
+
+module _ (xs : List Exchange) (agree : AllPairs SameRequest xs) where
+  -- exchanges of one request agree in when it was sent
+  one_start : (i j : ℕ) (x y : Exchange) → slice_get xs i ≡ Some x → slice_get xs j ≡ Some y
+      → x.request ≡ y.request → x.t1_low ≡ y.t1_low
+  one_start i j x y at_i at_j same =
+      by_test (nat_lt i j)
+      (λ before. (two_at SameRequest xs agree i j x y (grind (arith, nat_tests)) at_i at_j same).0)
+      (λ after. by_test (nat_lt j i)
+      (λ before. sym (two_at SameRequest xs agree j i y x (grind (arith, nat_tests)) at_j at_i (sym same)).0)
+      (λ neither. let equal : i ≡ j = grind (arith, nat_tests) in
+      let is : Some x ≡ Some y = sym at_i ∙ ap (slice_get xs) equal ∙ at_j in
+      let one : x ≡ y = cc in ap (λ (z : Exchange). z.t1_low) one))
+
+-- ---- the course
+
+module _ (claim : ClaimData) (slow : claim.drift_ppb ≤ 500000000) (some : pos 0 ≤ℤ claim.reading)
+    (is_false : ℕ → Bool) (first : Mark) (reading : ℤ) (xs : List Exchange) where
+  abbrev lows : List Mark
+  lows = low_marks claim.reading is_false xs
+
+  abbrev course : Course
+  course = lowest_course claim is_false first reading xs
+
+  abbrev n : ℕ
+  n = fineness_of claim.drift_ppb
+
+  abbrev moment : ℤ → Moment
+  moment c = lowest_moment claim.drift_ppb first lows c
+
+  some_fineness : 0 < fineness_of claim.drift_ppb
+  some_fineness = some_product (billion - claim.drift_ppb) (billion + claim.drift_ppb) (omega arith) (omega arith)
+
+  -- each moment of the client is one of the lowest moments
+  at_some_reading : (m : Moment) → IsClientMoment course (length xs) m → (c : ℤ) × (m ≡ moment c)
+  at_some_reading m = ⊎_elim
+      (λ e. (reading, e))
+      (λ found. ⊎_elim
+      (λ e. (of_exchange (λ x. request_start x claim.reading) (slice_get xs found.0), e))
+      (λ e. (of_exchange (λ x. reply_end x claim.reading) (slice_get xs found.0), e)) found.2)
+
+  drift : (a b : Moment) → IsClientMoment course (length xs) a → IsClientMoment course (length xs) b
+      → DriftsWithin claim.drift_ppb a b
+  drift a b is_a is_b =
+      let at_a = at_some_reading a is_a in
+      let at_b = at_some_reading b is_b in
+      rw (at_a.1, at_b.1) (lowest_drifts claim.drift_ppb slow first lows at_a.0 at_b.0)
+
+  module _ (servers : ℕ) (each : All (IsLawfulExchange servers) xs) where
+    windows : (k : ℕ) (x : Exchange) → slice_get xs k ≡ Some x → ReadsInWindows claim.reading course k x
+    windows k x at =
+        let lawful = each_at (IsLawfulExchange servers) xs k x each at in
+        let request = widened x.t1_low x.t1_high claim.reading lawful.t1_ordered some in
+        let reply = widened x.t4_low x.t4_high claim.reading lawful.t4_ordered some in
+        rw at (
+          (same_le _, times_le (request_start x claim.reading) (request_end x claim.reading) n request),
+          (times_le (reply_start x claim.reading) (reply_end x claim.reading) n reply, same_le _),
+        )
+
+    module _ (agree : DoAgree claim is_false xs)
+        (first_agrees : All (AreCompatible claim.drift_ppb first) (high_marks claim.reading is_false xs)) where
+      module _ (k : ℕ) (x : Exchange) (at : slice_get xs k ≡ Some x) (true' : is_false x.server ≡ false) where
+        low_kept : KeepsLow n (low_mark claim.reading x) (moment (request_start x claim.reading))
+        low_kept =
+            marks_at is_false xs (λ mark. KeepsLow n mark (moment mark.place)) (low_mark claim.reading) k x
+            (keeps_others claim.drift_ppb first lows) at true'
+
+        high_kept : KeepsHigh n (high_mark claim.reading x) (moment (reply_end x claim.reading))
+        high_kept =
+            let with_first = marks_at is_false xs (AreCompatible claim.drift_ppb first) (high_mark claim.reading) k x
+            first_agrees at true' in
+            let with_others : All (λ low. AreCompatible claim.drift_ppb low (high_mark claim.reading x)) lows =
+            all_marks is_false xs (λ low. AreCompatible claim.drift_ppb low (high_mark claim.reading x))
+            (low_mark claim.reading) (λ i y at_i true_y. pair_at is_false xs claim.drift_ppb claim.reading i k y x
+            agree.compatible at_i at true_y true') in
+            keeps_high claim.drift_ppb first lows (high_mark claim.reading x) with_first with_others
+
+        room : HasRoom (moment (request_start x claim.reading)).time (moment (reply_end x claim.reading)).time
+            ((x.t2 -ℤ x.distance) *ℤ pos n) ((x.t2 +ℤ x.distance) *ℤ pos n)
+            ((x.t3 -ℤ x.distance) *ℤ pos n) ((x.t3 +ℤ x.distance) *ℤ pos n)
+        room =
+            let lawful = each_at (IsLawfulExchange servers) xs k x each at in
+            let possible = true_at is_false xs (IsPossible claim.reading) k x agree.possible at true' in
+            let start = request_start x claim.reading in
+            let end = reply_end x claim.reading in
+            let low = before_stamps n (moment start).time start x.t2 x.t3 x.distance low_kept.1 in
+            let high = after_stamps n (moment end).time end x.t2 x.t3 x.distance high_kept.1 in
+            let some_distance = lawful.distance_not_negative in
+            record {
+              leaves_first = lowest_time_goes_on claim.drift_ppb slow first lows start end
+                  possible.leaves_before_arrival;
+              leaves_by_t2 = low.0;
+              leaves_by_t3 = low.1;
+              t2_forward = times_le _ _ n (around x.t2 x.distance some_distance);
+              t2_by_t3 = times_le _ _ n possible.receives_before_answer;
+              t3_forward = times_le _ _ n (around x.t3 x.distance some_distance);
+              arrives_after_t2 = high.0;
+              arrives_after_t3 = high.1;
+            }
+
+        order : ComesInOrder course k x
+        order = rw at (in_order _ _ _ _ _ _ room)
+
+        distances : KeepsRootDistance course k x
+        distances =
+            rw at (
+              near n x.t2 x.distance _ (receipt_between _ _ _ _ _ _ room),
+              near n x.t3 x.distance _ (answer_between _ _ _ _ _ _ room),
+            )
+
+      pub lowest_fits : false_group_count claim.groups is_false ≤ claim.false_max → Fits claim xs course
+      lowest_fits few = record {
+        some_fineness = some_fineness;
+        few_false = few;
+        in_windows = windows;
+        drift = drift;
+        ordered = order;
+        within_root_distance = distances;
+      }
+
+module _ (claim : ClaimData) (is_false : ℕ → Bool) (first : Mark) (reading : ℤ) (xs : List Exchange) where
+  pub lowest_shares : AllPairs SameRequest xs → SharesRequests xs (lowest_course claim is_false first reading xs)
+  lowest_shares agree i j x y at_i at_j same =
+      let start : request_start x claim.reading ≡ request_start y claim.reading =
+      ap (λ (t : ℤ). t -ℤ claim.reading) (one_start xs agree i j x y at_i at_j same) in
+      rw (at_i, at_j)
+      (ap (lowest_moment claim.drift_ppb first (low_marks claim.reading is_false xs)) start)

@@ -1,0 +1,38 @@
+-- Where the exchanges with servers that aren't false agree, the lowest course fits.
+use Rattle.std.proofs.Common.{ℕ, ◌≤◌, pos, Bool, List, [], ◌∷◌, map, length}
+use Rattle.std.specs.Prelude.{All}
+use Rattle.std.proofs.lemmas.List.Elements.{All-nil, All-head}
+use Rattle.claim_file.specs.Claim.{ClaimData, IsLawful}
+use Rattle.pairing.specs.Exchange.{IsLawful as IsLawfulExchange}
+use Rattle.pairing.specs.declared.exchange.Exchange.{Exchange}
+use Rattle.marks.specs.declared.mark.Mark.{Mark}
+use Rattle.marks.specs.Mark.{low_mark, high_mark, AreCompatible}
+use Rattle.checker.specs.Groups.{false_group_count}
+use Rattle.courses.specs.TrueMarks.{true_exchanges, low_marks, AreAllCompatible, DoAgree, FitsWithFalse}
+use Rattle.courses.specs.LowestCourse.{lowest_course}
+use Rattle.courses.proofs.LowestCourse.{lowest_fits}
+
+-- the first of some marks, or one at 0
+first_of : List Mark → Mark
+first_of [] = record { place = pos 0; error = pos 0 }
+first_of (mark ∷ marks) = mark
+
+first_agrees : (ppb : ℕ) (low high : Exchange → Mark) (ts : List Exchange)
+    → AreAllCompatible ppb (map low ts) (map high ts) → All (AreCompatible ppb (first_of (map low ts))) (map high ts)
+unfolding first_of
+first_agrees ppb low high [] all = All-nil (AreCompatible ppb (first_of []))
+first_agrees ppb low high (t ∷ ts) all =
+    All-head (λ mark. All (AreCompatible ppb mark) (map high (t ∷ ts))) (low t) (map low ts) all
+
+pub agreement_gives_course : (claim : ClaimData) (xs : List Exchange) (is_false : ℕ → Bool) → IsLawful claim
+    → All (IsLawfulExchange (length claim.servers)) xs → false_group_count claim.groups is_false ≤ claim.false_max
+    → DoAgree claim is_false xs → FitsWithFalse claim is_false xs
+agreement_gives_course claim xs is_false lawful each few agree =
+    let first = first_of (low_marks claim.reading is_false xs) in
+    let agrees = first_agrees claim.drift_ppb (low_mark claim.reading) (high_mark claim.reading)
+    (true_exchanges is_false xs) agree.compatible in (
+      lowest_course claim is_false first claim.first xs,
+      lowest_fits claim lawful.drift_in_range lawful.reading_not_negative is_false first claim.first xs
+          (length claim.servers) each agree agrees few,
+      λ server true'. true',
+    )

@@ -1,0 +1,44 @@
+-- Whole numbers of ticks times a natural number, and their order.
+use Rattle.std.proofs.Common.{◌≡◌, ℕ, ◌*◌, ◌<◌, ◌≤◌, ℤ, pos, negsuc, ◌+ℤ◌, ◌-ℤ◌, ◌*ℤ◌, ◌≤ℤ◌, unsigned_abs, refl, arith}
+use Rattle.std.proofs.lemmas.Int.{ints, by_lt_z}
+use Rattle.intersection.specs.Fineness.{times_le, times-add}
+
+-- n times a difference
+pub times-sub : (c a b : ℤ) (n : ℕ) → c ≡ a -ℤ b → (c *ℤ pos n) ≡ (a *ℤ pos n) -ℤ (b *ℤ pos n)
+times-sub c a b n e =
+    let back : a ≡ c +ℤ b = omega (arith, ints) in
+    let sum = times-add a c b n back in
+    omega (arith, ints, sum)
+
+-- an order is one of the numbers of ticks if it is one of n times these
+pub cancel : (a b : ℤ) (n : ℕ) → 0 < n → (a *ℤ pos n) ≤ℤ (b *ℤ pos n) → a ≤ℤ b
+cancel a b n some h = by_lt_z b a
+    (λ less.
+    let more : (b +ℤ pos 1) ≤ℤ a = omega (arith, ints) in
+    let scaled = times_le (b +ℤ pos 1) a n more in
+    let sum = times-add (b +ℤ pos 1) b (pos 1) n refl in
+    absurd (omega (arith, ints, scaled, sum)))
+    (λ no_less. no_less)
+
+-- how far one number is beyond another
+pub beyond : (a b : ℤ) → a ≤ℤ b → (d : ℕ) × (b ≡ a +ℤ pos d)
+beyond a b h = (unsigned_abs (b -ℤ a), omega (arith, ints))
+
+pub scaled_beyond : (a b : ℤ) (d n : ℕ) → b ≡ a +ℤ pos d → (b *ℤ pos n) ≡ (a *ℤ pos n) +ℤ pos (d * n)
+scaled_beyond a b d n e = times-add b a (pos d) n e
+
+-- ---- a multiple that is at most another
+
+pub product_le : (k p x d : ℕ) (z w : ℤ) → z ≡ pos x → w ≡ pos d → k * x ≤ p * d → (pos k *ℤ z) ≤ℤ (pos p *ℤ w)
+product_le k p x d z w at_x at_d h = rw (at_x, at_d) (omega (arith, ints))
+
+pub product_from : (k p x d : ℕ) (z w : ℤ) → z ≡ pos x → w ≡ pos d → (pos k *ℤ z) ≤ℤ (pos p *ℤ w) → k * x ≤ p * d
+product_from k p x d z w at_x at_d h =
+    let h' = rw (at_x, at_d) at h in
+    omega (arith, ints, h')
+
+-- it is enough to look where the first number isn't negative
+pub bounded : (k p d : ℕ) (z w : ℤ) → w ≡ pos d → ((x : ℕ) → z ≡ pos x → k * x ≤ p * d)
+    → (pos k *ℤ z) ≤ℤ (pos p *ℤ w)
+bounded k p d (pos x) w e h = product_le k p x d (pos x) w refl e (h x refl)
+bounded k p d (negsuc x) w e h = rw e (omega (arith, ints))

@@ -1,0 +1,8 @@
+use Rattle.courses.proofs.Covers.{agree_outside, few_by_cover}
+use Rattle.courses.proofs.laws.covers_leave_agreement.Goals as goal
+
+pub returns-clause-agree : goal.returns-clause-agree
+returns-clause-agree c = agree_outside
+
+pub returns-clause-few : goal.returns-clause-few
+returns-clause-few c = few_by_cover

@@ -1,0 +1,9 @@
+pub mod Keeping
+pub mod TrueMarks
+pub mod DriftRefutation
+pub mod LowestCourse
+pub mod Cover
+pub mod DriftSettlement
+pub mod ConflictTable
+pub mod WorkedDrift
+pub mod DriftTest

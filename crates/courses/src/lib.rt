@@ -1,0 +1,19 @@
+//! What courses of events can do, exactly: which marks one course can keep, which errors it can
+//! have, and whether any course fits a capture at all.
+//!
+//! Each exchange leaves two marks (`marks`): what the error can't lie below at one reading of the
+//! clock, and what it can't lie above at another. A course of events keeps the marks of every
+//! exchange with a server that isn't false (specs/Keeping), and pairs of marks settle whether there
+//! is one (specs/TrueMarks): wherever each low mark is compatible with each high mark, the lowest
+//! course keeps them all (specs/LowestCourse).
+//!
+//! On this rest refutations of which the clock drifts (specs/DriftRefutation) and covers, by which
+//! it is settled whether any course fits (specs/Cover). [`laws`] has the theorems and their steps.
+#![tactic(auto)]
+
+mod kept_marks;
+pub mod laws;
+mod refutation;
+mod refutation_laws;
+
+pub use refutation::check_refutation_with_drift;

@@ -1,0 +1,3 @@
+pub mod BoundLemmas
+pub mod LineLemmas
+pub mod PairLemmas
