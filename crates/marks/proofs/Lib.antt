@@ -1,3 +1,6 @@
 pub mod BoundLemmas
+pub mod CompatibleLemmas
 pub mod LineLemmas
+pub mod OrderLemmas
 pub mod PairLemmas
+pub mod PassageLemmas

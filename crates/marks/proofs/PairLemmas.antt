@@ -47,14 +47,21 @@ falls_line ppb low high before =
       λ h. lines.0 (h.falls before),
     )
 
+-- the lines that rise, without a division
+pub rising_lines : (ppb : ℕ) (low high : Mark) →
+    ((pos (billion + ppb) *ℤ (low.error -ℤ high.error)) ≤ℤ (pos ppb *ℤ (low.place -ℤ high.place)))
+    ↔ (rising_line ppb low ≤ℤ rising_line ppb high)
+rising_lines ppb low high =
+    differences (pos (billion + ppb) *ℤ low.error) (pos (billion + ppb) *ℤ high.error)
+    (pos ppb *ℤ low.place) (pos ppb *ℤ high.place) (pos (billion + ppb) *ℤ (low.error -ℤ high.error))
+    (pos ppb *ℤ (low.place -ℤ high.place)) (times-sub (billion + ppb) low.error high.error)
+    (times-sub ppb low.place high.place)
+
 -- behind a high mark
 pub rises_line : (ppb : ℕ) (low high : Mark) → high.place <ℤ low.place →
     (rising_line ppb low ≤ℤ rising_line ppb high) ↔ AreCompatible ppb low high
 rises_line ppb low high behind =
-    let lines = differences (pos (billion + ppb) *ℤ low.error) (pos (billion + ppb) *ℤ high.error)
-    (pos ppb *ℤ low.place) (pos ppb *ℤ high.place) (pos (billion + ppb) *ℤ (low.error -ℤ high.error))
-    (pos ppb *ℤ (low.place -ℤ high.place)) (times-sub (billion + ppb) low.error high.error)
-    (times-sub ppb low.place high.place) in (
+    let lines = rising_lines ppb low high in (
       λ h. record { falls = λ before. absurd (not_both low.place high.place before behind); rises = λ p. lines.1 h },
       λ h. lines.0 (h.rises behind),
     )

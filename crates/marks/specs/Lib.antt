@@ -1,3 +1,6 @@
 pub mod Mark
 pub mod Range
 pub mod Line
+pub mod Direction
+pub mod Passage
+pub mod Compatible

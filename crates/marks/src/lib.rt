@@ -2,10 +2,14 @@
 #![tactic(auto)]
 
 mod bounds;
+mod compatible;
+mod direction;
 mod line;
 mod mark;
 mod pair;
+mod sweep;
 
 pub use bounds::{high_mark, is_possible, low_mark};
+pub use compatible::all_compatible;
 pub use mark::Mark;
 pub use pair::are_compatible;

@@ -1,0 +1,9 @@
+use Rattle.std.proofs.Common.{rules}
+use Rattle.std.proofs.lemmas.List.Sorted.{answers_always}
+use Rattle.marks.proofs.OrderLemmas.{in_order}
+use Rattle.marks.proofs.compatible.sort.Goals as goal
+
+pub returns-clause-order : goal.returns-clause-order
+returns-clause-order c =
+    in_order c.sort_unstable_by_key.new.self
+    (c.sort_unstable_by_key.ensures.sorted (λ m. m.place) (answers_always _ _ _ (λ f a r g h. search rules)))

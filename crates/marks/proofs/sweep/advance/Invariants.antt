@@ -1,0 +1,15 @@
+use Rattle.std.proofs.Common.{◌-◌, ◌≤◌, length}
+use Rattle.std.specs.List.{AllWithin}
+use Rattle.marks.specs.Direction.{Precedes}
+use Rattle.marks.specs.Passage.{IsHighest}
+use Rattle.marks.proofs.sweep.advance.Given as goal
+
+abbrev pub invariant-loop-passed : goal.invariant-loop-passed
+invariant-loop-passed l = record {
+  within : l.passed ≤ length l.lows;
+  precede : AllWithin (λ low. Precedes l.direction low l.high) l.lows 0 l.passed;
+  highest : IsHighest l.direction l.drift_ppb l.lows record { passed = l.passed; highest = l.highest };
+}
+
+abbrev pub decreases-loop-passed : goal.decreases-loop-passed
+decreases-loop-passed l = length l.lows - l.passed
