@@ -13,7 +13,7 @@ use Rattle.checker.specs.Refutation.{is_liar, IsAgainst}
 use Rattle.checker.specs.Traceability.{IsObservedIn, IsWithin, IsTraceable, samples_of}
 use Rattle.courses.specs.TrueMarks.{low_marks}
 use Rattle.courses.specs.LowestCourse.{lowest_course}
-use Rattle.courses.specs.DriftRefutation.{mark_of, IsRefutedWithDrift, IsObservedOff, HasDriftCourse}
+use Rattle.courses.specs.DriftRefutation.{mark_of, IsRefutedWithDrift, IsObservedOff, Shows, HasDriftCourse}
 use Rattle.courses.proofs.Scaling.{cancel}
 use Rattle.courses.proofs.LowestMarks.{first_is_met}
 use Rattle.courses.proofs.LowestCourse.{lowest_fits, lowest_shares}
@@ -46,7 +46,7 @@ module _ (claim : ClaimData) (r : RefutationData) (course : Course) (against : I
 
 module _ (claim : ClaimData) (xs : List Exchange) (r : RefutationData) (lawful : IsLawful claim)
     (each : All (IsLawfulExchange (length claim.servers)) xs) (refuted : IsRefutedWithDrift claim xs r) where
-  abbrev course : Course
+  abbrev pub course : Course
   course = lowest_course claim (is_liar r.liars) (mark_of r) (pos r.reading) xs
 
   course_fits : Fits claim xs course
@@ -76,3 +76,6 @@ module _ (claim : ClaimData) (xs : List Exchange) (r : RefutationData) (lawful :
       let in_span = observed_in_span claim r course refuted.against observed_off in
       observed_beyond claim r course refuted.against observed_off xs course_fits
       (traceable xs course refl course_fits in_span)
+
+  pub shown : Shows claim xs r course
+  shown = record { fits = course_fits; others_true = λ server true'. true'; observed = observed_off }

@@ -1,9 +1,9 @@
 -- The marks of an exchange are kept by its two moments, and two marks that moments of one course
 -- keep are compatible.
-use Rattle.std.proofs.Common.{◌≡◌, ℕ, ◌+◌, ◌-◌, ◌*◌, ◌<◌, ◌≤◌, ℤ, pos, ◌+ℤ◌, ◌-ℤ◌, ◌*ℤ◌, ◌≤ℤ◌, unsigned_abs, true, false, cond, int_lt, refl, arith}
+use Rattle.std.proofs.Common.{◌≡◌, ℕ, suc, ◌+◌, ◌-◌, ◌*◌, ◌<◌, ◌≤◌, ℤ, pos, ◌+ℤ◌, ◌-ℤ◌, ◌*ℤ◌, ◌≤ℤ◌, unsigned_abs, true, false, cond, int_lt, refl, arith}
 use Rattle.std.specs.Int.{int_max, int_min}
-use Rattle.std.proofs.lemmas.Int.{ints}
-use Rattle.std.proofs.Math.Nat.{le_of_mul-le-mul_right, mul-le-mul_right}
+use Rattle.std.proofs.lemmas.Int.{ints, by_lt_z}
+use Rattle.std.proofs.Math.Nat.{le_of_mul-le-mul_right, lt_of_mul-lt-mul_right, mul-le-mul_right}
 use Rattle.intersection.specs.Fineness.{times-add}
 use Rattle.marks.specs.declared.mark.Mark.{Mark}
 use Rattle.marks.specs.Mark.{AreCompatible}
@@ -84,6 +84,57 @@ pub moments_in_order : (ppb : ℕ) (a b : Moment) → ppb ≤ billion → Drifts
     → a.reading ≤ℤ b.reading
 moments_in_order ppb a b slow h forth =
     forward_in_time a.reading a.time b.reading b.time billion ppb slow (omega arith) h forth
+
+-- true times are in the order of readings too
+back_in_time : (ra ta rb tb : ℤ) (b p : ℕ) → p < b
+    → b * unsigned_abs ((rb -ℤ tb) -ℤ (ra -ℤ ta)) ≤ p * unsigned_abs (tb -ℤ ta) → ra ≤ℤ rb → ta ≤ℤ tb
+back_in_time ra ta rb tb b p slow h forth = by_lt_z tb ta
+    (λ back.
+    let change : ℕ = unsigned_abs ((rb -ℤ tb) -ℤ (ra -ℤ ta)) in
+    let time : ℕ = unsigned_abs (tb -ℤ ta) in
+    let more : suc p * time ≤ b * time = mul-le-mul_right time slow in
+    let some : 0 < time = omega (arith, ints) in
+    let within : change * b < time * b = omega arith in
+    let less : change < time = lt_of_mul-lt-mul_right b within in
+    absurd (omega (arith, ints)))
+    (λ no_back. no_back)
+
+pub times_in_order : (ppb : ℕ) (a b : Moment) → ppb < billion → DriftsWithin ppb a b → a.reading ≤ℤ b.reading
+    → a.time ≤ℤ b.time
+times_in_order ppb a b slow h forth = back_in_time a.reading a.time b.reading b.time billion ppb slow h forth
+
+-- ---- a mark at its place
+
+module _ (n : ℕ) (place error time : ℤ) where
+  no_less_than_mark : time ≤ℤ ((place -ℤ error) *ℤ pos n) → (error *ℤ pos n) ≤ℤ ((place *ℤ pos n) -ℤ time)
+  no_less_than_mark h =
+      let difference = times-sub (place -ℤ error) place error n refl in
+      omega (arith, ints, difference)
+
+  no_more_than_mark : ((place -ℤ error) *ℤ pos n) ≤ℤ time → ((place *ℤ pos n) -ℤ time) ≤ℤ (error *ℤ pos n)
+  no_more_than_mark h =
+      let difference = times-sub (place -ℤ error) place error n refl in
+      omega (arith, ints, difference)
+
+through : (a b c : ℤ) → a ≤ℤ b → b ≤ℤ c → a ≤ℤ c
+through a b c p q = omega (arith, ints)
+
+module _ (ppb n : ℕ) (mark : Mark) (kept at_place : Moment) (slow : ppb < billion)
+    (h : DriftsWithin ppb kept at_place) (there : at_place.reading ≡ mark.place *ℤ pos n) where
+  -- when the clock reads a low mark's place, the error is no less than the mark's
+  pub low_holds : KeepsLow n mark kept → (mark.error *ℤ pos n) ≤ℤ error_of at_place
+  low_holds keeps =
+      let h' = symmetric kept.reading kept.time at_place.reading at_place.time billion ppb h in
+      let first : at_place.reading ≤ℤ kept.reading = rw there keeps.0 in
+      let time = times_in_order ppb at_place kept slow h' first in
+      rw there (no_less_than_mark n mark.place mark.error at_place.time (through _ _ _ time keeps.1))
+
+  -- when it reads a high mark's place, the error is no more than the mark's
+  pub high_holds : KeepsHigh n mark kept → error_of at_place ≤ℤ (mark.error *ℤ pos n)
+  high_holds keeps =
+      let last : kept.reading ≤ℤ at_place.reading = rw there keeps.0 in
+      let time = times_in_order ppb kept at_place slow h last in
+      rw there (no_more_than_mark n mark.place mark.error at_place.time (through _ _ _ keeps.1 time))
 
 -- ---- two marks that are kept
 
