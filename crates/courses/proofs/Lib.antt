@@ -16,3 +16,4 @@ pub mod SteadyClock
 pub mod Covers
 pub mod ConflictTables
 pub mod WorkedDrift
+pub mod Contradictions

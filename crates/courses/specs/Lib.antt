@@ -6,3 +6,4 @@ pub mod Cover
 pub mod DriftSettlement
 pub mod ConflictTable
 pub mod WorkedDrift
+pub mod Contradiction

@@ -11,5 +11,6 @@
 //! it is settled whether any course fits (specs/Cover). [`laws`] has the theorems and their steps.
 #![tactic(auto)]
 
+mod conflict_laws;
 pub mod laws;
 mod refutation_laws;
