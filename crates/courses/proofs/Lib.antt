@@ -2,6 +2,7 @@ pub mod Scaling
 pub mod Steps
 pub mod Agreement
 pub mod KeptMarks
+pub mod ServedExchange
 pub mod TrueExchanges
 pub mod Converse
 pub mod Slope

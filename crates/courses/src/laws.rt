@@ -47,7 +47,7 @@ pub fn error_changes_by_what_the_clock_advances()
 
 /// Readings are in the order of true times, and true times in the order of readings.
 pub fn readings_are_in_the_order_of_times()
-    ensures readings { (ppb : ℕ) (a b : Moment) → ppb ≤ billion → DriftsWithin ppb a b →
+    ensures readings { (ppb : ℕ) (a b : Moment) → ppb < billion → DriftsWithin ppb a b →
         a.time ≤ℤ b.time → a.reading ≤ℤ b.reading }
     ensures times { (ppb : ℕ) (a b : Moment) → ppb < billion → DriftsWithin ppb a b →
         a.reading ≤ℤ b.reading → a.time ≤ℤ b.time }
