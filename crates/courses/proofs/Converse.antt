@@ -84,7 +84,7 @@ module _ (claim : ClaimData) (xs : List Exchange) (course : Course) (k : ℕ) (x
               fits.some_fineness;
         }
 
-module _ (claim : ClaimData) (slow : claim.drift_ppb ≤ 500000000) (xs : List Exchange) (course : Course)
+module _ {claim : ClaimData} {xs : List Exchange} {course : Course} (slow : claim.drift_ppb ≤ 500000000)
     (fits : Fits claim xs course) where
   pub two_agree : (low high : Mark) (a b : Moment) → IsClientMoment course (length xs) a
       → IsClientMoment course (length xs) b → KeepsLow course.fineness low a → KeepsHigh course.fineness high b
@@ -145,7 +145,7 @@ refuted_where_shown claim xs r course slow against shows =
     let liar = is_liar r.liars in
     record {
       against = against;
-      agree = agree claim slow xs course shows.fits liar shows.others_true;
-      reading_low = low_agrees claim slow xs course shows.fits liar shows.others_true (mark_of r) low high;
-      reading_high = high_agrees claim slow xs course shows.fits liar shows.others_true (mark_of r) low high;
+      agree = agree slow shows.fits liar shows.others_true;
+      reading_low = low_agrees slow shows.fits liar shows.others_true (mark_of r) low high;
+      reading_high = high_agrees slow shows.fits liar shows.others_true (mark_of r) low high;
     }

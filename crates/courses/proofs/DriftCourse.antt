@@ -16,7 +16,7 @@ use Rattle.courses.specs.LowestCourse.{lowest_course}
 use Rattle.courses.specs.DriftRefutation.{mark_of, IsRefutedWithDrift, IsObservedOff, Shows, HasDriftCourse}
 use Rattle.courses.proofs.Scaling.{cancel}
 use Rattle.courses.proofs.LowestMarks.{first_is_met}
-use Rattle.courses.proofs.LowestCourse.{lowest_fits, lowest_shares}
+use Rattle.courses.proofs.LowestCourse.{Needs, lowest_fits, lowest_shares}
 
 -- ---- the claim is broken
 
@@ -51,8 +51,13 @@ module _ (claim : ClaimData) (xs : List Exchange) (r : RefutationData) (lawful :
 
   course_fits : Fits claim xs course
   course_fits =
-      lowest_fits claim lawful.drift_in_range lawful.reading_not_negative (is_liar r.liars) (mark_of r)
-      (pos r.reading) xs (length claim.servers) each refuted.agree refuted.reading_low refuted.against.few_false
+      let needs : Needs claim (is_liar r.liars) (mark_of r) xs = record {
+        lawful = lawful;
+        each = each;
+        agree = refuted.agree;
+        first_agrees = refuted.reading_low;
+      } in
+      lowest_fits needs (pos r.reading) refuted.against.few_false
 
   observed_off : IsObservedOff r course
   observed_off = record {
