@@ -17,7 +17,8 @@ use Rattle.courses.specs.Keeping.{KeepsLow, KeepsHigh}
 use Rattle.courses.specs.TrueMarks.{low_marks, high_marks, DoAgree}
 use Rattle.courses.specs.DriftRefutation.{mark_of, IsRefutedWithDrift, Shows}
 use Rattle.courses.proofs.Scaling.{times-sub, cancel}
-use Rattle.courses.proofs.KeptMarks.{moments_in_order, kept_are_compatible, leaves_in_time, arrives_in_time, stamps_in_order}
+use Rattle.courses.proofs.KeptMarks.{moments_in_order, kept_are_compatible}
+use Rattle.courses.proofs.ServedExchange.{Times, AreServed, leaves_in_time, arrives_in_time, stamps_in_order, goes_on}
 use Rattle.courses.proofs.TrueExchanges.{all_true, all_marks, all_pairs}
 
 at_reading : (n : ℕ) (reading error place time : ℤ) → place ≡ reading *ℤ pos n → place -ℤ time ≡ error *ℤ pos n
@@ -37,46 +38,53 @@ module _ (claim : ClaimData) (xs : List Exchange) (course : Course) (k : ℕ) (x
   is_reply : IsClientMoment course (length xs) (course.reply k)
   is_reply = inr (k, slice_get_within xs k x at, inr refl)
 
+  times : Times
+  times = record {
+    leaves = (course.request k).time;
+    received = course.received k;
+    sent = course.sent k;
+    arrives = (course.reply k).time;
+  }
+
   -- its two moments keep its two marks
   module _ (fits : Fits claim xs course) (true' : course.is_false x.server ≡ false) where
-    pub keeps_low : KeepsLow course.fineness (low_mark claim.reading x) (course.request k)
-    keeps_low =
-        let order = fits.ordered k x at true' in
-        let near = fits.within_root_distance k x at true' in (
-          (fits.in_windows k x at).0.0,
-          leaves_in_time course.fineness (request_start x claim.reading) x.t2 x.t3 x.distance
-              (course.request k).time (course.received k) (course.sent k) (course.reply k).time order.0 order.1
-              order.2 near.0 near.1,
-        )
-
-    pub keeps_high : KeepsHigh course.fineness (high_mark claim.reading x) (course.reply k)
-    keeps_high =
-        let order = fits.ordered k x at true' in
-        let near = fits.within_root_distance k x at true' in (
-          (fits.in_windows k x at).1.1,
-          arrives_in_time course.fineness (reply_end x claim.reading) x.t2 x.t3 x.distance
-              (course.request k).time (course.received k) (course.sent k) (course.reply k).time order.0 order.1
-              order.2 near.0 near.1,
-        )
-
-    pub possible : claim.drift_ppb ≤ 500000000 → IsPossible claim.reading x
-    possible slow =
+    served : AreServed course.fineness x.t2 x.t3 x.distance times
+    unfolding times
+    served =
         let order = fits.ordered k x at true' in
         let near = fits.within_root_distance k x at true' in
+        record { before = order.0; answered = order.1; after = order.2; near_t2 = near.0; near_t3 = near.1 }
+
+    pub keeps_low : KeepsLow course.fineness (low_mark claim.reading x) (course.request k)
+    unfolding times
+    keeps_low = (
+      (fits.in_windows k x at).0.0,
+      leaves_in_time course.fineness (request_start x claim.reading) x.t2 x.t3 x.distance times served,
+    )
+
+    pub keeps_high : KeepsHigh course.fineness (high_mark claim.reading x) (course.reply k)
+    unfolding times
+    keeps_high = (
+      (fits.in_windows k x at).1.1,
+      arrives_in_time course.fineness (reply_end x claim.reading) x.t2 x.t3 x.distance times served,
+    )
+
+    pub possible : claim.drift_ppb ≤ 500000000 → IsPossible claim.reading x
+    unfolding times
+    possible slow =
+        let start = request_start x claim.reading in
         let windows = fits.in_windows k x at in
-        let forth = through (course.request k).time (course.received k) (course.sent k) (course.reply k).time
-        order.0 order.1 order.2 in
+        let forth = goes_on course.fineness start x.t2 x.t3 x.distance times served in
         let readings = moments_in_order claim.drift_ppb (course.request k) (course.reply k) (omega arith)
         (fits.drift (course.request k) (course.reply k) is_request is_reply) forth in
         record {
-          leaves_before_arrival = cancel (request_start x claim.reading) (reply_end x claim.reading) course.fineness
-              fits.some_fineness (through _ _ _ _ windows.0.0 readings windows.1.1);
-          receives_before_answer = stamps_in_order course.fineness (reply_end x claim.reading) x.t2 x.t3 x.distance
-              (course.request k).time (course.received k) (course.sent k) (course.reply k).time order.0 order.1
-              order.2 near.0 near.1 fits.some_fineness;
+          leaves_before_arrival = cancel start (reply_end x claim.reading) course.fineness fits.some_fineness
+              (through _ _ _ _ windows.0.0 readings windows.1.1);
+          receives_before_answer = stamps_in_order course.fineness start x.t2 x.t3 x.distance times served
+              fits.some_fineness;
         }
 
-module _ (claim : ClaimData) (slow : claim.drift_ppb ≤ 500000000) (xs : List Exchange) (course : Course)
+module _ {claim : ClaimData} {xs : List Exchange} {course : Course} (slow : claim.drift_ppb ≤ 500000000)
     (fits : Fits claim xs course) where
   pub two_agree : (low high : Mark) (a b : Moment) → IsClientMoment course (length xs) a
       → IsClientMoment course (length xs) b → KeepsLow course.fineness low a → KeepsHigh course.fineness high b
@@ -137,7 +145,7 @@ refuted_where_shown claim xs r course slow against shows =
     let liar = is_liar r.liars in
     record {
       against = against;
-      agree = agree claim slow xs course shows.fits liar shows.others_true;
-      reading_low = low_agrees claim slow xs course shows.fits liar shows.others_true (mark_of r) low high;
-      reading_high = high_agrees claim slow xs course shows.fits liar shows.others_true (mark_of r) low high;
+      agree = agree slow shows.fits liar shows.others_true;
+      reading_low = low_agrees slow shows.fits liar shows.others_true (mark_of r) low high;
+      reading_high = high_agrees slow shows.fits liar shows.others_true (mark_of r) low high;
     }

@@ -13,10 +13,10 @@ use Rattle.checker.specs.Refutation.{is_liar, IsAgainst}
 use Rattle.checker.specs.Traceability.{IsObservedIn, IsWithin, IsTraceable, samples_of}
 use Rattle.courses.specs.TrueMarks.{low_marks}
 use Rattle.courses.specs.LowestCourse.{lowest_course}
-use Rattle.courses.specs.DriftRefutation.{mark_of, IsRefutedWithDrift, IsObservedOff, HasDriftCourse}
+use Rattle.courses.specs.DriftRefutation.{mark_of, IsRefutedWithDrift, IsObservedOff, Shows, HasDriftCourse}
 use Rattle.courses.proofs.Scaling.{cancel}
 use Rattle.courses.proofs.LowestMarks.{first_is_met}
-use Rattle.courses.proofs.LowestCourse.{lowest_fits, lowest_shares}
+use Rattle.courses.proofs.LowestCourse.{Needs, lowest_fits, lowest_shares}
 
 -- ---- the claim is broken
 
@@ -46,13 +46,18 @@ module _ (claim : ClaimData) (r : RefutationData) (course : Course) (against : I
 
 module _ (claim : ClaimData) (xs : List Exchange) (r : RefutationData) (lawful : IsLawful claim)
     (each : All (IsLawfulExchange (length claim.servers)) xs) (refuted : IsRefutedWithDrift claim xs r) where
-  abbrev course : Course
+  abbrev pub course : Course
   course = lowest_course claim (is_liar r.liars) (mark_of r) (pos r.reading) xs
 
   course_fits : Fits claim xs course
   course_fits =
-      lowest_fits claim lawful.drift_in_range lawful.reading_not_negative (is_liar r.liars) (mark_of r)
-      (pos r.reading) xs (length claim.servers) each refuted.agree refuted.reading_low refuted.against.few_false
+      let needs : Needs claim (is_liar r.liars) (mark_of r) xs = record {
+        lawful = lawful;
+        each = each;
+        agree = refuted.agree;
+        first_agrees = refuted.reading_low;
+      } in
+      lowest_fits needs (pos r.reading) refuted.against.few_false
 
   observed_off : IsObservedOff r course
   observed_off = record {
@@ -76,3 +81,6 @@ module _ (claim : ClaimData) (xs : List Exchange) (r : RefutationData) (lawful :
       let in_span = observed_in_span claim r course refuted.against observed_off in
       observed_beyond claim r course refuted.against observed_off xs course_fits
       (traceable xs course refl course_fits in_span)
+
+  pub shown : Shows claim xs r course
+  shown = record { fits = course_fits; others_true = λ server true'. true'; observed = observed_off }

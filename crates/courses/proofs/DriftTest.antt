@@ -46,12 +46,12 @@ branch_to false yes' no' h k = k refl
 
 -- ---- an exchange by itself, and two marks
 
-possible_from : (allowance : ℤ) (x : Exchange) → is_possible allowance x ≡ true → IsPossible allowance x
+pub possible_from : (allowance : ℤ) (x : Exchange) → is_possible allowance x ≡ true → IsPossible allowance x
 possible_from allowance x e =
     let (a, b) = both_true _ _ e in
     record { leaves_before_arrival = le_from _ _ a; receives_before_answer = le_from _ _ b }
 
-possible_to : (allowance : ℤ) (x : Exchange) → IsPossible allowance x → is_possible allowance x ≡ true
+pub possible_to : (allowance : ℤ) (x : Exchange) → IsPossible allowance x → is_possible allowance x ≡ true
 possible_to allowance x h = rw (le_to _ _ h.leaves_before_arrival, le_to _ _ h.receives_before_answer) refl
 
 compatible_from : (ppb : ℕ) (low high : Mark) → are_compatible ppb low high ≡ true → AreCompatible ppb low high
@@ -70,11 +70,11 @@ compatible_to ppb low high h =
 
 -- ---- lists of marks
 
-all_from : (ppb : ℕ) (lows highs : List Mark) → all_compatible ppb lows highs ≡ true → AreAllCompatible ppb lows highs
+pub all_from : (ppb : ℕ) (lows highs : List Mark) → all_compatible ppb lows highs ≡ true → AreAllCompatible ppb lows highs
 all_from ppb lows highs e = λ i d below.
     λ j d' below'. compatible_from ppb _ _ (AllPass-from_list_all _ highs (AllPass-from_list_all _ lows e i d below) j d' below')
 
-all_to : (ppb : ℕ) (lows highs : List Mark) → AreAllCompatible ppb lows highs → all_compatible ppb lows highs ≡ true
+pub all_to : (ppb : ℕ) (lows highs : List Mark) → AreAllCompatible ppb lows highs → all_compatible ppb lows highs ≡ true
 all_to ppb lows highs h =
     list_all-from_AllPass _ lows (λ i d below. list_all-from_AllPass _ highs
     (λ j d' below'. compatible_to ppb _ _ (h i d below j d' below')))
@@ -149,3 +149,9 @@ module _ (claim : ClaimData) (xs : List Exchange) (r : RefutationData) where
       (λ i d below. with_first own highs (AreCompatible ppb (slice_index_or lows i d))
       (h.reading_high i d below) (h.agree.compatible i d below))) in
       rw (against_to h.against, possible, all) refl
+
+-- two tests that pass together are the same
+pub same_answer : (a b : Bool) → (a ≡ true → b ≡ true) → (b ≡ true → a ≡ true) → a ≡ b
+same_answer true b h k = sym (h refl)
+same_answer false true h k = k refl
+same_answer false false h k = refl

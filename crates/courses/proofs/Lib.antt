@@ -2,6 +2,7 @@ pub mod Scaling
 pub mod Steps
 pub mod Agreement
 pub mod KeptMarks
+pub mod ServedExchange
 pub mod TrueExchanges
 pub mod Converse
 pub mod Slope
@@ -16,4 +17,6 @@ pub mod SteadyClock
 pub mod Covers
 pub mod ConflictTables
 pub mod WorkedDrift
+pub mod Contradictions
 pub mod DriftTest
+pub mod KeptMarkLists

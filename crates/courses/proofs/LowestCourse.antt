@@ -8,7 +8,7 @@ use Rattle.std.proofs.lemmas.Bool.Decides.{nat_tests}
 use Rattle.std.proofs.lemmas.Option.{get_or_from_slice_get, slice_get_within}
 use Rattle.std.proofs.Math.Nat.{mul-le-mul_left}
 use Rattle.intersection.specs.Fineness.{times_le, times-add}
-use Rattle.claim_file.specs.Claim.{ClaimData}
+use Rattle.claim_file.specs.Claim.{ClaimData, IsLawful}
 use Rattle.pairing.specs.declared.exchange.Exchange.{Exchange}
 use Rattle.marks.specs.declared.mark.Mark.{Mark}
 use Rattle.pairing.specs.Exchange.{IsLawful as IsLawfulExchange, SameRequest}
@@ -119,8 +119,15 @@ module _ (xs : List Exchange) (agree : AllPairs SameRequest xs) where
 
 -- ---- the course
 
-module _ (claim : ClaimData) (slow : claim.drift_ppb ≤ 500000000) (some : pos 0 ≤ℤ claim.reading)
-    (is_false : ℕ → Bool) (first : Mark) (reading : ℤ) (xs : List Exchange) where
+-- what the lowest course of a first mark needs: lawful exchanges that agree, with that mark too
+pub record Needs (claim : ClaimData) (is_false : ℕ → Bool) (first : Mark) (xs : List Exchange) : Type 0 where
+  pub lawful : IsLawful claim
+  pub each : All (IsLawfulExchange (length claim.servers)) xs
+  pub agree : DoAgree claim is_false xs
+  pub first_agrees : All (AreCompatible claim.drift_ppb first) (high_marks claim.reading is_false xs)
+
+module _ {claim : ClaimData} {is_false : ℕ → Bool} {first : Mark} {xs : List Exchange}
+    (needs : Needs claim is_false first xs) (reading : ℤ) where
   abbrev lows : List Mark
   lows = low_marks claim.reading is_false xs
 
@@ -134,7 +141,9 @@ module _ (claim : ClaimData) (slow : claim.drift_ppb ≤ 500000000) (some : pos 
   moment c = lowest_moment claim.drift_ppb first lows c
 
   some_fineness : 0 < fineness_of claim.drift_ppb
-  some_fineness = some_product (billion - claim.drift_ppb) (billion + claim.drift_ppb) (omega arith) (omega arith)
+  some_fineness =
+      let slow = needs.lawful.drift_in_range in
+      some_product (billion - claim.drift_ppb) (billion + claim.drift_ppb) (omega arith) (omega arith)
 
   -- each moment of the client is one of the lowest moments
   at_some_reading : (m : Moment) → IsClientMoment course (length xs) m → (c : ℤ) × (m ≡ moment c)
@@ -149,84 +158,83 @@ module _ (claim : ClaimData) (slow : claim.drift_ppb ≤ 500000000) (some : pos 
   drift a b is_a is_b =
       let at_a = at_some_reading a is_a in
       let at_b = at_some_reading b is_b in
-      rw (at_a.1, at_b.1) (lowest_drifts claim.drift_ppb slow first lows at_a.0 at_b.0)
+      rw (at_a.1, at_b.1) (lowest_drifts claim.drift_ppb needs.lawful.drift_in_range first lows at_a.0 at_b.0)
 
-  module _ (servers : ℕ) (each : All (IsLawfulExchange servers) xs) where
-    windows : (k : ℕ) (x : Exchange) → slice_get xs k ≡ Some x → ReadsInWindows claim.reading course k x
-    windows k x at =
-        let lawful = each_at (IsLawfulExchange servers) xs k x each at in
-        let request = widened x.t1_low x.t1_high claim.reading lawful.t1_ordered some in
-        let reply = widened x.t4_low x.t4_high claim.reading lawful.t4_ordered some in
+  windows : (k : ℕ) (x : Exchange) → slice_get xs k ≡ Some x → ReadsInWindows claim.reading course k x
+  windows k x at =
+      let lawful = each_at (IsLawfulExchange (length claim.servers)) xs k x needs.each at in
+      let some = needs.lawful.reading_not_negative in
+      let request = widened x.t1_low x.t1_high claim.reading lawful.t1_ordered some in
+      let reply = widened x.t4_low x.t4_high claim.reading lawful.t4_ordered some in
+      rw at (
+        (same_le _, times_le (request_start x claim.reading) (request_end x claim.reading) n request),
+        (times_le (reply_start x claim.reading) (reply_end x claim.reading) n reply, same_le _),
+      )
+
+  -- an exchange with a server that isn't false
+  module _ (k : ℕ) (x : Exchange) (at : slice_get xs k ≡ Some x) (true' : is_false x.server ≡ false) where
+    low_kept : KeepsLow n (low_mark claim.reading x) (moment (request_start x claim.reading))
+    low_kept =
+        marks_at is_false xs (λ mark. KeepsLow n mark (moment mark.place)) (low_mark claim.reading) k x
+        (keeps_others claim.drift_ppb first lows) at true'
+
+    high_kept : KeepsHigh n (high_mark claim.reading x) (moment (reply_end x claim.reading))
+    high_kept =
+        let with_first = marks_at is_false xs (AreCompatible claim.drift_ppb first) (high_mark claim.reading) k x
+        needs.first_agrees at true' in
+        let with_others : All (λ low. AreCompatible claim.drift_ppb low (high_mark claim.reading x)) lows =
+        all_marks is_false xs (λ low. AreCompatible claim.drift_ppb low (high_mark claim.reading x))
+        (low_mark claim.reading) (λ i y at_i true_y. pair_at is_false xs claim.drift_ppb claim.reading i k y x
+        needs.agree.compatible at_i at true_y true') in
+        keeps_high claim.drift_ppb first lows (high_mark claim.reading x) with_first with_others
+
+    room : HasRoom (moment (request_start x claim.reading)).time (moment (reply_end x claim.reading)).time
+        ((x.t2 -ℤ x.distance) *ℤ pos n) ((x.t2 +ℤ x.distance) *ℤ pos n)
+        ((x.t3 -ℤ x.distance) *ℤ pos n) ((x.t3 +ℤ x.distance) *ℤ pos n)
+    room =
+        let lawful = each_at (IsLawfulExchange (length claim.servers)) xs k x needs.each at in
+        let possible = true_at is_false xs (IsPossible claim.reading) k x needs.agree.possible at true' in
+        let start = request_start x claim.reading in
+        let end = reply_end x claim.reading in
+        let low = before_stamps n (moment start).time start x.t2 x.t3 x.distance low_kept.1 in
+        let high = after_stamps n (moment end).time end x.t2 x.t3 x.distance high_kept.1 in
+        let some_distance = lawful.distance_not_negative in
+        record {
+          leaves_first = lowest_time_goes_on claim.drift_ppb needs.lawful.drift_in_range first lows start end
+              possible.leaves_before_arrival;
+          leaves_by_t2 = low.0;
+          leaves_by_t3 = low.1;
+          t2_forward = times_le _ _ n (around x.t2 x.distance some_distance);
+          t2_by_t3 = times_le _ _ n possible.receives_before_answer;
+          t3_forward = times_le _ _ n (around x.t3 x.distance some_distance);
+          arrives_after_t2 = high.0;
+          arrives_after_t3 = high.1;
+        }
+
+    order : ComesInOrder course k x
+    order = rw at (in_order _ _ _ _ _ _ room)
+
+    distances : KeepsRootDistance course k x
+    distances =
         rw at (
-          (same_le _, times_le (request_start x claim.reading) (request_end x claim.reading) n request),
-          (times_le (reply_start x claim.reading) (reply_end x claim.reading) n reply, same_le _),
+          near n x.t2 x.distance _ (receipt_between _ _ _ _ _ _ room),
+          near n x.t3 x.distance _ (answer_between _ _ _ _ _ _ room),
         )
 
-    module _ (agree : DoAgree claim is_false xs)
-        (first_agrees : All (AreCompatible claim.drift_ppb first) (high_marks claim.reading is_false xs)) where
-      module _ (k : ℕ) (x : Exchange) (at : slice_get xs k ≡ Some x) (true' : is_false x.server ≡ false) where
-        low_kept : KeepsLow n (low_mark claim.reading x) (moment (request_start x claim.reading))
-        low_kept =
-            marks_at is_false xs (λ mark. KeepsLow n mark (moment mark.place)) (low_mark claim.reading) k x
-            (keeps_others claim.drift_ppb first lows) at true'
+  pub lowest_fits : false_group_count claim.groups is_false ≤ claim.false_max → Fits claim xs course
+  lowest_fits few = record {
+    some_fineness = some_fineness;
+    few_false = few;
+    in_windows = windows;
+    drift = drift;
+    ordered = order;
+    within_root_distance = distances;
+  }
 
-        high_kept : KeepsHigh n (high_mark claim.reading x) (moment (reply_end x claim.reading))
-        high_kept =
-            let with_first = marks_at is_false xs (AreCompatible claim.drift_ppb first) (high_mark claim.reading) k x
-            first_agrees at true' in
-            let with_others : All (λ low. AreCompatible claim.drift_ppb low (high_mark claim.reading x)) lows =
-            all_marks is_false xs (λ low. AreCompatible claim.drift_ppb low (high_mark claim.reading x))
-            (low_mark claim.reading) (λ i y at_i true_y. pair_at is_false xs claim.drift_ppb claim.reading i k y x
-            agree.compatible at_i at true_y true') in
-            keeps_high claim.drift_ppb first lows (high_mark claim.reading x) with_first with_others
-
-        room : HasRoom (moment (request_start x claim.reading)).time (moment (reply_end x claim.reading)).time
-            ((x.t2 -ℤ x.distance) *ℤ pos n) ((x.t2 +ℤ x.distance) *ℤ pos n)
-            ((x.t3 -ℤ x.distance) *ℤ pos n) ((x.t3 +ℤ x.distance) *ℤ pos n)
-        room =
-            let lawful = each_at (IsLawfulExchange servers) xs k x each at in
-            let possible = true_at is_false xs (IsPossible claim.reading) k x agree.possible at true' in
-            let start = request_start x claim.reading in
-            let end = reply_end x claim.reading in
-            let low = before_stamps n (moment start).time start x.t2 x.t3 x.distance low_kept.1 in
-            let high = after_stamps n (moment end).time end x.t2 x.t3 x.distance high_kept.1 in
-            let some_distance = lawful.distance_not_negative in
-            record {
-              leaves_first = lowest_time_goes_on claim.drift_ppb slow first lows start end
-                  possible.leaves_before_arrival;
-              leaves_by_t2 = low.0;
-              leaves_by_t3 = low.1;
-              t2_forward = times_le _ _ n (around x.t2 x.distance some_distance);
-              t2_by_t3 = times_le _ _ n possible.receives_before_answer;
-              t3_forward = times_le _ _ n (around x.t3 x.distance some_distance);
-              arrives_after_t2 = high.0;
-              arrives_after_t3 = high.1;
-            }
-
-        order : ComesInOrder course k x
-        order = rw at (in_order _ _ _ _ _ _ room)
-
-        distances : KeepsRootDistance course k x
-        distances =
-            rw at (
-              near n x.t2 x.distance _ (receipt_between _ _ _ _ _ _ room),
-              near n x.t3 x.distance _ (answer_between _ _ _ _ _ _ room),
-            )
-
-      pub lowest_fits : false_group_count claim.groups is_false ≤ claim.false_max → Fits claim xs course
-      lowest_fits few = record {
-        some_fineness = some_fineness;
-        few_false = few;
-        in_windows = windows;
-        drift = drift;
-        ordered = order;
-        within_root_distance = distances;
-      }
-
-module _ (claim : ClaimData) (is_false : ℕ → Bool) (first : Mark) (reading : ℤ) (xs : List Exchange) where
-  pub lowest_shares : AllPairs SameRequest xs → SharesRequests xs (lowest_course claim is_false first reading xs)
-  lowest_shares agree i j x y at_i at_j same =
-      let start : request_start x claim.reading ≡ request_start y claim.reading =
-      ap (λ (t : ℤ). t -ℤ claim.reading) (one_start xs agree i j x y at_i at_j same) in
-      rw (at_i, at_j)
-      (ap (lowest_moment claim.drift_ppb first (low_marks claim.reading is_false xs)) start)
+pub lowest_shares : (claim : ClaimData) (is_false : ℕ → Bool) (first : Mark) (reading : ℤ) (xs : List Exchange)
+    → AllPairs SameRequest xs → SharesRequests xs (lowest_course claim is_false first reading xs)
+lowest_shares claim is_false first reading xs agree i j x y at_i at_j same =
+    let start : request_start x claim.reading ≡ request_start y claim.reading =
+    ap (λ (t : ℤ). t -ℤ claim.reading) (one_start xs agree i j x y at_i at_j same) in
+    rw (at_i, at_j)
+    (ap (lowest_moment claim.drift_ppb first (low_marks claim.reading is_false xs)) start)

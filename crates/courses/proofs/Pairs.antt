@@ -10,7 +10,7 @@ use Rattle.marks.specs.Mark.{low_mark, high_mark, AreCompatible}
 use Rattle.checker.specs.Groups.{false_group_count}
 use Rattle.courses.specs.TrueMarks.{true_exchanges, low_marks, AreAllCompatible, DoAgree, FitsWithFalse}
 use Rattle.courses.specs.LowestCourse.{lowest_course}
-use Rattle.courses.proofs.LowestCourse.{lowest_fits}
+use Rattle.courses.proofs.LowestCourse.{Needs, lowest_fits}
 
 -- the first of some marks, or one at 0
 first_of : List Mark → Mark
@@ -30,9 +30,7 @@ pub agreement_gives_course : (claim : ClaimData) (xs : List Exchange) (is_false 
 agreement_gives_course claim xs is_false lawful each few agree =
     let first = first_of (low_marks claim.reading is_false xs) in
     let agrees = first_agrees claim.drift_ppb (low_mark claim.reading) (high_mark claim.reading)
-    (true_exchanges is_false xs) agree.compatible in (
-      lowest_course claim is_false first claim.first xs,
-      lowest_fits claim lawful.drift_in_range lawful.reading_not_negative is_false first claim.first xs
-          (length claim.servers) each agree agrees few,
-      λ server true'. true',
-    )
+    (true_exchanges is_false xs) agree.compatible in
+    let needs : Needs claim is_false first xs =
+    record { lawful = lawful; each = each; agree = agree; first_agrees = agrees } in
+    (lowest_course claim is_false first claim.first xs, lowest_fits needs claim.first few, λ server true'. true')

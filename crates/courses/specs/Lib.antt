@@ -6,4 +6,5 @@ pub mod Cover
 pub mod DriftSettlement
 pub mod ConflictTable
 pub mod WorkedDrift
+pub mod Contradiction
 pub mod DriftTest

@@ -26,10 +26,11 @@ ghost use Rattle.pairing.specs.declared.exchange.Exchange.{Exchange};
 ghost use Rattle.sample_interval.specs.Moment.{Moment, error_of, DriftsWithin};
 ghost use Rattle.sample_interval.specs.Widening.{billion, IsRate};
 
+pub use crate::conflict_laws::{first_contradiction_is_one, pairs_show_conflicts};
 pub use crate::refutation_laws::{
     accepted_refutations_have_a_course, courses_of_refutations_break_the_claim,
     narrower_bounds_and_faster_drifts_are_refuted_too, own_mark_joins_the_others,
-    refutations_are_settled, refutations_stand_where_a_course_shows_them,
+    refutations_are_exact, refutations_are_settled, refutations_stand_where_a_course_shows_them,
     refutations_without_drift_stand, worked_drift_is_seen, yes_and_refutation_never_meet,
 };
 
@@ -44,10 +45,12 @@ pub fn error_changes_by_what_the_clock_advances()
         ≤ℤ (pos ppb *ℤ (b.reading -ℤ a.reading)) }
 {}
 
-/// Readings are in the order of true times.
+/// Readings are in the order of true times, and true times in the order of readings.
 pub fn readings_are_in_the_order_of_times()
-    ensures { (ppb : ℕ) (a b : Moment) → ppb ≤ billion → DriftsWithin ppb a b →
+    ensures readings { (ppb : ℕ) (a b : Moment) → ppb < billion → DriftsWithin ppb a b →
         a.time ≤ℤ b.time → a.reading ≤ℤ b.reading }
+    ensures times { (ppb : ℕ) (a b : Moment) → ppb < billion → DriftsWithin ppb a b →
+        a.reading ≤ℤ b.reading → a.time ≤ℤ b.time }
 {}
 
 /// An exchange with a server that isn't false is possible by itself. Its request keeps its low mark
@@ -64,6 +67,18 @@ pub fn true_exchanges_keep_their_marks()
         (x : Exchange) → Fits claim xs course → slice_get xs k ≡ Some x →
         course.is_false x.server ≡ false →
         KeepsHigh course.fineness (high_mark claim.reading x) (course.reply k) }
+{}
+
+/// A mark that some moment keeps holds at its place: when the clock reads a low mark's place, the
+/// error is no less than the mark's, and when it reads a high mark's place, no more. So the far ends
+/// of the windows lose nothing.
+pub fn marks_hold_at_their_places()
+    ensures low { (ppb n : ℕ) (mark : Mark) (kept at_place : Moment) → ppb < billion →
+        DriftsWithin ppb kept at_place → at_place.reading ≡ mark.place *ℤ pos n →
+        KeepsLow n mark kept → (mark.error *ℤ pos n) ≤ℤ error_of at_place }
+    ensures high { (ppb n : ℕ) (mark : Mark) (kept at_place : Moment) → ppb < billion →
+        DriftsWithin ppb kept at_place → at_place.reading ≡ mark.place *ℤ pos n →
+        KeepsHigh n mark kept → error_of at_place ≤ℤ (mark.error *ℤ pos n) }
 {}
 
 /// A moment at which the clock shows a mark's place, with the mark's error, keeps the mark as a low

@@ -11,6 +11,7 @@
 //! it is settled whether any course fits (specs/Cover). [`laws`] has the theorems and their steps.
 #![tactic(auto)]
 
+mod conflict_laws;
 mod kept_marks;
 pub mod laws;
 mod refutation;

@@ -40,6 +40,15 @@ pub fn refutations_stand_where_a_course_shows_them()
         Shows claim xs refutation course → IsRefutedWithDrift claim xs refutation }
 {}
 
+/// So a refutation is accepted exactly if its own words are against the claim and some course shows
+/// it.
+pub fn refutations_are_exact()
+    ensures { (claim : ClaimData) (xs : List Exchange) (refutation : RefutationData) →
+        IsLawful claim → All (IsLawfulExchange (length claim.servers)) xs →
+        IsRefutedWithDrift claim xs refutation ↔ (IsAgainst claim refutation
+        × ((course : Course) × Shows claim xs refutation course)) }
+{}
+
 /// A course that shows a refutation breaks the claim: when the clock is observed, its reading lies
 /// in the span and its error is beyond the bound.
 pub fn courses_of_refutations_break_the_claim()
