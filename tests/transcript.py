@@ -3,8 +3,8 @@
     $ ntpaudit list data/two-packets.pcap | tail -n 1
     records 2 packets 2
 
-A command begins with `$ `, and its further lines with `> `. sh runs each in the transcript's folder, which is empty at
-first but for data/, the folder of captures, and where what one command writes is there for the next.
+A command begins with `$ `, and its further lines with `> `. One sh runs them all, in a folder that is empty at first but
+for data/, the folder of captures; what one command writes is there for the next.
 """
 import os
 import re
@@ -21,6 +21,10 @@ ERROR = "2> "
 
 # A program that goes wrong takes neither the machine's memory nor its disk: at most 4 GiB, and files of 512 MiB.
 LIMITS = "ulimit -v 4194304; ulimit -f 1048576\n"
+
+# Parts the commands of a transcript by a zero byte on both streams, with the status on standard output.
+PARTED = r"""parted() { status=$?; printf '\0%d\0' $status; printf '\0' >&2; return $status; }
+"""
 
 
 def commands(lines):
@@ -72,6 +76,11 @@ def folder(**links):
         yield Path(place)
 
 
-def typed(command, place, **environment):
-    """Status, standard output and standard error of a command that is typed in a folder."""
-    return run(["sh", "-c", LIMITS + command], cwd=place, env={**os.environ, "LC_ALL": "C", **environment})
+def typed(lines, place, **environment):
+    """Status, standard output and standard error of each of these commands, typed in a folder one after another."""
+    script = LIMITS + PARTED + "".join(f"{line}\nparted\n" for line in lines)
+    _, out, err = run(["sh", "-c", script], cwd=place, env={**os.environ, "LC_ALL": "C", **environment})
+    *answers, rest = out.split(b"\0")
+    errors = err.split(b"\0")
+    found = [(int(status), *texts) for status, *texts in zip(answers[1::2], answers[::2], errors) if status.isdigit()]
+    return found if len(found) == len(lines) else found + [("no end", rest, errors[-1])] * (len(lines) - len(found))
