@@ -18,3 +18,4 @@ pub mod Covers
 pub mod ConflictTables
 pub mod WorkedDrift
 pub mod Contradictions
+pub mod GroupMarks

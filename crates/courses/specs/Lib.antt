@@ -7,3 +7,4 @@ pub mod DriftSettlement
 pub mod ConflictTable
 pub mod WorkedDrift
 pub mod Contradiction
+pub mod GroupMarks
