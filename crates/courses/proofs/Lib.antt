@@ -18,5 +18,6 @@ pub mod Covers
 pub mod ConflictTables
 pub mod WorkedDrift
 pub mod Contradictions
+pub mod GroupMarks
 pub mod DriftTest
 pub mod KeptMarkLists

@@ -1,9 +1,9 @@
 -- What it is for a moment of the client to keep a mark.
 --
--- A low mark says that when the clock read its place, its error was at least the mark's: what it
--- read less the error was the true time, so the place came no later than the place less the error.
--- A moment that keeps the mark is the place or after it on the clock, and yet no later than that in
--- true time. A high mark says the same the other way about.
+-- A low mark says that when the clock read its place, its error was at least the mark's. True time
+-- is reading less error, so by true time the place came no later than the mark's place less its
+-- error. A moment keeps the mark if it is at the place or after it by the clock, and yet no later
+-- than that by true time. A high mark says the same the other way about.
 --
 -- Moments are whole numbers of 1/n tick, and marks whole ticks.
 use Rattle.std.specs.Prelude.{ℕ, ℤ, pos, ◌-ℤ◌, ◌*ℤ◌, ◌≤ℤ◌}

@@ -7,4 +7,5 @@ pub mod DriftSettlement
 pub mod ConflictTable
 pub mod WorkedDrift
 pub mod Contradiction
+pub mod GroupMarks
 pub mod DriftTest

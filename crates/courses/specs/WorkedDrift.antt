@@ -27,6 +27,6 @@ later_exchange = record worked_exchange {
 abbrev pub both_exchanges : List Exchange
 both_exchanges = worked_exchange ∷ later_exchange ∷ []
 
--- the worked claim, with a bound of 10 ms and this drift
+-- the worked claim, with a bound of some 10 ms and this drift
 abbrev pub drifting_claim : ℕ → ClaimData
 drifting_claim ppb = record (claim_with 42953967 0) { drift_ppb = ppb }

@@ -26,7 +26,10 @@ ghost use Rattle.pairing.specs.declared.exchange.Exchange.{Exchange};
 ghost use Rattle.sample_interval.specs.Moment.{Moment, error_of, DriftsWithin};
 ghost use Rattle.sample_interval.specs.Widening.{billion, IsRate};
 
-pub use crate::conflict_laws::{first_contradiction_is_one, pairs_show_conflicts};
+pub use crate::conflict_laws::{
+    first_contradiction_is_one, marks_of_groups_tell_conflicts, pairs_show_conflicts,
+    tests_of_marks_make_a_table,
+};
 pub use crate::refutation_laws::{
     accepted_refutations_have_a_course, courses_of_refutations_break_the_claim,
     narrower_bounds_and_faster_drifts_are_refuted_too, own_mark_joins_the_others,
