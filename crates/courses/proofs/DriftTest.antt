@@ -155,3 +155,14 @@ pub same_answer : (a b : Bool) → (a ≡ true → b ≡ true) → (b ≡ true �
 same_answer true b h k = sym (h refl)
 same_answer false true h k = k refl
 same_answer false false h k = refl
+
+-- what is against the claim is refuted exactly if the marks agree
+module _ (claim : ClaimData) (xs : List Exchange) (r : RefutationData) (against : Bool)
+    (tested : against ≡ is_against claim r) (exact : IsTrue against ↔ IsAgainst claim r) where
+  pub agreement : against ≡ true → (agree : Bool) → agree ≡ do_agree claim xs r
+      → (IsTrue agree ↔ IsRefutedWithDrift claim xs r)
+  agreement is_so agree is = (
+    (λ passes. refuted_from claim xs r (rw (sym tested ∙ is_so, sym is ∙ passes) refl)
+    (λ says. exact.0 (tested ∙ says))),
+    λ refuted. is ∙ (both_true _ _ (refuted_to claim xs r refuted (λ says. sym tested ∙ exact.1 says))).1,
+  )
