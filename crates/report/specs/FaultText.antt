@@ -89,6 +89,16 @@ abbrev pub refused : Input → ℕ → List ℕ → FieldData → List FieldData
 refused input number word place =
     Word (codes "ntpaudit:") ∷ Word (input_word input) ∷ Number number ∷ Word word ∷ place ∷ []
 
+-- what is said of a fault that no reading of an input has
+abbrev pub run_fields : RunFault → List FieldData
+run_fields faults.Exchanges = Word (codes "ntpaudit: exchanges over 1000000") ∷ Nothing ∷ []
+run_fields faults.Pieces = Word (codes "ntpaudit: pieces over 100000") ∷ Nothing ∷ []
+run_fields (faults.TooBig input) =
+    Word (codes "ntpaudit: too-big") ∷ Word (input_word input) ∷ []
+run_fields (faults.Device input) = Word (codes "ntpaudit: device") ∷ Word (input_word input) ∷ []
+run_fields (faults.Write sent) = Named (codes "ntpaudit: device output after") sent ∷ Nothing ∷ []
+run_fields _ = Word (codes "ntpaudit: memory") ∷ Nothing ∷ []
+
 -- what the line of each fault says
 abbrev pub fault_fields : RunFault → List FieldData
 fault_fields (faults.Capture fault) =
@@ -99,14 +109,7 @@ fault_fields (faults.Certificate fault) =
     refused inputs.Certificate (certificate_number fault) (certificate_word fault) (piece_of fault)
 fault_fields (faults.Refutation fault) =
     refused inputs.Refutation (refutation_number fault) (refutation_word fault) Nothing
-fault_fields faults.Exchanges = Word (codes "ntpaudit: exchanges over 1000000") ∷ []
-fault_fields faults.Pieces = Word (codes "ntpaudit: pieces over 100000") ∷ []
-fault_fields (faults.TooBig input) =
-    Word (codes "ntpaudit: too-big") ∷ Word (input_word input) ∷ []
-fault_fields (faults.Device input) =
-    Word (codes "ntpaudit: device") ∷ Word (input_word input) ∷ []
-fault_fields (faults.Write sent) = Named (codes "ntpaudit: device output after") sent ∷ []
-fault_fields faults.Memory = Word (codes "ntpaudit: memory") ∷ []
+fault_fields fault = run_fields fault
 
 -- the line for each fault
 abbrev pub fault_text : RunFault → List ℕ

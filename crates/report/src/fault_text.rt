@@ -1,11 +1,12 @@
 //! The line of a fault.
 
-ghost use Rattle.std.specs.Prelude.{◌≡◌, ◌+◌, ◌≤◌, ◌++◌, length, IfOk, string_bytes};
+ghost use Rattle.std.specs.Prelude.{◌≡◌, ◌+◌, ◌≤◌, ◌++◌, length, map, IfOk, string_bytes};
 ghost use Rattle.line_writer.specs.declared.line.TheConstants.{CAPACITY};
 ghost use Rattle.line_writer.specs.declared.field.Style.TheVariants.{Plain};
-ghost use Rattle.line_writer.specs.Field.{field_data, fields_text, most_of};
+ghost use Rattle.line_writer.specs.Field.{Nothing, Word, field_data, fields_text, most_of, room_of};
 ghost use Rattle.report.specs.FaultText as spec;
-ghost use Rattle.report.specs.FaultText.{fault_text, refused};
+ghost use Rattle.report.specs.FaultText.{capture_word, place_of, claim_word, code_of, certificate_word, piece_of};
+ghost use Rattle.report.specs.FaultText.{fault_text, refutation_word, refused};
 
 use crate::fault::{Input, RunFault};
 use certificate::{CertificateFault, RefutationFault};
@@ -15,228 +16,143 @@ use pcap_reader::CaptureFault;
 use std::alloc::{AllocError, Global};
 use std::str;
 
-/// The word for a capture's fault.
-fn capture_word(fault: &CaptureFault) -> &'static str
-    ensures word { result.now ≡ spec.capture_word fault.now }
-    ensures short { length result.now ≤ 16 }
+/// The word for a capture's fault, and the place of the record whose fault it is.
+fn capture_words(fault: &CaptureFault) -> (&'static str, Field<'static>)
+    ensures word { result.0.now ≡ capture_word fault.now }
+    ensures place { field_data result.1 ≡ place_of fault.now }
+    ensures room { length result.0.now + most_of (field_data result.1) ≤ 57 }
 {
     match fault {
-        CaptureFault::TornHeader => "torn-header",
-        CaptureFault::Magic => "magic",
-        CaptureFault::Version => "version",
-        CaptureFault::Link => "link",
-        CaptureFault::TornRecord(_) => "torn-record",
-        CaptureFault::TooLong(_) => "too-long",
-        CaptureFault::BadFraction(_) => "bad-fraction",
-        CaptureFault::TooMany => "too-many",
-        CaptureFault::Read => "read",
-        CaptureFault::Memory => "memory",
-        CaptureFault::Failed => "failed",
+        CaptureFault::TornHeader => ("torn-header", Field::Nothing),
+        CaptureFault::Magic => ("magic", Field::Nothing),
+        CaptureFault::Version => ("version", Field::Nothing),
+        CaptureFault::Link => ("link", Field::Nothing),
+        CaptureFault::TornRecord(place) => ("torn-record", Field::Named("at", *place)),
+        CaptureFault::TooLong(place) => ("too-long", Field::Named("at", *place)),
+        CaptureFault::BadFraction(place) => ("bad-fraction", Field::Named("at", *place)),
+        CaptureFault::TooMany => ("too-many", Field::Nothing),
+        CaptureFault::Read => ("read", Field::Nothing),
+        CaptureFault::Memory => ("memory", Field::Nothing),
+        CaptureFault::Failed => ("failed", Field::Nothing),
     }
 }
 
-/// The place of the record whose fault it is.
-fn place_of(fault: &CaptureFault) -> Field<'static>
-    ensures place { field_data result ≡ spec.place_of fault.now }
-    ensures short { most_of (field_data result) ≤ 41 }
+/// The word for a claim's fault, and the code of the field whose fault it is.
+fn claim_words(fault: &ClaimFault) -> (&'static str, Field<'static>)
+    ensures word { result.0.now ≡ claim_word fault.now }
+    ensures code { field_data result.1 ≡ code_of fault.now }
+    ensures room { length result.0.now + most_of (field_data result.1) ≤ 57 }
 {
     match fault {
-        CaptureFault::TornRecord(place)
-        | CaptureFault::TooLong(place)
-        | CaptureFault::BadFraction(place) => Field::Named("at", *place),
-        _ => Field::Nothing,
+        ClaimFault::Json => ("json", Field::Nothing),
+        ClaimFault::Field(code) => ("field", Field::Named("field", u64::from(*code))),
+        ClaimFault::Address => ("address", Field::Nothing),
+        ClaimFault::Time => ("time", Field::Nothing),
+        ClaimFault::Range => ("range", Field::Nothing),
+        ClaimFault::RepeatedServer => ("repeated-server", Field::Nothing),
+        ClaimFault::Memory => ("memory", Field::Nothing),
+        ClaimFault::Groups => ("groups", Field::Nothing),
     }
 }
 
-/// The word for a claim's fault.
-fn claim_word(fault: &ClaimFault) -> &'static str
-    ensures word { result.now ≡ spec.claim_word fault.now }
-    ensures short { length result.now ≤ 16 }
+/// The word for a certificate's fault, and the number of the piece whose fault it is.
+fn certificate_words(fault: &CertificateFault) -> (&'static str, Field<'static>)
+    ensures word { result.0.now ≡ certificate_word fault.now }
+    ensures piece { field_data result.1 ≡ piece_of fault.now }
+    ensures room { length result.0.now + most_of (field_data result.1) ≤ 57 }
 {
     match fault {
-        ClaimFault::Json => "json",
-        ClaimFault::Field(_) => "field",
-        ClaimFault::Address => "address",
-        ClaimFault::Time => "time",
-        ClaimFault::Range => "range",
-        ClaimFault::RepeatedServer => "repeated-server",
-        ClaimFault::Memory => "memory",
-        ClaimFault::Groups => "groups",
-    }
-}
-
-/// The code of the field whose fault it is.
-fn code_of(fault: &ClaimFault) -> Field<'static>
-    ensures code { field_data result ≡ spec.code_of fault.now }
-    ensures short { most_of (field_data result) ≤ 41 }
-{
-    match fault {
-        ClaimFault::Field(code) => Field::Named("field", u64::from(*code)),
-        _ => Field::Nothing,
-    }
-}
-
-/// The word for a certificate's fault.
-fn certificate_word(fault: &CertificateFault) -> &'static str
-    ensures word { result.now ≡ spec.certificate_word fault.now }
-    ensures short { length result.now ≤ 16 }
-{
-    match fault {
-        CertificateFault::Json => "json",
-        CertificateFault::Top => "top",
-        CertificateFault::Shape(_) => "shape",
-        CertificateFault::TooManyEntries(_) => "too-many-entries",
-        CertificateFault::TooManyPieces => "too-many-pieces",
-        CertificateFault::Memory => "memory",
-    }
-}
-
-/// The number of the piece whose fault it is.
-fn piece_of(fault: &CertificateFault) -> Field<'static>
-    ensures piece { field_data result ≡ spec.piece_of fault.now }
-    ensures short { most_of (field_data result) ≤ 41 }
-{
-    match fault {
-        CertificateFault::Shape(piece) | CertificateFault::TooManyEntries(piece) => {
-            Field::Named("piece", u64::from(*piece))
+        CertificateFault::Json => ("json", Field::Nothing),
+        CertificateFault::Top => ("top", Field::Nothing),
+        CertificateFault::Shape(piece) => ("shape", Field::Named("piece", u64::from(*piece))),
+        CertificateFault::TooManyEntries(piece) => {
+            ("too-many-entries", Field::Named("piece", u64::from(*piece)))
         }
-        _ => Field::Nothing,
+        CertificateFault::TooManyPieces => ("too-many-pieces", Field::Nothing),
+        CertificateFault::Memory => ("memory", Field::Nothing),
     }
 }
 
 /// The word for a refutation's fault.
-fn refutation_word(fault: &RefutationFault) -> &'static str
-    ensures word { result.now ≡ spec.refutation_word fault.now }
-    ensures short { length result.now ≤ 16 }
+fn refutation_words(fault: &RefutationFault) -> (&'static str, Field<'static>)
+    ensures word { result.0.now ≡ refutation_word fault.now }
+    ensures alone { field_data result.1 ≡ Nothing }
+    ensures room { length result.0.now + most_of (field_data result.1) ≤ 57 }
 {
     match fault {
-        RefutationFault::Json => "json",
-        RefutationFault::Shape => "shape",
-        RefutationFault::Memory => "memory",
+        RefutationFault::Json => ("json", Field::Nothing),
+        RefutationFault::Shape => ("shape", Field::Nothing),
+        RefutationFault::Memory => ("memory", Field::Nothing),
     }
 }
 
 /// The word for an input.
-fn input_word(input: &Input) -> &'static str
-    ensures word { result.now ≡ spec.input_word input.now }
-    ensures short { length result.now ≤ 16 }
+fn input_word(input: &Input) -> Field<'static>
+    ensures word { field_data result ≡ Word (spec.input_word input.now) }
+    ensures room { most_of (field_data result) ≤ 12 }
 {
     match input {
-        Input::Claim => "claim",
-        Input::Capture => "capture",
-        Input::Certificate => "certificate",
-        Input::Refutation => "refutation",
+        Input::Claim => Field::Word("claim"),
+        Input::Capture => Field::Word("capture"),
+        Input::Certificate => Field::Word("certificate"),
+        Input::Refutation => Field::Word("refutation"),
     }
 }
 
 /// Writes the line of an input that is refused: which one, its fault's number and word, and where.
-fn put_refused(
-    line: &mut Line,
-    input: &Input,
-    number: u8,
-    word: &'static str,
-    place: Field<'static>,
-)
-    requires room { length line.old + 128 ≤ CAPACITY }
-    requires word { length word.now ≤ 16 }
-    requires place { most_of (field_data place) ≤ 41 }
+fn put_refused(line: &mut Line, input: Input, number: u8, words: (&'static str, Field<'static>))
+    requires room { length line.old + 200 ≤ CAPACITY }
+    requires words { length words.0.now + most_of (field_data words.1) ≤ 57 }
     ensures { line.new ≡ fields_text Plain
-        (refused input.now number word.now (field_data place.entry)) ++ line.old }
+        (refused input number words.entry.0.now (field_data words.entry.1)) ++ line.old }
 {
     let fields = [
         Field::Word("ntpaudit:"),
-        Field::Word(input_word(input)),
+        input_word(&input),
         Field::Number(u64::from(number)),
-        Field::Word(word),
-        place,
+        Field::Word(words.0),
+        words.1,
     ];
     put_fields(line, Style::Plain, &fields);
 }
 
-/// Writes the line of a fault before what stands in `line`, with no line feed, in at most 128
+/// What is said of a fault that no reading of an input has.
+fn run_fields(fault: &RunFault) -> [Field<'static>; 2]
+    ensures words { map field_data result ≡ spec.run_fields fault.now }
+    ensures room { room_of (map field_data result) ≤ 150 }
+{
+    match fault {
+        RunFault::Exchanges => [
+            Field::Word("ntpaudit: exchanges over 1000000"),
+            Field::Nothing,
+        ],
+        RunFault::Pieces => [Field::Word("ntpaudit: pieces over 100000"), Field::Nothing],
+        RunFault::TooBig(input) => [Field::Word("ntpaudit: too-big"), input_word(input)],
+        RunFault::Device(input) => [Field::Word("ntpaudit: device"), input_word(input)],
+        RunFault::Write(n) => [
+            Field::Named("ntpaudit: device output after", *n),
+            Field::Nothing,
+        ],
+        _ => [Field::Word("ntpaudit: memory"), Field::Nothing],
+    }
+}
+
+/// Writes the line of a fault before what stands in `line`, with no line feed, in at most 200
 /// bytes. No memory is taken for it.
 pub(crate) fn put_fault(line: &mut Line, fault: &RunFault)
-    requires { length line.old + 128 ≤ CAPACITY }
+    requires { length line.old + 200 ≤ CAPACITY }
     ensures { line.new ≡ fault_text fault.now ++ line.old }
 {
     match fault {
-        RunFault::Capture(fault) => {
-            let place = place_of(fault);
-            put_refused(
-                line,
-                &Input::Capture,
-                fault.number(),
-                capture_word(fault),
-                place,
-            );
+        RunFault::Capture(f) => put_refused(line, Input::Capture, f.number(), capture_words(f)),
+        RunFault::Claim(f) => put_refused(line, Input::Claim, f.number(), claim_words(f)),
+        RunFault::Certificate(f) => {
+            put_refused(line, Input::Certificate, f.number(), certificate_words(f));
         }
-        RunFault::Claim(fault) => {
-            put_refused(
-                line,
-                &Input::Claim,
-                fault.number(),
-                claim_word(fault),
-                code_of(fault),
-            );
+        RunFault::Refutation(f) => {
+            put_refused(line, Input::Refutation, f.number(), refutation_words(f));
         }
-        RunFault::Certificate(fault) => {
-            let word = certificate_word(fault);
-            put_refused(
-                line,
-                &Input::Certificate,
-                fault.number(),
-                word,
-                piece_of(fault),
-            );
-        }
-        RunFault::Refutation(fault) => {
-            let word = refutation_word(fault);
-            put_refused(
-                line,
-                &Input::Refutation,
-                fault.number(),
-                word,
-                Field::Nothing,
-            );
-        }
-        RunFault::Exchanges => put_fields(
-            line,
-            Style::Plain,
-            &[Field::Word("ntpaudit: exchanges over 1000000")],
-        ),
-        RunFault::Pieces => put_fields(
-            line,
-            Style::Plain,
-            &[Field::Word("ntpaudit: pieces over 100000")],
-        ),
-        RunFault::TooBig(input) => {
-            put_fields(
-                line,
-                Style::Plain,
-                &[
-                    Field::Word("ntpaudit: too-big"),
-                    Field::Word(input_word(input)),
-                ],
-            );
-        }
-        RunFault::Device(input) => {
-            put_fields(
-                line,
-                Style::Plain,
-                &[
-                    Field::Word("ntpaudit: device"),
-                    Field::Word(input_word(input)),
-                ],
-            );
-        }
-        RunFault::Write(sent) => {
-            put_fields(
-                line,
-                Style::Plain,
-                &[Field::Named("ntpaudit: device output after", *sent)],
-            );
-        }
-        RunFault::Memory => put_fields(line, Style::Plain, &[Field::Word("ntpaudit: memory")]),
+        _ => put_fields(line, Style::Plain, &run_fields(fault)),
     }
 }
 

@@ -15,7 +15,7 @@ use line_writer::Line;
 
 /// Writes the line that reports an answer, with its line feed: none for an outcome.
 fn put_answer(line: &mut Line, answer: &Result<Outcome, RunFault>)
-    requires { length line.old + 129 ≤ CAPACITY }
+    requires { length line.old + 201 ≤ CAPACITY }
     ensures { line.new ≡ told_text answer.now ++ line.old }
 {
     if let Err(fault) = answer {

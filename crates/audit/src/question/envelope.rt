@@ -47,7 +47,14 @@ pub(crate) fn make_envelope(
     let claim = &evidence.claim;
     let samples = samples_of(evidence);
     match find_envelope_over(alloc, samples, claim, step.seconds) {
-        Ok(envelope) => match envelope_text(alloc, Style::Plain, samples, claim, servers, &envelope) {
+        Ok(envelope) => match envelope_text(
+            alloc,
+            Style::Plain,
+            samples,
+            claim,
+            servers,
+            &envelope,
+        ) {
             Ok(text) => Ok(Made {
                 text,
                 outcome: outcome_of(envelope.least),
