@@ -58,9 +58,9 @@ pub record IsClaimText (text : List ℕ) (claim : ClaimData) : Type 0 where
       ↔ IsInGroup (length claim.servers) listed server group
 
 -- The claim keeps every limit: 1 to 32 servers, whose addresses differ and aren't the client's, in
--- groups with numbers below their count; a span that doesn't end before it begins; a bound of at most
--- a million seconds; and it grants at most 31 false groups, a drift of a half and an allowance of a
--- second.
+-- groups with numbers below their count; a span that doesn't end before it begins; a bound of at
+-- most a million seconds; and it grants at most 31 false groups, a drift of a half and an allowance
+-- of a second.
 pub record IsWithinLimits (claim : ClaimData) : Type 0 where
   pub servers : (1 ≤ length claim.servers) × (length claim.servers ≤ 32)
   pub addresses_differ : AllPairs (λ a b. a ≢ b) (claim.client ∷ claim.servers)

@@ -31,7 +31,7 @@ MayChangeBy claim low high begin end ticks = ((ticks -ℤ pos 1) *ℤ pos (billi
 
 -- Entries admit an error, in ticks, over a stretch of readings: at most `false_max` groups are
 -- wrong, and each entry of another group leaves room for the error. It isn't below what the request
--- says of it nor above what the reply says, but for what it may change between them and the stretch.
+-- says of it nor above what the reply says, but for what it may change from there to the stretch.
 pub record Admit (claim : ClaimData) (xs : List Exchange) (entries : List (ℕ × ℕ))
     (begin end error : ℤ) : Type 0 where
   pub is_wrong : ℕ → Bool
