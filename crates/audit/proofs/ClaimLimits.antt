@@ -11,7 +11,6 @@ within_limits claim lawful = record {
       (λ k d below same. lawful.client_is_no_server k d below (sym same)) lawful.addresses_differ;
   groups_in_range = lawful.groups_in_range;
   span_forward = lawful.span_forward;
-  few_false = lawful.few_false;
-  drift = lawful.drift_in_range;
-  in_nanoseconds = (lawful.bound_ns_in_range, lawful.reading_ns_in_range);
+  bound = lawful.bound_ns_in_range;
+  grants = (lawful.few_false, lawful.drift_in_range, lawful.reading_ns_in_range);
 }

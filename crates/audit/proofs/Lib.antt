@@ -17,6 +17,7 @@ pub mod ExchangedLemmas
 pub mod ClaimedLemmas
 pub mod UniquenessLemmas
 pub mod Completeness
+pub mod Admission
 pub mod HeadlineLemmas
 pub mod Excess
 pub mod ClaimLimits

@@ -58,14 +58,13 @@ pub record IsClaimText (text : List ℕ) (claim : ClaimData) : Type 0 where
       ↔ IsInGroup (length claim.servers) listed server group
 
 -- The claim keeps every limit: 1 to 32 servers, whose addresses differ and aren't the client's, in
--- groups with numbers below their count; a span that doesn't end before it begins; at most 31
--- groups false, a drift of at most a half, a bound of at most a million seconds and an allowance of
--- at most one.
+-- groups with numbers below their count; a span that doesn't end before it begins; a bound of at
+-- most a million seconds; and it grants at most 31 false groups, a drift of a half and an allowance
+-- of a second.
 pub record IsWithinLimits (claim : ClaimData) : Type 0 where
   pub servers : (1 ≤ length claim.servers) × (length claim.servers ≤ 32)
   pub addresses_differ : AllPairs (λ a b. a ≢ b) (claim.client ∷ claim.servers)
   pub groups_in_range : All (λ group. group < length claim.servers) claim.groups
   pub span_forward : claim.first ≤ℤ claim.last
-  pub few_false : claim.false_max ≤ 31
-  pub drift : claim.drift_ppb ≤ 500000000
-  pub in_nanoseconds : (claim.bound_ns ≤ 10 ^ 15) × (claim.reading_ns ≤ 10 ^ 9)
+  pub bound : claim.bound_ns ≤ 10 ^ 15
+  pub grants : (claim.false_max ≤ 31) × (claim.drift_ppb ≤ 500000000) × (claim.reading_ns ≤ 10 ^ 9)

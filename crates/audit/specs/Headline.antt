@@ -1,5 +1,8 @@
 -- The whole theorem from bytes, in relations alone.
-use Rattle.std.specs.Prelude.{◌≡◌, ℕ, ℤ, List, Some, Ok, slice_get}
+use Rattle.std.specs.Prelude.{◌≡◌, ℕ, ◌-◌, ◌*◌, ◌≤◌, ℤ, pos, ◌+ℤ◌, ◌-ℤ◌, ◌*ℤ◌, ◌≤ℤ◌, ◌<ℤ◌, unsigned_abs}
+use Rattle.std.specs.Prelude.{Bool, false, List, length, count_by, Some, Ok, slice_get, slice_index}
+use Rattle.std.specs.Int.{int_max}
+use Rattle.std.specs.List.{range_with_len}
 use Rattle.byte_stream.specs.Bytes.{IsBytes}
 use Rattle.certificate.specs.Certificate.{CertificateData}
 use Rattle.era_unfold.specs.declared.unit.Unit.{Unit as TimeUnit}
@@ -9,20 +12,42 @@ use Rattle.pairing.specs.Pairing.{Collection}
 use Rattle.pairing.specs.declared.exchange.Exchange.{Exchange}
 use Rattle.report.specs.ClaimInput.{claim_read}
 use Rattle.sample_interval.specs.Moment.{IsInWindow}
+use Rattle.sample_interval.specs.Widening.{billion}
 use Rattle.checker.specs.Course.{Course}
-use Rattle.checker.specs.PieceFit.{FitsPiece}
+use Rattle.checker.specs.PieceFit.{FitsPiece, OfEachEntry}
 use Rattle.checker.specs.Traceability.{IsWithinNanoseconds, samples_of}
 use Rattle.checker.specs.Verdict.{verdict_of}
 use Rattle.checker.specs.declared.verdict.Verdict.TheVariants.{Yes}
 use Rattle.audit.specs.CaptureInput.{capture_read}
 use Rattle.audit.specs.Captured.{CapturedFrame, IsCaptureOf}
-use Rattle.audit.specs.Claimed.{IsClaimText}
+use Rattle.audit.specs.Claimed.{IsClaimText, IsWithinLimits}
 use Rattle.audit.specs.Exchanged.{IsExchangeIn}
 
--- The claim's bytes are the text of a claim, and the capture's bytes are a capture of frames. There
--- are exchanges in these frames for which this holds: for each reading of the span, a whole number
--- of 1/n tick, there are entries such that in every course of events that fits what they name of
--- the exchanges, and in which the client's clock reads that, its error is within the bound.
+-- The client's error may change by this many ticks between a reading in low..high and one in
+-- begin..end: by what the claimed drift allows over the farthest distance, rounded up to a tick.
+abbrev pub MayChangeBy : ClaimData → ℤ → ℤ → ℤ → ℤ → ℤ → Type 0
+MayChangeBy claim low high begin end ticks = ((ticks -ℤ pos 1) *ℤ pos (billion - claim.drift_ppb))
+    <ℤ pos (claim.drift_ppb * unsigned_abs (int_max (end -ℤ low) (high -ℤ begin)))
+
+-- Entries admit an error, in ticks, over a stretch of readings: at most `false_max` groups are
+-- wrong, and each entry of another group leaves room for the error. It isn't below what the request
+-- says of it nor above what the reply says, but for what it may change from there to the stretch.
+pub record Admit (claim : ClaimData) (xs : List Exchange) (entries : List (ℕ × ℕ))
+    (begin end error : ℤ) : Type 0 where
+  pub is_wrong : ℕ → Bool
+  pub few : count_by is_wrong (range_with_len 0 (length claim.groups)) ≤ claim.false_max
+  pub room : OfEachEntry xs entries (λ a x b y. is_wrong (slice_index claim.groups x.server) ≡ false
+      → MayChangeBy claim (x.t1_low -ℤ claim.reading) (x.t1_high +ℤ claim.reading) begin end
+      (x.t1_low -ℤ claim.reading -ℤ x.t2 -ℤ x.distance -ℤ error)
+      × MayChangeBy claim (y.t4_low -ℤ claim.reading) (y.t4_high +ℤ claim.reading) begin end
+      (error -ℤ (y.t4_high +ℤ claim.reading -ℤ y.t3 +ℤ y.distance)))
+
+-- The claim's bytes are the text of a claim that keeps its limits, and the capture's bytes are a
+-- capture of frames. There are exchanges in these frames for which this holds: for each reading of
+-- the span, a whole number of 1/n tick, there are entries, and a stretch that holds the reading,
+-- over which they admit some error and none beyond the bound. In every course of events that fits
+-- what they name of the exchanges, and in which the client's clock reads that, its error is within
+-- the bound.
 pub record IsShown (claim_bytes capture_bytes : List ℕ) : Type 0 where
   pub claim : ClaimData
   pub order : Endian
@@ -30,13 +55,16 @@ pub record IsShown (claim_bytes capture_bytes : List ℕ) : Type 0 where
   pub frames : List CapturedFrame
   pub exchanges : List Exchange
   pub claim_is : IsClaimText claim_bytes claim
+  pub in_limits : IsWithinLimits claim
   pub capture_is : IsCaptureOf capture_bytes order unit frames
   pub exchanges_are : (k : ℕ) (x : Exchange) → slice_get exchanges k ≡ Some x
       → IsExchangeIn claim unit frames x
   pub within : (n : ℕ) (reading : ℤ) → IsInWindow n claim.first claim.last reading
-      → (entries : List (ℕ × ℕ)) × ((course : Course) → course.fineness ≡ n
-      → course.observation.reading ≡ reading → FitsPiece claim exchanges entries course
-      → IsWithinNanoseconds course claim.bound_ns)
+      → (entries : List (ℕ × ℕ)) × (begin : ℤ) × (end : ℤ) × IsInWindow n begin end reading
+      × ((error : ℤ) × Admit claim exchanges entries begin end error)
+      × ((e : ℤ) → Admit claim exchanges entries begin end e → pos (unsigned_abs e) ≤ℤ claim.bound)
+      × ((course : Course) → course.fineness ≡ n → course.observation.reading ≡ reading
+      → FitsPiece claim exchanges entries course → IsWithinNanoseconds course claim.bound_ns)
 
 -- if the bytes of a claim and of a capture are read, and the verdict on some certificate is yes,
 -- that is shown for them; a byte is below 256

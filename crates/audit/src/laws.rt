@@ -39,6 +39,7 @@ use pairing::laws::{
     request_is_to_one_server,
 };
 use pcap_reader::laws::{one_reading, what_is_read_is_a_capture};
+use sample_interval::laws::widening_is_one_number;
 
 /// What is within the bound in ticks of a claim that was read, is within its bound in nanoseconds.
 pub fn bounds_of_bytes_hold_in_nanoseconds()
@@ -162,6 +163,7 @@ pub fn yes_shows_the_headline()
     verdicts_are_traceable();
     yes_is_acceptance();
     pieces_hold_every_reading();
+    widening_is_one_number();
     bounds_of_bytes_hold_in_nanoseconds();
 }
 

@@ -1,11 +1,14 @@
 use Rattle.std.proofs.Common.{◌≡◌, List, map, ℤ, refl, sym, subst}
 use Rattle.sample_interval.specs.Moment.{IsInWindow}
+use Rattle.checker.specs.Stretch.{stretch_of}
 use Rattle.checker.specs.Traceability.{samples_of}
 use Rattle.checker.specs.Verdict.{verdict_of}
 use Rattle.checker.specs.declared.verdict.Verdict.TheVariants.{Yes}
 use Rattle.pairing.specs.declared.exchange.Exchange.{Exchange}
 use Rattle.pairing.specs.Pairing.{exchanges_of}
 use Rattle.audit.specs.Captured.{frame_of}
+use Rattle.audit.proofs.Admission.{some_admitted, none_beyond}
+use Rattle.audit.proofs.ClaimLimits.{within_limits}
 use Rattle.audit.proofs.ExchangedLemmas.{listed_servers}
 use Rattle.audit.proofs.HeadlineLemmas.{collected_of, piece_of}
 use Rattle.audit.proofs.NanosecondLemmas.{claim_of_read}
@@ -35,6 +38,7 @@ returns c claim_bytes capture_bytes claim collection certificate all claim_read'
       frames = map frame_of records;
       exchanges = xs;
       claim_is = text;
+      in_limits = within_limits claim lawful;
       capture_is = c.records_are_frames.ensures capture_bytes found.0 records found.1;
       exchanges_are = are;
       within = λ n reading observed.
@@ -43,8 +47,16 @@ returns c claim_bytes capture_bytes claim collection certificate all claim_read'
           let held = c.pieces_hold_every_reading.ensures n reading claim.first certificate.pieces accepted.some_piece
           in_span in
           let piece = piece_of (λ stretch. IsInWindow n stretch.begin stretch.end reading) claim.first
-          certificate.pieces held.0 held.1 in (
+          certificate.pieces held.0 held.1 in
+          let stretch = stretch_of claim certificate held.0 piece.0 in
+          let bound = accepted.each held.0 piece.0 piece.1 in
+          let widenings = c.widening_is_one_number.ensures.is in (
             piece.0.entries,
+            stretch.begin,
+            stretch.end,
+            piece.2,
+            (bound.lo, some_admitted widenings claim lawful.drift_in_range xs stretch piece.0.entries bound),
+            none_beyond widenings claim lawful.drift_in_range xs stretch piece.0.entries bound,
             λ course same_n same_reading fits.
                 c.bounds_of_bytes_hold_in_nanoseconds.ensures claim_bytes claim course claim_read'
                 (pieces xs held.0 piece.0 course refl piece.1 fits (rw (same_n, same_reading) piece.2)),

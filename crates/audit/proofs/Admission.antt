@@ -1,0 +1,329 @@
+-- The errors that the entries of an accepted piece admit: there are some, and none is beyond the bound.
+use Rattle.std.proofs.Common.{◌≡◌, ℕ, zero, suc, ◌-◌, ◌*◌, ◌<◌, ◌≤◌, ℤ, pos, negsuc, neg_ℤ, ◌+ℤ◌, ◌-ℤ◌, ◌*ℤ◌, ◌≤ℤ◌, ◌<ℤ◌, unsigned_abs, nat_lt, Bool, true, false, cond, ◌&&◌, List, [], ◌∷◌, length, Option, Some, None, count_by, refl, sym, ap, ◌∙◌, subst, arith}
+use Rattle.std.specs.Prelude.{slice_get, slice_index, ◌==◌}
+use Rattle.std.specs.List.{AllZip, list_any}
+use Rattle.std.specs.Option.{option_map}
+use Rattle.std.proofs.Math.Nat.{mul-le-mul_right}
+use Rattle.std.proofs.lemmas.Bool.{ltb-true, ltb-false, cond-true, cond-false, and_parts, and_from}
+use Rattle.std.proofs.lemmas.Bool.Decides.{nat_tests}
+use Rattle.std.proofs.lemmas.Int.{ints}
+use Rattle.std.proofs.lemmas.List.Folds.{Any-from_list_any}
+use Rattle.std.proofs.lemmas.List.Sums.{sum_by-le-sum_by}
+use Rattle.std.proofs.lemmas.Map.Keys.{any_passes_from_place}
+use Rattle.std.proofs.lemmas.Option.{slice_get-map, slice_get_read}
+use Rattle.era_unfold.specs.Ratio.{IsCeiling}
+use Rattle.claim_file.specs.Claim.{ClaimData}
+use Rattle.intersection.specs.Interval.{leaves_out}
+use Rattle.intersection.specs.Hull.{IsAdmissible}
+use Rattle.pairing.specs.declared.exchange.Exchange.{Exchange}
+use Rattle.sample_interval.specs.Sample.{sample_of}
+use Rattle.sample_interval.specs.Widening.{IsWidening, widening, billion}
+use Rattle.sample_interval.specs.Window.{request_start, request_end, reply_start, reply_end}
+use Rattle.sample_interval.specs.declared.kinds.Sample.{Sample}
+use Rattle.span_cover.specs.Group.{numbers_below, group_interval, group_intervals}
+use Rattle.span_cover.specs.Part.{part_of}
+use Rattle.span_cover.specs.Piece.{farthest, moved_low, moved_high}
+use Rattle.span_cover.specs.declared.part.Part.{Part}
+use Rattle.span_cover.specs.declared.stretch.Stretch.{Stretch}
+use Rattle.checker.specs.Acceptance.{IsSaidBy, ShowBound}
+use Rattle.checker.specs.Traceability.{samples_of}
+use Rattle.checker.proofs.ApartLemmas.{passes, group_passes, counted, meet_leaves_it_out}
+use Rattle.checker.proofs.EntryLemmas.{held_ends, held_test}
+use Rattle.checker.proofs.PartLemmas.{by_test}
+use Rattle.checker.proofs.PieceFitLemmas.{all_numbers}
+use Rattle.audit.specs.Headline.{MayChangeBy, Admit}
+
+-- ---- lists
+
+-- what stands at a place of the first list goes with what stands there in the second
+zip_at : {A B : Type 0} (R : A → B → Type 0) (xs : List A) (ys : List B) → AllZip R xs ys → (j : ℕ) (x : A)
+    → slice_get xs j ≡ Some x → (y : B) × (slice_get ys j ≡ Some y) × R x y
+zip_at R [] ys all j x at = absurd cc
+zip_at R (a ∷ xs) [] all j x at = absurd all
+zip_at R (a ∷ xs) (b ∷ ys) all zero x at =
+    let same : a ≡ x = cc in
+    (b, refl, subst (λ z. R z b) same all.0)
+zip_at R (a ∷ xs) (b ∷ ys) all (suc j) x at = zip_at R xs ys all.1 j x at
+
+-- and the other way round
+zip_back : {A B : Type 0} (R : A → B → Type 0) (xs : List A) (ys : List B) → AllZip R xs ys → (j : ℕ) (y : B)
+    → slice_get ys j ≡ Some y → (x : A) × (slice_get xs j ≡ Some x) × R x y
+zip_back R [] [] all j y at = absurd cc
+zip_back R [] (b ∷ ys) all j y at = absurd all
+zip_back R (a ∷ xs) [] all j y at = absurd all
+zip_back R (a ∷ xs) (b ∷ ys) all zero y at =
+    let same : b ≡ y = cc in
+    (a, refl, subst (λ z. R a z) same all.0)
+zip_back R (a ∷ xs) (b ∷ ys) all (suc j) y at = zip_back R xs ys all.1 j y at
+
+-- what is made of an element
+made_of : {A B : Type 0} (f : A → B) (o : Option A) (y : B) → option_map f o ≡ Some y
+    → (x : A) × (o ≡ Some x) × (f x ≡ y)
+made_of f None y is = absurd cc
+made_of f (Some x) y is = (x, refl, cc)
+
+-- ---- ratios
+
+less_one : (k : ℕ) → (pos (suc k) -ℤ pos 1) ≡ pos k
+less_one k = omega (arith, ints)
+
+times : (k d : ℕ) → (pos k *ℤ pos d) ≡ pos (k * d)
+times k d = omega (arith, ints)
+
+one_less : (k d : ℕ) → ((pos (suc k) -ℤ pos 1) *ℤ pos d) ≡ pos (k * d)
+one_less k d = ap (λ (z : ℤ). z *ℤ pos d) (less_one k) ∙ times k d
+
+as_whole : (a n : ℕ) → a < n → pos a <ℤ pos n
+as_whole a n h = omega (arith, ints)
+
+as_natural : (a n : ℕ) → pos a <ℤ pos n → a < n
+as_natural a n h = omega (arith, ints)
+
+-- what is no more than a ratio rounded up is less than one more than the ratio
+in_reach : (n d w : ℕ) (z : ℤ) → 0 < d → IsCeiling n d w → z ≤ℤ pos w → ((z -ℤ pos 1) *ℤ pos d) <ℤ pos n
+in_reach n zero w z some ceiling most = absurd (omega (arith, some))
+in_reach n (suc d) w (negsuc k) some ceiling most = omega (arith, ints)
+in_reach n (suc d) w (pos zero) some ceiling most = omega (arith, ints)
+in_reach n (suc d) w (pos (suc k)) some ceiling most =
+    let below : k < w = omega (arith, ints) in
+    at below (nat_lt (k * suc d) n) refl
+  where
+    at : k < w → (b : Bool) → nat_lt (k * suc d) n ≡ b → ((pos (suc k) -ℤ pos 1) *ℤ pos (suc d)) <ℤ pos n
+    at below true e = subst (λ (z : ℤ). z <ℤ pos n) (sym (one_less k (suc d)))
+        (as_whole (k * suc d) n (ltb-true (k * suc d) n e))
+    at below false e = let least = ceiling.least k (ltb-false (k * suc d) n e) in absurd (omega (arith, least, below))
+
+-- and what is less than that is no more
+from_reach : (n d w : ℕ) (z : ℤ) → IsCeiling n d w → ((z -ℤ pos 1) *ℤ pos d) <ℤ pos n → z ≤ℤ pos w
+from_reach n d w (negsuc k) ceiling less = omega (arith, ints)
+from_reach n d w (pos zero) ceiling less = omega (arith, ints)
+from_reach n d w (pos (suc k)) ceiling less =
+    at (as_natural (k * d) n (subst (λ (z : ℤ). z <ℤ pos n) (one_less k d) less)) (nat_lt k w) refl
+  where
+    at : k * d < n → (b : Bool) → nat_lt k w ≡ b → pos (suc k) ≤ℤ pos w
+    at fewer true e = let below = ltb-true k w e in omega (arith, ints, below)
+    at fewer false e =
+        let scaled = mul-le-mul_right d (ltb-false k w e) in
+        let enough = ceiling.not_below in
+        absurd (omega (arith, scaled, enough, fewer))
+
+low_over : (l e : ℤ) (w : ℕ) → (l -ℤ pos w) ≤ℤ e → (l -ℤ e) ≤ℤ pos w
+low_over l e w h = omega (arith, ints)
+
+low_back : (l e : ℤ) (w : ℕ) → (l -ℤ e) ≤ℤ pos w → (l -ℤ pos w) ≤ℤ e
+low_back l e w h = omega (arith, ints)
+
+high_over : (e l : ℤ) (w : ℕ) → e ≤ℤ (l +ℤ pos w) → (e -ℤ l) ≤ℤ pos w
+high_over e l w h = omega (arith, ints)
+
+high_back : (e l : ℤ) (w : ℕ) → (e -ℤ l) ≤ℤ pos w → e ≤ℤ (l +ℤ pos w)
+high_back e l w h = omega (arith, ints)
+
+size_within : (e b : ℤ) → neg_ℤ b ≤ℤ e → e ≤ℤ b → pos (unsigned_abs e) ≤ℤ b
+size_within e b above below = omega (arith, ints)
+
+-- ---- one entry
+
+-- the law on widenings
+abbrev pub WideningLaw : Type 0
+WideningLaw = (ppb distance : ℕ) → ppb < billion → IsWidening ppb distance (widening ppb distance)
+
+module _ (widenings : WideningLaw) (claim : ClaimData) (rate : claim.drift_ppb ≤ 500000000)
+    (begin end error : ℤ) where
+  -- room on the side of the request, and of the reply
+  abbrev LowRoom : Exchange → Type 0
+  LowRoom x = MayChangeBy claim (x.t1_low -ℤ claim.reading) (x.t1_high +ℤ claim.reading) begin end
+      (x.t1_low -ℤ claim.reading -ℤ x.t2 -ℤ x.distance -ℤ error)
+
+  abbrev HighRoom : Exchange → Type 0
+  HighRoom y = MayChangeBy claim (y.t4_low -ℤ claim.reading) (y.t4_high +ℤ claim.reading) begin end
+      (error -ℤ (y.t4_high +ℤ claim.reading -ℤ y.t3 +ℤ y.distance))
+
+  abbrev far_low : Exchange → ℕ
+  far_low x = unsigned_abs (farthest (request_start x claim.reading) (request_end x claim.reading) begin end)
+
+  abbrev far_high : Exchange → ℕ
+  far_high y = unsigned_abs (farthest (reply_start y claim.reading) (reply_end y claim.reading) begin end)
+
+  widened : (distance : ℕ)
+      → IsCeiling (claim.drift_ppb * distance) (billion - claim.drift_ppb) (widening claim.drift_ppb distance)
+  widened distance = widenings claim.drift_ppb distance (omega (arith, rate))
+
+  low_room : (x : Exchange) → moved_low (sample_of x claim.reading) begin end claim.drift_ppb ≤ℤ error → LowRoom x
+  unfolding moved_low
+  low_room x h = in_reach (claim.drift_ppb * far_low x) (billion - claim.drift_ppb)
+      (widening claim.drift_ppb (far_low x)) (x.t1_low -ℤ claim.reading -ℤ x.t2 -ℤ x.distance -ℤ error)
+      (omega (arith, rate)) (widened (far_low x))
+      (low_over (x.t1_low -ℤ claim.reading -ℤ x.t2 -ℤ x.distance) error (widening claim.drift_ppb (far_low x)) h)
+
+  low_held : (x : Exchange) → LowRoom x → moved_low (sample_of x claim.reading) begin end claim.drift_ppb ≤ℤ error
+  unfolding moved_low
+  low_held x h =
+      low_back (x.t1_low -ℤ claim.reading -ℤ x.t2 -ℤ x.distance) error (widening claim.drift_ppb (far_low x))
+      (from_reach (claim.drift_ppb * far_low x) (billion - claim.drift_ppb)
+      (widening claim.drift_ppb (far_low x)) (x.t1_low -ℤ claim.reading -ℤ x.t2 -ℤ x.distance -ℤ error)
+      (widened (far_low x)) h)
+
+  high_room : (y : Exchange) → error ≤ℤ moved_high (sample_of y claim.reading) begin end claim.drift_ppb → HighRoom y
+  unfolding moved_high
+  high_room y h = in_reach (claim.drift_ppb * far_high y) (billion - claim.drift_ppb)
+      (widening claim.drift_ppb (far_high y)) (error -ℤ (y.t4_high +ℤ claim.reading -ℤ y.t3 +ℤ y.distance))
+      (omega (arith, rate)) (widened (far_high y))
+      (high_over error (y.t4_high +ℤ claim.reading -ℤ y.t3 +ℤ y.distance) (widening claim.drift_ppb (far_high y)) h)
+
+  high_held : (y : Exchange) → HighRoom y
+      → error ≤ℤ moved_high (sample_of y claim.reading) begin end claim.drift_ppb
+  unfolding moved_high
+  high_held y h =
+      high_back error (y.t4_high +ℤ claim.reading -ℤ y.t3 +ℤ y.distance) (widening claim.drift_ppb (far_high y))
+      (from_reach (claim.drift_ppb * far_high y) (billion - claim.drift_ppb)
+      (widening claim.drift_ppb (far_high y)) (error -ℤ (y.t4_high +ℤ claim.reading -ℤ y.t3 +ℤ y.distance))
+      (widened (far_high y)) h)
+
+-- ---- all entries
+
+module _ (widenings : WideningLaw) (claim : ClaimData) (rate : claim.drift_ppb ≤ 500000000) (xs : List Exchange)
+    (stretch : Stretch) (entries : List (ℕ × ℕ))
+    (shown : ShowBound (samples_of xs claim) claim stretch entries) where
+  abbrev Said : ℕ × ℕ → Part → Type 0
+  Said entry part = IsSaidBy (samples_of xs claim) stretch claim.drift_ppb entry part
+
+  -- the sample of an exchange
+  sample_is : (k : ℕ) (x : Exchange) (s : Sample) → slice_get xs k ≡ Some x
+      → slice_get (samples_of xs claim) k ≡ Some s → sample_of x claim.reading ≡ s
+  sample_is k x s at found =
+      let same : Some (sample_of x claim.reading) ≡ Some s =
+      sym (slice_get-map (λ z. sample_of z claim.reading) xs k
+      ∙ ap (option_map (λ z. sample_of z claim.reading)) at) ∙ found in
+      cc
+
+  exchange_at : (k : ℕ) (s : Sample) → slice_get (samples_of xs claim) k ≡ Some s
+      → (x : Exchange) × (slice_get xs k ≡ Some x) × (sample_of x claim.reading ≡ s)
+  exchange_at k s found =
+      made_of (λ z. sample_of z claim.reading) (slice_get xs k) s
+      (sym (slice_get-map (λ z. sample_of z claim.reading) xs k) ∙ found)
+
+  -- the part that an entry of two exchanges says
+  part_is : (a b : ℕ) (x y : Exchange) (part : Part) → slice_get xs a ≡ Some x → slice_get xs b ≡ Some y
+      → Said (a, b) part
+      → part ≡ part_of (sample_of x claim.reading) (sample_of y claim.reading) stretch claim.drift_ppb
+  part_is a b x y part at_a at_b said =
+      said.is
+      ∙ ap (λ (s : Sample). part_of s said.high stretch claim.drift_ppb) (sym (sample_is a x said.low at_a said.low_is))
+      ∙ ap (λ (s : Sample). part_of (sample_of x claim.reading) s stretch claim.drift_ppb)
+      (sym (sample_is b y said.high at_b said.high_is))
+
+  -- a part of a group, which leaves a point out
+  abbrev in_group : ℤ → ℕ → Part → Bool
+  in_group point g part = (slice_index claim.groups part.server == g) && leaves_out part.interval point
+
+  abbrev group_leaves_out : ℤ → ℕ → Bool
+  group_leaves_out point g = passes (λ i. leaves_out i point) (group_interval claim.groups shown.parts g)
+
+  group_is : (point : ℤ) (g : ℕ)
+      → group_leaves_out point g ≡ list_any (in_group point g) shown.parts
+  group_is point g = group_passes (λ i. leaves_out i point) (meet_leaves_it_out point) claim.groups shown.parts g
+
+  count_is : (point : ℤ) → count_by (λ i. leaves_out i point) (group_intervals claim.groups shown.parts)
+      ≡ count_by (group_leaves_out point) (numbers_below (length claim.groups))
+  count_is point = counted (λ i. leaves_out i point) (meet_leaves_it_out point)
+      (group_interval claim.groups shown.parts) (numbers_below (length claim.groups))
+
+  -- a part of a group that doesn't leave a point out holds it
+  part_holds : (point : ℤ) (g j : ℕ) (part : Part) → slice_get shown.parts j ≡ Some part
+      → slice_index claim.groups part.server ≡ g → group_leaves_out point g ≡ false
+      → leaves_out part.interval point ≡ false
+  part_holds point g j part at is held = by_test (leaves_out part.interval point)
+      (λ out.
+      let same : (slice_index claim.groups part.server == g) ≡ true = grind (arith, nat_tests) in
+      let found = any_passes_from_place (in_group point g) shown.parts j part at
+      (and_from (slice_index claim.groups part.server == g) (leaves_out part.interval point) same out) in
+      let never : true ≡ false = sym found ∙ sym (group_is point g) ∙ held in
+      absurd cc)
+      (λ fine. fine)
+
+  -- the least admissible error is admitted
+  pub some_admitted : Admit claim xs entries stretch.begin stretch.end shown.lo
+  some_admitted = record {
+    is_wrong = group_leaves_out shown.lo;
+    few = subst (λ (l : List ℕ). count_by (group_leaves_out shown.lo) l ≤ claim.false_max)
+        (all_numbers (length claim.groups))
+        (let few = shown.hull.1.0 in let same = count_is shown.lo in omega (arith, few, same));
+    room = λ j a b x y named at_a at_b fine.
+        let found = zip_at Said entries shown.parts shown.said j (a, b) named in
+        let part = found.0 in
+        let is = part_is a b x y part at_a at_b found.2 in
+        let server : part.server ≡ x.server = ap (λ (p : Part). p.server) is in
+        let held = part_holds shown.lo (slice_index claim.groups x.server) j part found.1
+        (ap (slice_index claim.groups) server) fine in
+        let ends = held_ends part.interval shown.lo held in
+        let low = subst (λ (p : Part). p.interval.lo ≤ℤ shown.lo) is ends.0 in
+        let high = subst (λ (p : Part). shown.lo ≤ℤ p.interval.hi) is ends.1 in (
+          low_room widenings claim rate stretch.begin stretch.end shown.lo x low,
+          high_room widenings claim rate stretch.begin stretch.end shown.lo y high,
+        );
+  }
+
+  module _ (error : ℤ) (admit : Admit claim xs entries stretch.begin stretch.end error) where
+    -- a part of a group that isn't wrong holds the error
+    admitted_by : (j : ℕ) (part : Part) → slice_get shown.parts j ≡ Some part
+        → admit.is_wrong (slice_index claim.groups part.server) ≡ false → leaves_out part.interval error ≡ false
+    admitted_by j part at fine =
+        let found = zip_back Said entries shown.parts shown.said j part at in
+        let entry = found.0 in
+        let low_at = exchange_at entry.0 found.2.low found.2.low_is in
+        let high_at = exchange_at entry.1 found.2.high found.2.high_is in
+        let x = low_at.0 in
+        let y = high_at.0 in
+        let is = part_is entry.0 entry.1 x y part low_at.1 high_at.1 found.2 in
+        let server : part.server ≡ x.server = ap (λ (p : Part). p.server) is in
+        let room = admit.room j entry.0 entry.1 x y found.1 low_at.1 high_at.1
+        (ap (λ (s : ℕ). admit.is_wrong (slice_index claim.groups s)) (sym server) ∙ fine) in
+        let low = low_held widenings claim rate stretch.begin stretch.end error x room.0 in
+        let high = high_held widenings claim rate stretch.begin stretch.end error y room.1 in
+        held_test part.interval error
+        (subst (λ (p : Part). p.interval.lo ≤ℤ error) (sym is) low)
+        (subst (λ (p : Part). error ≤ℤ p.interval.hi) (sym is) high)
+
+    -- so a group that leaves it out is wrong
+    out_is_wrong : (g : ℕ) → group_leaves_out error g ≡ true → admit.is_wrong g ≡ true
+    out_is_wrong g out = by_test (admit.is_wrong g)
+        (λ wrong. wrong)
+        (λ fine.
+        let found = Any-from_list_any (in_group error g) shown.parts (sym (group_is error g) ∙ out) in
+        let part = found.1 in
+        let tests = and_parts (slice_index claim.groups part.server == g) (leaves_out part.interval error) found.4 in
+        let at = slice_get_read shown.parts (length shown.parts) found.0 part refl found.2 (sym found.3) in
+        let group : slice_index claim.groups part.server ≡ g =
+        (let test = tests.0 in grind (arith, nat_tests)) in
+        let held = admitted_by found.0 part at (ap admit.is_wrong group ∙ fine) in
+        let never : true ≡ false = sym tests.1 ∙ held in
+        absurd cc)
+
+    no_more_at : (g : ℕ) → cond (group_leaves_out error g) 1 0 ≤ cond (admit.is_wrong g) 1 0
+    no_more_at g = by_test (group_leaves_out error g)
+        (λ out. omega (
+          arith,
+          cond-true {A = ℕ} (group_leaves_out error g) 1 0 out,
+          cond-true {A = ℕ} (admit.is_wrong g) 1 0 (out_is_wrong g out),
+        ))
+        (λ held. omega (arith, cond-false {A = ℕ} (group_leaves_out error g) 1 0 held))
+
+    admissible : IsAdmissible (group_intervals claim.groups shown.parts) claim.false_max error
+    admissible =
+        let numbers = numbers_below (length claim.groups) in
+        let few = subst (λ (l : List ℕ). count_by admit.is_wrong l ≤ claim.false_max)
+        (sym (all_numbers (length claim.groups))) admit.few in
+        let same = count_is error in
+        let step = sum_by-le-sum_by (λ g. cond (group_leaves_out error g) 1 0)
+        (λ g. cond (admit.is_wrong g) 1 0) numbers no_more_at in
+        omega (arith, few, same, step)
+
+    -- an error that is admitted is within the bound
+    pub none_beyond : pos (unsigned_abs error) ≤ℤ claim.bound
+    none_beyond =
+        let least = shown.hull.1.1 error admissible in
+        let most = shown.hull.2.1 error admissible in
+        let above = shown.above in
+        let below = shown.below in
+        size_within error claim.bound (omega (arith, ints)) (omega (arith, ints))
