@@ -41,7 +41,8 @@ pub lesser : (a b m : ℤ) → IsInRange a → IsInRange b → m ≡ int_min (to
     m ≡ int_min a b
 lesser a b m p q is = is ∙ rw (stamp_is a p, stamp_is b q) refl
 
-pub greater : (a b m : ℤ) → IsInRange a → IsInRange b → m ≡ int_max (to_z w128 (of_z w128 a)) (to_z w128 (of_z w128 b)) →
+pub greater : (a b m : ℤ) → IsInRange a → IsInRange b →
+    m ≡ int_max (to_z w128 (of_z w128 a)) (to_z w128 (of_z w128 b)) →
     m ≡ int_max a b
 greater a b m p q is = is ∙ rw (stamp_is a p, stamp_is b q) refl
 
@@ -113,8 +114,10 @@ module _ (x : Exchange) (a : ℤ) (h : IsOfSomeClaim x) (from : pos 0 ≤ℤ a) 
       rw (
         kept_difference x.t2 x.distance (tick_small x.t2 h.lawful.t2) (tick_small x.distance h.lawful.distance),
         kept_sum x.t3 x.distance (tick_small x.t3 h.lawful.t3) (tick_small x.distance h.lawful.distance),
+      ) (
+        λ t. record { leaves_before_arrival = first; receives_before_answer = both.0 t },
+        λ p. both.1 p.receives_before_answer,
       )
-      (λ t. record { leaves_before_arrival = first; receives_before_answer = both.0 t }, λ p. both.1 p.receives_before_answer)
 
   pub impossible : le_z
       (to_z w128 (of_z w128 (to_z w128 (of_z w128 x.t1_low) -ℤ to_z w128 (of_z w128 a))))
@@ -124,7 +127,10 @@ module _ (x : Exchange) (a : ℤ) (h : IsOfSomeClaim x) (from : pos 0 ≤ℤ a) 
       (to_z w128 (of_z w128 (to_z w128 (of_z w128 x.t4_high) +ℤ to_z w128 (of_z w128 a))))) ↔ IsPossible a x
   impossible late =
       rw (kept_start x.t1_low a h.lawful.t1_low from to, kept_end x.t4_high a h.lawful.t4_high from to)
-      (let test = rw (kept_start x.t1_low a h.lawful.t1_low from to, kept_end x.t4_high a h.lawful.t4_high from to) at late in
+      (let test = rw (
+        kept_start x.t1_low a h.lawful.t1_low from to,
+        kept_end x.t4_high a h.lawful.t4_high from to,
+      ) at late in
       let both = tests (x.t1_low -ℤ a) (x.t4_high +ℤ a) in (
         λ t. absurd (not_both (x.t1_low -ℤ a) (x.t4_high +ℤ a) (both.0 t)
             (lt_from_test (x.t1_low -ℤ a) (x.t4_high +ℤ a) test)),

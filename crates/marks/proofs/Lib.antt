@@ -4,3 +4,4 @@ pub mod LineLemmas
 pub mod OrderLemmas
 pub mod PairLemmas
 pub mod PassageLemmas
+pub mod RateLemmas

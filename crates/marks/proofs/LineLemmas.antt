@@ -62,7 +62,8 @@ module _ (r : ℤ) (ppb : ℕ) (rate : IsRate ppb) (is : r ≡ pos ppb) (a : ℤ
   rate_small = small_product ppb a (omega arith) le
 
 -- the code's sum and difference
-module _ (a b x y : ℤ) (first : a ≡ x) (second : b ≡ y) (p : unsigned_abs x ≤ 2 ^ 104) (q : unsigned_abs y ≤ 2 ^ 104) where
+module _ (a b x y : ℤ) (first : a ≡ x) (second : b ≡ y)
+    (p : unsigned_abs x ≤ 2 ^ 104) (q : unsigned_abs y ≤ 2 ^ 104) where
   pub sum_fits : FitsSigned w128 (a +ℤ b)
   sum_fits = let le = small_sum x y p q in rw (first, second) (fits_signed_from_abs w128 (x +ℤ y) (omega arith))
 

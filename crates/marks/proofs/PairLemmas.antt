@@ -85,11 +85,13 @@ tests a b = (λ h. grind (arith, ints), λ h. grind (arith, ints))
 module _ (low high : Mark) (p : IsWithinRange low) (q : IsWithinRange high) where
   pub before_from_test : le_z (to_z w128 (of_z w128 low.place)) (to_z w128 (of_z w128 high.place)) ≡ true →
       low.place ≤ℤ high.place
-  before_from_test h = le_from_test low.place high.place (rw (place_is low.place p.place, place_is high.place q.place) at h)
+  before_from_test h =
+      le_from_test low.place high.place (rw (place_is low.place p.place, place_is high.place q.place) at h)
 
   pub behind_from_test : le_z (to_z w128 (of_z w128 low.place)) (to_z w128 (of_z w128 high.place)) ≡ false →
       high.place <ℤ low.place
-  behind_from_test h = lt_from_test low.place high.place (rw (place_is low.place p.place, place_is high.place q.place) at h)
+  behind_from_test h =
+      lt_from_test low.place high.place (rw (place_is low.place p.place, place_is high.place q.place) at h)
 
 -- numbers that 128 bits keep are compared as they are
 pub compared : (a b : ℤ) → unsigned_abs a ≤ 2 ^ 105 → unsigned_abs b ≤ 2 ^ 105 →

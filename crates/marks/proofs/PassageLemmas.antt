@@ -11,7 +11,8 @@ use Rattle.marks.specs.declared.direction.Direction.{Direction}
 use Rattle.marks.specs.declared.sweep.Passage.{Passage}
 
 -- what holds of an element holds of it under any default
-pub at_any : (P : Mark → Type 0) (xs : List Mark) (k : ℕ) (e : Mark) → k < length xs → P (get_or xs k e) → HoldsAt P xs k
+pub at_any : (P : Mark → Type 0) (xs : List Mark) (k : ℕ) (e : Mark) → k < length xs → P (get_or xs k e) →
+    HoldsAt P xs k
 at_any P xs k e within h d = subst P (get_or_default xs k e d within) h
 
 both_at_any : (R : Mark → Mark → Type 0) (xs : List Mark) (i j : ℕ) (e d : Mark) → i < length xs → j < length xs →
@@ -57,7 +58,8 @@ module _ (direction : Direction) (ppb : ℕ) (lows : List Mark) (passed highest 
   pub highest_stays : (IsBelow direction ppb (get_or lows highest e) (get_or lows passed e) → ⊥) →
       IsHighest direction ppb lows record { passed = passed + 1; highest = highest }
   highest_stays not_below =
-      let lower = above (line_along direction ppb (get_or lows highest e)) (line_along direction ppb (get_or lows passed e))
+      let lower = above (line_along direction ppb (get_or lows highest e))
+      (line_along direction ppb (get_or lows passed e))
       not_below in
       let first = is.at_first in
       record {

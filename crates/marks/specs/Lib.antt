@@ -4,3 +4,4 @@ pub mod Line
 pub mod Direction
 pub mod Passage
 pub mod Compatible
+pub mod Conflict

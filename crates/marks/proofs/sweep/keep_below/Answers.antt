@@ -28,7 +28,8 @@ loop-high-preserved c =
           (λ some. elim c.else-passage-gt0.branch [
             | else-passage-gt0-via-then-passage-gt0+else-not-is_below w ↦ let below = w.if-not-is_below.ensures in
                 let first = has.highest.passed some in
-                at_any (λ low. IsBelow direction ppb low high) lows p.highest _ (omega (arith, has.within)) (below.0 refl)
+                at_any (λ low. IsBelow direction ppb low high) lows p.highest _ (omega (arith, has.within))
+                (below.0 refl)
             | else-passage-gt0-via-else-passage-gt0 w ↦ absurd (omega (arith, w.if-passage-gt0.false))
           ])));
     }
