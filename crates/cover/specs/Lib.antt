@@ -1,5 +1,5 @@
 pub mod Members
 pub mod Conflicts
 pub mod Groups
-pub mod Search
-pub mod View
+pub mod CoverSearch
+pub mod ConflictsView

@@ -1,4 +1,4 @@
-use Rattle.std.proofs.Common.{◌≡◌, ℕ, Bool, ◌&&◌, sym, ap, ◌∙◌}
+use Rattle.std.proofs.Common.{Bool, ◌&&◌, ap, ◌∙◌}
 use Rattle.std.specs.Prelude.{nat_lt}
 use Rattle.cover.specs.Members.{has}
 use Rattle.cover.proofs.CoverCounts.{passing_same}
@@ -8,8 +8,8 @@ use Rattle.cover.proofs.groups.Groups.count.Goals as goal
 pub returns : goal.returns
 returns c = record {
   exact =
-    c.size.ensures
-    ∙ passing_same (has c.both.result) (λ k. has c.args.self.now.bits k && nat_lt k c.args.groups)
-    (λ k. c.both.ensures k ∙ ap (λ (t : Bool). has c.args.self.now.bits k && t) (c.first.ensures k))
-    ∙ passing_below (has c.args.self.now.bits) c.args.groups c.requires;
+      c.size.ensures
+      ∙ passing_same (has c.both.result) (λ k. has c.args.self.now.bits k && nat_lt k c.args.groups)
+      (λ k. c.both.ensures k ∙ ap (λ (t : Bool). has c.args.self.now.bits k && t) (c.first.ensures k))
+      ∙ passing_below (has c.args.self.now.bits) c.args.groups c.requires;
 }
