@@ -20,7 +20,8 @@ mod sample_list;
 mod step;
 
 pub use commands::{
-    run_at, run_check, run_envelope, run_find, run_refute, run_refute_with_drift, run_samples, run_seek,
+    run_at, run_check, run_envelope, run_find, run_refute, run_refute_with_drift, run_samples,
+    run_seek,
 };
 pub use engine::{Outputs, answer, run};
 pub use question::Question;

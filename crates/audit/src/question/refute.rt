@@ -43,11 +43,7 @@ fn does_stand(
     if drift {
         check_refutation_with_drift(alloc, &evidence.held.exchanges, &evidence.claim, refutation)
     } else {
-        Ok(check_refutation(
-            &evidence.held.exchanges,
-            &evidence.claim,
-            refutation,
-        ))
+        Ok(check_refutation(&evidence.held.exchanges, &evidence.claim, refutation))
     }
 }
 
