@@ -163,6 +163,6 @@ module _ (claim : ClaimData) (xs : List Exchange) (r : RefutationData) (against 
       → (IsTrue agree ↔ IsRefutedWithDrift claim xs r)
   agreement is_so agree is = (
     (λ passes. refuted_from claim xs r (rw (sym tested ∙ is_so, sym is ∙ passes) refl)
-    (λ says. exact.0 (tested ∙ says))),
+        (λ says. exact.0 (tested ∙ says))),
     λ refuted. is ∙ (both_true _ _ (refuted_to claim xs r refuted (λ says. sym tested ∙ exact.1 says))).1,
   )

@@ -21,3 +21,10 @@ pub mod Contradictions
 pub mod GroupMarks
 pub mod DriftTest
 pub mod KeptMarkLists
+pub mod CoverMembers
+pub mod CoverCounts
+pub mod CoverSearch
+pub mod CoverBusiest
+pub mod CoverRows
+pub mod CoverWithin
+pub mod CoverFound

@@ -9,3 +9,8 @@ pub mod WorkedDrift
 pub mod Contradiction
 pub mod GroupMarks
 pub mod DriftTest
+pub mod Members
+pub mod Conflicts
+pub mod Groups
+pub mod CoverSearch
+pub mod ConflictsView

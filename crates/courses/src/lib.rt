@@ -7,14 +7,27 @@
 //! is one (specs/TrueMarks): wherever each low mark is compatible with each high mark, the lowest
 //! course keeps them all (specs/LowestCourse).
 //!
-//! On this rest refutations of which the clock drifts (specs/DriftRefutation) and covers, by which
-//! it is settled whether any course fits (specs/Cover). [`laws`] has the theorems and their steps.
+//! On this rest refutations of which the clock drifts (specs/DriftRefutation), which
+//! [`check_refutation_with_drift`] settles, and covers, by which it is settled whether any course
+//! fits (specs/Cover). [`laws`] has the theorems and their steps.
+//!
+//! Which groups can't all be right is a graph, [`Conflicts`], and [`smallest_cover`] finds the
+//! fewest groups that have to be false for it (specs/Conflicts).
 #![tactic(auto)]
 
 mod conflict_laws;
+mod conflicts;
+mod cover;
+pub mod cover_laws;
+mod cover_search;
+mod groups;
 mod kept_marks;
 pub mod laws;
+mod members;
 mod refutation;
 mod refutation_laws;
 
+pub use conflicts::Conflicts;
+pub use cover::{has_cover, smallest_cover, smallest_covers};
+pub use groups::Groups;
 pub use refutation::check_refutation_with_drift;

@@ -1,0 +1,15 @@
+use Rattle.std.proofs.Common.{Bool, ◌&&◌, ap, ◌∙◌}
+use Rattle.std.specs.Prelude.{nat_lt}
+use Rattle.courses.specs.Members.{has}
+use Rattle.courses.proofs.CoverCounts.{passing_same}
+use Rattle.courses.proofs.CoverWithin.{passing_below}
+use Rattle.courses.proofs.groups.Groups.count.Goals as goal
+
+pub returns : goal.returns
+returns c = record {
+  exact =
+      c.size.ensures
+      ∙ passing_same (has c.both.result) (λ k. has c.args.self.now.bits k && nat_lt k c.args.groups)
+      (λ k. c.both.ensures k ∙ ap (λ (t : Bool). has c.args.self.now.bits k && t) (c.first.ensures k))
+      ∙ passing_below (has c.args.self.now.bits) c.args.groups c.requires;
+}
