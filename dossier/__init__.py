@@ -4,5 +4,8 @@ The program `ntpaudit` gives each answer. Nothing here computes anything about c
 printed, at most converted from ticks of 2^-32 s to milliseconds and from Unix seconds to civil times.
 """
 
-VERSION = 3
+VERSION = 4
 """The form of audit.json. An audit.json of another form is of another dossier, and its folder is audited again."""
+
+FORMS = {3, VERSION}
+"""The forms that are read, verified and shown. What form 3 doesn't say is left out."""

@@ -8,12 +8,14 @@ from . import folder as files
 from .alerts import warning_words
 from .answers import Envelope, read_envelope
 from .entry import REFUSED, Entry, Record
+from .evidence import evidence
 from .figure import MARKS, legend, picture, stroke
 from .folder import ENVELOPE
 from .markup import html, minus, with_code
-from .premises import evidence, premises
+from .premises import premises
 from .program import sum_of
 from .ranges import ranges_of
+from .signature import GOOD, NONE, UNSEEN, Signature, in_words
 from .text import count
 from .units import range_ms
 from .words import capital, fit, sentence, span, to_do
@@ -34,18 +36,28 @@ COUNTS = {
 }
 
 
-def article(name: str, folder: str, record: Record, entry: Entry, badge: str) -> str:
+def article(name: str, folder: str, record: Record, entry: Entry, signature: Signature, badge: str) -> str:
     day = "" if entry.part == "." else f", {entry.part}"
     parts = [
         f'<article id="{name}">',
         f"<h2>{html(folder)}{day} {badge}</h2>",
         f'<p class="lead">{minus(html(sentence(entry)))}</p>',
+        *signed(signature),
     ]
     if entry.verdict == REFUSED:
         parts += [f"<pre>{html(entry.fault['line'])}</pre>", f"<p>{with_code(capital(to_do(entry)))}</p>"]
     else:
         parts += list(body(name, folder, record, entry))
     return "\n".join([*parts, *sums(record, entry), "</article>"])
+
+
+def signed(found: Signature) -> Iterator[str]:
+    """Who signed it and when, or what is wrong with the signature."""
+    words = html(capital(in_words(found)))
+    if found.state in (GOOD, UNSEEN):
+        yield f'<p class="signed">{words}.</p>'
+    elif found.state != NONE:
+        yield f'<ul class="warnings"><li>{words}.</li></ul>'
 
 
 def body(name: str, folder: str, record: Record, entry: Entry) -> Iterator[str]:

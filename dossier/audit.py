@@ -7,9 +7,11 @@ import time
 from collections.abc import Iterator
 from typing import Any, NamedTuple
 
+from . import VERSION
 from . import folder as files
 from .entry import REFUSED, Entry, Record, read_record, record_text
-from .folder import read, remove, write_beside
+from .evidence import evidence_files
+from .folder import is_capture, read, remove, write_beside
 from .program import Fault, Operand, Program, now, sum_of_file
 from .recording import read_recording
 from .settling import Part, Settling
@@ -27,22 +29,38 @@ class Options(NamedTuple):
         return {"step": self.step, "days": self.days}
 
 
-def audit_folder(options: Options, program: Program) -> tuple[Record, bool]:
-    """Audits the current folder and leaves its files, audit.json last. True if it was done and nothing has changed
-    since.
+class Audited(NamedTuple):
+    """What came of a folder: its record; whether it was done and nothing has changed since; and whether it was signed,
+    and the signature was taken away."""
 
-    A refusal is an audit too, and is written down. A fault is raised only if that isn't possible.
+    record: Record
+    is_old: bool = False
+    was_signed: bool = False
+
+
+SIGNED = ("ntpaudit-dossier: signed, and not as it would be audited now. It is audited again only with --again, which "
+          "takes the signature away")
+COMMAND_LINE = 5
+
+
+def audit_folder(options: Options, program: Program) -> Audited:
+    """Audits the current folder and leaves its files, audit.json last.
+
+    A refusal is an audit too, and is written down. A fault is raised only if that isn't possible, or if the folder is
+    signed and would have to be audited again.
     """
     begun, made, old = time.monotonic(), now(), read_record(".")
     by, kept = {"version": program.version, "sha256": program.sha256}, options.kept
-    inputs: dict[str, str] = {}
+    inputs, refusal = sums_of_inputs()
+    is_same = old and (old.dossier, old.inputs, old.options, old.program) == (VERSION, inputs, kept, by)
+    if old and is_same and not options.again and is_whole(old):
+        return Audited(old, is_old=True)
+    was_signed = take_signature(options)
+    files.sweep_parts()
     capture = ""
     try:
-        inputs = sums(files.inputs())
-        is_same = old and (old.inputs, old.options, old.program) == (inputs, kept, by)
-        if old and is_same and not options.again and is_whole(old):
-            return old, True
-        files.sweep_parts()
+        if refusal:
+            raise refusal
         capture = take_capture(inputs)
         entries = audit_parts(capture, options, program)
     except Fault as fault:
@@ -51,7 +69,30 @@ def audit_folder(options: Options, program: Program) -> tuple[Record, bool]:
     if old:
         remove_files(old.outputs.keys() - record.outputs.keys() - inputs.keys())
     write_beside(files.AUDIT, record_text(record))
-    return record, False
+    return Audited(record, was_signed=was_signed)
+
+
+def take_signature(options: Options) -> bool:
+    """Takes a signature away, if there is one, and if that was asked for."""
+    if not os.path.lexists(files.SIGNATURE):
+        return False
+    if not options.again:
+        raise Fault(SIGNED, COMMAND_LINE)
+    try:
+        remove(files.SIGNATURE)
+    except OSError as error:
+        line = f"ntpaudit-dossier: {files.SIGNATURE} can't be taken away ({error.strerror})"
+        raise Fault(line, files.DEVICE) from None
+    return True
+
+
+def sums_of_inputs() -> tuple[dict[str, str], Fault | None]:
+    """The SHA-256 of each input, by its name: of the claim, the captures, and the evidence. Or why there are none."""
+    try:
+        names = files.inputs()
+        return sums([*names, *(name for name in evidence_files() if name not in names)]), None
+    except Fault as fault:
+        return {}, fault
 
 
 def sums(names: list[str]) -> dict[str, str]:
@@ -73,7 +114,7 @@ def is_whole(old: Record) -> bool:
 
 def take_capture(inputs: dict[str, str]) -> str:
     """The name of the one capture, or of what several are joined to."""
-    names = [name for name in inputs if name != files.CLAIM]
+    names = list(filter(is_capture, inputs))
     if len(names) == 1:
         return names[0]
     from .joining import join

@@ -17,6 +17,7 @@ ABOUT = """Puts many audits by ntpaudit together: folders with a claim and captu
   ntpaudit-dossier draft web-1/f.pcap > web-1/claim.json                      a claim to start from: read it, mend it
   ntpaudit-dossier audit web-1                                                the audit
   ntpaudit-dossier page web-1 > dossier.html                                  the page
+  ntpaudit-dossier sign web-1 --key ~/.ssh/id_ed25519                         who answers for it (if you like)
   ntpaudit-dossier verify web-1                                               a year later
 
 docs/DOSSIER.md has more. Statuses are those of ntpaudit: 0 yes, 1 no, 2 an input is refused, 3 out of memory, 4 a
@@ -44,16 +45,22 @@ def parser() -> Parser:
     audit.add_argument("--days", action="store_true", help="a verdict for each day (UTC) of the span")
     audit.add_argument("--jobs", type=in_range(1, 4096), default=0, metavar="N",
                        help="folders side by side; as many as processors if it is left out")
-    audit.add_argument("--again", action="store_true", help="audit folders that are done and unchanged, too")
+    audit.add_argument("--again", action="store_true", help="audit folders that are done or signed, too; a signature is taken away")
     page = commands.add_parser("page", help="print a page of audits that were made")
     page.add_argument("folders", nargs="+", metavar="FOLDER")
     form = page.add_mutually_exclusive_group()
     form.add_argument("--json", action="store_true", help="the table as JSON")
     form.add_argument("--csv", action="store_true", help="the table as CSV")
+    page.add_argument("--signers", metavar="FILE", help="who may sign: signatures are looked at")
     page.add_argument("--title", default="Clock dossier", metavar="TEXT")
     page.add_argument("-o", "--output", metavar="FILE", help="write the file whole or not at all")
     verify = commands.add_parser("verify", help="see whether inputs and answers are still the same")
     verify.add_argument("folders", nargs="+", metavar="FOLDER")
+    verify.add_argument("--signers", metavar="FILE", help="who may sign, as ssh-keygen's file of allowed signers has it")
+    sign = commands.add_parser("sign", help="sign audits with a key of ssh")
+    sign.add_argument("folders", nargs="+", metavar="FOLDER")
+    sign.add_argument("--key", required=True, metavar="FILE",
+                      help="a private key, or the public one of a key that an agent holds")
     picture = commands.add_parser("picture", help="print the picture of a claim and a capture, as SVG")
     picture.add_argument("claim", metavar="CLAIM")
     picture.add_argument("capture", metavar="CAPTURE")
@@ -102,6 +109,9 @@ def run(given: argparse.Namespace) -> int:
     if given.command == "page":
         from .page import write_page
         return write_page([tidy(folder) for folder in given.folders], given)
+    if given.command == "sign":
+        from .signing import sign_all
+        return sign_all([tidy(folder) for folder in given.folders], given.key)
     program = find_program()
     if given.command == "draft":
         return run_draft(given, program)
@@ -113,8 +123,9 @@ def run(given: argparse.Namespace) -> int:
         options = Options(given.step, given.days, given.again)
         return audit_all(Task([tidy(folder) for folder in given.folders], options, program), jobs)
     if given.command == "verify":
+        from .signature import allowed
         from .verify import verify_all
-        return verify_all([tidy(folder) for folder in given.folders], program)
+        return verify_all([tidy(folder) for folder in given.folders], program, allowed(given.signers))
     from .figure import print_picture
     return print_picture(program, given.claim, given.capture, given.step)
 

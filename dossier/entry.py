@@ -6,7 +6,7 @@ import re
 from collections.abc import Sequence
 from typing import Any, NamedTuple
 
-from . import VERSION
+from . import FORMS, VERSION
 from .folder import AUDIT, CERTIFICATE, CLAIM, CLAIM_OF_0, ENVELOPE, JOINED, REFUTATION, REPORT, read_json
 
 YES, NO, NEITHER, REFUSED = "yes", "no", "neither", "refused"
@@ -70,6 +70,8 @@ class Record(NamedTuple):
     made: str
     seconds: float
     dossier: int = VERSION
+    signed: str = ""
+    """When this was signed, as the signer says; nothing if it wasn't."""
 
     @property
     def status(self) -> int:
@@ -88,9 +90,9 @@ def record_text(record: Record) -> bytes:
 
 
 def read_record(folder: str) -> Record | None:
-    """The record of a folder; None if there is none, or one of another form."""
+    """The record of a folder; None if there is none, or one of a form that isn't read."""
     found: Any = read_json(f"{folder}/{AUDIT}")
-    if not isinstance(found, dict) or found.get("dossier") != VERSION:
+    if not isinstance(found, dict) or found.get("dossier") not in FORMS:
         return None
     try:
         said: dict[str, Any] = {**found, "entries": [Entry(**entry) for entry in found["entries"]]}

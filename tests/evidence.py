@@ -1,0 +1,200 @@
+"""Tests of what stands beside a verdict: who signed it, and what is looked up, measured and read for the premises.
+
+tests/dossier calls them, each in a folder of its own. The keys of signatures are made here.
+"""
+import json
+import re
+import shutil
+import time
+from datetime import datetime, timedelta, timezone
+
+from audits import ENVIRONMENT, check, check_page, dossier, folder_of, parts_left, skipped, table
+from tally import DATA, run
+
+# ---- signatures
+
+
+def key_of(place, name):
+    """A key, and the line that lets its owner sign."""
+    run(["ssh-keygen", "-q", "-t", "ed25519", "-N", "", "-C", "", "-f", place / name])
+    return place / name, f"{name}@example.org {(place / f'{name}.pub').read_text()}"
+
+
+def test_signatures(place):
+    """A good folder, an altered one, one that nobody signed and one that a stranger signed, by status and by words."""
+    if not shutil.which("ssh-keygen"):
+        skipped("signatures", "ssh-keygen isn't installed")
+        return
+    key, line = key_of(place, "alice")
+    other, stranger = key_of(place, "mallory")
+    signers = place / "signers"
+    signers.write_text(line)
+    good, altered, unsigned, strange = folders = [folder_of(place, name) for name in ("good", "altered", "unsigned", "strange")]
+    dossier("audit", *folders)
+    check("sign", run=(dossier("sign", good, altered, "--key", key), (0, f"{good}: signed\n{altered}: signed\n".encode(), b"")),
+          left=(parts_left(place), []))
+    check("sign by another key", status=(dossier("sign", strange, "--key", other)[0], 0))
+    at = json.loads((good / "audit.json").read_text())["signed"]
+    check("the time of a signature", seen=(at, re.compile(r"20\d\d-\d\d-\d\dT\d\d:\d\d:\d\dZ").fullmatch))
+    status, out, _ = dossier("verify", *folders)
+    check("verify without signers", status=(status, 0), seen=(out.count(b"wasn't looked at"), 3), verified=(out.count(b": verified"), 4))
+    status, out, _ = dossier("verify", good, "--signers", signers)
+    check("a good signature", status=(status, 0), verified=(f"{good}: verified\n" in out.decode(), True),
+          who=(f"signed at {at} by alice@example.org, with the key ED25519 SHA256:" in out.decode(), True))
+    record = (altered / "audit.json").read_text()
+    (altered / "audit.json").write_text(record.replace('"version": "ntpaudit', '"version": "ntpaudi7'))
+    said = {folder: dossier("verify", folder, "--signers", signers) for folder in folders}
+    check("an altered folder", status=(said[altered][0], 1), words=(b"the signature doesn't fit" in said[altered][1], True),
+          unsigned=(b"nobody" in said[altered][1], False), verified=(b": verified" in said[altered][1], False))
+    check("an unsigned folder", run=(said[unsigned], (1, f"{unsigned}: nobody signed it\n".encode(), b"")))
+    check("a stranger's signature", status=(said[strange][0], 1), words=(b"may not sign" in said[strange][1], True), named=(b"by mallory" in said[strange][1], False))
+    text = dossier("page", "--signers", signers, *folders)[1].decode()
+    check_page("a page of signatures", text)
+    day, hour = at[:10], at[11:19]
+    check("signer and time on a page", row=(f">alice@example.org <span>{day}</span> <span>{hour}</span></td>" in text, True),
+          said=(f'<p class="signed">Signed at {at} by alice@example.org, with the key' in text, True),
+          others=([text.count(f">{words}<") for words in ("nobody", "doesn\u2019t fit", "by a stranger")], [1, 1, 1]))
+    rows = json.loads(dossier("page", "--json", "--signers", signers, *folders)[1])
+    check("signatures as JSON", rows=([row["signature"] for row in rows], ["good", "unfit", "none", "stranger"]),
+          signer=((rows[0]["signer"], rows[0]["signed_at"]), ("alice@example.org", at)))
+    text = dossier("page", good, unsigned)[1].decode()
+    check("a page without signers", said=("wasn&#x27;t looked at" in text, True), row=(">not looked at<" in text, True), signer=("alice" in text, False))
+    check("no column without a signature", seen=(">Signed<" in dossier("page", unsigned)[1].decode(), False))
+
+
+def test_ended_keys(place):
+    """Whether a key may sign is asked of the time of the signature, whatever time it is now, and wherever."""
+    if not shutil.which("ssh-keygen"):
+        skipped("keys that ended", "ssh-keygen isn't installed")
+        return
+    key, line = key_of(place, "alice")
+    folder = folder_of(place, "signed")
+    dossier("audit", folder)
+    dossier("sign", folder, "--key", key)
+    record, local = json.loads((folder / "audit.json").read_text()), {**ENVIRONMENT, "TZ": "XYZ-5"}
+    at = datetime.fromisoformat(record["signed"])
+    for name, ends, wanted in (("after it", 5, 0), ("before it", -5, 1)):
+        end = (at + timedelta(hours=5, seconds=ends)).strftime("%Y%m%d%H%M%S")
+        (place / "signers").write_text(f'alice valid-before="{end}" {line.split(" ", 1)[1]}')
+        time.sleep(max(0, (at + timedelta(seconds=ends + 1) - datetime.now(timezone.utc)).total_seconds()))
+        check(f"a key that ended just {name}", status=(dossier("verify", folder, "--signers", place / "signers", env=local)[0], wanted))
+    for forged in ("9999-99-99T99:99:99Z", "9999-12-31T23:59:59Z", "x"):
+        (folder / "audit.json").write_text(json.dumps({**record, "signed": forged}))
+        check(f"a signature at {forged}", status=(dossier("verify", folder, "--signers", place / "signers")[0], 1))
+        (folder / "audit.json.sig").unlink()
+        run(["ssh-keygen", "-q", "-Y", "sign", "-f", key, "-n", "ntpaudit-dossier", folder / "audit.json"])
+        (place / "signers").write_text(line)
+        check(f"a signature by hand at {forged}", status=(dossier("verify", folder, "--signers", place / "signers")[0], 0))
+
+
+def test_allowed_signers(place):
+    """What a file of allowed signers may say: several names, another purpose, an end of validity."""
+    if not shutil.which("ssh-keygen"):
+        skipped("allowed signers", "ssh-keygen isn't installed")
+        return
+    key, line = key_of(place, "alice")
+    kind = line.split(" ", 1)[1]
+    folder = folder_of(place, "signed")
+    dossier("audit", folder)
+    dossier("sign", folder, "--key", key)
+    cases = {"two names": (f"alice,bob {kind}", 0, b"by alice, with"), "a pattern": (f"*@example.org {kind}", 0, b"by *@example.org, with"),
+             "this purpose": (f'alice namespaces="ntpaudit-dossier" {kind}', 0, b"by alice, with"),
+             "another purpose": (f'alice namespaces="git" {kind}', 1, b"may not sign"),
+             "a key that ended": (f'alice valid-before="20200101" {kind}', 1, b"key has expired"),
+             "a key that ends later": (f'alice valid-before="20990101" {kind}', 0, b"by alice, with"),
+             "nobody": ("", 1, b"may not sign"), "no such file": ("garbage", 1, b"may not sign"), "an escape": (f"\x1b[31mred {kind}", 0, b"by \\x1b[31mred, with")}
+    for name, (text, wanted, words) in cases.items():
+        (place / "signers").write_text(text)
+        status, out, _ = dossier("verify", folder, "--signers", place / "signers")
+        check(f"allowed signers: {name}", status=(status, wanted), words=(words in out, True), escape=(b"\x1b" in out, False))
+    check("no file of signers", run=(dossier("verify", folder, "--signers", place / "missing")[::2],
+                                     (4, b"ntpaudit-dossier: the file of signers can't be read (No such file or directory)\n")))
+    (place / "signers").write_text(line)
+    purpose = ["ssh-keygen", "-q", "-Y", "sign", "-f", key, "-n", "file", folder / "audit.json"]
+    for name, forge in (("of another purpose", lambda: run(purpose)), ("of no form", lambda: (folder / "audit.json.sig").write_text("junk")),
+                        ("that is empty", lambda: (folder / "audit.json.sig").write_text(""))):
+        (folder / "audit.json.sig").unlink()
+        forge()
+        status, out, _ = dossier("verify", folder, "--signers", place / "signers")
+        check(f"a signature {name}", status=(status, 1), words=(b"the signature doesn't fit" in out, True))
+    (folder / "audit.json").write_text("{")
+    status, out, _ = dossier("verify", folder, "--signers", place / "signers")
+    check("a signed folder whose record is gone", status=(status, 4), words=(b"the signature doesn't fit" in out and b"not audited" in out, True))
+
+
+def test_signing_again(place):
+    """A signed folder is audited again only with --again; what can't be signed isn't."""
+    if not shutil.which("ssh-keygen"):
+        skipped("signing again", "ssh-keygen isn't installed")
+        return
+    key, line = key_of(place, "alice")
+    (place / "signers").write_text(line)
+    folder, signature = folder_of(place, "signed"), place / "signed" / "audit.json.sig"
+    check("nothing to sign", run=(dossier("sign", folder, "--key", key)[:2], (4, f"{folder}: ntpaudit-dossier: not audited\n".encode())))
+    dossier("audit", folder)
+    before = (folder / "audit.json").read_bytes()
+    check("a key that isn't there", run=(dossier("sign", folder, "--key", place / "missing")[:2],
+                                         (4, f"{folder}: ntpaudit-dossier: ssh-keygen didn't sign it (status 255)\n".encode())),
+          same=((folder / "audit.json").read_bytes() == before, True), left=(parts_left(place), []))
+    dossier("sign", folder, "--key", key)
+    check("signed already", status=(dossier("sign", folder, "--key", key)[0], 4))
+    kept = {path.name: path.read_bytes() for path in folder.iterdir()}
+    check("a signed folder that is unchanged", run=(dossier("audit", folder)[:2], (0, f"yes     {folder}: least bound 0.657 ms, claimed 5 ms (unchanged)\n".encode())))
+    for words in (["--step", "4"], ["--days"]):
+        status, out, _ = dossier("audit", *words, folder)
+        check(f"a signed folder, audited with {words[0]}", status=(status, 5), told=(b"only with --again" in out, True),
+              same=({path.name: path.read_bytes() for path in folder.iterdir()} == kept, True))
+    status, out, _ = dossier("audit", "--again", folder)
+    check("a signed folder, audited again", status=(status, 0), told=(f"        {folder}: its signature was taken away\n" in out.decode(), True),
+          gone=(signature.exists(), False), signed=(json.loads((folder / "audit.json").read_text())["signed"], ""))
+    (folder / "report.txt").write_text("")
+    status, out, _ = dossier("sign", folder, "--key", key)
+    check("a changed folder isn't signed", run=((status, out), (1, f"{folder}: report.txt was changed since the audit\n".encode())), gone=(signature.exists(), False))
+    (folder / "claim.json").write_text("{}")
+    dossier("audit", folder)
+    check("a refusal isn't signed", status=(dossier("sign", folder, "--key", key)[0], 4), gone=(signature.exists(), False))
+    bare = place / "bin"
+    bare.mkdir()
+    for name in ("python3", "env"):
+        (bare / name).symlink_to(shutil.which(name))
+    dossier("audit", good := folder_of(place, "good"))
+    status, out, _ = dossier("sign", good, "--key", key, env={**ENVIRONMENT, "PATH": str(bare)})
+    check("without ssh-keygen", status=(status, 70), line=(b"ssh-keygen isn't installed" in out, True))
+
+
+def test_signed_evidence(place):
+    """evidence.json and the files that it names are signed too."""
+    folder = folder_of(place, "evidence")
+    dossier("audit", folder)
+    said = {"capture": "kept by Ann, see `kept.txt`.", "drift": "sheet.pdf, chrony.conf", "leap": f"{place}/beside.txt report.txt audit.json", "answers": 5}
+    (folder / "evidence.json").write_text(json.dumps(said))
+    for name in ("kept.txt", "sheet.pdf", "unnamed.txt", "../beside.txt"):
+        (folder / name).write_text(name)
+    status, out, _ = dossier("verify", folder)
+    check("evidence that came later", status=(status, 1), new=(b"evidence.json is new" in out, True))
+    dossier("audit", folder)
+    inputs = json.loads((folder / "audit.json").read_text())["inputs"]
+    check("sums of evidence", names=(sorted(inputs), ["claim.json", "evidence.json", "f.pcap", "kept.txt", "sheet.pdf"]))
+    check("verify of evidence", status=(dossier("verify", folder)[0], 0))
+    (folder / "kept.txt").write_text("another")
+    check("evidence that was changed", run=(dossier("verify", folder)[:2], (1, f"{folder}: kept.txt isn't the file that was audited\n".encode())))
+
+
+def test_older_records(place):
+    """A record of form 3 is verified and shown as it was, and audited again in the new form."""
+    folder = folder_of(place, "older")
+    dossier("audit", folder)
+    record = json.loads((folder / "audit.json").read_text())
+    (folder / "evidence.json").write_text("{}")
+    older = {name: value for name, value in record.items() if name not in ("signed", "leap_seconds")}
+    entries = [{name: value for name, value in entry.items() if name != "leap"} for entry in record["entries"]]
+    (folder / "audit.json").write_text(json.dumps({**older, "dossier": 3, "entries": entries}))
+    check("verify of an older record", run=(dossier("verify", folder)[:2], (0, f"{folder}: verified\n".encode())))
+    check("an older record in the table", verdict=(table(folder)[0]["verdict"], "yes"))
+    check("an older record isn't signed", line=(b"audited by an older dossier" in dossier("sign", folder, "--key", "any")[1], True))
+    (folder / "evidence.json").unlink()
+    check("an older record is audited again", unchanged=(b"(unchanged)" in dossier("audit", folder)[1], False),
+          form=(json.loads((folder / "audit.json").read_text())["dossier"], 4))
+
+
+EVIDENCE_TESTS = [test_signatures, test_ended_keys, test_allowed_signers, test_signing_again, test_signed_evidence, test_older_records]
