@@ -22,11 +22,19 @@ class Options(NamedTuple):
     step: int | None = None
     days: bool = False
     again: bool = False
+    leaps: dict[str, Any] = {}
+    """What the list of leap seconds says."""
+    is_own_list: bool = False
+    """Whether that list was named, and isn't just the system's."""
 
     @property
     def kept(self) -> dict[str, Any]:
         """What is kept of them: with other options a folder is audited again."""
         return {"step": self.step, "days": self.days}
+
+    def has_same_list(self, old: Record) -> bool:
+        """Whether an audit needn't be made again for its list. The system's may become another at any time."""
+        return not self.is_own_list or old.leap_seconds.get("sha256") == self.leaps["sha256"]
 
 
 class Audited(NamedTuple):
@@ -53,19 +61,20 @@ def audit_folder(options: Options, program: Program) -> Audited:
     by, kept = {"version": program.version, "sha256": program.sha256}, options.kept
     inputs, refusal = sums_of_inputs()
     is_same = old and (old.dossier, old.inputs, old.options, old.program) == (VERSION, inputs, kept, by)
-    if old and is_same and not options.again and is_whole(old):
+    if old and is_same and not options.again and options.has_same_list(old) and is_whole(old):
         return Audited(old, is_old=True)
     was_signed = take_signature(options)
     files.sweep_parts()
-    capture = ""
+    capture, leaps = "", options.leaps
     try:
         if refusal:
             raise refusal
         capture = take_capture(inputs)
         entries = audit_parts(capture, options, program)
     except Fault as fault:
-        entries = [Entry(part=".", verdict=REFUSED, fault={"line": fault.line, "status": fault.status})]
-    record = Record(by, kept, inputs, capture, entries, made, round(time.monotonic() - begun, 3))
+        entries, leaps = [Entry(part=".", verdict=REFUSED, fault={"line": fault.line, "status": fault.status})], {}
+    record = Record(by, kept, inputs, capture, entries, made, round(time.monotonic() - begun, 3),
+                    leap_seconds=leaps)
     if old:
         remove_files(old.outputs.keys() - record.outputs.keys() - inputs.keys())
     write_beside(files.AUDIT, record_text(record))
@@ -124,10 +133,10 @@ def take_capture(inputs: dict[str, str]) -> str:
 
 def audit_parts(capture: str, options: Options, program: Program) -> list[Entry]:
     operand = Operand(capture)
-    recording = read_recording(program, files.CLAIM, operand)
+    recording = read_recording(program, files.CLAIM, operand, wants_request=True)
     claim = json.loads(read(files.CLAIM))
     parts = parts_of(claim, options.days)
-    entries = [Settling(part, operand, program).settle(recording, options.step) for part in parts]
+    entries = [Settling(part, operand, program, options.leaps).settle(recording, options.step) for part in parts]
     if capture != files.JOINED:
         return entries
     joined = {capture: sum_of_file(capture)}

@@ -46,6 +46,7 @@ def parser() -> Parser:
     audit.add_argument("--jobs", type=in_range(1, 4096), default=0, metavar="N",
                        help="folders side by side; as many as processors if it is left out")
     audit.add_argument("--again", action="store_true", help="audit folders that are done or signed, too; a signature is taken away")
+    audit.add_argument("--leap-seconds", metavar="FILE", help="the list of leap seconds; the system's if it is left out")
     page = commands.add_parser("page", help="print a page of audits that were made")
     page.add_argument("folders", nargs="+", metavar="FOLDER")
     form = page.add_mutually_exclusive_group()
@@ -117,10 +118,12 @@ def run(given: argparse.Namespace) -> int:
         return run_draft(given, program)
     if given.command == "audit":
         from .audit import Options
+        from .leap import read_list
         from .task import Task
         from .work import audit_all
         jobs = given.jobs or len(os.sched_getaffinity(0))
-        options = Options(given.step, given.days, given.again)
+        leaps, is_own = read_list(given.leap_seconds), given.leap_seconds is not None
+        options = Options(given.step, given.days, given.again, leaps, is_own)
         return audit_all(Task([tidy(folder) for folder in given.folders], options, program), jobs)
     if given.command == "verify":
         from .signature import allowed

@@ -51,6 +51,8 @@ class Entry(NamedTuple):
     warnings: Sequence[dict[str, Any]] = ()
     outputs: dict[str, str] = {}
     """The SHA-256 of each file that the audit left, by its name seen from the record's folder."""
+    leap: dict[str, Any] = {}
+    """What the list of leap seconds says of the span and all exchanges; nothing in a record of form 3."""
 
     @property
     def status(self) -> int:
@@ -72,6 +74,8 @@ class Record(NamedTuple):
     dossier: int = VERSION
     signed: str = ""
     """When this was signed, as the signer says; nothing if it wasn't."""
+    leap_seconds: dict[str, Any] = {}
+    """What the list of leap seconds says that was looked up; nothing in a record of form 3."""
 
     @property
     def status(self) -> int:

@@ -166,7 +166,8 @@ def signed_cell(row: Row, is_looked_at: bool) -> str:
         return ""
     if row.signature != GOOD:
         return f"<b>{SIGNED[row.signature]}</b>" if row.signature in (UNFIT, STRANGER) else SIGNED[row.signature]
-    return f"{html(row.signer)} <span>{html(row.signed_at[:10])}</span> <span>{html(row.signed_at[11:19])}</span>"
+    at = f"<span>{html(row.signed_at[:10])}</span> <span>{html(row.signed_at[11:19])}</span>"
+    return f'<span class="free">{html(row.signer)} {at}</span>'
 
 
 def why_of(row: Row) -> list[str]:

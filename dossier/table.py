@@ -36,6 +36,7 @@ class Row:
     reason: str = ""
     to_do: str = ""
     warnings: list[str] = field(default_factory=list)
+    leap_seconds: str = ""
     signature: str = ""
     signer: str = ""
     signed_at: str = ""
@@ -60,7 +61,7 @@ def row_of(folder: str, entry: Entry, signature: Signature) -> Row:
         row.client, row.begin, row.end, row.bound_ns = claim["client"], claim["from"], claim["to"], claim["bound_ns"]
         row.least_bound_ns, row.worst_begin, row.worst_end = entry.least_ns, civil(worst["from"]), civil(worst["to"])
         row.samples, row.servers, row.groups = entry.counts["samples"], len(claim["servers"]), len(groups_of(claim))
-        row.false_max = claim["false_max"]
+        row.false_max, row.leap_seconds = claim["false_max"], plain(str(entry.leap.get("says", "")))
     return row
 
 

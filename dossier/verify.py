@@ -2,6 +2,7 @@
 from __future__ import annotations
 
 import json
+from typing import Any
 
 from . import VERSION
 from . import folder as files
@@ -68,14 +69,15 @@ def verify(program: Program, findings: list[str], notes: list[str]) -> None:
     if record.program["sha256"] != program.sha256:
         notes.append("by another build of the program than the audit's")
     capture = Operand(record.capture)
-    recording = read_recording(program, files.CLAIM, capture)
+    recording = read_recording(program, files.CLAIM, capture, wants_request=True)
     claim = json.loads(files.read(files.CLAIM))
     claims = {part.name: part.claim for part in parts_of(claim, record.options["days"])}
     if list(claims) != [entry.part for entry in record.entries]:
         findings.append("audit.json: other days than those of the claim's span")
         return
     for entry in record.entries:
-        findings += Again(Part(entry.part, claims[entry.part]), entry, capture, program).findings(recording)
+        again = Again(Part(entry.part, claims[entry.part]), entry, capture, program)
+        findings += again.findings(recording, record.leap_seconds)
 
 
 def changed(record: Record) -> list[str]:
@@ -131,14 +133,14 @@ class Again:
         refute = self.program.run("refute", claim, self.capture, self.part.within(files.REFUTATION)).text
         return texts._replace(refutation=self.kept(files.REFUTATION), refute=refute)
 
-    def findings(self, recording: Recording) -> list[str]:
+    def findings(self, recording: Recording, leaps: dict[str, Any]) -> list[str]:
         """What differs: an answer from its file, or audit.json from what the answers come to."""
         texts = self.texts()
         if texts.is_yes and self.kept(files.CLAIM_OF_0) != at_bound_0(self.part.claim):
             self.found.append(f"{files.CLAIM_OF_0} isn't the claim with the bound 0")
         if not self.found:
             of = "" if self.part.name == "." else f" of {self.part.name}"
-            names = differing(self.entry, judge(self.part.name, self.part.claim, recording, texts))
+            names = differing(self.entry, judge(self.part.name, self.part.claim, recording, texts, leaps))
             self.found += [f"audit.json says another {name} than the answers{of}" for name in names]
         return self.found
 

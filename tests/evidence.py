@@ -2,14 +2,17 @@
 
 tests/dossier calls them, each in a folder of its own. The keys of signatures are made here.
 """
+import hashlib
 import json
+import os
 import re
 import shutil
 import time
 from datetime import datetime, timedelta, timezone
+from pathlib import Path
 
-from audits import ENVIRONMENT, check, check_page, dossier, folder_of, parts_left, skipped, table
-from tally import DATA, run
+from audits import ENVIRONMENT, PROGRAM, SCRIPT, capture_of, check, check_page, dossier, folder_of, parts_left, skipped, table
+from tally import ROOT, run
 
 # ---- signatures
 
@@ -51,7 +54,7 @@ def test_signatures(place):
     text = dossier("page", "--signers", signers, *folders)[1].decode()
     check_page("a page of signatures", text)
     day, hour = at[:10], at[11:19]
-    check("signer and time on a page", row=(f">alice@example.org <span>{day}</span> <span>{hour}</span></td>" in text, True),
+    check("signer and time on a page", row=(f">alice@example.org <span>{day}</span> <span>{hour}</span></span></td>" in text, True),
           said=(f'<p class="signed">Signed at {at} by alice@example.org, with the key' in text, True),
           others=([text.count(f">{words}<") for words in ("nobody", "doesn\u2019t fit", "by a stranger")], [1, 1, 1]))
     rows = json.loads(dossier("page", "--json", "--signers", signers, *folders)[1])
@@ -197,4 +200,94 @@ def test_older_records(place):
           form=(json.loads((folder / "audit.json").read_text())["dossier"], 4))
 
 
-EVIDENCE_TESTS = [test_signatures, test_ended_keys, test_allowed_signers, test_signing_again, test_signed_evidence, test_older_records]
+# ---- leap seconds
+
+FROM_1900 = 2_208_988_800
+
+
+def leap_list(path, good_until, *seconds):
+    """A list of leap seconds, each as the Unix second after it and the difference to TAI, with its own sum."""
+    rows = [f"{time + FROM_1900} {offset}" for time, offset in ((63072000, 10), *seconds)]
+    head = [str(63072000 + FROM_1900), str(good_until + FROM_1900)]
+    digest = hashlib.sha1("".join([*head, *(row.replace(" ", "") for row in rows)]).encode()).hexdigest()
+    own = " ".join(digest[k : k + 8].lstrip("0") for k in range(0, 40, 8))
+    path.write_text("\n".join([f"#\tA list", f"#$\t{head[0]}", f"#@\t{head[1]}", "#", *(f"{row}\t# a day" for row in rows), f"#h\t{own}", ""]))
+    return path
+
+
+MINUTE = {"client": "192.0.2.10", "servers": ["192.0.2.1"], "false_max": 0, "from": "2001-09-09T01:46:40Z", "to": "2001-09-09T01:47:44Z",
+          "bound_ns": 60_000_000, "drift_ppb": 100_000, "reading_ns": 0}
+FIRST, LAST = 1_000_000_000, 1_000_000_064
+
+
+def leap_of(folder, list_):
+    status, out, _ = dossier("audit", "--leap-seconds", list_, folder)
+    record = json.loads((folder / "audit.json").read_text())
+    return status, record["entries"][0]["leap"]["says"], [warning["kind"] for warning in record["entries"][0]["warnings"]], out
+
+
+def test_leap_seconds(place):
+    """None in the list, one within, a list that has ended: on the page, and which seconds count."""
+    within = capture_of(place / "within.pcap", f"1:-1000..1000@{FIRST + 10}", f"1:-1000..1000@{FIRST + 40}")
+    folder = folder_of(place, "leap", within, **MINUTE)
+    later = LAST + 10**7
+    cases = [("none", later, ()), ("expired", FIRST - 100, ()), ("expired", LAST, ()), ("none", later, ((FIRST - 1, 11),)),
+             ("within", later, ((FIRST, 11),)), ("within", FIRST - 10**6, ((FIRST + 30, 11),)), ("within", later, ((FIRST + 30, 9),)),
+             ("within", later, ((LAST + 1, 11),)), ("none", later, ((LAST + 2, 11),)), ("none", later, ((FIRST - 10**6, 11), (LAST + 10**6, 12)))]
+    for number, (wanted, until, seconds) in enumerate(cases):
+        list_ = leap_list(place / f"{number}.list", until, *seconds)
+        status, says, kinds, out = leap_of(folder, list_)
+        check(f"leap seconds {wanted} until {until} {seconds}", status=(status, 0), says=(says, wanted), warned=("leap-second" in kinds, wanted == "within"),
+              again=(b"(unchanged)" in out, False), verified=(dossier("verify", folder)[0], 0))
+        text = dossier("page", folder)[1].decode()
+        page = "".join(check_page(f"a page with leap seconds {wanted}", text).words)
+        day = datetime.fromtimestamp(until, timezone.utc).strftime("%Y-%m-%d")
+        kind = "A second left out" if seconds and seconds[0][1] < 10 else "A leap second"
+        said = {"none": f"no leap second from 2001-09-09 01:46:39 to 2001-09-09 01:47:45, by the list {list_}", "expired": f"was good until {day} only",
+                "within": f"{kind} at the end of 2001-09-09 lies in the span or among the exchanges"}[wanted]
+        check(f"the page says {wanted} until {until} {seconds}", said=(said in page, True), until=(f"good until {day}" in page, wanted != "within"),
+              row=(table(folder)[0]["leap_seconds"], wanted))
+    around = capture_of(place / "around.pcap", f"1:-1000..1000@{FIRST - 100}", f"1:-1000..1000@{FIRST + 10}", f"1:-1000..1000@{LAST + 100}")
+    wide = folder_of(place, "wide", around, **MINUTE)
+    for time_, wanted in ((FIRST - 200, "none"), (FIRST - 50, "within"), (LAST + 50, "within"), (LAST + 200, "none")):
+        says = leap_of(wide, leap_list(place / "wide.list", later, (time_, 11)))[1]
+        check(f"a leap second at {time_} among exchanges", says=(says, wanted))
+    day = folder_of(place, "days", around, **{**MINUTE, "from": "2001-09-08T01:46:40Z"})
+    dossier("audit", "--days", "--leap-seconds", leap_list(place / "days.list", later, (LAST + 300, 11)), day)
+    check("leap seconds of days", says=([row["leap_seconds"] for row in table(day)], ["none", "none"]), verified=(dossier("verify", day)[0], 0))
+
+
+def test_lists(place):
+    """Which lists are taken, and when a folder is audited again for one."""
+    from dossier import leap
+    folder, good = folder_of(place, "lists"), leap_list(place / "good.list", 2_000_000_000)
+    spoilt = {"torn": good.read_text().rsplit("#h", 1)[0], "another sum": good.read_text().replace("# a day", "5 # a day").replace(" 10", " 11"), "empty": "",
+              "words": "#@ x\n", "bytes": "\udcff"}
+    for name, text in spoilt.items():
+        (place / "spoilt.list").write_text(text, errors="surrogateescape")
+        check(f"a list that is spoilt: {name}", run=(dossier("audit", "--leap-seconds", place / "spoilt.list", folder),
+                                                     (2, b"", b"ntpaudit-dossier: the list of leap seconds isn't one\n")))
+    check("a list that isn't there", run=(dossier("audit", "--leap-seconds", place / "missing", folder),
+                                          (4, b"", b"ntpaudit-dossier: the list of leap seconds can't be read (No such file or directory)\n")))
+
+    def is_unchanged(*words):
+        return b"(unchanged)" in dossier("audit", *words, folder)[1]
+    other = leap_list(place / "other.list", 2_100_000_000)
+    seen = [is_unchanged("--leap-seconds", good), is_unchanged("--leap-seconds", good), is_unchanged(), is_unchanged("--leap-seconds", other), is_unchanged()]
+    check("audited again for a list", seen=(seen, [False, True, True, False, True]))
+    record = json.loads((folder / "audit.json").read_text())
+    (folder / "audit.json").write_text(json.dumps({**record, "leap_seconds": {**record["leap_seconds"], "seconds": [[1795331020, 1]]}}))
+    status, out, _ = dossier("verify", folder)
+    check("a list that was changed in a record", status=(status, 1), line=(b"audit.json says another leap than the answers" in out, True))
+    system, leap.SYSTEM = leap.SYSTEM, str(place / "missing")
+    none = leap.read_list(None)
+    leap.SYSTEM = system
+    check("no list", seen=(none, {"file": str(place / "missing"), "fault": "the list of leap seconds can't be read (No such file or directory)"}))
+    entry = record["entries"][0]
+    unknown = {**entry, "leap": {**entry["leap"], "says": "no list"}}
+    (folder / "audit.json").write_text(json.dumps({**record, "leap_seconds": none, "entries": [unknown]}))
+    text = dossier("page", folder)[1].decode()
+    check("no list on the page", said=("nothing, since the list of leap seconds can&#x27;t be read" in text, True), verified=(dossier("verify", folder)[0], 0))
+
+
+EVIDENCE_TESTS = [test_signatures, test_ended_keys, test_allowed_signers, test_signing_again, test_signed_evidence, test_older_records, test_leap_seconds, test_lists]
