@@ -62,6 +62,11 @@ def parser() -> Parser:
     sign.add_argument("folders", nargs="+", metavar="FOLDER")
     sign.add_argument("--key", required=True, metavar="FILE",
                       help="a private key, or the public one of a key that an agent holds")
+    measure = commands.add_parser("measure", help="measure how far the times of records are from the clock")
+    measure.add_argument("--interface", default="lo", metavar="NAME", help="where to record; the loopback if left out")
+    measure.add_argument("--count", type=in_range(10, 100_000), default=1000, metavar="N", help="packets; 1000 if left out")
+    measure.add_argument("--load", action="store_true", help="keep all processors busy meanwhile")
+    measure.add_argument("-o", "--output", metavar="FILE", help="leave it as JSON too, for evidence.json to name")
     picture = commands.add_parser("picture", help="print the picture of a claim and a capture, as SVG")
     picture.add_argument("claim", metavar="CLAIM")
     picture.add_argument("capture", metavar="CAPTURE")
@@ -114,6 +119,9 @@ def run(given: argparse.Namespace) -> int:
         from .signing import sign_all
         return sign_all([tidy(folder) for folder in given.folders], given.key)
     program = find_program()
+    if given.command == "measure":
+        from .measuring import Wanted, measure
+        return measure(program, Wanted(given.interface, given.count, given.load), given.output)
     if given.command == "draft":
         return run_draft(given, program)
     if given.command == "audit":

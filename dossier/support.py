@@ -1,4 +1,4 @@
-"""What stands beside a person's word for a premise: what was looked up, in sentences for the page. Nothing of it plays a part in a verdict."""
+"""What stands beside a person's word for a premise: what was looked up or measured, in sentences for the page. Nothing of it plays a part in a verdict."""
 from __future__ import annotations
 
 import json
@@ -10,6 +10,7 @@ from .evidence import named_in
 from .folder import read
 from .leap import EXPIRED, NO_LIST, NONE
 from .markup import html
+from .measurement import measurement_of
 from .program import sum_of
 from .units import civil, shown_time
 
@@ -37,7 +38,16 @@ def file_of(folder: str, record: Record, name: str) -> dict[str, Any]:
     return value if isinstance(value, dict) else {}
 
 
-SHOWN: dict[str, Any] = {}
+def measured(value: dict[str, Any], entry: Entry) -> Iterator[str]:
+    """What was measured of the times of records."""
+    found = measurement_of(value)
+    if found:
+        yield f"<b>Measured:</b> {html(found.sentence())}"
+        if found.greatest_ns > entry.claim["reading_ns"]:
+            yield "<b>That is more than the claim grants.</b>"
+
+
+SHOWN = {"reading": measured}
 """By the name of a premise, what is shown of files that evidence.json names for it."""
 
 

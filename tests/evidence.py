@@ -290,4 +290,86 @@ def test_lists(place):
     check("no list on the page", said=("nothing, since the list of leap seconds can&#x27;t be read" in text, True), verified=(dossier("verify", folder)[0], 0))
 
 
-EVIDENCE_TESTS = [test_signatures, test_ended_keys, test_allowed_signers, test_signing_again, test_signed_evidence, test_older_records, test_leap_seconds, test_lists]
+# ---- what is measured
+
+
+def can_record():
+    """Whether tcpdump may record here; a word why not."""
+    if not shutil.which("tcpdump"):
+        return "tcpdump isn't installed"
+    ran = run(["tcpdump", "-i", "lo", "-c", "1", "-w", "/dev/null", "udp and port 123 and port 124"], timeout=1)
+    return "" if ran[0] == "no end" else "there is no right to record"
+
+
+def test_measure(place):
+    """The distribution that is printed, its JSON, and the page that shows it."""
+    if why := can_record():
+        skipped("measure", why)
+        return
+    for number, words in enumerate(([], ["--load"], ["--interface", "lo"])):
+        status, out, err = dossier("measure", "--count", "40", *words, "-o", place / "measured.json")
+        found = json.loads((place / "measured.json").read_text())
+        numbers = dict(line.split() for line in out.decode().splitlines()[1:6])
+        order = [int(numbers[name]) for name in ("least", "median", "percent_99", "greatest")]
+        check(f"measure {words}", status=(status, 0), error=(err, b""), order=(order == sorted(order) and 0 < order[0] < 10**9, True),
+              packets=(out.startswith(b"packets 40 on lo"), True), load=((found["busy"] > 0, b"busy process" in out), (number == 1,) * 2),
+              same=([str(found[f"{name}_ns"]) for name in ("least", "median", "percent_99", "greatest", "reading")], list(numbers.values())),
+              reading=(found["reading_ns"] >= max(100_000, found["greatest_ns"]), True), unsaid=(b"Nothing was measured of what is received" in out or b"nothing was measured of what is received" in out, True),
+              left=(run(["pgrep", "-f", f"{place}"])[1], b""))
+    for words, line in ((["--interface", "nope"], b"nothing can be sent by nope"), (["--count", "5"], b"a number from 10 to 100000")):
+        status, out, err = dossier("measure", *words)
+        check(f"measure {words}", status=(status, lambda status: status in (4, 5)), line=(line in err and err.count(b"\n") == 1, True), output=(out, b""))
+
+
+def test_measuring(place):
+    """What the records' times come to, and what is refused."""
+    from dossier.measurement import Measurement, measurement_of
+    from dossier.measuring import Fault, load, matched
+    with load(2) as busy:
+        time.sleep(0.3)
+        used = [sum(map(int, Path(f"/proc/{process}/stat").read_text().rsplit(")", 1)[1].split()[11:13])) for process in busy]
+    check("processors that are kept busy", used=(len(used) == 2 and min(used) > 0, True), left=([process for process in busy if Path(f"/proc/{process}").exists()], []))
+    check("delays", seen=(matched([100, 200], {2: 205, 1: 103, 9: 1}), [3, 5]), some=(matched([100] * 10, {k: 101 for k in range(1, 10)}), [1] * 9))
+    for name, sent, times in (("a packet that wasn't recorded", [100, 200], {1: 103}), ("a clock that was set", [100, 200], {1: 103, 2: 199})):
+        try:
+            seen = matched(sent, times)
+        except Fault as fault:
+            seen = fault.status
+        check(f"delays with {name}", seen=(seen, 4))
+    small = Measurement("lo", 1000, 0, 1, 2, 3, 99, 100_000, "web-1", "6.1", "2026-11-25T12:00:00Z")
+    large = small._replace(greatest_ns=123_456, reading_ns=130_000, busy=1)
+    check("the reason of a reading", small=("no less than 100,000" in small.reason, True), large=("no less" in large.reason, False),
+          line=(large.lines()[0], "packets 1000 on lo, beside 1 busy process"))
+    check("a measurement in a file", same=(measurement_of(small._asdict()), small), other=([measurement_of(value) for value in (
+        {}, {**small._asdict(), "kind": "drift"}, {**small._asdict(), "least_ns": "<b>"}, {**small._asdict(), "machine": 1})], [None] * 4))
+    folder = folder_of(place, "measured")
+    (folder / "evidence.json").write_text(json.dumps({"reading": "measured.json, by Ann"}))
+    for found, is_more in ((small._replace(machine="<b>web"), False), (large, True)):
+        (folder / "measured.json").write_text(json.dumps(found._asdict()))
+        dossier("audit", folder)
+        text = dossier("page", folder)[1].decode()
+        said = "".join(check_page("a page with a measurement", text).words)
+        check("a measurement on a page", said=(f"{found.greatest_ns} at the most" in said.replace(",", ""), True), machine=(f"that {found.machine} sent itself" in said, True),
+              more=("That is more than the claim grants." in said, is_more), where=("measured.json, by Ann" in said, True))
+    (folder / "measured.json").write_text(json.dumps({**small._asdict(), "greatest_ns": 1}))
+    check("a measurement that was changed", shown=(b"Measured:" in dossier("page", folder)[1], False))
+
+
+def test_no_right(place):
+    """Without the right to record one line says so."""
+    nobody = [] if os.geteuid() else ["setpriv", "--reuid=65534", "--regid=65534", "--clear-groups"]
+    readable = [*nobody, "cat", SCRIPT]
+    if not shutil.which("tcpdump") or run(readable)[0] or run([*nobody, PROGRAM, "--version"])[0] or (not nobody and not can_record()):
+        skipped("measure without the right to record", "tcpdump, setpriv, or a user without that right isn't there")
+        return
+    check("measure without the right", run=(run([*nobody, SCRIPT, "measure", "--count", "10"], env=ENVIRONMENT), (4, b"", (
+        b"ntpaudit-dossier: there is no right to record on lo: it takes root, or the capability CAP_NET_RAW for tcpdump\n"))))
+    bare = place / "bin"
+    bare.mkdir()
+    for name in ("python3", "env"):
+        (bare / name).symlink_to(shutil.which(name))
+    status, out, err = dossier("measure", "--count", "10", env={**ENVIRONMENT, "PATH": str(bare)})
+    check("measure without tcpdump", run=((status, out, err), (70, b"", b"ntpaudit-dossier: tcpdump isn't installed, which records the packets\n")))
+
+
+EVIDENCE_TESTS = [test_signatures, test_ended_keys, test_allowed_signers, test_signing_again, test_signed_evidence, test_older_records, test_leap_seconds, test_lists, test_measure, test_measuring, test_no_right]
