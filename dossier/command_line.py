@@ -5,9 +5,12 @@ import argparse
 import os
 import sys
 from collections.abc import Callable
-from typing import NoReturn
+from typing import TYPE_CHECKING, NoReturn
 
-from .program import Fault, Program, Stopped, find_program
+from .program import Fault, Program, Stopped, find_program, now
+
+if TYPE_CHECKING:
+    from .correction import Correction
 
 USAGE, OUTPUT_FAILED, INTERRUPTED = 5, 4, 130
 
@@ -36,7 +39,15 @@ def parser() -> Parser:
     draft.add_argument("captures", nargs="+", metavar="CAPTURE")
     draft.add_argument("--client", metavar="ADDRESS", help="the client; the one that asks most if it is left out")
     draft.add_argument("--day", action="store_true", help="claim whole days (UTC)")
-    draft.add_argument("--drift-ppb", type=int, default=100_000, metavar="N")
+    draft.add_argument("--drift-ppb", type=int, metavar="N",
+                       help="oscillator and client together; by the client's configuration, else 100000")
+    client = draft.add_mutually_exclusive_group()
+    client.add_argument("--chrony", action="append", metavar="FILE", help="chronyd's configuration, which limits the drift")
+    client.add_argument("--ntpd", action="append", metavar="FILE", help="ntpd's configuration")
+    draft.add_argument("--tracking", action="append", metavar="FILE", help="chronyd's tracking.log, or its messages")
+    draft.add_argument("--oscillator-ppb", type=in_range(0, 500_000_000), default=100_000, metavar="N",
+                       help="the oscillator alone, to which the configuration adds; 100000 if it is left out")
+    draft.add_argument("--evidence", metavar="FILE", help="leave what was read of the client there, for evidence.json")
     draft.add_argument("--reading-ns", type=int, default=100_000, metavar="N")
     audit = commands.add_parser("audit", help="audit folders")
     audit.add_argument("folders", nargs="+", metavar="FOLDER")
@@ -146,13 +157,36 @@ def tidy(folder: str) -> str:
     return folder.rstrip("/") or "/"
 
 
+def correction(given: argparse.Namespace) -> Correction | None:
+    """What the client's configuration and log say, if they are given."""
+    from .client import configuration
+    from .correction import Correction, checked
+    from .tracking import read_tracking
+    if (given.tracking and not given.chrony) or (given.evidence and not (given.chrony or given.ntpd)):
+        raise Fault("ntpaudit-dossier: --tracking takes --chrony, and --evidence takes --chrony or --ntpd", USAGE)
+    found = configuration(given.chrony, given.ntpd)
+    if found is None:
+        return None
+    log = read_tracking(given.tracking, found.step_s) if given.tracking else None
+    return checked(Correction(given.oscillator_ppb, found, log, now()))
+
+
 def run_draft(given: argparse.Namespace, program: Program) -> int:
-    from .draft import Wanted, claim_text, draft
-    wanted = Wanted(given.client, given.day, given.drift_ppb, given.reading_ns)
-    claim, remarks = draft(program, given.captures, wanted)
+    from .correction import correction_text
+    from .folder import write_beside
+    from .units import seconds_of
+    from .draft import DRIFT, Wanted, claim_text, draft
+    found = correction(given)
+    proposed = found.drift_ppb if found else DRIFT
+    drift_ppb = proposed if given.drift_ppb is None else given.drift_ppb
+    claim, remarks = draft(program, given.captures, Wanted(given.client, given.day, drift_ppb, given.reading_ns))
+    if claim and found:
+        remarks += found.sentences() + found.cautions(seconds_of(claim["from"]), seconds_of(claim["to"]))
     for remark in remarks:
         say(remark)
     if claim is None:
         return 1
+    if found and given.evidence:
+        write_beside(given.evidence, correction_text(found))
     sys.stdout.write(claim_text(claim))
     return 0

@@ -1,18 +1,20 @@
-"""What stands beside a person's word for a premise: what was looked up or measured, in sentences for the page. Nothing of it plays a part in a verdict."""
+"""What stands beside a person's word for a premise: what was looked up, measured, or read of the client, in sentences
+for the page. Nothing of it plays a part in a verdict."""
 from __future__ import annotations
 
 import json
 from collections.abc import Iterator
 from typing import Any
 
+from .correction import correction_of
 from .entry import Entry, Record
 from .evidence import named_in
 from .folder import read
 from .leap import EXPIRED, NO_LIST, NONE
-from .markup import html
+from .markup import html, minus
 from .measurement import measurement_of
 from .program import sum_of
-from .units import civil, shown_time
+from .units import civil, seconds_of, shown_time
 
 MOST_BYTES = 1 << 20
 """A larger file isn't shown."""
@@ -47,7 +49,20 @@ def measured(value: dict[str, Any], entry: Entry) -> Iterator[str]:
             yield "<b>That is more than the claim grants.</b>"
 
 
-SHOWN = {"reading": measured}
+def read_of_client(value: dict[str, Any], entry: Entry) -> Iterator[str]:
+    """What was read of the client's configuration and log."""
+    found = correction_of(value)
+    if not found:
+        return
+    yield f"<b>Read:</b> {minus(html(' '.join(found.sentences())))}"
+    if found.drift_ppb > entry.claim["drift_ppb"]:
+        yield "<b>That is more than the claim grants.</b>"
+    first, last = (entry.leap.get(name) or seconds_of(entry.claim[name]) for name in ("from", "to"))
+    if cautions := found.cautions(first, last):
+        yield f"<b>To be seen to:</b> {minus(html(' '.join(cautions)))}"
+
+
+SHOWN = {"reading": measured, "drift": read_of_client}
 """By the name of a premise, what is shown of files that evidence.json names for it."""
 
 

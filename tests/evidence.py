@@ -372,4 +372,95 @@ def test_no_right(place):
     check("measure without tcpdump", run=((status, out, err), (70, b"", b"ntpaudit-dossier: tcpdump isn't installed, which records the packets\n")))
 
 
-EVIDENCE_TESTS = [test_signatures, test_ended_keys, test_allowed_signers, test_signing_again, test_signed_evidence, test_older_records, test_leap_seconds, test_lists, test_measure, test_measuring, test_no_right]
+# ---- what a client's configuration says
+
+CLIENT = ROOT / "tests" / "client"
+
+
+def unix(text):
+    return int(datetime.fromisoformat(f"2026-11-25T{text}Z").timestamp())
+
+
+def drafted(capture, *words):
+    status, out, err = dossier("draft", *words, capture)
+    return status, json.loads(out) if out else {}, err.decode()
+
+
+def test_client(place):
+    """Drift by what a real chronyd's configuration and log say."""
+    capture = capture_of(place / "f.pcap", f"1:-1000..1000@{unix('13:02:55')}", f"1:-1000..1000@{unix('13:02:58')}")
+    chrony, tracking = ("--chrony", CLIENT / "chrony.conf"), ("--tracking", CLIENT / "tracking.log")
+    status, claim, err = drafted(capture, *chrony, *tracking, "--evidence", place / "drift.json")
+    check("a draft by chrony.conf", status=(status, 0), drift=(claim["drift_ppb"], 600_000),
+          said=("chrony.conf: maxslewrate 500, so chronyd slews by 500,000 parts in 10^9 at the most; makestep 0.1 3; leapsecmode slew; no hwtimestamp." in err, True),
+          step=("in the first 3 updates after its start if it is off by more than 0.1 s" in err, True), no_step=("; no step." in err, True))
+    rates = [float(line.split()[4]) for line in (CLIENT / "tracking.log").read_text().splitlines() if "127.0.0.1" in line]
+    change = max(abs(b - a) for a, b in zip(rates, rates[1:]))
+    log = (f"tracking.log, as chronyd wrote it: {len(rates)} updates from 2026-11-25 13:02:51 to 2026-11-25 13:02:59, its frequency from {min(rates):.3f} to "
+           f"{max(rates):.3f} ppm, with {change:.3f} ppm at the most")
+    check("what tracking.log says", said=(log in err, True))
+    (place / "falling.log").write_text("".join(f"2026-11-25 13:02:{50 + k} 127.0.0.1  2  {rate}  1.946 -6.850e-07 N  1\n" for k, rate in enumerate(("1.500", "2.000", "-1.750"))))
+    check("a frequency that falls", said=("from -1.750 to 2.000 ppm, with 3.750 ppm at the most" in drafted(capture, *chrony, "--tracking", place / "falling.log")[2], True))
+    configurations = {
+        "": (83_433_334, "maxslewrate isn't set, so chronyd slews by 83,333,334 parts"), "MaxSlewRate 100.0001": (200_001, "maxslewrate 100.0001"),
+        "maxslewrate 500\n! maxslewrate 5\n  # maxslewrate 6\n; x\n% y\nmaxslewrate 1000": (1_100_000, "maxslewrate 1000"),
+        "makestep 1 -1": (83_433_334, "chronyd steps the clock at any time if it is off by more than 1 s"),
+        "hwtimestamp eth0\nhwtimestamp eth1": (83_433_334, "hwtimestamp eth0 eth1"), "confdir /etc/chrony/conf.d": (83_433_334, "takes in /etc/chrony/conf.d besides, which wasn't read"),
+        "maxslewrate": (None, "maxslewrate has no number"), "maxslewrate x": (None, "maxslewrate has no number"), "makestep 1": (None, "makestep has no number"),
+        "maxslewrate 500000": (None, "more than a claim can grant")}
+    for text, (drift, words) in configurations.items():
+        (place / "chrony.conf").write_text(text)
+        status, claim, err = drafted(capture, "--chrony", place / "chrony.conf")
+        check(f"chrony.conf: {text!r}", status=(status, 2 if drift is None else 0), drift=(claim.get("drift_ppb"), drift), said=(words in err, True))
+    for text, words in (("", "steps from 0.128 s on"), ("tinker panic 0 step 0.5 # x", "steps from 0.5 s on"), ("tinker step 0", "no steps (tinker step 0)"), ("# tinker step 0", "0.128 s")):
+        (place / "ntp.conf").write_text(text)
+        status, claim, err = drafted(capture, "--ntpd", place / "ntp.conf", "--oscillator-ppb", "50000")
+        check(f"ntp.conf: {text!r}", status=(status, 0), drift=(claim["drift_ppb"], 550_000), said=(words in err, True))
+    check("a drift of one's own", drift=(drafted(capture, *chrony, "--drift-ppb", "7")[1]["drift_ppb"], 7), plain=(drafted(capture)[1]["drift_ppb"], 100_000))
+    for words in (tracking, ("--evidence", place / "x"), ("--ntpd", "a", *tracking), (*chrony, "--ntpd", "a")):
+        check(f"a draft with {words[0]} alone", status=(drafted(capture, *words)[0], 5))
+    check("no configuration", status=(drafted(capture, "--chrony", place / "missing")[0], 4), log=(drafted(capture, *chrony, "--tracking", CLIENT / "chrony.conf")[0], 2))
+
+
+def test_steps(place):
+    """Steps of a log: those inside the span are warned of, in a draft and on the page."""
+    stepping, chrony = CLIENT / "stepping.log", CLIENT / "chrony.conf"
+    steps = [line.split()[1] for line in stepping.read_text().splitlines() if line[:1] == "2" and abs(float(line.split()[6])) > 0.1]
+    check("steps in the log", some=(len(steps) > 3, True))
+    messages = place / "messages.log"
+    messages.write_text("2026-11-25T13:04:40Z Selected source 127.0.0.1\n2026-11-25T15:04:41.5+02:00 vm chronyd[9]: System clock was stepped by -0.250000 seconds\n")
+    falls = place / "falls.log"
+    falls.write_text("".join(f"2026-11-25 13:{minute}:00 127.0.0.1        2     -1.556      1.946 -6.850e-07 N  1\n" for minute in ("04", "03", "05")))
+    spans = {"around": ("13:04:30", "13:04:50"), "after": ("13:08:00", "13:08:10")}
+    for name, (first, last) in spans.items():
+        capture = capture_of(place / f"{name}.pcap", f"1:-1000..1000@{unix(first)}", f"1:-1000..1000@{unix(last)}")
+        for log, words, count in ((stepping, f"(an offset beyond makestep's threshold) is inside the span", len(steps)), (falls, "A step at 2026-11-25 13:03:00 (the times of the log fall back)", 0),
+                                  (messages, "A step of -0.250000 s at 2026-11-25 13:04:41 (it says so) is inside the span", 1)):
+            status, _, err = drafted(capture, "--chrony", chrony, "--tracking", log, "--evidence", place / "drift.json")
+            check(f"steps of {log.name}, {name}", status=(status, 0), count=(err.count(words), count if name == "around" else 0),
+                  all=(f"{len(steps) if log == stepping else 1} step" in err, True), cover=("doesn't cover the whole span" in err, log != falls or name == "after"))
+    from dossier.tracking import cautions, read_tracking
+    log = read_tracking([str(stepping)], None)
+    first, last = unix("13:04:41"), unix("13:04:44")
+    check("what a log covers", seen=([bool(cautions(log, first + a, last + b)) for a, b in ((0, 0), (-1, 0), (0, 2), (1, -1))], [False, True, True, False]))
+    quiet = place / "quiet.conf"
+    quiet.write_text("maxslewrate 500")
+    check("no makestep, no steps", said=("; no step." in drafted(capture, "--chrony", quiet, "--tracking", stepping)[2], True))
+    folder = folder_of(place, "client", place / "around.pcap", **{**MINUTE, "from": "2026-11-25T13:04:41Z", "to": "2026-11-25T13:04:49Z"})
+    drafted(place / "around.pcap", "--chrony", chrony, "--tracking", messages, "--evidence", folder / "drift.json")
+    (folder / "evidence.json").write_text(json.dumps({"drift": "drift.json"}))
+    dossier("audit", folder)
+    said = "".join(check_page("a page of a client", dossier("page", folder)[1].decode()).words)
+    check("a client on a page", read=("Read:chrony.conf: maxslewrate 500" in said.replace("Read: ", "Read:"), True), step=("A step of \u22120.250000 s at 2026-11-25 13:04:41 (it says so) is inside the span." in said, True),
+          more=("That is more than the claim grants." in said, True), log=("messages.log, as chronyd wrote it" in said, True))
+    kept = json.loads((folder / "drift.json").read_text())
+    for name, value in (("tracking", {"files": 1}), ("configuration", {}), ("configuration", {**kept["configuration"], "slew_ppb": "x"}), ("drift_ppb", 1), ("kind", "reading"),
+                        ("tracking", {**kept["tracking"], "steps": [[1, 2]]}), ("oscillator_ppb", None)):
+        (folder / "drift.json").write_text(json.dumps({**kept, name: value}))
+        dossier("audit", folder)
+        status, out, _ = dossier("page", folder)
+        check(f"evidence of another form: {name} {value}", status=(status, 0), shown=(b"<b>Read:" in out, False), page=(b'class="verdict refused"' in out, False))
+
+
+EVIDENCE_TESTS = [test_signatures, test_ended_keys, test_allowed_signers, test_signing_again, test_signed_evidence, test_older_records, test_leap_seconds, test_lists, test_measure, test_measuring, test_no_right,
+                  test_client, test_steps]
