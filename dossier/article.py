@@ -139,14 +139,27 @@ def granted(folder: str, record: Record, entry: Entry) -> str:
         where = kept.get(premise.name, "")
         known = "<br>".join([html(premise.known), *support(premise.name, folder, record, entry, where)])
         lines.append([html(premise.granted), f'<span class="free">{known}</span>', html(where), ""])
+    later = f'<p class="soft">{LATER}</p>' if is_later(folder, record) else ""
     columns = {"Granted": "granted", "How one comes to know it": "", "Where the evidence is kept": "sign",
                "Name, date, signature": "sign"}
     return "\n".join([
         "<h3>What the claim grants</h3>",
         f'<p class="soft">A yes is as true as these. Nothing in a capture shows them: a person does, and signs '
         f'({see("What stays for a person")}).</p>',
-        rows(columns, lines),
+        later + rows(columns, lines),
     ])
+
+
+LATER = f"<b>{files.EVIDENCE} isn't the file that was audited:</b> no sum in {files.AUDIT}, and no signature, is for it."
+
+
+def is_later(folder: str, record: Record) -> bool:
+    """Whether there is evidence that came after the audit, or was changed since."""
+    try:
+        found = sum_of(files.read(f"{folder}/{files.EVIDENCE}"))
+    except OSError:
+        return False
+    return record.inputs.get(files.EVIDENCE) != found
 
 
 def counts(entry: Entry) -> str:

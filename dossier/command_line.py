@@ -56,7 +56,8 @@ def parser() -> Parser:
     audit.add_argument("--days", action="store_true", help="a verdict for each day (UTC) of the span")
     audit.add_argument("--jobs", type=in_range(1, 4096), default=0, metavar="N",
                        help="folders side by side; as many as processors if it is left out")
-    audit.add_argument("--again", action="store_true", help="audit folders that are done or signed, too; a signature is taken away")
+    audit.add_argument("--again", action="store_true",
+                       help="audit folders that are done, or signed, too; a signature is taken away")
     audit.add_argument("--leap-seconds", metavar="FILE", help="the list of leap seconds; the system's if it is left out")
     page = commands.add_parser("page", help="print a page of audits that were made")
     page.add_argument("folders", nargs="+", metavar="FOLDER")

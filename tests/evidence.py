@@ -174,8 +174,10 @@ def test_signed_evidence(place):
     for name in ("kept.txt", "sheet.pdf", "unnamed.txt", "../beside.txt"):
         (folder / name).write_text(name)
     status, out, _ = dossier("verify", folder)
-    check("evidence that came later", status=(status, 1), new=(b"evidence.json is new" in out, True))
+    later = b"evidence.json isn't the file that was audited"
+    check("evidence that came later", status=(status, 1), new=(b"evidence.json is new" in out, True), page=(later in dossier("page", folder)[1], True))
     dossier("audit", folder)
+    check("evidence that was audited", page=(later in dossier("page", folder)[1], False))
     inputs = json.loads((folder / "audit.json").read_text())["inputs"]
     check("sums of evidence", names=(sorted(inputs), ["claim.json", "evidence.json", "f.pcap", "kept.txt", "sheet.pdf"]))
     check("verify of evidence", status=(dossier("verify", folder)[0], 0))
@@ -462,5 +464,37 @@ def test_steps(place):
         check(f"evidence of another form: {name} {value}", status=(status, 0), shown=(b"<b>Read:" in out, False), page=(b'class="verdict refused"' in out, False))
 
 
+# ---- copies
+
+
+def test_copies(place):
+    """A script that was copied without what it needs says what is missing and what to set."""
+    shutil.copy(SCRIPT, place / "ntpaudit-dossier")
+    bare = {name: value for name, value in ENVIRONMENT.items() if name != "NTPAUDIT"} | {"PATH": "/usr/bin:/bin"}
+    folder = folder_of(place, "host")
+    called = [place / "ntpaudit-dossier", "audit", folder]
+    check("a script alone", run=(run(called, env=bare), (70, b"", (f"ntpaudit-dossier: {place}/dossier is missing: copy that folder of the repository beside this "
+                                                                 "script, and set NTPAUDIT to the path of the program ntpaudit\n").encode())))
+    shutil.copytree(ROOT / "dossier", place / "dossier", ignore=shutil.ignore_patterns("__pycache__"))
+    if not shutil.which("ntpaudit", path=bare["PATH"]):
+        check("a script without the program", run=(run(called, env=bare), (70, b"", (
+            b"ntpaudit: the program is not there (neither beside ntpaudit-dossier nor on the PATH): set NTPAUDIT to its path\n"))))
+    missing = run(called, env={**bare, "NTPAUDIT": str(place / "missing")})
+    check("a program that isn't there", run=(missing, (70, b"", f"ntpaudit: the program is not there ({place}/missing): set NTPAUDIT to its path\n".encode())))
+    check("a script with NTPAUDIT", status=(run(called, env={**bare, "NTPAUDIT": PROGRAM})[0], 0))
+    shutil.copy(PROGRAM, place / "ntpaudit")
+    check("a script beside the program", status=(run([*called, "--again"], env=bare)[0], 0))
+
+
+def test_auditing(place):
+    """What a page says of docs/AUDITING.md is there, by its name."""
+    folder = folder_of(place, "page")
+    dossier("audit", folder)
+    text = dossier("page", folder)[1].decode()
+    named = re.findall(r"docs/AUDITING\.md, \u201c([^\u201d]*)\u201d", text)
+    headings = re.findall(r"^## (.*)$", (ROOT / "docs" / "AUDITING.md").read_text("utf-8"), flags=re.M)
+    check("the sections of AUDITING.md that a page names", there=([name for name in named if name not in headings], []), count=(len(set(named)) > 2, True))
+
+
 EVIDENCE_TESTS = [test_signatures, test_ended_keys, test_allowed_signers, test_signing_again, test_signed_evidence, test_older_records, test_leap_seconds, test_lists, test_measure, test_measuring, test_no_right,
-                  test_client, test_steps]
+                  test_client, test_steps, test_copies, test_auditing]
