@@ -64,11 +64,11 @@ def audit_folder(options: Options, program: Program) -> Audited:
     if old and is_same and not options.again and options.has_same_list(old) and is_whole(old):
         return Audited(old, is_old=True)
     was_signed = take_signature(options)
-    files.sweep_parts()
     capture, leaps = "", options.leaps
     try:
         if refusal:
             raise refusal
+        files.sweep_parts()
         capture = take_capture(inputs)
         entries = audit_parts(capture, options, program)
     except Fault as fault:

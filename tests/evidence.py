@@ -140,6 +140,12 @@ def test_signing_again(place):
                                          (4, f"{folder}: ntpaudit-dossier: ssh-keygen didn't sign it (status 255)\n".encode())),
           same=((folder / "audit.json").read_bytes() == before, True), left=(parts_left(place), []))
     dossier("sign", folder, "--key", key)
+    if shutil.which("ssh-agent") and shutil.which("ssh-add"):
+        held = folder_of(place, "held")
+        dossier("audit", held)
+        by_agent = f'ssh-add -q "{key}" && mv "{key}" "{key}.away" && "{SCRIPT}" sign "{held}" --key "{key}.pub"; status=$?; mv "{key}.away" "{key}"; exit $status'
+        check("a key that an agent holds", run=(run(["ssh-agent", "sh", "-c", by_agent], env=ENVIRONMENT)[:2], (0, f"{held}: signed\n".encode())),
+              verified=(dossier("verify", held, "--signers", place / "signers")[0], 0))
     check("signed already", status=(dossier("sign", folder, "--key", key)[0], 4))
     kept = {path.name: path.read_bytes() for path in folder.iterdir()}
     check("a signed folder that is unchanged", run=(dossier("audit", folder)[:2], (0, f"yes     {folder}: least bound 0.657 ms, claimed 5 ms (unchanged)\n".encode())))
@@ -295,17 +301,17 @@ def test_lists(place):
 # ---- what is measured
 
 
-def can_record():
-    """Whether tcpdump may record here; a word why not."""
+def why_no_recording(*user):
+    """Why tcpdump can't record here, as a user that these words call it by; nothing if it can."""
     if not shutil.which("tcpdump"):
         return "tcpdump isn't installed"
-    ran = run(["tcpdump", "-i", "lo", "-c", "1", "-w", "/dev/null", "udp and port 123 and port 124"], timeout=1)
+    ran = run([*user, "tcpdump", "-i", "lo", "-c", "1", "-w", "/dev/null", "udp and port 123 and port 124"], timeout=2)
     return "" if ran[0] == "no end" else "there is no right to record"
 
 
 def test_measure(place):
     """The distribution that is printed, its JSON, and the page that shows it."""
-    if why := can_record():
+    if why := why_no_recording():
         skipped("measure", why)
         return
     for number, words in enumerate(([], ["--load"], ["--interface", "lo"])):
@@ -360,9 +366,11 @@ def test_measuring(place):
 def test_no_right(place):
     """Without the right to record one line says so."""
     nobody = [] if os.geteuid() else ["setpriv", "--reuid=65534", "--regid=65534", "--clear-groups"]
-    readable = [*nobody, "cat", SCRIPT]
-    if not shutil.which("tcpdump") or run(readable)[0] or run([*nobody, PROGRAM, "--version"])[0] or (not nobody and not can_record()):
-        skipped("measure without the right to record", "tcpdump, setpriv, or a user without that right isn't there")
+    if not shutil.which("tcpdump") or (nobody and not shutil.which("setpriv")):
+        skipped("measure without the right to record", "tcpdump or setpriv isn't installed")
+        return
+    if run([*nobody, "cat", SCRIPT])[0] or run([*nobody, PROGRAM, "--version"])[0] or not why_no_recording(*nobody):
+        skipped("measure without the right to record", "there is no user without that right who may read the repository")
         return
     check("measure without the right", run=(run([*nobody, SCRIPT, "measure", "--count", "10"], env=ENVIRONMENT), (4, b"", (
         b"ntpaudit-dossier: there is no right to record on lo: it takes root, or the capability CAP_NET_RAW for tcpdump\n"))))
