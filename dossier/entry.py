@@ -101,7 +101,8 @@ def read_record(folder: str) -> Record | None:
     try:
         said: dict[str, Any] = {**found, "entries": [Entry(**entry) for entry in found["entries"]]}
         record = Record(**said)
-        return record if all(map(is_own, record.entries)) else None
+        is_inside = not any("/" in name for name in [*record.inputs, record.capture])
+        return record if is_inside and all(map(is_own, record.entries)) else None
     except (TypeError, KeyError, AttributeError):
         return None
 

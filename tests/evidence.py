@@ -191,6 +191,16 @@ def test_signed_evidence(place):
     check("evidence that was changed", run=(dossier("verify", folder)[:2], (1, f"{folder}: kept.txt isn't the file that was audited\n".encode())))
 
 
+def test_elsewhere(place):
+    """An audit.json of a stranger's that names files outside of its folder isn't followed there."""
+    folder = folder_of(place, "elsewhere")
+    dossier("audit", folder)
+    record = json.loads((folder / "audit.json").read_text())
+    for change in ({"inputs": {**record["inputs"], "/dev/zero": "0"}}, {"capture": "../elsewhere/f.pcap"}, {"inputs": 5}, {"capture": None}):
+        (folder / "audit.json").write_text(json.dumps({**record, **change}))
+        check(f"a record with {change}", run=(dossier("verify", folder)[:2], (4, f"{folder}: ntpaudit-dossier: not audited\n".encode())))
+
+
 def test_older_records(place):
     """A record of form 3 is verified and shown as it was, and audited again in the new form."""
     folder = folder_of(place, "older")
@@ -504,5 +514,5 @@ def test_auditing(place):
     check("the sections of AUDITING.md that a page names", there=([name for name in named if name not in headings], []), count=(len(set(named)) > 2, True))
 
 
-EVIDENCE_TESTS = [test_signatures, test_ended_keys, test_allowed_signers, test_signing_again, test_signed_evidence, test_older_records, test_leap_seconds, test_lists, test_measure, test_measuring, test_no_right,
+EVIDENCE_TESTS = [test_signatures, test_ended_keys, test_allowed_signers, test_signing_again, test_signed_evidence, test_older_records, test_elsewhere, test_leap_seconds, test_lists, test_measure, test_measuring, test_no_right,
                   test_client, test_steps, test_copies, test_auditing]
