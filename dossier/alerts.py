@@ -5,10 +5,11 @@ from collections.abc import Callable
 from typing import Any
 
 from .recording import SECOND
+from .support import named
 from .text import count
 from .text import reference as letters
 from .units import shown_time, span_of_seconds
-from .words import between, is_or_are
+from .words import between, capital, is_or_are
 
 Alert = dict[str, Any]
 ON_DRIFT = "There it rests on the drift that the claim grants, and on nothing recorded."
@@ -53,6 +54,11 @@ def leap(found: Alert) -> str:
             "A span with a leap second in it can't be claimed.")
 
 
+def leap_second(found: Alert) -> str:
+    return (f"{capital(named(found['seconds']))} lies in the span or among the exchanges, by the list of leap seconds. "
+            "No such span can be claimed.")
+
+
 def sources(found: Alert) -> str:
     return (f"Only {count(found['count'], 'server has', 'servers have')} a sample. "
             "With fewer than four there is none to spare: it takes three to outvote one that is wrong.")
@@ -65,6 +71,7 @@ def reference(found: Alert) -> str:
 
 WORDS: dict[str, Callable[[Alert], str]] = {
     "empty": empty, "outside": outside, "no-drift": no_drift, "falls": falls, "far": far, "leap": leap,
+    "leap-second": leap_second,
     "sources": sources, "reference": reference,
 }
 

@@ -8,12 +8,15 @@ from . import folder as files
 from .alerts import warning_words
 from .answers import Envelope, read_envelope
 from .entry import REFUSED, Entry, Record
+from .evidence import evidence
 from .figure import MARKS, legend, picture, stroke
 from .folder import ENVELOPE
 from .markup import html, minus, with_code
-from .premises import evidence, premises
+from .premises import premises
 from .program import sum_of
 from .ranges import ranges_of
+from .signature import GOOD, NONE, UNSEEN, Signature, in_words
+from .support import support
 from .text import count
 from .units import range_ms
 from .words import capital, fit, sentence, span, to_do
@@ -34,18 +37,28 @@ COUNTS = {
 }
 
 
-def article(name: str, folder: str, record: Record, entry: Entry, badge: str) -> str:
+def article(name: str, folder: str, record: Record, entry: Entry, signature: Signature, badge: str) -> str:
     day = "" if entry.part == "." else f", {entry.part}"
     parts = [
         f'<article id="{name}">',
         f"<h2>{html(folder)}{day} {badge}</h2>",
         f'<p class="lead">{minus(html(sentence(entry)))}</p>',
+        *signed(signature),
     ]
     if entry.verdict == REFUSED:
         parts += [f"<pre>{html(entry.fault['line'])}</pre>", f"<p>{with_code(capital(to_do(entry)))}</p>"]
     else:
         parts += list(body(name, folder, record, entry))
     return "\n".join([*parts, *sums(record, entry), "</article>"])
+
+
+def signed(found: Signature) -> Iterator[str]:
+    """Who signed it and when, or what is wrong with the signature."""
+    words = f"{html(capital(in_words(found)))} ({see('The signature')})"
+    if found.state in (GOOD, UNSEEN):
+        yield f'<p class="signed">{words}.</p>'
+    elif found.state != NONE:
+        yield f'<ul class="warnings"><li>{words}.</li></ul>'
 
 
 def body(name: str, folder: str, record: Record, entry: Entry) -> Iterator[str]:
@@ -58,7 +71,7 @@ def body(name: str, folder: str, record: Record, entry: Entry) -> Iterator[str]:
     envelope = kept_envelope(folder, entry)
     yield figure(name, entry, envelope) if envelope else NO_PICTURE
     yield servers(entry, envelope)
-    yield granted(folder, entry)
+    yield granted(folder, record, entry)
     yield counts(entry)
     yield again(record, entry)
 
@@ -112,24 +125,41 @@ def servers(entry: Entry, envelope: Envelope | None) -> str:
             remarks += ["<b>stands apart</b>: it never meets the hull"] if found.apart else []
             remarks += [f"contradicts itself in {count(found.crossed, 'piece')}"] if found.crossed else []
         lines.append([f"<span>{swatch}{html(address)}</span>", str(number), html(server["group"]), f"{samples:,}", outer,
-                      "; ".join(remarks)])
+                      f'<span class="free">{"; ".join(remarks)}</span>' if remarks else ""])
     columns = {"Address": "", "Number": "narrow", "Group": "narrow", "Samples": "number",
                "The clock's error by it, at the outermost": "", "Remark": ""}
     return "<h3>Servers</h3>\n" + rows(columns, lines)
 
 
-def granted(folder: str, entry: Entry) -> str:
-    """The premises, with room for a signature."""
+def granted(folder: str, record: Record, entry: Entry) -> str:
+    """The premises, each with what supports it, and with room for a signature."""
     kept = evidence(folder)
-    lines = [[html(premise.granted), html(premise.known), html(kept.get(premise.name, "")), ""]
-             for premise in premises(entry.claim)]
-    columns = {"Granted": "", "How one comes to know it": "", "Where the evidence is kept": "sign",
+    lines = []
+    for premise in premises(entry.claim):
+        where = kept.get(premise.name, "")
+        known = "<br>".join([html(premise.known), *support(premise.name, folder, record, entry, where)])
+        lines.append([html(premise.granted), f'<span class="free">{known}</span>', html(where), ""])
+    later = f'<p class="soft">{LATER}</p>' if is_later(folder, record) else ""
+    columns = {"Granted": "granted", "How one comes to know it": "", "Where the evidence is kept": "sign",
                "Name, date, signature": "sign"}
     return "\n".join([
         "<h3>What the claim grants</h3>",
-        '<p class="soft">A yes is as true as these. Nothing in a capture shows them: a person does, and signs.</p>',
-        rows(columns, lines),
+        f'<p class="soft">A yes is as true as these. Nothing in a capture shows them: a person does, and signs '
+        f'({see("What stays for a person")}).</p>',
+        later + rows(columns, lines),
     ])
+
+
+LATER = f"<b>{files.EVIDENCE} isn't the file that was audited:</b> no sum in {files.AUDIT}, and no signature, is for it."
+
+
+def is_later(folder: str, record: Record) -> bool:
+    """Whether there is evidence that came after the audit, or was changed since."""
+    try:
+        found = sum_of(files.read(f"{folder}/{files.EVIDENCE}"))
+    except OSError:
+        return False
+    return record.inputs.get(files.EVIDENCE) != found
 
 
 def counts(entry: Entry) -> str:
@@ -148,7 +178,12 @@ def again(record: Record, entry: Entry) -> str:
         claim = files.CLAIM_OF_0 if entry.refutation["of"] == "bound 0" else files.CLAIM
         calls.append(f"refute {claim} {capture} {files.REFUTATION}")
     lines = "\n".join(f"ntpaudit {html(call)}" for call in calls)
-    return f"<h3>To see it again</h3>\n<pre>{lines}</pre>"
+    return f'<h3>To see it again</h3>\n<p class="soft">What each line shows: {see("The verdict")}.</p>\n<pre>{lines}</pre>'
+
+
+def see(section: str) -> str:
+    """A section of the page for auditors, by its name: a dossier is read far from the repository."""
+    return f"docs/AUDITING.md, \u201c{section}\u201d"
 
 
 def quoted(name: str) -> str:
@@ -164,5 +199,6 @@ def sums(record: Record, entry: Entry) -> Iterator[str]:
     lines += [[html(name), "left by the audit", html(sum_)] for name, sum_ in entry.outputs.items()]
     lines.append([html(record.program["version"] or "ntpaudit"), "the program", html(record.program["sha256"])])
     yield "<h3>Files</h3>"
-    yield f'<p class="soft">Audited at {html(record.made)}, in {html(record.seconds)} s.</p>'
+    yield (f'<p class="soft">Audited at {html(record.made)}, in {html(record.seconds)} s. What the sums are good for: '
+           f'{see("The sums")}.</p>')
     yield rows({"File": "", "What": "", "SHA-256": ""}, lines, "sums")

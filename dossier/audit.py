@@ -7,9 +7,11 @@ import time
 from collections.abc import Iterator
 from typing import Any, NamedTuple
 
+from . import VERSION
 from . import folder as files
 from .entry import REFUSED, Entry, Record, read_record, record_text
-from .folder import read, remove, write_beside
+from .evidence import evidence_files
+from .folder import is_capture, read, remove, write_beside
 from .program import Fault, Operand, Program, now, sum_of_file
 from .recording import read_recording
 from .settling import Part, Settling
@@ -20,38 +22,86 @@ class Options(NamedTuple):
     step: int | None = None
     days: bool = False
     again: bool = False
+    leaps: dict[str, Any] = {}
+    """What the list of leap seconds says."""
+    is_own_list: bool = False
+    """Whether that list was named, and isn't just the system's."""
 
     @property
     def kept(self) -> dict[str, Any]:
         """What is kept of them: with other options a folder is audited again."""
         return {"step": self.step, "days": self.days}
 
+    def has_same_list(self, old: Record) -> bool:
+        """Whether an audit needn't be made again for its list. The system's may become another at any time."""
+        return not self.is_own_list or old.leap_seconds.get("sha256") == self.leaps["sha256"]
 
-def audit_folder(options: Options, program: Program) -> tuple[Record, bool]:
-    """Audits the current folder and leaves its files, audit.json last. True if it was done and nothing has changed
-    since.
 
-    A refusal is an audit too, and is written down. A fault is raised only if that isn't possible.
+class Audited(NamedTuple):
+    """What came of a folder: its record; whether it was done and nothing has changed since; and whether it was signed,
+    and the signature was taken away."""
+
+    record: Record
+    is_old: bool = False
+    was_signed: bool = False
+
+
+SIGNED = ("ntpaudit-dossier: signed, and not as it would be audited now. It is audited again only with --again, which "
+          "takes the signature away")
+COMMAND_LINE = 5
+
+
+def audit_folder(options: Options, program: Program) -> Audited:
+    """Audits the current folder and leaves its files, audit.json last.
+
+    A refusal is an audit too, and is written down. A fault is raised only if that isn't possible, or if the folder is
+    signed and would have to be audited again.
     """
     begun, made, old = time.monotonic(), now(), read_record(".")
     by, kept = {"version": program.version, "sha256": program.sha256}, options.kept
-    inputs: dict[str, str] = {}
-    capture = ""
+    inputs, refusal = sums_of_inputs()
+    is_same = old and (old.dossier, old.inputs, old.options, old.program) == (VERSION, inputs, kept, by)
+    if old and is_same and not options.again and options.has_same_list(old) and is_whole(old):
+        return Audited(old, is_old=True)
+    was_signed = take_signature(options)
+    capture, leaps = "", options.leaps
     try:
-        inputs = sums(files.inputs())
-        is_same = old and (old.inputs, old.options, old.program) == (inputs, kept, by)
-        if old and is_same and not options.again and is_whole(old):
-            return old, True
+        if refusal:
+            raise refusal
         files.sweep_parts()
         capture = take_capture(inputs)
         entries = audit_parts(capture, options, program)
     except Fault as fault:
-        entries = [Entry(part=".", verdict=REFUSED, fault={"line": fault.line, "status": fault.status})]
-    record = Record(by, kept, inputs, capture, entries, made, round(time.monotonic() - begun, 3))
+        entries, leaps = [Entry(part=".", verdict=REFUSED, fault={"line": fault.line, "status": fault.status})], {}
+    record = Record(by, kept, inputs, capture, entries, made, round(time.monotonic() - begun, 3),
+                    leap_seconds=leaps)
     if old:
         remove_files(old.outputs.keys() - record.outputs.keys() - inputs.keys())
     write_beside(files.AUDIT, record_text(record))
-    return record, False
+    return Audited(record, was_signed=was_signed)
+
+
+def take_signature(options: Options) -> bool:
+    """Takes a signature away, if there is one, and if that was asked for."""
+    if not os.path.lexists(files.SIGNATURE):
+        return False
+    if not options.again:
+        raise Fault(SIGNED, COMMAND_LINE)
+    try:
+        remove(files.SIGNATURE)
+    except OSError as error:
+        line = f"ntpaudit-dossier: {files.SIGNATURE} can't be taken away ({error.strerror})"
+        raise Fault(line, files.DEVICE) from None
+    return True
+
+
+def sums_of_inputs() -> tuple[dict[str, str], Fault | None]:
+    """The SHA-256 of each input, by its name: of the claim, the captures, and the evidence. Or why there are none."""
+    try:
+        names = files.inputs()
+        return sums([*names, *(name for name in evidence_files() if name not in names)]), None
+    except Fault as fault:
+        return {}, fault
 
 
 def sums(names: list[str]) -> dict[str, str]:
@@ -73,7 +123,7 @@ def is_whole(old: Record) -> bool:
 
 def take_capture(inputs: dict[str, str]) -> str:
     """The name of the one capture, or of what several are joined to."""
-    names = [name for name in inputs if name != files.CLAIM]
+    names = list(filter(is_capture, inputs))
     if len(names) == 1:
         return names[0]
     from .joining import join
@@ -83,10 +133,10 @@ def take_capture(inputs: dict[str, str]) -> str:
 
 def audit_parts(capture: str, options: Options, program: Program) -> list[Entry]:
     operand = Operand(capture)
-    recording = read_recording(program, files.CLAIM, operand)
+    recording = read_recording(program, files.CLAIM, operand, wants_request=True)
     claim = json.loads(read(files.CLAIM))
     parts = parts_of(claim, options.days)
-    entries = [Settling(part, operand, program).settle(recording, options.step) for part in parts]
+    entries = [Settling(part, operand, program, options.leaps).settle(recording, options.step) for part in parts]
     if capture != files.JOINED:
         return entries
     joined = {capture: sum_of_file(capture)}

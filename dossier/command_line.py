@@ -5,9 +5,12 @@ import argparse
 import os
 import sys
 from collections.abc import Callable
-from typing import NoReturn
+from typing import TYPE_CHECKING, NoReturn
 
-from .program import Fault, Program, Stopped, find_program
+from .program import Fault, Program, Stopped, find_program, now
+
+if TYPE_CHECKING:
+    from .correction import Correction
 
 USAGE, OUTPUT_FAILED, INTERRUPTED = 5, 4, 130
 
@@ -17,6 +20,7 @@ ABOUT = """Puts many audits by ntpaudit together: folders with a claim and captu
   ntpaudit-dossier draft web-1/f.pcap > web-1/claim.json                      a claim to start from: read it, mend it
   ntpaudit-dossier audit web-1                                                the audit
   ntpaudit-dossier page web-1 > dossier.html                                  the page
+  ntpaudit-dossier sign web-1 --key ~/.ssh/id_ed25519                         who answers for it (if you like)
   ntpaudit-dossier verify web-1                                               a year later
 
 docs/DOSSIER.md has more. Statuses are those of ntpaudit: 0 yes, 1 no, 2 an input is refused, 3 out of memory, 4 a
@@ -35,7 +39,15 @@ def parser() -> Parser:
     draft.add_argument("captures", nargs="+", metavar="CAPTURE")
     draft.add_argument("--client", metavar="ADDRESS", help="the client; the one that asks most if it is left out")
     draft.add_argument("--day", action="store_true", help="claim whole days (UTC)")
-    draft.add_argument("--drift-ppb", type=int, default=100_000, metavar="N")
+    draft.add_argument("--drift-ppb", type=int, metavar="N",
+                       help="oscillator and client together; by the client's configuration, else 100000")
+    client = draft.add_mutually_exclusive_group()
+    client.add_argument("--chrony", action="append", metavar="FILE", help="chronyd's configuration, which limits the drift")
+    client.add_argument("--ntpd", action="append", metavar="FILE", help="ntpd's configuration")
+    draft.add_argument("--tracking", action="append", metavar="FILE", help="chronyd's tracking.log, or its messages")
+    draft.add_argument("--oscillator-ppb", type=in_range(0, 500_000_000), default=100_000, metavar="N",
+                       help="the oscillator alone, to which the configuration adds; 100000 if it is left out")
+    draft.add_argument("--evidence", metavar="FILE", help="leave what was read of the client there, for evidence.json")
     draft.add_argument("--reading-ns", type=int, default=100_000, metavar="N")
     audit = commands.add_parser("audit", help="audit folders")
     audit.add_argument("folders", nargs="+", metavar="FOLDER")
@@ -44,16 +56,29 @@ def parser() -> Parser:
     audit.add_argument("--days", action="store_true", help="a verdict for each day (UTC) of the span")
     audit.add_argument("--jobs", type=in_range(1, 4096), default=0, metavar="N",
                        help="folders side by side; as many as processors if it is left out")
-    audit.add_argument("--again", action="store_true", help="audit folders that are done and unchanged, too")
+    audit.add_argument("--again", action="store_true",
+                       help="audit folders that are done, or signed, too; a signature is taken away")
+    audit.add_argument("--leap-seconds", metavar="FILE", help="the list of leap seconds; the system's if it is left out")
     page = commands.add_parser("page", help="print a page of audits that were made")
     page.add_argument("folders", nargs="+", metavar="FOLDER")
     form = page.add_mutually_exclusive_group()
     form.add_argument("--json", action="store_true", help="the table as JSON")
     form.add_argument("--csv", action="store_true", help="the table as CSV")
+    page.add_argument("--signers", metavar="FILE", help="who may sign: signatures are looked at")
     page.add_argument("--title", default="Clock dossier", metavar="TEXT")
     page.add_argument("-o", "--output", metavar="FILE", help="write the file whole or not at all")
     verify = commands.add_parser("verify", help="see whether inputs and answers are still the same")
     verify.add_argument("folders", nargs="+", metavar="FOLDER")
+    verify.add_argument("--signers", metavar="FILE", help="who may sign, as ssh-keygen's file of allowed signers has it")
+    sign = commands.add_parser("sign", help="sign audits with a key of ssh")
+    sign.add_argument("folders", nargs="+", metavar="FOLDER")
+    sign.add_argument("--key", required=True, metavar="FILE",
+                      help="a private key, or the public one of a key that an agent holds")
+    measure = commands.add_parser("measure", help="measure how far the times of records are from the clock")
+    measure.add_argument("--interface", default="lo", metavar="NAME", help="where to record; the loopback if left out")
+    measure.add_argument("--count", type=in_range(10, 100_000), default=1000, metavar="N", help="packets; 1000 if left out")
+    measure.add_argument("--load", action="store_true", help="keep all processors busy meanwhile")
+    measure.add_argument("-o", "--output", metavar="FILE", help="leave it as JSON too, for evidence.json to name")
     picture = commands.add_parser("picture", help="print the picture of a claim and a capture, as SVG")
     picture.add_argument("claim", metavar="CLAIM")
     picture.add_argument("capture", metavar="CAPTURE")
@@ -102,19 +127,28 @@ def run(given: argparse.Namespace) -> int:
     if given.command == "page":
         from .page import write_page
         return write_page([tidy(folder) for folder in given.folders], given)
+    if given.command == "sign":
+        from .signing import sign_all
+        return sign_all([tidy(folder) for folder in given.folders], given.key)
     program = find_program()
+    if given.command == "measure":
+        from .measuring import Wanted, measure
+        return measure(program, Wanted(given.interface, given.count, given.load), given.output)
     if given.command == "draft":
         return run_draft(given, program)
     if given.command == "audit":
         from .audit import Options
+        from .leap import read_list
         from .task import Task
         from .work import audit_all
         jobs = given.jobs or len(os.sched_getaffinity(0))
-        options = Options(given.step, given.days, given.again)
+        leaps, is_own = read_list(given.leap_seconds), given.leap_seconds is not None
+        options = Options(given.step, given.days, given.again, leaps, is_own)
         return audit_all(Task([tidy(folder) for folder in given.folders], options, program), jobs)
     if given.command == "verify":
+        from .signature import allowed
         from .verify import verify_all
-        return verify_all([tidy(folder) for folder in given.folders], program)
+        return verify_all([tidy(folder) for folder in given.folders], program, allowed(given.signers))
     from .figure import print_picture
     return print_picture(program, given.claim, given.capture, given.step)
 
@@ -124,13 +158,36 @@ def tidy(folder: str) -> str:
     return folder.rstrip("/") or "/"
 
 
+def correction(given: argparse.Namespace) -> Correction | None:
+    """What the client's configuration and log say, if they are given."""
+    from .client import configuration
+    from .correction import Correction, checked
+    from .tracking import read_tracking
+    if (given.tracking and not given.chrony) or (given.evidence and not (given.chrony or given.ntpd)):
+        raise Fault("ntpaudit-dossier: --tracking takes --chrony, and --evidence takes --chrony or --ntpd", USAGE)
+    found = configuration(given.chrony, given.ntpd)
+    if found is None:
+        return None
+    log = read_tracking(given.tracking, found.step_s) if given.tracking else None
+    return checked(Correction(given.oscillator_ppb, found, log, now()))
+
+
 def run_draft(given: argparse.Namespace, program: Program) -> int:
-    from .draft import Wanted, claim_text, draft
-    wanted = Wanted(given.client, given.day, given.drift_ppb, given.reading_ns)
-    claim, remarks = draft(program, given.captures, wanted)
+    from .correction import correction_text
+    from .folder import write_beside
+    from .units import seconds_of
+    from .draft import DRIFT, Wanted, claim_text, draft
+    found = correction(given)
+    proposed = found.drift_ppb if found else DRIFT
+    drift_ppb = proposed if given.drift_ppb is None else given.drift_ppb
+    claim, remarks = draft(program, given.captures, Wanted(given.client, given.day, drift_ppb, given.reading_ns))
+    if claim and found:
+        remarks += found.sentences() + found.cautions(seconds_of(claim["from"]), seconds_of(claim["to"]))
     for remark in remarks:
         say(remark)
     if claim is None:
         return 1
+    if found and given.evidence:
+        write_beside(given.evidence, correction_text(found))
     sys.stdout.write(claim_text(claim))
     return 0

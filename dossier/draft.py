@@ -24,6 +24,8 @@ COARSEST = 64
 NO_BOUND = 1_000_000_000
 """Nanoseconds that stand in a draft for which no bound is known."""
 GREATEST_BOUND = 10**15
+DRIFT = 100_000
+"""Parts in 10^9 that stand in a draft if nothing is known of the client: an oscillator alone."""
 UNKNOWN = "00000000"
 FOR_NOW = "one second stands there for now."
 References = dict[str, set[tuple[int, str]]]

@@ -6,7 +6,7 @@ import re
 from collections.abc import Sequence
 from typing import Any, NamedTuple
 
-from . import VERSION
+from . import FORMS, VERSION
 from .folder import AUDIT, CERTIFICATE, CLAIM, CLAIM_OF_0, ENVELOPE, JOINED, REFUTATION, REPORT, read_json
 
 YES, NO, NEITHER, REFUSED = "yes", "no", "neither", "refused"
@@ -51,6 +51,8 @@ class Entry(NamedTuple):
     warnings: Sequence[dict[str, Any]] = ()
     outputs: dict[str, str] = {}
     """The SHA-256 of each file that the audit left, by its name seen from the record's folder."""
+    leap: dict[str, Any] = {}
+    """What the list of leap seconds says of the span and all exchanges; nothing in a record of form 3."""
 
     @property
     def status(self) -> int:
@@ -70,6 +72,10 @@ class Record(NamedTuple):
     made: str
     seconds: float
     dossier: int = VERSION
+    signed: str = ""
+    """When this was signed, as the signer says; nothing if it wasn't."""
+    leap_seconds: dict[str, Any] = {}
+    """What the list of leap seconds says that was looked up; nothing in a record of form 3."""
 
     @property
     def status(self) -> int:
@@ -88,14 +94,15 @@ def record_text(record: Record) -> bytes:
 
 
 def read_record(folder: str) -> Record | None:
-    """The record of a folder; None if there is none, or one of another form."""
+    """The record of a folder; None if there is none, or one of a form that isn't read."""
     found: Any = read_json(f"{folder}/{AUDIT}")
-    if not isinstance(found, dict) or found.get("dossier") != VERSION:
+    if not isinstance(found, dict) or found.get("dossier") not in FORMS:
         return None
     try:
         said: dict[str, Any] = {**found, "entries": [Entry(**entry) for entry in found["entries"]]}
         record = Record(**said)
-        return record if all(map(is_own, record.entries)) else None
+        is_inside = not any("/" in name for name in [*record.inputs, record.capture])
+        return record if is_inside and all(map(is_own, record.entries)) else None
     except (TypeError, KeyError, AttributeError):
         return None
 

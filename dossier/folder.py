@@ -20,12 +20,13 @@ ENVELOPE = "envelope.txt"
 REFUTATION = "refutation.json"
 CLAIM_OF_0 = "bound-0.claim.json"
 AUDIT = "audit.json"
+SIGNATURE = f"{AUDIT}.sig"
 JOINED = "joined.pcap"
 
 CAPTURE = re.compile(r".*\.(pcap|pcapng|cap)[0-9]*", re.DOTALL)
 """Names of captures: also `f.pcap1` and so on, as `tcpdump -C` writes them."""
 
-PART = re.compile(r"\..*\.(\d+)\.part", re.DOTALL)
+PART = re.compile(r"\..*\.(\d+)\.part(\.sig)?", re.DOTALL)
 """Names of files that are being written, with the number of the process that writes."""
 
 COMPACT = json.JSONEncoder(separators=(",", ":"))

@@ -12,6 +12,7 @@ from typing import Any, NamedTuple
 from .answers import Envelope, Hull, Report, read_hulls, read_nothing, read_report
 from .entry import NEITHER, NO, YES, Entry
 from .folder import compact
+from .leap import WITHIN, look_up
 from .recording import SECOND, Recording
 from .units import bound_ticks, seconds_of
 
@@ -48,10 +49,13 @@ def groups_of(claim: dict[str, Any]) -> list[list[int]]:
     return claim.get("groups") or [[k] for k in range(len(claim["servers"]))]
 
 
-def judge(part: str, claim: dict[str, Any], recording: Recording, texts: Texts) -> Entry:
+def judge(
+        part: str, claim: dict[str, Any], recording: Recording, texts: Texts, leaps: dict[str, Any]) -> Entry:
+    """The entry that the program's texts come to, with what a list of leap seconds says."""
     envelope = read_hulls(texts.envelope)
     report = read_report(texts.report) if texts.decided_by == "check" else None
     failing = count_failing(envelope, bound_ticks(claim["bound_ns"]))
+    leap = look_up(leaps, claim, recording)
     verdict = NO if not texts.is_yes else NEITHER if failing["empty"] else YES
     return Entry(
         part=part,
@@ -68,7 +72,8 @@ def judge(part: str, claim: dict[str, Any], recording: Recording, texts: Texts) 
         counts=recording.counts,
         servers=servers_of(claim, recording),
         refutation=refutation_of(texts),
-        warnings=list(warnings(claim, recording, envelope, report)),
+        warnings=[*warnings(claim, recording, envelope, report), *leap_warnings(leap)],
+        leap=leap,
     )
 
 
@@ -149,6 +154,11 @@ def warnings(
         yield {"kind": "sources", "count": report.sources}
     if report is not None and report.reference is not None:
         yield {"kind": "reference", "reference": report.reference}
+
+
+def leap_warnings(leap: dict[str, Any]) -> Iterator[Alert]:
+    if leap.get("says") == WITHIN:
+        yield {"kind": "leap-second", "seconds": leap["seconds"]}
 
 
 def far_pieces(claim: dict[str, Any], recording: Recording, envelope: Envelope) -> Iterator[Alert]:

@@ -11,6 +11,7 @@ from .entry import MANGLED, NEITHER, NO, REFUSED, YES, Record
 from .folder import write_beside
 from .markup import html, minus, with_code
 from .program import now
+from .signature import GOOD, NONE, STRANGER, UNFIT, UNSEEN, Signature, allowed, signature_of
 from .style import PAGE
 from .table import Row, as_csv, as_json, not_audited, records_of, row_of, rows_of
 from .text import count
@@ -29,13 +30,13 @@ POLICY = "default-src 'none'; style-src 'unsafe-inline'"
 
 def write_page(folders: list[str], given: argparse.Namespace) -> int:
     """Prints the page or the table, or writes it whole."""
-    records = records_of(folders)
+    records, signers = records_of(folders), allowed(given.signers)
     if given.json:
-        text = as_json(rows_of(records))
+        text = as_json(rows_of(records, signers))
     elif given.csv:
-        text = as_csv(rows_of(records))
+        text = as_csv(rows_of(records, signers))
     else:
-        text = page(records, given.title)
+        text = page(records, given.title, signers)
     data = text.encode("utf-8", "backslashreplace")
     if given.output:
         write_beside(given.output, data)
@@ -53,27 +54,28 @@ class Section:
     article: str
 
 
-def sections(records: list[tuple[str, Record]]) -> list[Section]:
+def sections(records: list[tuple[str, Record]], signers: str | None) -> list[Section]:
     found: list[Section] = []
     for folder, record in records:
+        signature = signature_of(folder, record.signed, signers)
         try:
-            found += sections_of(folder, record, len(found))
+            found += sections_of(folder, record, signature, len(found))
         except MANGLED:
-            found += sections_of(folder, not_audited(), len(found))
+            found += sections_of(folder, not_audited(), signature, len(found))
     return found
 
 
-def sections_of(folder: str, record: Record, first: int) -> list[Section]:
+def sections_of(folder: str, record: Record, signature: Signature, first: int) -> list[Section]:
     found = []
     for number, entry in enumerate(record.entries, first):
         name = f"a{number}"
-        said = article(name, folder, record, entry, badge(entry.verdict))
-        found.append(Section(name, row_of(folder, entry), said))
+        said = article(name, folder, record, entry, signature, badge(entry.verdict))
+        found.append(Section(name, row_of(folder, entry, signature), said))
     return found
 
 
-def page(records: list[tuple[str, Record]], title: str) -> str:
-    found = sections(records)
+def page(records: list[tuple[str, Record]], title: str, signers: str | None) -> str:
+    found = sections(records, signers)
     rows = [section.row for section in found]
     return "\n".join([
         "<!DOCTYPE html>",
@@ -89,7 +91,7 @@ def page(records: list[tuple[str, Record]], title: str) -> str:
         "<body>",
         f'<header>\n<h1>{html(title)}</h1>\n<p class="soft">{html(made_by(records))}</p>\n{tally(rows)}\n</header>',
         "<main>",
-        table(rows, [section.name for section in found]),
+        table(rows, [section.name for section in found], signers is not None),
         *(section.article for section in found),
         "</main>",
         "</body>",
@@ -119,13 +121,14 @@ def tally(rows: list[Row]) -> str:
 
 
 COLUMNS = {"Machine": "machine", "Day": "", "Verdict": "", "Claimed": "number", "Least bound": "number",
-           "Worst piece": "time", "Samples": "number", "Servers": "", "Granted": ""}
+           "Worst piece": "time", "Samples": "number", "Servers": "", "Granted": "", "Signed": "signer"}
 """The columns of the table, each with its class."""
 
 
-def table(rows: list[Row], names: list[str]) -> str:
+def table(rows: list[Row], names: list[str], is_looked_at: bool) -> str:
     """Machines and days, and below each line why it isn't a plain yes. A column that would be empty is left out."""
-    cells = [dict(zip(COLUMNS, cells_of(row, name))) for row, name in zip(rows, names)]
+    signed = [signed_cell(row, is_looked_at) for row in rows]
+    cells = [dict(zip(COLUMNS, [*cells_of(row, name), cell])) for row, name, cell in zip(rows, names, signed)]
     shown = [column for column in COLUMNS if any(line[column] for line in cells)]
     head = "".join(f"<th{of_column(column)}>{column}</th>" for column in shown)
     groups = []
@@ -146,12 +149,25 @@ def cells_of(row: Row, name: str) -> list[str]:
     """The cells of a line. If there is no verdict there are no figures."""
     cells = [f'<a href="#{name}">{html(row.machine)}</a>', row.day, badge(row.verdict)]
     if row.bound_ns is None or row.groups is None:
-        return [*cells, *[""] * (len(COLUMNS) - len(cells))]
+        return [*cells, *[""] * (len(COLUMNS) - 1 - len(cells))]
     least = "none" if row.least_bound_ns is None else f"{ns_up_ms(row.least_bound_ns)} ms"
     servers = f"{row.servers} in {count(row.groups, 'group')}" if row.groups != row.servers else f"{row.servers}"
     worst = f"<span>{row.worst_begin[:10]}</span> <span>{row.worst_begin[11:19]}</span>"
     wrong = f"{row.false_max or 'none'} wrong"
     return [*cells, f"{ns_ms(row.bound_ns)} ms", least, worst, f"{row.samples:,}", servers, wrong]
+
+
+SIGNED = {NONE: "nobody", UNSEEN: "not looked at", UNFIT: "doesn\u2019t fit", STRANGER: "by a stranger"}
+
+
+def signed_cell(row: Row, is_looked_at: bool) -> str:
+    """Who signed, and when; nothing if nobody did and it wasn't asked."""
+    if row.signature == NONE and not is_looked_at:
+        return ""
+    if row.signature != GOOD:
+        return f"<b>{SIGNED[row.signature]}</b>" if row.signature in (UNFIT, STRANGER) else SIGNED[row.signature]
+    at = f"<span>{html(row.signed_at[:10])}</span> <span>{html(row.signed_at[11:19])}</span>"
+    return f'<span class="free">{html(row.signer)} {at}</span>'
 
 
 def why_of(row: Row) -> list[str]:

@@ -1,14 +1,10 @@
-"""What a claim grants: the premises of every yes, for a person to sign, each with where its evidence is kept.
-
-They are those of docs/THEOREM.md, with the claim's numbers. A file evidence.json in a folder may say where the evidence
-for each is kept: an object of texts, with the names below.
-"""
+"""What a claim grants: the premises of every yes, for a person to sign. They are those of docs/THEOREM.md, with the
+claim's numbers."""
 from __future__ import annotations
 
 from dataclasses import dataclass
 from typing import Any
 
-from .folder import EVIDENCE, read_json
 from .judgement import groups_of
 from .units import ns_ms
 
@@ -43,9 +39,3 @@ def premises(claim: dict[str, Any]) -> list[Premise]:
                 "smears one without being counted as wrong.",
                 "The bulletins of the IERS."),
     ]
-
-
-def evidence(folder: str) -> dict[str, str]:
-    """Where the evidence for each premise is kept, as evidence.json says it."""
-    found = read_json(f"{folder}/{EVIDENCE}")
-    return {str(name): str(text) for name, text in found.items()} if isinstance(found, dict) else {}

@@ -112,7 +112,8 @@ def find_program() -> Program:
     """The program under which all is done, with its version and its sum."""
     path = path_of_program()
     if not path or not os.access(path, os.X_OK):
-        raise Fault("ntpaudit: the program is not there", 70)
+        where = path or "neither beside ntpaudit-dossier nor on the PATH"
+        raise Fault(f"ntpaudit: the program is not there ({where}): set NTPAUDIT to its path", 70)
     caller = Caller()
     status, version, _ = caller.run([path, "--version"], NOTHING)
     lines = version.decode("utf-8", "replace").splitlines()
@@ -121,16 +122,16 @@ def find_program() -> Program:
 
 def path_of_program() -> str | None:
     """The file that the environment's NTPAUDIT names (from the repository's root); or the one that the launcher keeps,
-    which it has made sure of just now; or, if this is installed, the one that was installed beside it; or `ntpaudit` on
-    the PATH."""
+    which it has made sure of just now; or, if this is a copy or installed, the one beside it; or `ntpaudit` on the
+    PATH."""
     path = os.environ.get("NTPAUDIT")
     if path:
         return os.path.realpath(os.path.join(ROOT, path))
     if os.path.exists(f"{ROOT}/crates.txt"):
         return path_of_launcher()
-    beside = os.path.join(os.path.dirname(os.path.dirname(ROOT)), "bin", "ntpaudit")
-    if os.path.exists(beside):
-        return beside
+    for beside in (f"{ROOT}/ntpaudit", os.path.join(os.path.dirname(os.path.dirname(ROOT)), "bin", "ntpaudit")):
+        if os.path.exists(beside):
+            return beside
     import shutil
     found = shutil.which("ntpaudit")
     return found and os.path.abspath(found)

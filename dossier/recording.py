@@ -49,6 +49,14 @@ class Recording:
         """When each sample's reply was recorded, in rising order."""
         return sorted(nanoseconds(self.replies))
 
+    def exchanges(self) -> list[int]:
+        """The times between which all exchanges lie, if there are any: the first request, which has to have been looked
+        for, and the last reply; or of all packets, if their times fall back."""
+        if self.falls and self.first is not None and self.last is not None:
+            return [self.first, self.last]
+        ends = nanoseconds(self.replies[:1] + self.replies[-1:])
+        return ends if self.first_request is None else [*ends, self.first_request]
+
     def some_times(self) -> list[int]:
         """The times of some hundred of these replies, the first and the last among them."""
         return nanoseconds(self.replies[:: 1 + len(self.replies) // 100] + self.replies[-1:])

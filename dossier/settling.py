@@ -36,8 +36,8 @@ class Part(NamedTuple):
 class Settling:
     """A claim that is being settled, and the files that were left so far."""
 
-    def __init__(self, part: Part, capture: Operand, program: Program):
-        self.part, self.capture, self.program = part, capture, program
+    def __init__(self, part: Part, capture: Operand, program: Program, leaps: dict[str, Any]):
+        self.part, self.capture, self.program, self.leaps = part, capture, program, leaps
         self.claim = part.within(files.CLAIM)
         self.left: dict[str, bytes] = {}
 
@@ -50,7 +50,7 @@ class Settling:
         except OSError as error:
             raise Fault(f"ntpaudit-dossier: the folder can't be written ({error.strerror})", files.DEVICE) from None
         texts = self.seek(self.measure(self.decide(step), step))
-        entry = judge(self.part.name, self.part.claim, recording, texts)
+        entry = judge(self.part.name, self.part.claim, recording, texts, self.leaps)
         return entry._replace(outputs={path: sum_of(data) for path, data in self.left.items()})
 
     def leave(self, name: str, data: bytes) -> str:

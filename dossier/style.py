@@ -42,7 +42,7 @@ body{background:var(--paper);color:var(--ink);font:16px/1.5 system-ui,sans-serif
 h1{font-size:28px;margin:0 0 4px}
 h2{font-size:22px;margin:0 0 8px;overflow-wrap:anywhere}
 h3{font-size:16px;margin:26px 0 6px}
-p{margin:8px 0}
+p{margin:8px 0;overflow-wrap:anywhere}
 a{color:inherit}
 .soft{color:var(--soft);font-size:14px}
 .lead{font-size:18px;max-width:46em}
@@ -68,23 +68,27 @@ th{font-weight:600;color:var(--soft)}
 h2 .verdict{font-size:16px;vertical-align:3px;margin-left:6px}
 .tally{display:flex;flex-wrap:wrap;gap:8px 18px;list-style:none;padding:0;margin:14px 0}
 .warnings{border-left:5px solid var(--bad);background:var(--panel);margin:14px 0;padding:8px 16px 8px 30px}
-.warnings li{margin:4px 0}
+.warnings li{margin:4px 0;overflow-wrap:anywhere}
 figure{margin:22px 0 8px}
 figcaption{font-size:14px;color:var(--soft);margin-bottom:4px}
 .picture{display:block;overflow:visible}
 .legend{display:flex;flex-wrap:wrap;gap:2px 18px;list-style:none;padding:0;margin:8px 0;font-size:13px}
 .legend svg,td svg{vertical-align:-2px}
 td>span{white-space:nowrap}
+td>span.free{white-space:normal;overflow-wrap:anywhere}
+.free>span{white-space:nowrap}
 .sums td{font-family:ui-monospace,monospace;font-size:12px}
 code{font:13px ui-monospace,monospace}
 pre{background:var(--panel);padding:10px 14px;font-size:13px;white-space:pre-wrap;overflow-wrap:anywhere}
 .sign{min-width:11em}
+.granted{width:26%}
+.signer{min-width:11em}
 @media(max-width:700px){
 body{padding:16px 14px 40px}
 h1{font-size:24px}
 thead{display:none}
 tr{display:block;border-bottom:2px solid var(--rule);padding:8px 0}
-td,td.number,td.narrow{display:flex;gap:12px;border:0;padding:2px 0;text-align:left;white-space:normal;width:auto}
+td,td.number,td.narrow,td.granted{display:flex;gap:12px;border:0;padding:2px 0;text-align:left;white-space:normal;width:auto}
 td>*{min-width:0}
 td::before{content:attr(data-label);flex:0 0 7.5em;color:var(--soft)}
 td:empty{display:none}

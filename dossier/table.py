@@ -9,6 +9,7 @@ from dataclasses import asdict, dataclass, field
 from .alerts import warning_words
 from .entry import MANGLED, REFUSED, Entry, Record, read_record
 from .judgement import groups_of
+from .signature import Signature, signature_of
 from .text import plain
 from .units import civil
 from .words import reason, to_do
@@ -35,6 +36,10 @@ class Row:
     reason: str = ""
     to_do: str = ""
     warnings: list[str] = field(default_factory=list)
+    leap_seconds: str = ""
+    signature: str = ""
+    signer: str = ""
+    signed_at: str = ""
 
 
 def not_audited() -> Record:
@@ -46,27 +51,29 @@ def records_of(folders: list[str]) -> list[tuple[str, Record]]:
     return [(folder, read_record(folder) or not_audited()) for folder in folders]
 
 
-def row_of(folder: str, entry: Entry) -> Row:
+def row_of(folder: str, entry: Entry, signature: Signature) -> Row:
     row = Row(plain(folder), "" if entry.part == "." else entry.part, verdict=entry.verdict)
     row.reason, row.to_do = plain(reason(entry)), to_do(entry)
     row.warnings = [warning_words(warning) for warning in entry.warnings]
+    row.signature, row.signer, row.signed_at = signature.state, plain(signature.signer), plain(str(signature.at))
     if entry.claim:
         claim, worst = entry.claim, entry.worst
         row.client, row.begin, row.end, row.bound_ns = claim["client"], claim["from"], claim["to"], claim["bound_ns"]
         row.least_bound_ns, row.worst_begin, row.worst_end = entry.least_ns, civil(worst["from"]), civil(worst["to"])
         row.samples, row.servers, row.groups = entry.counts["samples"], len(claim["servers"]), len(groups_of(claim))
-        row.false_max = claim["false_max"]
+        row.false_max, row.leap_seconds = claim["false_max"], plain(str(entry.leap.get("says", "")))
     return row
 
 
-def rows_of(records: list[tuple[str, Record]]) -> list[Row]:
+def rows_of(records: list[tuple[str, Record]], signers: str | None) -> list[Row]:
     """A row for each audit; for a folder whose audit.json was mangled one that says so."""
     found = []
     for folder, record in records:
+        signature = signature_of(folder, record.signed, signers)
         try:
-            found += [row_of(folder, entry) for entry in record.entries]
+            found += [row_of(folder, entry, signature) for entry in record.entries]
         except MANGLED:
-            found += [row_of(folder, entry) for entry in not_audited().entries]
+            found += [row_of(folder, entry, signature) for entry in not_audited().entries]
     return found
 
 

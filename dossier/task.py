@@ -9,6 +9,7 @@ from .entry import REFUSED
 from .folder import inside
 from .line import line_of, refusal_of
 from .program import Fault, Program
+from .text import plain
 
 
 class Done(NamedTuple):
@@ -30,10 +31,12 @@ class Task(NamedTuple):
         folder = self.folders[number]
         try:
             with inside(folder):
-                record, is_old = audit_folder(self.options, self.program)
+                record, is_old, was_signed = audit_folder(self.options, self.program)
         except Fault as fault:
             return self.refused(number, fault.line, fault.status)
         lines = [line_of(folder, entry) + (" (unchanged)" if is_old else "") for entry in record.entries]
+        if was_signed:
+            lines.append(f"        {plain(folder)}: its signature was taken away")
         return Done(record.status, [entry.verdict for entry in record.entries], lines)
 
     def refused(self, number: int, line: str, status: int) -> Done:

@@ -2,32 +2,40 @@
 from __future__ import annotations
 
 import json
+from typing import Any
 
+from . import VERSION
 from . import folder as files
 from .audit import parts_of
 from .entry import MANGLED, REFUSED, Entry, Record, differing, read_record
+from .evidence import evidence_files
 from .judgement import Texts, at_bound_0, judge
 from .program import Fault, Operand, Program, sum_of_file
 from .recording import Recording, read_recording
 from .settling import Part
+from .signature import GOOD, NONE, UNSEEN, in_words, signature_of
 from .text import plain
 
 DIFFERS = 1
 
 
-def verify_all(folders: list[str], program: Program) -> int:
+def verify_all(folders: list[str], program: Program, signers: str | None) -> int:
     """Prints `verified` or what differs, a line for each finding. The status is 0 if all is verified, and 1 if
-    something differs; or a fault's."""
+    something differs; or a fault's. With a file of signers, a folder that nobody signed differs too."""
     worst = 0
     for folder in folders:
+        findings: list[str] = []
+        notes: list[str] = []
+        status = DIFFERS
         try:
             with files.inside(folder):
-                findings, notes = verify(program)
+                look_at_signature(signers, findings, notes)
+                verify(program, findings, notes)
             status = DIFFERS if findings else 0
         except Fault as fault:
-            findings, notes, status = [fault.line], [], fault.status
+            findings, status = [*findings, fault.line], fault.status
         except MANGLED:
-            findings, notes, status = ["audit.json isn't one that an audit wrote"], [], DIFFERS
+            findings.append("audit.json isn't one that an audit wrote")
         for finding in findings or ["verified"]:
             print(f"{plain(folder)}: {plain(finding)}")
         for note in notes:
@@ -36,29 +44,40 @@ def verify_all(folders: list[str], program: Program) -> int:
     return worst
 
 
-def verify(program: Program) -> tuple[list[str], list[str]]:
-    """What differs in the current folder, and what is worth a note and differs in nothing."""
+def look_at_signature(signers: str | None, findings: list[str], notes: list[str]) -> None:
+    """Adds what is wrong with the current folder's signature to the findings, and to the notes who signed."""
+    record = read_record(".")
+    found = signature_of(".", record.signed if record else "", signers)
+    if found.state in (GOOD, UNSEEN):
+        notes.append(in_words(found))
+    elif found.state != NONE or signers is not None:
+        findings.append(in_words(found))
+
+
+def verify(program: Program, findings: list[str], notes: list[str]) -> None:
+    """Adds what differs in the current folder to the findings, and to the notes what is worth one and differs in
+    nothing."""
     record = read_record(".")
     if record is None:
         raise Fault("ntpaudit-dossier: not audited", files.DEVICE)
-    findings = changed(record)
-    if findings:
-        return findings, []
+    if differs := changed(record):
+        findings += differs
+        return
     refused = [entry for entry in record.entries if entry.verdict == REFUSED]
     if refused:
         raise Fault(f"ntpaudit-dossier: the audit was refused: {refused[0].fault['line']}", refused[0].fault["status"])
-    notes = []
     if record.program["sha256"] != program.sha256:
         notes.append("by another build of the program than the audit's")
     capture = Operand(record.capture)
-    recording = read_recording(program, files.CLAIM, capture)
+    recording = read_recording(program, files.CLAIM, capture, wants_request=True)
     claim = json.loads(files.read(files.CLAIM))
     claims = {part.name: part.claim for part in parts_of(claim, record.options["days"])}
     if list(claims) != [entry.part for entry in record.entries]:
-        return ["audit.json: other days than those of the claim's span"], notes
+        findings.append("audit.json: other days than those of the claim's span")
+        return
     for entry in record.entries:
-        findings += Again(Part(entry.part, claims[entry.part]), entry, capture, program).findings(recording)
-    return findings, notes
+        again = Again(Part(entry.part, claims[entry.part]), entry, capture, program)
+        findings += again.findings(recording, record.leap_seconds)
 
 
 def changed(record: Record) -> list[str]:
@@ -73,7 +92,8 @@ def changed(record: Record) -> list[str]:
         except OSError as error:
             found.append(f"{name} can't be read ({error.strerror})")
     try:
-        found += [f"{name} is new" for name in set(files.inputs()) - set(record.inputs)]
+        there = {*files.inputs(), *(evidence_files() if record.dossier == VERSION else ())}
+        found += [f"{name} is new" for name in sorted(there - set(record.inputs))]
     except Fault as fault:
         found += [] if found else [fault.line]
     return found
@@ -113,14 +133,14 @@ class Again:
         refute = self.program.run("refute", claim, self.capture, self.part.within(files.REFUTATION)).text
         return texts._replace(refutation=self.kept(files.REFUTATION), refute=refute)
 
-    def findings(self, recording: Recording) -> list[str]:
+    def findings(self, recording: Recording, leaps: dict[str, Any]) -> list[str]:
         """What differs: an answer from its file, or audit.json from what the answers come to."""
         texts = self.texts()
         if texts.is_yes and self.kept(files.CLAIM_OF_0) != at_bound_0(self.part.claim):
             self.found.append(f"{files.CLAIM_OF_0} isn't the claim with the bound 0")
         if not self.found:
             of = "" if self.part.name == "." else f" of {self.part.name}"
-            names = differing(self.entry, judge(self.part.name, self.part.claim, recording, texts))
+            names = differing(self.entry, judge(self.part.name, self.part.claim, recording, texts, leaps))
             self.found += [f"audit.json says another {name} than the answers{of}" for name in names]
         return self.found
 

@@ -1,0 +1,96 @@
+"""What the tests of ntpaudit-dossier share: folders to audit, its calls, and what holds of every page."""
+import json
+import os
+import shutil
+import threading
+from html.parser import HTMLParser
+
+import tally
+from tally import DATA, ROOT, program, run
+
+PROGRAM = program()
+SCRIPT = ROOT / "ntpaudit-dossier"
+ENVIRONMENT = {**os.environ, "NTPAUDIT": PROGRAM, "PYTHONDONTWRITEBYTECODE": "1", "LC_ALL": "C.UTF-8"}
+CLAIMS = sorted(DATA.glob("*.claim.json"))
+TICKS_PER_MS = 2**32 / 1000
+VOID = {"meta", "link", "br"}
+LOCK = threading.Lock()
+
+
+def check(name, **pairs):
+    """Counts a case; tests run side by side."""
+    with LOCK:
+        tally.check(name, **pairs)
+
+
+def skipped(name, why):
+    """Says that a test isn't made here."""
+    with LOCK:
+        print(f"skipped {name}: {why}", flush=True)
+
+
+def dossier(*words, **how):
+    return run([SCRIPT, *words], **{"env": ENVIRONMENT, **how})
+
+
+def folder_of(parent, name, capture=DATA / "clients-us.pcap", claim=DATA / "clients-us.claim.json", **changes):
+    """A folder with a claim and a capture, and some of the claim's values changed."""
+    folder = parent / name
+    folder.mkdir(parents=True)
+    shutil.copy(capture, folder / "f.pcap")
+    (folder / "claim.json").write_text(json.dumps({**json.loads(claim.read_text()), **changes}))
+    return folder
+
+
+def capture_of(path, *words):
+    path.write_bytes(run([ROOT / "tests" / "tools" / "capture_of", *words])[1])
+    return path
+
+
+def table(*folders):
+    return json.loads(dossier("page", "--json", *folders)[1])
+
+
+def parts_left(parent):
+    return [str(path) for path in parent.rglob(".*") if path.is_file()]
+
+
+class Outline(HTMLParser):
+    """Whether the tags of a page match, what it would fetch, and its words."""
+
+    def __init__(self, text):
+        super().__init__()
+        self.open, self.wrong, self.fetched, self.tags, self.words, self.ids = [], [], [], set(), [], []
+        self.feed(text)
+        self.close()
+        self.wrong += [f"<{tag}> isn't closed" for tag in self.open]
+
+    def handle_starttag(self, tag, attributes):
+        self.tags.add(tag)
+        self.ids += [value for name, value in attributes if name == "id"]
+        self.fetched += [value for name, value in attributes if name in ("src", "href", "srcset", "action") and not value.startswith("#")]
+        self.wrong += [f"{name} of <{tag}>" for name, _ in attributes if name.startswith("on")]
+        if tag not in VOID:
+            self.open.append(tag)
+
+    def handle_startendtag(self, tag, attributes):
+        self.handle_starttag(tag, attributes)
+        if tag not in VOID:
+            self.open.pop()
+
+    def handle_endtag(self, tag):
+        if not self.open or self.open.pop() != tag:
+            self.wrong.append(f"</{tag}>")
+
+    def handle_data(self, words):
+        self.words.append(words)
+
+
+def check_page(name, text):
+    page = Outline(text)
+    check(f"{name} is well-formed", wrong=(page.wrong, []), ids=(len(page.ids), len(set(page.ids))), fetched=(page.fetched, []),
+          scripts=(page.tags & {"script", "img", "iframe", "object", "link"}, set()), style=("url(" in text or "@import" in text, False))
+    if shutil.which("tidy"):
+        status, _, err = run(["tidy", "-e", "-q", "--drop-empty-elements", "no", "--show-warnings", "no"], text.encode())
+        check(f"{name} by tidy", run=((status < 2, err), (True, b"")))
+    return page
