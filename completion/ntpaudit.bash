@@ -10,6 +10,7 @@ _ntpaudit() {
     case $command in
     find) options='--step --refutation --help' ;;
     envelope) options='--step --servers --help' ;;
+    refute) options='--drift --help' ;;
     help) options='list samples at envelope find check refute' ;;
     *) options='--help' ;;
     esac

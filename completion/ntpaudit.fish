@@ -14,3 +14,4 @@ complete -c ntpaudit -n "not __fish_seen_subcommand_from $commands" -f -a help -
 complete -c ntpaudit -n "__fish_seen_subcommand_from find envelope" -x -l step -a '1 4 8 16 64' -d 'Seconds of each piece'
 complete -c ntpaudit -n "__fish_seen_subcommand_from find" -l refutation -d 'Find a refutation'
 complete -c ntpaudit -n "__fish_seen_subcommand_from envelope" -l servers -d 'Show each server'
+complete -c ntpaudit -n "__fish_seen_subcommand_from refute" -l drift -d 'Let the error drift as the claim grants'
