@@ -14,7 +14,7 @@ use Rattle.marks.specs.declared.direction.Direction.{Direction}
 use Rattle.marks.specs.declared.direction.Direction.TheVariants.{Forwards, Backwards}
 use Rattle.marks.proofs.PairLemmas.{falls_line, rises_line, rising_lines}
 
-no_truth : IsTrue false → ⊥
+pub no_truth : IsTrue false → ⊥
 no_truth t = cc
 
 -- n times a difference is above zero where the difference is

@@ -1,5 +1,6 @@
 pub mod BoundLemmas
 pub mod CompatibleLemmas
+pub mod ConflictLemmas
 pub mod LineLemmas
 pub mod OrderLemmas
 pub mod PairLemmas

@@ -1,15 +1,20 @@
 //! The first low mark and high mark that no course keeps.
-ghost use Rattle.std.specs.Prelude.{All, MatchOption};
+ghost use Rattle.std.specs.Prelude.{All, IfOk, MatchOption, IsPermutation};
 ghost use Rattle.sample_interval.specs.Widening.{IsRate};
 ghost use Rattle.marks.specs.Compatible.{AllCompatible};
-ghost use Rattle.marks.specs.Conflict.{IsFirstAgainst, IsFirstConflict};
+ghost use Rattle.marks.specs.Conflict.{IsFirstAgainst, AreInFront, IsFirstConflict};
 ghost use Rattle.marks.specs.Mark.{AreCompatible};
 ghost use Rattle.marks.specs.Range.{IsWithinRange};
 
+use crate::compatible::all_compatible;
 use crate::mark::Mark;
 use crate::pair::are_compatible;
+use std::alloc::{AllocError, Global};
 
 /// The number of the first high mark that isn't compatible with a low mark, if there is one.
+///
+/// The rate is up to 500,000,000 parts in 10^9 of true time, and each number of ticks lies from
+/// -2^73 to 2^73.
 pub fn first_against(drift_ppb: u32, low: Mark, highs: &[Mark]) -> Option<usize>
     requires rate { IsRate drift_ppb }
     requires low { IsWithinRange low }
@@ -25,19 +30,56 @@ pub fn first_against(drift_ppb: u32, low: Mark, highs: &[Mark]) -> Option<usize>
     None
 }
 
+/// How many low marks in front are compatible with each high mark, by halving.
+fn marks_in_front(
+    alloc: Global,
+    drift_ppb: u32,
+    lows: &[Mark],
+    highs: &mut [Mark],
+) -> Result<usize, AllocError>
+    requires rate { IsRate drift_ppb }
+    requires lows { All IsWithinRange lows.now }
+    requires highs { All IsWithinRange highs.old }
+    ensures { IfOk result (λ n. AreInFront drift_ppb lows.now highs.old n) }
+{
+    let mut least = 0;
+    let mut most = lows.len();
+    while least < most {
+        let middle = most - (most - least) / 2;
+        let mut front = Vec::from_slice(alloc, &lows[..middle])?;
+        if all_compatible(drift_ppb, front.as_mut_slice(), highs) {
+            least = middle;
+        } else {
+            most = middle - 1;
+        }
+    }
+    Ok(least)
+}
+
 /// The numbers of the first low mark and high mark that aren't compatible, by the low mark's number
 /// and then by the high mark's. None if all are compatible.
-pub fn first_conflict(drift_ppb: u32, lows: &[Mark], highs: &[Mark]) -> Option<(usize, usize)>
+///
+/// It takes memory for a copy of both lists, and sorts them some twenty times at most. The rate is
+/// up to 500,000,000 parts in 10^9 of true time, and each number of ticks lies from -2^73 to 2^73.
+pub fn first_conflict(
+    alloc: Global,
+    drift_ppb: u32,
+    lows: &[Mark],
+    highs: &[Mark],
+) -> Result<Option<(usize, usize)>, AllocError>
     requires rate { IsRate drift_ppb }
     requires lows { All IsWithinRange lows.now }
     requires highs { All IsWithinRange highs.now }
-    ensures { MatchOption result (AllCompatible drift_ppb lows.now highs.now)
-        (λ pair. IsFirstConflict drift_ppb lows.now highs.now pair.0 pair.1) }
+    ensures { IfOk result (λ found. MatchOption found (AllCompatible drift_ppb lows.now highs.now)
+        (λ pair. IsFirstConflict drift_ppb lows.now highs.now pair.0 pair.1)) }
 {
-    for (i, low) in lows.iter().enumerate() {
-        if let Some(j) = first_against(drift_ppb, *low, highs) {
-            return Some((i, j));
-        }
+    let mut sorted = Vec::from_slice(alloc, highs)?;
+    let number = marks_in_front(alloc, drift_ppb, lows, sorted.as_mut_slice())?;
+    if number == lows.len() {
+        return Ok(None);
     }
-    None
+    match first_against(drift_ppb, lows[number], highs) {
+        Some(against) => Ok(Some((number, against))),
+        None => unreachable!(),
+    }
 }

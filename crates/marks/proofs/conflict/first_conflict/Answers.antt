@@ -1,15 +1,17 @@
-use Rattle.std.proofs.Common.{arith}
-use Rattle.std.specs.List.{All}
-use Rattle.std.proofs.lemmas.List.Elements.{AllWithin-more}
-use Rattle.marks.specs.Mark.{AreCompatible}
-use Rattle.marks.proofs.PassageLemmas.{at_any}
+use Rattle.std.proofs.Common.{◌≡◌, ◌<◌, pos, List, length, get_or, ◌∙◌, sym, subst, arith}
+use Rattle.marks.specs.Conflict.{FitsAll}
+use Rattle.marks.specs.declared.mark.Mark.{Mark}
 use Rattle.marks.proofs.conflict.first_conflict.Goals as goal
 
-pub loop-i-preserved : goal.loop-i-preserved
-loop-i-preserved c =
+pub unreachable-requires : goal.unreachable-requires
+unreachable-requires c =
     let lows = c.args.lows.now in
-    let highs = c.args.highs.now in
-    let fits = c.in_default.ensures in
-    AllWithin-more (λ low. All (λ high. AreCompatible c.args.drift_ppb low high) highs) lows 0 c.loop-i.i
-    c.loop-i.invariant
-    (at_any (λ low. All (λ high. AreCompatible c.args.drift_ppb low high) highs) lows c.loop-i.i _ (omega arith) fits)
+    let number = c.in_ok-number.number in
+    let front = c.in_ok-number.ensures in
+    let least : Mark = record { place = pos 0; error = pos 0 } in
+    let fits = c.in-None.ensures in
+    let is : c.as_mut_slice.result.now ≡ c.args.highs.now = c.as_mut_slice.ensures.value ∙ c.in_ok-sorted.ensures.items in
+    let other = c.if-number-lows.false in
+    let below : number < length lows = omega (arith, front.within) in
+    front.next below least
+    (subst (λ (highs : List Mark). FitsAll c.args.drift_ppb highs (get_or lows number least)) (sym is) fits)
