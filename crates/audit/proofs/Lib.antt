@@ -20,4 +20,5 @@ pub mod Completeness
 pub mod Admission
 pub mod HeadlineLemmas
 pub mod Excess
+pub mod Opposition
 pub mod ClaimLimits

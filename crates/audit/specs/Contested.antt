@@ -17,6 +17,7 @@ use Rattle.audit.specs.CaptureInput.{capture_read}
 use Rattle.audit.specs.Captured.{CapturedFrame, IsCaptureOf}
 use Rattle.audit.specs.Claimed.{IsClaimText, IsWithinLimits}
 use Rattle.audit.specs.Exchanged.{IsExchangeIn, IsAmong}
+use Rattle.audit.specs.Headline.{IsShown}
 
 -- the clock's error, when it is observed, is more than a bound to one side
 abbrev pub IsBeyond : Course → ℤ → Type 0
@@ -29,8 +30,8 @@ IsBeyondNanoseconds course bound_ns =
     (course.fineness * (bound_ns * ticks_per_second))
     < (nanoseconds_per_second * unsigned_abs (error_of course.observation))
 
--- Some course of events fits a claim and exchanges. Its observation is at a reading of the span, and
--- its error there is a whole number of ticks, beyond the bound.
+-- Some course of events fits a claim and exchanges. Its observation is at a reading of the span,
+-- and its error there is a whole number of ticks, beyond the bound.
 pub record HasCourseBeyond (claim : ClaimData) (xs : List Exchange) : Type 0 where
   pub course : Course
   pub fits : Fits claim xs course
@@ -76,3 +77,8 @@ RefutationContests = (claim_bytes capture_bytes : List ℕ) (claim : ClaimData)
     → claim_read claim_bytes ≡ Ok claim → capture_read claim capture_bytes ≡ Ok collection
     → is_refuted claim collection.exchanges refutation ≡ true
     → IsContestedShown claim_bytes capture_bytes
+
+-- no claim and no capture are both shown and contested
+abbrev pub NeverBoth : Type 0
+NeverBoth = (claim_bytes capture_bytes : List ℕ) → IsShown claim_bytes capture_bytes
+    → ¬ (IsContestedShown claim_bytes capture_bytes)

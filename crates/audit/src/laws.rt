@@ -15,7 +15,7 @@ ghost use Rattle.pcap_reader.specs.declared.format.Endian.{Endian};
 ghost use Rattle.pcap_reader.specs.declared.format.Format.{Format};
 ghost use Rattle.pcap_reader.specs.Capture.{Record, IsCapture};
 ghost use Rattle.audit.specs.Headline.{ShowsHeadline};
-ghost use Rattle.audit.specs.Contested.{CourseContests, RefutationContests};
+ghost use Rattle.audit.specs.Contested.{CourseContests, NeverBoth, RefutationContests};
 ghost use Rattle.audit.specs.Claimed.{IsClaimText};
 ghost use Rattle.audit.specs.Exchanged.{IsUsable, IsExchangeIn, IsAmong};
 ghost use Rattle.audit.specs.Captured.{CapturedFrame, IsCaptureOf, frame_of};
@@ -23,8 +23,9 @@ ghost use Rattle.audit.specs.Held.{HoldsPacket, HoldsShown, packet_with};
 ghost use Rattle.audit.specs.Nanoseconds.{GivesNanoseconds};
 
 use checker::laws::{
-    accepted_refutations_have_a_course, bounds_hold_in_nanoseconds, pieces_hold_every_reading,
-    test_is_passed_where_refuted, verdicts_are_traceable, yes_is_acceptance,
+    accepted_refutations_have_a_course, bounds_hold_in_nanoseconds, capture_fits_each_piece,
+    pieces_hold_every_reading, test_is_passed_where_refuted, verdicts_are_traceable,
+    yes_is_acceptance,
 };
 use claim_file::laws::{
     addresses_are_dotted, claims_are_lawful, nanoseconds_become_ticks, servers_are_in_their_groups,
@@ -191,4 +192,13 @@ pub fn accepted_refutation_contests_the_claim()
     test_is_passed_where_refuted();
     accepted_refutations_have_a_course();
     course_beyond_the_bound_contests_the_claim();
+}
+
+/// What is shown and what is contested never meet: no bytes of a claim and of a capture are both.
+pub fn shown_claims_are_not_contested()
+    ensures { NeverBoth }
+{
+    texts_say_one_claim();
+    captures_say_one_list_of_frames();
+    capture_fits_each_piece();
 }

@@ -1,0 +1,142 @@
+-- What is shown and what is contested never meet.
+use Rattle.std.proofs.Common.{◌≡◌, ℕ, ℤ, inl, inr, ⊎_elim, List, length, Option, Some, None, refl, sym, ap, ◌∙◌, subst, arith}
+use Rattle.std.specs.Prelude.{slice_get}
+use Rattle.std.proofs.lemmas.Option.{slice_get_cases, slice_get_within}
+use Rattle.era_unfold.specs.declared.unit.Unit.{Unit as TimeUnit}
+use Rattle.claim_file.specs.Claim.{ClaimData}
+use Rattle.pairing.specs.declared.exchange.Exchange.{Exchange}
+use Rattle.sample_interval.specs.Moment.{Moment, IsInWindow, IsWithinDistance}
+use Rattle.sample_interval.specs.Window.{request_start, request_end, reply_start, reply_end}
+use Rattle.checker.specs.Course.{Course, Fits, IsClientMoment}
+use Rattle.checker.specs.PieceFit.{FitsPiece}
+use Rattle.audit.specs.Captured.{CapturedFrame}
+use Rattle.audit.specs.Contested.{IsBeyondNanoseconds, IsContestedShown}
+use Rattle.audit.specs.Exchanged.{IsExchangeIn, IsAmong, SameExchange}
+use Rattle.audit.specs.Headline.{IsShown}
+
+-- ---- exchanges that agree
+
+module _ (x y : Exchange) (same : SameExchange x y) (n : ℕ) where
+  windows_as : (allowance leaving arriving : ℤ)
+      → IsInWindow n (request_start y allowance) (request_end y allowance) leaving
+      × IsInWindow n (reply_start y allowance) (reply_end y allowance) arriving
+      → IsInWindow n (request_start x allowance) (request_end x allowance) leaving
+      × IsInWindow n (reply_start x allowance) (reply_end x allowance) arriving
+  windows_as allowance leaving arriving h = rw (same.t1_low, same.t1_high, same.t4_low, same.t4_high) h
+
+  distances_as : (received sent : ℤ)
+      → IsWithinDistance n y.t2 y.distance received × IsWithinDistance n y.t3 y.distance sent
+      → IsWithinDistance n x.t2 x.distance received × IsWithinDistance n x.t3 x.distance sent
+  distances_as received sent h = rw (same.t2, same.t3, same.distance) h
+
+-- ---- one course for two lists of exchanges
+
+module _ (xs ys : List Exchange) (among : (k : ℕ) (x : Exchange) → slice_get xs k ≡ Some x → IsAmong ys x) where
+  place_from : (k : ℕ) (o : Option Exchange) → slice_get xs k ≡ o → ℕ
+  place_from k None at = 0
+  place_from k (Some x) at = (among k x at).place
+
+  -- where the second list has the exchange that the first has here
+  place : ℕ → ℕ
+  place k = place_from k (slice_get xs k) refl
+
+  -- and what it has there
+  abbrev HasAt : ℕ → Exchange → Type 0
+  HasAt n x = (y : Exchange) × (slice_get ys n ≡ Some y) × SameExchange x y
+
+  has_from : (k : ℕ) (x : Exchange) (o : Option Exchange) (at : slice_get xs k ≡ o) → o ≡ Some x
+      → HasAt (place_from k o at) x
+  unfolding place_from
+  has_from k x None at is = absurd cc
+  has_from k x (Some z) at is =
+      let same : z ≡ x = cc in
+      let found = among k z at in
+      (found.found, found.stands, subst (λ (e : Exchange). SameExchange e found.found) same found.same)
+
+  has : (k : ℕ) (x : Exchange) → slice_get xs k ≡ Some x → HasAt (place k) x
+  unfolding place
+  has k x at = has_from k x (slice_get xs k) refl at
+
+  -- the course of the second list, by the numbers of the first
+  abbrev renumbered : Course → Course
+  renumbered course = record {
+    fineness = course.fineness;
+    is_false = course.is_false;
+    request = λ k. course.request (place k);
+    received = λ k. course.received (place k);
+    sent = λ k. course.sent (place k);
+    reply = λ k. course.reply (place k);
+    observation = course.observation;
+  }
+
+  moment_of : (course : Course) (moment : Moment) → IsClientMoment (renumbered course) (length xs) moment
+      → IsClientMoment course (length ys) moment
+  moment_of course moment (inl is) = inl is
+  moment_of course moment (inr (k, below, which)) = ⊎_elim
+      (λ found.
+      let there = has k found.0 found.2 in
+      inr (place k, slice_get_within ys (place k) there.0 there.1, which))
+      (λ past. absurd (let most = past.0 in omega (arith, most, below)))
+      (slice_get_cases xs k).1
+
+  -- if it fits the second list, it fits the first
+  still_fits : (claim : ClaimData) (course : Course) → Fits claim ys course → Fits claim xs (renumbered course)
+  still_fits claim course fits = record {
+    some_fineness = fits.some_fineness;
+    few_false = fits.few_false;
+    in_windows = λ k x at.
+        let there = has k x at in
+        windows_as x there.0 there.2 course.fineness claim.reading (course.request (place k)).reading
+        (course.reply (place k)).reading (fits.in_windows (place k) there.0 there.1);
+    drift = λ a b is_a is_b. fits.drift a b (moment_of course a is_a) (moment_of course b is_b);
+    ordered = λ k x at true'.
+        let there = has k x at in
+        fits.ordered (place k) there.0 there.1 (ap course.is_false (sym there.2.server) ∙ true');
+    within_root_distance = λ k x at true'.
+        let there = has k x at in
+        distances_as x there.0 there.2 course.fineness (course.received (place k)) (course.sent (place k))
+        (fits.within_root_distance (place k) there.0 there.1 (ap course.is_false (sym there.2.server) ∙ true'));
+  }
+
+-- ---- what is contested, of one claim and one list of frames
+
+record Contests (claim : ClaimData) (unit : TimeUnit) (frames : List CapturedFrame) : Type 0 where
+  exchanges : List Exchange
+  none_is_missing : (x : Exchange) → IsExchangeIn claim unit frames x → IsAmong exchanges x
+  course : Course
+  fits : Fits claim exchanges course
+  in_span : IsInWindow course.fineness claim.first claim.last course.observation.reading
+  beyond : IsBeyondNanoseconds course claim.bound_ns
+
+-- the law on courses that fit the whole capture
+abbrev pub PieceFitLaw : Type 0
+PieceFitLaw = (claim : ClaimData) (xs : List Exchange) (entries : List (ℕ × ℕ)) (course : Course)
+    → Fits claim xs course → FitsPiece claim xs entries course
+
+module _ (fit : PieceFitLaw) (claim_bytes capture_bytes : List ℕ) (shown : IsShown claim_bytes capture_bytes) where
+  refuted : Contests shown.claim shown.unit shown.frames → ⊥
+  refuted other =
+      let among : (k : ℕ) (x : Exchange) → slice_get shown.exchanges k ≡ Some x → IsAmong other.exchanges x =
+      λ k x at. other.none_is_missing x (shown.exchanges_are k x at) in
+      let course = renumbered shown.exchanges other.exchanges among other.course in
+      let fits = still_fits shown.exchanges other.exchanges among shown.claim other.course other.fits in
+      let at = shown.within other.course.fineness other.course.observation.reading other.in_span in
+      let within = at.6 course refl refl (fit shown.claim shown.exchanges at.0 course fits) in
+      let beyond = other.beyond in
+      absurd (omega (arith, within, beyond))
+
+  pub never_both : (contested : IsContestedShown claim_bytes capture_bytes) → shown.claim ≡ contested.claim
+      → shown.unit ≡ contested.unit → shown.frames ≡ contested.frames → ⊥
+  never_both contested claim_same unit_same frames_same =
+      let here : Contests contested.claim contested.unit contested.frames = record {
+        exchanges = contested.exchanges;
+        none_is_missing = contested.none_is_missing;
+        course = contested.course;
+        fits = contested.fits;
+        in_span = contested.in_span;
+        beyond = contested.beyond_nanoseconds;
+      } in
+      refuted
+      (subst (λ (c : ClaimData). Contests c shown.unit shown.frames) (sym claim_same)
+      (subst (λ (u : TimeUnit). Contests contested.claim u shown.frames) (sym unit_same)
+      (subst (λ (f : List CapturedFrame). Contests contested.claim contested.unit f) (sym frames_same) here)))
