@@ -1,5 +1,5 @@
 -- What exchanges show that are held.
-use Rattle.std.proofs.Common.{◌≡◌, ◌∙◌, ◌<◌, ◌≤◌, ◌++◌, if◌then◌else◌, ℕ, Bool, List, [], ◌∷◌, ◌-◌, length, map, take, drop, get_or, refl, sym, subst, length-drop, arith}
+use Rattle.std.proofs.Common.{◌≡◌, ◌∙◌, ◌<◌, ◌≤◌, if◌then◌else◌, ℕ, Bool, List, [], ◌∷◌, ◌-◌, length, map, take, drop, get_or, refl, sym, subst, length-drop, arith}
 use Rattle.std.proofs.lemmas.List.{get_or-map, length-map, take_all}
 use Rattle.std.proofs.lemmas.List.Folds.{list_all-map}
 use Rattle.std.specs.List.{list_all}

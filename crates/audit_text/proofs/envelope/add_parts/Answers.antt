@@ -1,4 +1,3 @@
-use Rattle.std.proofs.Common.{◌∙◌, ◌++◌, ap}
 use Rattle.claim_file.specs.Claim.{data_of}
 use Rattle.audit_text.specs.Envelope.{server_line}
 use Rattle.audit_text.proofs.ListedLemmas.{listed_more, listed_all}

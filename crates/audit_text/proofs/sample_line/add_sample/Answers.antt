@@ -1,9 +1,8 @@
-use Rattle.std.proofs.Common.{◌≡◌, ◌∙◌, ◌++◌, ◌^◌, ◌<◌, ℕ, ℤ, List, [], ◌∷◌, ap, sym, arith, codes, rules, to_z, of_z, unsigned_abs}
+use Rattle.std.proofs.Common.{◌≡◌, ◌∙◌, ◌++◌, ◌^◌, ◌<◌, ℤ, [], ◌∷◌, ap, sym, arith, codes, rules, to_z, of_z, unsigned_abs}
 use Rattle.std.proofs.lemmas.Int.{ints, to_z-of_z, fits_signed_from_abs}
 use Rattle.std.specs.Result.{IfOk}
 use mir.Syntax.{w128}
 use Rattle.line_writer.specs.Field.{line_of, Number, Address, Label, Low, High}
-use Rattle.claim_file.specs.Claim.{data_of}
 use Rattle.sample_interval.specs.OnWire.{offset_from, offset_to, delay_from, delay_to}
 use Rattle.sample_interval.specs.Sample.{sample_of}
 use Rattle.sample_interval.specs.declared.kinds.Sample.{Sample}
