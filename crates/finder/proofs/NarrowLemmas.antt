@@ -22,7 +22,9 @@ use Rattle.finder.specs.Refusal.{HoldsWhole}
 use Rattle.finder.specs.Samples.{AreSamplesOf}
 use Rattle.finder.proofs.BestLemmas.{BestLaw, best_of_is, best_of_none}
 use Rattle.finder.proofs.ListLemmas.{All-slice_get}
-use Rattle.finder.proofs.VerdictLemmas.{passes_inside}
+use Rattle.finder.specs.Fewest.{IsNoWider}
+use Rattle.finder.proofs.GroupHullLemmas.{EveryHull, narrower_is_no_wider}
+use Rattle.finder.proofs.VerdictLemmas.{entries_accepted, passes_inside}
 
 -- the law on it
 abbrev pub NarrowLaw : Type 0
@@ -124,7 +126,7 @@ module _ (laws : Laws) (samples : List Sample) (claim : ClaimData) (outer inner 
         (names_both entry best.0.sample best.1.sample best.0.stands best.1.stands)
         0 (length claim.servers) (omega arith) (omega (arith, within))
 
-    better_at : (part : Part) (said : IsOfSamples samples outer claim.drift_ppb part) (o : Option (ℕ × ℕ))
+    pub better_at : (part : Part) (said : IsOfSamples samples outer claim.drift_ppb part) (o : Option (ℕ × ℕ))
         → best_over samples claim inner said.low.server ≡ o → Any (IsNarrower part) best_parts
     better_at part said None is =
         let none = best_of_none laws.best samples said.low.server inner.begin inner.end claim.drift_ppb is in
@@ -147,3 +149,22 @@ module _ (laws : Laws) (samples : List Sample) (claim : ClaimData) (outer inner 
 pub shows_as_much : Laws → NarrowLaw
 shows_as_much laws samples claim outer inner entries rate are piece whole passes =
     narrower laws samples claim outer inner rate are piece whole entries _ refl passes
+
+-- ---- two pieces, one inside the other, with the best entries of each
+
+-- the law on their hulls
+abbrev pub WithinLaw : Type 0
+WithinLaw = (samples : List Sample) (claim : ClaimData) (outer inner : Stretch) → claim.drift_ppb ≤ max_drift_ppb
+    → AreSamplesOf claim samples → IsPiece inner.begin inner.end → HoldsWhole outer inner
+    → IsNoWider (best_hull samples claim outer) (best_hull samples claim inner)
+
+pub no_wider_within : Laws → EveryHull → WithinLaw
+unfolding best_hull
+no_wider_within laws hulls samples claim outer inner rate are piece whole =
+    let entries = best_entries samples claim outer in
+    let parts = parts_named samples claim outer entries in
+    let said = laws.said samples outer claim.drift_ppb entries parts (entries_accepted laws.best samples claim outer) in
+    narrower_is_no_wider hulls claim.groups claim.false_max parts
+    (parts_named samples claim inner (best_entries samples claim inner))
+    (λ k d within. better_at laws samples claim outer inner rate are piece whole (get_or parts k d) (said k d within) _
+    refl)

@@ -38,12 +38,12 @@ module _ (samples : List Sample) (claim : ClaimData) where
   shows_cut stretch entries true e = absurd cc
   shows_cut stretch entries false e = record { entries = entries; passes = e }
 
-  shows : (begin : ℤ) (piece : PieceData) → piece_fault samples claim begin piece ≡ None
+  pub shows_piece : (begin : ℤ) (piece : PieceData) → piece_fault samples claim begin piece ≡ None
       → Shows (record { begin = begin; end = pos piece.upto })
-  shows begin piece e = shows_cut (record { begin = begin; end = pos piece.upto }) piece.entries _ e
+  shows_piece begin piece e = shows_cut (record { begin = begin; end = pos piece.upto }) piece.entries _ e
 
   -- the pieces pass their tests, each where the one before it ends
-  abbrev Pass : ℤ → List PieceData → Type 0
+  abbrev pub Pass : ℤ → List PieceData → Type 0
   Pass begin pieces = (k : ℕ) (piece : PieceData) → slice_get pieces k ≡ Some piece
       → piece_fault samples claim (begin_of begin pieces k) piece ≡ None
 
@@ -53,13 +53,13 @@ module _ (samples : List Sample) (claim : ClaimData) where
   pass_each begin [] pass j stretch at = absurd cc
   pass_each begin (piece ∷ pieces) pass zero stretch at =
       let here : record { begin = begin; end = pos piece.upto } ≡ stretch = cc in
-      subst Shows here (shows begin piece (pass 0 piece refl))
+      subst Shows here (shows_piece begin piece (pass 0 piece refl))
   pass_each begin (piece ∷ pieces) pass (suc j) stretch at =
       pass_each (pos piece.upto) pieces (λ k other is. pass (suc k) other is) j stretch at
 
 -- ---- a piece that fails
 
-some_and : (P : Stretch → Type 0) (o : Option Stretch) → IsSomeAnd o P → (s : Stretch) × (o ≡ Some s) × P s
+pub some_and : (P : Stretch → Type 0) (o : Option Stretch) → IsSomeAnd o P → (s : Stretch) × (o ≡ Some s) × P s
 some_and P None h = absurd h
 some_and P (Some s) h = (s, refl, h)
 

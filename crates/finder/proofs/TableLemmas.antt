@@ -7,12 +7,14 @@ use Rattle.std.proofs.lemmas.List.FromFn.{length-map-range_with_len, get_or-map-
 use Rattle.std.proofs.lemmas.Option.{slice_get-get_or, slice_get_within}
 use Rattle.span_cover.specs.Piece.{IsPiece}
 use Rattle.span_cover.specs.Step.{piece_end_of}
-use Rattle.sample_interval.specs.declared.kinds.Sample.{Sample}
-use Rattle.span_cover.specs.Best.{best_of}
-use Rattle.sweep.specs.Pieces.{IsPieceAt, ArePieces, AreBestOfPieces}
+use Rattle.sweep.specs.Pieces.{IsPieceAt, ArePieces}
 use Rattle.finder.specs.Piece.{piece_begin_of, ends_of}
 use Rattle.finder.proofs.ListLemmas.{one_more}
 use Rattle.finder.proofs.PieceLemmas.{each_is_piece}
+
+-- the best samples of a server in each piece
+abbrev Table : Type 0
+Table = Vec (ℕ × ℕ) Global
 
 module _ (first last : ℤ) (step n : ℕ) where
   pub end_at : (k : ℕ) → k < n → slice_get (ends_of first last step n) k ≡ Some (piece_end_of first last step k)
@@ -64,28 +66,24 @@ module _ (first last : ℤ) (step n : ℕ) (f g l : ℤ) (ends list : List ℤ) 
       subst (λ (x : ℤ). ArePieces x list) (sym again)
       (subst (ArePieces first) (sym ends_are) (are_pieces first last step n from_zero in_order in_range))
 
-  pub best_are : (samples : List Sample) (server ppb : ℕ) (chosen : List (ℕ × ℕ))
-      → AreBestOfPieces samples server g list ppb chosen → (k : ℕ) → k < n → slice_get chosen k
-      ≡ best_of samples server (piece_begin_of first last step k) (piece_end_of first last step k) ppb
-  best_are samples server ppb chosen are k below =
-      are.best k (piece_begin_of first last step k) (piece_end_of first last step k)
-      (subst (λ (x : ℤ). IsPieceAt x list k (piece_begin_of first last step k) (piece_end_of first last step k))
+  pub piece_of : (k : ℕ) → k < n
+      → IsPieceAt g list k (piece_begin_of first last step k) (piece_end_of first last step k)
+  piece_of k below =
+      subst (λ (x : ℤ). IsPieceAt x list k (piece_begin_of first last step k) (piece_end_of first last step k))
       (sym again)
       (subst
       (λ (es : List ℤ). IsPieceAt first es k (piece_begin_of first last step k) (piece_end_of first last step k))
-      (sym ends_are) (piece_at first last step n k below)))
+      (sym ends_are) (piece_at first last step n k below))
 
-  pub as_many : (samples : List Sample) (server ppb : ℕ) (chosen : List (ℕ × ℕ))
-      → AreBestOfPieces samples server g list ppb chosen → length chosen ≡ n
-  as_many samples server ppb chosen are =
-      are.as_many ∙ ap (λ (es : List ℤ). length es) ends_are
-      ∙ length-map-range_with_len (piece_end_of first last step) 0 n
+  as_many : length list ≡ n
+  as_many =
+      ap (λ (es : List ℤ). length es) ends_are ∙ length-map-range_with_len (piece_end_of first last step) 0 n
+
+  pub as_many_long : (tables : List Table) → All (λ table. length table.items ≡ length list) tables
+      → All (λ table. length table.items ≡ n) tables
+  as_many_long tables long = λ i d within. long i d within ∙ as_many
 
 -- ---- the tables as they are passed on
-
--- the best samples of a server in each piece
-abbrev Table : Type 0
-Table = Vec (ℕ × ℕ) Global
 
 pub few_tables : (servers : ℕ) (list tables : List Table) → list ≡ tables → length tables ≤ servers → servers ≤ 32
     → length list ≤ 32

@@ -135,10 +135,10 @@ passes_inside bound (Bounded lo hi) e =
 
 -- ---- piece by piece
 
-not_less : (a b : ℤ) → b ≤ℤ a → int_lt a b ≡ false
+pub not_less : (a b : ℤ) → b ≤ℤ a → int_lt a b ≡ false
 not_less a b le = grind (arith, ints)
 
-from_zero_kept : (z : ℤ) → pos 0 ≤ℤ z → pos (unsigned_abs z) ≡ z
+pub from_zero_kept : (z : ℤ) → pos 0 ≤ℤ z → pos (unsigned_abs z) ≡ z
 from_zero_kept z le = omega (arith, ints)
 
 module _ (law : BestLaw) (samples : List Sample) (claim : ClaimData) (lawful : IsLawful claim) (step : ℕ) where

@@ -5,6 +5,9 @@ pub mod Entry
 pub mod Found
 pub mod Refusal
 pub mod Envelope
+pub mod Fewest
+pub mod Reach
 pub mod Answer
+pub mod FewestAnswer
 pub mod Room
 pub mod Sought

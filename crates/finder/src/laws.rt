@@ -13,6 +13,7 @@ ghost use Rattle.span_cover.specs.Piece.{IsPiece};
 ghost use Rattle.span_cover.specs.declared.stretch.Stretch.{Stretch};
 ghost use Rattle.finder.specs.Entry.{best_entries, best_hull, parts_named};
 ghost use Rattle.finder.specs.Envelope.{EnvelopeData, IsCertified, IsLeast, IsNotCertified, envelope_of, least_of, with_bound};
+ghost use Rattle.finder.specs.Fewest.{IsNoWider};
 ghost use Rattle.finder.specs.Found.{found_of, hull_at};
 ghost use Rattle.finder.specs.Piece.{IsPieceCount, piece_count_of};
 ghost use Rattle.finder.specs.Refusal.{HoldsWhole};
@@ -24,6 +25,7 @@ use era_unfold::laws::{
     nanoseconds_lie_between_their_ticks, ratios_are_rounded_as_little_as_can_be,
 };
 use intersection::kinds::Hull;
+use intersection::laws::every_list_has_a_hull;
 use span_cover::laws::{best_samples_are_the_first_best, piece_inside_another_is_narrower};
 
 /// The samples of exchanges keep their limits if the exchanges do, are of servers of the claim, and
@@ -88,6 +90,23 @@ pub fn best_entries_show_as_much()
     piece_inside_another_is_narrower();
     parts_are_of_samples();
     narrower_parts_narrow();
+}
+
+/// A piece inside another has no wider a hull by the best entries of each: where neither is empty,
+/// its ends lie inside the other's; and if the hull of the longer piece is empty, so is its own. So
+/// if the hull over one tick isn't empty, no longer piece with that tick has an empty one, and from
+/// tick to tick the ends only move outwards.
+pub fn pieces_within_have_no_wider_hulls()
+    ensures { (samples : List Sample) (claim : ClaimData) (outer inner : Stretch) →
+        claim.drift_ppb ≤ max_drift_ppb → AreSamplesOf claim samples →
+        IsPiece inner.begin inner.end → HoldsWhole outer inner →
+        IsNoWider (best_hull samples claim outer) (best_hull samples claim inner) }
+{
+    best_samples_are_the_first_best();
+    piece_inside_another_is_narrower();
+    parts_are_of_samples();
+    narrower_parts_narrow();
+    every_list_has_a_hull();
 }
 
 /// The least bound of hulls is the least inside which all of them lie, with the first piece that

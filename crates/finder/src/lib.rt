@@ -12,18 +12,22 @@
 mod entry;
 mod envelope;
 mod fault;
+mod fewest;
 mod found;
 mod hull;
 pub mod laws;
 mod least;
+mod longest;
 mod piece;
 mod piece_hull;
+mod reach;
 mod room;
 mod sought;
 mod table;
 
 pub use envelope::{Envelope, find_envelope, find_envelope_over};
 pub use fault::FindFault;
+pub use fewest::{Fewest, find_fewest, find_fewest_over};
 pub use found::{Found, find, find_over};
 pub use hull::parts;
 pub use least::LeastBound;

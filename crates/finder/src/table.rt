@@ -1,10 +1,12 @@
 //! The best samples of each server.
 
-ghost use Rattle.std.specs.Prelude.{◌≡◌, ℕ, ◌≤◌, ◌<◌, length, All, IfOk, slice_get};
+ghost use Rattle.std.specs.Prelude.{◌≡◌, ℕ, ℤ, ◌≤◌, ◌<◌, length, All, IfOk, slice_get};
 ghost use Rattle.std.specs.List.{filter_map};
 ghost use Rattle.claim_file.specs.Claim.{IsLawful, data_of};
 ghost use Rattle.sample_interval.specs.Sample.{IsLawfulSample};
+ghost use Rattle.sweep.specs.Pieces.{ArePieces, IsPieceAt};
 ghost use Rattle.finder.specs.Entry.{best_entries};
+ghost use Rattle.finder.specs.Fewest.{stretch_over};
 ghost use Rattle.finder.specs.Piece.{stretch_at};
 
 use crate::piece::piece_ends;
@@ -34,8 +36,32 @@ pub(crate) fn tables<S: SampleSource>(
         ≡ best_entries (S.samples samples) (data_of claim.now)
         (stretch_at (data_of claim.now) step_s k)) }
 {
-    first_best_of_both_ends_are_the_best();
     let ends = piece_ends(alloc, claim.first, claim.last, step_s, count)?;
+    let tables = tables_over(alloc, samples, claim, claim.first, ends.as_slice())?;
+    Ok(tables)
+}
+
+/// The same for the pieces that end at `ends`, the first of which begins at `first`. These are Unix
+/// ticks, from 0 to below 2^64, and never fall.
+pub(crate) fn tables_over<S: SampleSource>(
+    alloc: Global,
+    samples: S,
+    claim: &Claim,
+    first: i128,
+    ends: &[i128],
+) -> Result<Vec<Vec<(u32, u32)>>, AllocError>
+    requires claim { IsLawful (data_of claim.now) }
+    requires samples { All IsLawfulSample (S.samples samples) }
+    requires few { length (S.samples samples) ≤ 1_000_000 }
+    requires pieces { ArePieces first ends.now }
+    ensures few { IfOk result (λ tables. length tables.items ≤ length claim.now.servers.items) }
+    ensures long { IfOk result (λ tables.
+        All (λ table. length table.items ≡ length ends.now) tables.items) }
+    ensures best { IfOk result (λ tables. (k : ℕ) (p q : ℤ) → IsPieceAt first ends.now k p q →
+        filter_map (λ table. slice_get table.items k) tables.items
+        ≡ best_entries (S.samples samples) (data_of claim.now) (stretch_over p q)) }
+{
+    first_best_of_both_ends_are_the_best();
     let servers = servers_of(alloc, samples)?;
     let mut tables = Vec::new(alloc);
     for server in 0..claim.servers.len() {
@@ -44,8 +70,8 @@ pub(crate) fn tables<S: SampleSource>(
             samples,
             servers.as_slice(),
             server as u8,
-            claim.first,
-            ends.as_slice(),
+            first,
+            ends,
             claim.drift_ppb,
         )?;
         if let Some(table) = table {

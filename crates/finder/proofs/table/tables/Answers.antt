@@ -1,16 +1,10 @@
-use Rattle.std.proofs.Common.{ℕ, ◌≤◌, length, ap, subst, le_trans, falls, ◌∙◌, arith, rules, ◌≡◌, [], ◌∷◌, ◌++◌}
-use Rattle.std.specs.Prelude.{slice_get}
-use Rattle.std.specs.List.{filter_map, range_with_len}
-use Rattle.std.proofs.lemmas.Grind.{common_steps}
-use Rattle.std.proofs.lemmas.List.Elements.{All-push}
+use Rattle.std.proofs.Common.{ap, ◌∙◌}
 use Rattle.claim_file.specs.Claim.{data_of}
-use Rattle.finder.specs.Entry.{best_over}
-use Rattle.finder.specs.Piece.{stretch_at}
-use Rattle.finder.proofs.ClaimLemmas.{first_from_zero, first_kept, last_in_range, last_kept, server_fits, span_in_order}
-use Rattle.finder.proofs.ListLemmas.{without}
-use Rattle.finder.proofs.TableLemmas.{are_pieces_of, best_are, as_many, table_more}
+use Rattle.finder.proofs.ClaimLemmas.{first_from_zero, first_kept, last_in_range, last_kept, span_in_order}
+use Rattle.finder.proofs.TableLemmas.{are_pieces_of, as_many_long, piece_of}
+use Rattle.finder.specs.Piece.{piece_begin_of}
+use Rattle.span_cover.specs.Step.{piece_end_of}
 use Rattle.finder.proofs.table.tables.Goals as goal
-use Rattle.finder.proofs.table.tables.Goals.{in-Some+in_ok-push, in_default}
 
 pub piece_ends-requires-clause-from_zero : goal.piece_ends-requires-clause-from_zero
 piece_ends-requires-clause-from_zero g c = first_from_zero (data_of c.args.claim.now) c.requires.claim
@@ -21,92 +15,30 @@ piece_ends-requires-clause-in_order g c = span_in_order (data_of c.args.claim.no
 pub piece_ends-requires-clause-in_range : goal.piece_ends-requires-clause-in_range
 piece_ends-requires-clause-in_range g c = last_in_range (data_of c.args.claim.now) c.requires.claim
 
-pub overflow_cast-server : goal.overflow_cast-server
-overflow_cast-server g c =
-    server_fits (data_of c.args.claim.now) c.requires.claim c.loop-server.server c.len-server-end.result
-    c.loop-server-test.true (c.len-server-end.ensures ∙ c.args.claim.now.servers.ok.0)
-
-pub best_of_pieces-requires-clause-samples : goal.best_of_pieces-requires-clause-samples
-best_of_pieces-requires-clause-samples g c = c.requires.samples
-
-pub best_of_pieces-requires-clause-few : goal.best_of_pieces-requires-clause-few
-best_of_pieces-requires-clause-few g c = c.requires.few
-
-pub best_of_pieces-requires-clause-servers : goal.best_of_pieces-requires-clause-servers
-best_of_pieces-requires-clause-servers g c = c.as_slice.ensures.value ∙ c.in_ok-servers.ensures
-
-pub best_of_pieces-requires-clause-pieces : goal.best_of_pieces-requires-clause-pieces
-best_of_pieces-requires-clause-pieces g c =
+pub tables_over-requires-clause-pieces : goal.tables_over-requires-clause-pieces
+tables_over-requires-clause-pieces g c =
     let claim = c.args.claim.now in
     let lawful = c.requires.claim in
     let first = first_kept (data_of claim) lawful in
     let last = last_kept (data_of claim) lawful in
     are_pieces_of claim.first claim.last c.args.step_s c.args.count _ _ _ c.in_ok-ends.ends.items
-    _ first last first c.as_slice-in-loop-server.ensures.value c.in_ok-ends.ensures lawful.span_begins
+    _ first last first c.as_slice.ensures.value c.in_ok-ends.ensures lawful.span_begins
     lawful.span_forward lawful.span_ends
 
-pub best_of_pieces-requires-clause-rate : goal.best_of_pieces-requires-clause-rate
-best_of_pieces-requires-clause-rate g c = c.requires.claim.drift_in_range
-
-pub loop-server-preserved : goal.loop-server-preserved
-loop-server-preserved g c =
+pub returns-clause-long : goal.returns-clause-long
+returns-clause-long g c =
     let claim = c.args.claim.now in
-    let server = c.loop-server.server in
     let first = first_kept (data_of claim) c.requires.claim in
     let last = last_kept (data_of claim) c.requires.claim in
-    let over : ℕ → ℕ → _ = λ (k : ℕ).
-    best_over (g.S.SampleSource.samples c.args.samples) (data_of claim) (stretch_at (data_of claim) c.args.step_s k) in
-    elim c.match-table.branch [
-      | in-Some+in_ok-push w ↦
-          let chosen = w.in-Some.table.items in
-          let are = rw w.in-Some.is at c.in_ok-table.ensures.best in
-          let long = as_many claim.first claim.last c.args.step_s c.args.count _ _ _ c.in_ok-ends.ends.items _
-          first last first c.as_slice-in-loop-server.ensures.value c.in_ok-ends.ensures
-          (g.S.SampleSource.samples c.args.samples) server
-          claim.drift_ppb chosen are in
-          let best = best_are claim.first claim.last c.args.step_s c.args.count _ _ _ c.in_ok-ends.ends.items _
-          first last first c.as_slice-in-loop-server.ensures.value c.in_ok-ends.ensures
-          (g.S.SampleSource.samples c.args.samples) server
-          claim.drift_ppb chosen are in
-          let old = c.loop-server.tables.items in
-          let pushed : w.push.new.self.items ≡ old ++ w.in-Some.table ∷ [] = search rules in
-          record {
-            few = grind (arith, common_steps);
-            long = rw (w.tables-is, pushed)
-                (All-push (λ t. length t.items ≡ c.args.count) old w.in-Some.table c.loop-server.invariant.long long);
-            best = λ k below. rw (w.tables-is, pushed)
-                (table_more (λ t. slice_get t.items k) (over k) server old w.in-Some.table
-                (c.loop-server.invariant.best k below) (best k below));
-          }
-      | in_default w ↦
-          let none = c.in_ok-table.ensures.none.0 (search (w.in_default.is)) in
-          record {
-            few = grind (arith, common_steps);
-            long = rw w.tables-is c.loop-server.invariant.long;
-            best = λ k below. rw w.tables-is (without (over k) server _ (c.loop-server.invariant.best k below)
-                (c.first_best_of_both_ends_are_the_best.ensures.none (g.S.SampleSource.samples c.args.samples)
-                server _ _ claim.drift_ppb
-                none));
-          }
-    ]
-
-pub loop-server-smaller : goal.loop-server-smaller
-loop-server-smaller g c = falls _ _ c.loop-server-test.true
-
-pub returns-clause-few : goal.returns-clause-few
-returns-clause-few g c =
-    subst (λ (n : ℕ). length c.loop-server.tables.items ≤ n)
-    (c.len-server-end.ensures ∙ c.args.claim.now.servers.ok.0)
-    (le_trans c.loop-server.invariant.few c.loop-server.auto.server-end)
-
-pub returns-clause-long : goal.returns-clause-long
-returns-clause-long g c = c.loop-server.invariant.long
+    as_many_long claim.first claim.last c.args.step_s c.args.count _ _ _ c.in_ok-ends.ends.items _
+    first last first c.as_slice.ensures.value c.in_ok-ends.ensures _ c.in_ok-tables.ensures.long
 
 pub returns-clause-best : goal.returns-clause-best
 returns-clause-best g c k below =
-    let claim = data_of c.args.claim.now in
-    let over = best_over (g.S.SampleSource.samples c.args.samples) claim (stretch_at claim c.args.step_s k) in
-    let some = c.loop-server-test.false in
-    let all : c.loop-server.server ≡ length claim.servers = grind (arith, common_steps) in
-    c.loop-server.invariant.best k below
-    ∙ ap (λ (n : ℕ). filter_map over (range_with_len 0 n)) all
+    let claim = c.args.claim.now in
+    let first = first_kept (data_of claim) c.requires.claim in
+    let last = last_kept (data_of claim) c.requires.claim in
+    c.in_ok-tables.ensures.best k (piece_begin_of claim.first claim.last c.args.step_s k)
+    (piece_end_of claim.first claim.last c.args.step_s k)
+    (piece_of claim.first claim.last c.args.step_s c.args.count _ _ _ c.in_ok-ends.ends.items _
+    first last first c.as_slice.ensures.value c.in_ok-ends.ensures k below)

@@ -1,0 +1,114 @@
+//! The certificate of fewest pieces.
+
+ghost use Rattle.std.specs.Prelude.{◌≡◌, ◌≤◌, IfOk, length, map};
+ghost use Rattle.certificate.specs.Certificate.{piece_data};
+ghost use Rattle.claim_file.specs.Claim.{IsLawful, data_of as claim_data};
+ghost use Rattle.sweep.specs.Pieces.{ArePieces};
+ghost use Rattle.finder.specs.Fewest.{pieces_over};
+ghost use Rattle.finder.specs.FewestAnswer.{FindsFewest};
+ghost use Rattle.finder.specs.Samples.{AreSamplesOf};
+
+use crate::entry::entries_at;
+use crate::fault::FindFault;
+use crate::laws::{
+    best_entries_show_as_much, best_hulls_hold_the_error, pieces_within_have_no_wider_hulls,
+};
+use crate::reach::{Reach, longest_ends};
+use crate::table::tables_over;
+use certificate::{Certificate, Piece};
+use checker::laws::pieces_give_the_verdict;
+use claim_file::Claim;
+use intersection::kinds::Hull;
+use sample_interval::SampleSource;
+use sample_interval::kinds::Sample;
+use span_cover::laws::best_samples_are_the_first_best;
+use std::alloc::{AllocError, Global};
+
+/// A certificate of fewest pieces, or why no certificate is accepted.
+#[derive(Debug, Drop)]
+pub enum Fewest {
+    /// A certificate that the checker accepts. No other that it accepts has fewer pieces.
+    Certificate(Certificate),
+    /// The samples don't show that the error is within the bound over this tick, and so there is no
+    /// certificate; or they contradict each other there.
+    Nothing {
+        /// Where the tick begins, in Unix ticks of 2^-32 s.
+        begin: i128,
+        /// Where it ends: a tick later, or the same if the span is one moment.
+        end: i128,
+        /// The hull of the best entries there, in ticks, over the groups of servers.
+        hull: Hull,
+    },
+}
+
+/// Looks for a certificate of a claim with as few pieces as can be. Each piece is as long as the
+/// bound allows, and has the best entries, as those of [`find`](crate::find) have.
+///
+/// The samples are those of all exchanges, in their order, at most 1,000,000.
+///
+/// `TooManyPieces` comes if 100,000 pieces don't reach the span's end, and `Memory` if none is left.
+pub fn find_fewest(alloc: Global, samples: &[Sample], claim: &Claim) -> Result<Fewest, FindFault>
+    requires claim { IsLawful (claim_data claim.now) }
+    requires samples { AreSamplesOf (claim_data claim.now) samples.now }
+    requires few { length samples.now ≤ 1_000_000 }
+    ensures { FindsFewest samples.now (claim_data claim.now) result }
+{
+    find_fewest_over(alloc, samples, claim)
+}
+
+/// `find_fewest` over samples from any source, which need not be a list.
+pub fn find_fewest_over<S: SampleSource>(
+    alloc: Global,
+    samples: S,
+    claim: &Claim,
+) -> Result<Fewest, FindFault>
+    requires claim { IsLawful (claim_data claim.now) }
+    requires samples { AreSamplesOf (claim_data claim.now) (S.samples samples) }
+    requires few { length (S.samples samples) ≤ 1_000_000 }
+    ensures { FindsFewest (S.samples samples) (claim_data claim.now) result }
+{
+    best_samples_are_the_first_best();
+    best_entries_show_as_much();
+    pieces_within_have_no_wider_hulls();
+    pieces_give_the_verdict();
+    best_hulls_hold_the_error();
+    let reached = longest_ends(alloc, samples, claim)?;
+    match reached {
+        Reach::End(ends) => {
+            let found = certificate_over(alloc, samples, claim, ends.as_slice())?;
+            Ok(Fewest::Certificate(found))
+        }
+        Reach::Stuck { begin, end, hull } => Ok(Fewest::Nothing {
+            begin: i128::from(begin),
+            end: i128::from(end),
+            hull,
+        }),
+        Reach::TooLong => Err(FindFault::TooManyPieces),
+    }
+}
+
+/// The certificate of the pieces that end at `ends`, the first of which begins with the span.
+fn certificate_over<S: SampleSource>(
+    alloc: Global,
+    samples: S,
+    claim: &Claim,
+    ends: &[i128],
+) -> Result<Certificate, AllocError>
+    requires claim { IsLawful (claim_data claim.now) }
+    requires samples { AreSamplesOf (claim_data claim.now) (S.samples samples) }
+    requires few { length (S.samples samples) ≤ 1_000_000 }
+    requires pieces { ArePieces claim.now.first ends.now }
+    ensures { IfOk result (λ found. map piece_data found.pieces.items
+        ≡ pieces_over (S.samples samples) (claim_data claim.now) claim.now.first ends.now) }
+{
+    let tables = tables_over(alloc, samples, claim, claim.first, ends)?;
+    let mut pieces = Vec::with_capacity(alloc, ends.len())?;
+    for number in 0..ends.len() {
+        let entries = entries_at(tables.as_slice(), number);
+        pieces.push(Piece {
+            upto: ends[number] as u64,
+            entries,
+        })?;
+    }
+    Ok(Certificate { pieces })
+}

@@ -1,0 +1,55 @@
+//! How far the longest pieces reach.
+
+ghost use Rattle.std.specs.Prelude.{◌≡◌, ◌≤◌, length, IfOk};
+ghost use Rattle.claim_file.specs.Claim.{IsLawful, data_of};
+ghost use Rattle.finder.specs.Reach.{IsReach};
+ghost use Rattle.finder.specs.Samples.{AreSamplesOf};
+
+use crate::longest::{hull_over, longest_end, tick_after};
+use certificate::MAX_PIECES;
+use claim_file::Claim;
+use intersection::kinds::Hull;
+use sample_interval::SampleSource;
+use span_cover::is_inside;
+use std::alloc::{AllocError, Global};
+
+/// How far the longest pieces of a span reach, one after another.
+#[derive(Drop)]
+pub(crate) enum Reach {
+    /// To the span's end. These are the ends of the pieces.
+    End(Vec<i128>),
+    /// To a tick after which the error isn't shown to be within the bound: the piece of one tick,
+    /// and its hull.
+    Stuck { begin: u64, end: u64, hull: Hull },
+    /// Not to the span's end, by as many as a certificate may have.
+    TooLong,
+}
+
+/// Takes one longest piece after another.
+pub(crate) fn longest_ends<S: SampleSource>(
+    alloc: Global,
+    samples: S,
+    claim: &Claim,
+) -> Result<Reach, AllocError>
+    requires claim { IsLawful (data_of claim.now) }
+    requires samples { AreSamplesOf (data_of claim.now) (S.samples samples) }
+    requires few { length (S.samples samples) ≤ 1_000_000 }
+    ensures { IfOk result (IsReach (S.samples samples) (data_of claim.now)) }
+{
+    let last = claim.last as u64;
+    let mut begin = claim.first as u64;
+    let mut ends: Vec<i128> = Vec::new(alloc);
+    while ends.len() < MAX_PIECES {
+        let end = tick_after(begin, last);
+        let hull = hull_over(alloc, samples, claim, begin, end)?;
+        if !is_inside(claim.bound, hull) {
+            return Ok(Reach::Stuck { begin, end, hull });
+        }
+        begin = longest_end(alloc, samples, claim, begin, end)?;
+        ends.push(i128::from(begin))?;
+        if begin == last {
+            return Ok(Reach::End(ends));
+        }
+    }
+    Ok(Reach::TooLong)
+}
