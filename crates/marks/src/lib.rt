@@ -1,4 +1,14 @@
 //! Marks: what an exchange leaves for the clock's error, at one reading of the clock each.
+//!
+//! - [`low_mark`] and [`high_mark`] give what the error can't lie below and above, if the server
+//!   isn't false, and [`is_possible`] whether the exchange can have happened at all.
+//! - [`are_compatible`] says whether some course of the error keeps a low mark and a high mark, with
+//!   the claim's rate of drift, and [`all_compatible`] whether each low mark of a list is compatible
+//!   with each high mark of another, by one sort and two sweeps.
+//! - [`first_conflict`] names the first low mark and high mark that aren't.
+//!
+//! Each is exact by its contract, and only [`first_conflict`] takes memory. [`laws`] has what holds
+//! of the definitions.
 #![tactic(auto)]
 
 mod bounds;
