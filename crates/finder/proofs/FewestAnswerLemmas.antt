@@ -1,15 +1,15 @@
 -- What is found, and what that says.
-use Rattle.std.proofs.Common.{◌≡◌, ℕ, ◌+◌, ◌<◌, ◌≤◌, ℤ, pos, ◌≤ℤ◌, to_z, of_z, List, [], ◌∷◌, ◌++◌, length, Ok, Err, inl, inr, refl, sym, ap, ◌∙◌, subst, arith}
+use Rattle.std.proofs.Common.{◌≡◌, ℕ, ◌+◌, ℤ, pos, ◌≤ℤ◌, to_z, of_z, List, [], ◌∷◌, ◌++◌, length, Ok, Err, inl, inr, refl, sym, ap, ◌∙◌, subst, arith}
 use Rattle.std.specs.Prelude.{Result, IsErrAnd}
 use mir.Syntax.{w128}
-use Rattle.certificate.specs.Certificate.{CertificateData, data_of as certificate_data, max_pieces}
+use Rattle.certificate.specs.Certificate.{data_of as certificate_data}
 use Rattle.certificate.specs.declared.certificate.Certificate.{Certificate}
 use Rattle.claim_file.specs.Claim.{ClaimData, IsLawful}
 use Rattle.intersection.specs.declared.kinds.Hull.{Hull}
 use Rattle.sample_interval.specs.declared.kinds.Sample.{Sample}
 use Rattle.checker.specs.Traceability.{HoldsError, IsInHull}
 use Rattle.checker.specs.Verdict.{verdict_from}
-use Rattle.finder.specs.Fewest.{IsStuck, IsTooLong, end_after, hull_over, next_tick, pieces_over, stretch_over}
+use Rattle.finder.specs.Fewest.{IsStuck, IsTooLong, hull_over, pieces_over, stretch_over}
 use Rattle.finder.specs.FewestAnswer.{FindsFewest}
 use Rattle.finder.specs.Reach.{AreEnds}
 use Rattle.finder.specs.Samples.{AreSamplesOf}

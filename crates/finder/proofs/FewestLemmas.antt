@@ -1,5 +1,5 @@
 -- What the longest pieces say of certificates: theirs is accepted, and no accepted one has fewer pieces.
-use Rattle.std.proofs.Common.{◌≡◌, ◌≢◌, ℕ, zero, suc, ◌+◌, ◌<◌, ◌≤◌, ◌^◌, ℤ, pos, ◌+ℤ◌, ◌≤ℤ◌, ◌<ℤ◌, int_lt, nat_lt, unsigned_abs, Bool, true, false, true≢false, cond, ◌&&◌, ◌||◌, ⊎_elim, List, [], ◌∷◌, ◌++◌, length, Option, Some, None, refl, sym, ap, ◌∙◌, subst, arith}
+use Rattle.std.proofs.Common.{◌≡◌, ◌≢◌, ℕ, suc, ◌+◌, ◌<◌, ℤ, pos, ◌≤ℤ◌, int_lt, nat_lt, unsigned_abs, Bool, true, false, true≢false, cond, ◌&&◌, ◌||◌, ⊎_elim, List, [], ◌∷◌, ◌++◌, length, Option, Some, None, refl, sym, ap, ◌∙◌, subst, arith}
 use Rattle.std.specs.Prelude.{All, slice_get, IsSomeAnd}
 use Rattle.std.specs.Ordering.{int_eq}
 use Rattle.std.proofs.lemmas.Bool.{cond-true}
@@ -14,21 +14,20 @@ use Rattle.sample_interval.specs.declared.kinds.Sample.{Sample}
 use Rattle.span_cover.specs.Group.{is_inside}
 use Rattle.span_cover.specs.Piece.{IsPiece}
 use Rattle.span_cover.specs.declared.stretch.Stretch.{Stretch}
-use Rattle.checker.specs.Stretch.{begin_of, last_end, stretches_from, stretches_of}
-use Rattle.checker.specs.Traceability.{HoldsError, IsContradicted}
+use Rattle.checker.specs.Stretch.{last_end, stretches_from}
+use Rattle.checker.specs.Traceability.{HoldsError}
 use Rattle.checker.specs.Verdict.{parts_after, parts_fault, piece_fault, verdict_after, verdict_from, verdict_of, PassBelow}
 use Rattle.checker.specs.declared.verdict.Verdict.TheVariants.{Yes, No}
 use Rattle.checker.specs.declared.verdict.Why.{Why}
 use Rattle.checker.specs.declared.verdict.Why.TheVariants.{Cut, Uncovered}
 use Rattle.finder.specs.Entry.{best_entries, best_hull}
 use Rattle.finder.specs.Fewest.{AreLongest, IsLongest, IsNoWider, end_after, hull_over, next_tick, piece_over, pieces_over, shows, stretch_over}
-use Rattle.finder.specs.Refusal.{HasPieceOver, HoldsWhole, NoneIsAcceptedOver}
+use Rattle.finder.specs.Refusal.{HoldsWhole}
 use Rattle.finder.specs.Samples.{AreSamplesOf}
 use Rattle.finder.proofs.BestLemmas.{BestLaw}
-use Rattle.finder.proofs.ListLemmas.{by_test}
 use Rattle.finder.proofs.NarrowLemmas.{NarrowLaw, WithinLaw}
 use Rattle.finder.proofs.NearestLemmas.{int_cases}
-use Rattle.finder.proofs.RefusalLemmas.{Pass, Shows, pass_each, shows_piece, some_and}
+use Rattle.finder.proofs.RefusalLemmas.{Pass, pass_each, shows_piece, some_and}
 use Rattle.finder.proofs.VerdictLemmas.{entries_fault, from_zero_kept, inside_passes, not_less}
 
 -- what is known of the best samples and of verdicts

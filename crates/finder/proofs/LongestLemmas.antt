@@ -1,6 +1,5 @@
 -- Where the longest piece ends, by halving; and the longest pieces, one after another.
-use Rattle.std.proofs.Common.{◌≡◌, ℕ, zero, suc, ◌+◌, ◌-◌, ◌<◌, ◌≤◌, ◌^◌, ℤ, pos, ◌+ℤ◌, ◌≤ℤ◌, ◌<ℤ◌, unsigned_abs, Bool, true, false, true≢false, List, [], ◌∷◌, ◌++◌, length, take, vec_len, length-append, Vec, Global, get_or, Some, refl, sym, ap, ◌∙◌, subst, arith, to_z, of_z, Fits, w64}
-use Rattle.std.specs.Prelude.{slice_get}
+use Rattle.std.proofs.Common.{◌≡◌, ℕ, zero, suc, ◌+◌, ◌-◌, ◌<◌, ◌≤◌, ◌^◌, ℤ, pos, ◌+ℤ◌, ◌≤ℤ◌, ◌<ℤ◌, unsigned_abs, true, false, true≢false, List, [], ◌∷◌, ◌++◌, length, take, vec_len, length-append, Vec, Global, get_or, Some, refl, sym, ap, ◌∙◌, subst, arith, to_z, of_z, Fits, w64}
 use Rattle.std.specs.Int.{int_min}
 use Rattle.std.proofs.lemmas.Int.{ints, clamps}
 use mir.Syntax.{w128}

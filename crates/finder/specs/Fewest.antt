@@ -4,7 +4,7 @@
 -- best entries lies inside the bound, and the next one begins there. A piece has at least one tick,
 -- unless the span is one moment, which is one piece. Where the hull over the one tick from a
 -- piece's begin isn't inside the bound, there is no such piece.
-use Rattle.std.specs.Prelude.{◌≡◌, ℕ, ◌≤◌, ℤ, pos, ◌+ℤ◌, ◌≤ℤ◌, ◌<ℤ◌, unsigned_abs, ⊤}
+use Rattle.std.specs.Prelude.{◌≡◌, ◌≤◌, ℤ, pos, ◌+ℤ◌, ◌≤ℤ◌, ◌<ℤ◌, unsigned_abs, ⊤}
 use Rattle.std.specs.Prelude.{Bool, true, false, List, [], ◌∷◌, ◌++◌, length}
 use Rattle.std.specs.Int.{int_min}
 use Rattle.certificate.specs.Certificate.{PieceData, CertificateData, data_of as certificate_data, max_pieces}

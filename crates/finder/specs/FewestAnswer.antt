@@ -1,5 +1,5 @@
 -- What a search for the certificate of fewest pieces answers.
-use Rattle.std.specs.Prelude.{◌≡◌, ◌≢◌, ◌⊎◌, ◌≤◌, List, length, Result, Ok, Err, IfOk, MatchResult}
+use Rattle.std.specs.Prelude.{◌≡◌, ◌≢◌, ◌⊎◌, ◌≤◌, List, length, Result, Err, IfOk, MatchResult}
 use Rattle.certificate.specs.Certificate.{max_pieces}
 use Rattle.claim_file.specs.Claim.{ClaimData}
 use Rattle.intersection.specs.declared.kinds.Hull.TheVariants.{Empty}

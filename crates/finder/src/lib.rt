@@ -3,10 +3,13 @@
 //! [`find`] cuts the span of a claim into pieces, takes for each server the samples that say most
 //! of each piece, and gives either a certificate, which the checker accepts, or the first piece of
 //! which these samples don't show enough. What it finds is a proposal: nothing rests on it before
-//! the checker has said yes. [`find_envelope`] takes the same pieces, and gives the hull of each
-//! and the least bound that holds over all of them. [`find_over`] and [`find_envelope_over`] do so
-//! over samples from any source. [`find_refutation`] gives a refutation, which the checker accepts,
-//! unless it accepts none. [`laws`] has what holds of the definitions.
+//! the checker has said yes. [`find_fewest`] makes each piece as long as the bound allows: no
+//! certificate that is accepted has fewer pieces, and where it finds none, none is accepted, unless
+//! the samples contradict each other. [`find_envelope`] takes the pieces of [`find`], and gives the
+//! hull of each and the least bound that holds over all of them. [`find_over`],
+//! [`find_fewest_over`] and [`find_envelope_over`] do so over samples from any source.
+//! [`find_refutation`] gives a refutation, which the checker accepts, unless it accepts none.
+//! [`laws`] has what holds of the definitions.
 #![tactic(auto)]
 
 mod entry;

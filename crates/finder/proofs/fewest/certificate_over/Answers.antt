@@ -1,4 +1,4 @@
-use Rattle.std.proofs.Common.{◌≡◌, ◌<◌, ◌≤◌, ℤ, pos, length, map, take, get_or, unsigned_abs, sym, ap, ◌∙◌, arith}
+use Rattle.std.proofs.Common.{pos, map, take, get_or, unsigned_abs, ap, ◌∙◌}
 use Rattle.std.proofs.lemmas.List.{map-append, take_all}
 use Rattle.certificate.specs.Certificate.{piece_data}
 use Rattle.claim_file.specs.Claim.{data_of}

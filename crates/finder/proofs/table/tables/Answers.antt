@@ -1,4 +1,3 @@
-use Rattle.std.proofs.Common.{ap, ◌∙◌}
 use Rattle.claim_file.specs.Claim.{data_of}
 use Rattle.finder.proofs.ClaimLemmas.{first_from_zero, first_kept, last_in_range, last_kept, span_in_order}
 use Rattle.finder.proofs.TableLemmas.{are_pieces_of, as_many_long, piece_of}
