@@ -1,6 +1,5 @@
 use Rattle.std.proofs.Common.{◌≡◌, ◌+◌, ◌∷◌, drop, length, map, sym, ap, ◌∙◌, subst, Some}
 use Rattle.std.proofs.lemmas.Option.{slice_get-get_or}
-use Rattle.std.specs.Prelude.{slice_get}
 use Rattle.checker.specs.Refutation.{is_liar}
 use Rattle.courses.specs.declared.kept_marks.KeptMarks.{KeptMarks}
 use Rattle.courses.proofs.KeptMarkLists.{IsGathering, first_left, lawful_shown, past_kept, past_liar, stopped}
