@@ -64,7 +64,7 @@ More:     man ntpaudit, which says when a refutation stands";
 const ENVELOPE_HELP: &str = "\
 Prints:   a line for each piece, `K FROM TO LOW HIGH`, `K FROM TO unbounded` or `K FROM TO empty`:
           the clock's error, from LOW to HIGH ticks of 2^-32 s; then `bound_ns N piece K`, the
-          least bound that holds, or `bound_ns none piece K`. The claim's bound plays no part
+          least bound that holds, or `bound_ns none piece K`. The claim's bound is ignored
 Status:   0 a bound holds; 1 none; 2 an input is refused, or there are over 100000 pieces; 3 out of
           memory; 4 a file or the output failed; 5 the command line is refused
 Example:  ntpaudit envelope claim.json recording.pcap --step 8
@@ -161,7 +161,7 @@ fn flag<'a>(alloc: Global, name: &'a str, help: &'a str) -> Arg<'a> {
 
 /// The command `find`.
 fn find_command<'a>(alloc: Global) -> Result<Command<'a>, AllocError> {
-    let step = "Seconds of each piece, 1 to 86400; plays no part beside --refutation";
+    let step = "Seconds of each piece, 1 to 86400; ignored beside --refutation";
     let refutation = "Find a refutation of the claim in place of a certificate";
     let about = "Find a certificate for a claim in a capture, or a refutation";
     evidence_command(alloc, "find", about, FIND_HELP)?
