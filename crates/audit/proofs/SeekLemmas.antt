@@ -1,5 +1,5 @@
 -- What the outcome of a search for a refutation shows.
-use Rattle.std.proofs.Common.{◌≡◌, List, length, Option, Some, None, refl, sym, subst}
+use Rattle.std.proofs.Common.{◌≡◌, List, length, Option, Some, None, refl, sym, subst, false}
 use Rattle.std.specs.Prelude.{All, AllPairs, IfSome, IsNone, option_map}
 use Rattle.certificate.specs.Certificate.{CertificateData}
 use Rattle.certificate.specs.Refutation.{RefutationData, data_of as refutation_data}

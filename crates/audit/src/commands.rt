@@ -1,6 +1,6 @@
 //! The engine of each command: one question, asked with std's hasher of a fixed key.
 
-ghost use Rattle.std.specs.Prelude.{◌≡◌, ◌≤◌, Ok, IfOk};
+ghost use Rattle.std.specs.Prelude.{◌≡◌, ◌≤◌, Ok, IfOk, true, false};
 ghost use Rattle.finder.specs.Piece.{IsStep};
 ghost use Rattle.report.specs.Run.{no_feed, run_state};
 ghost use Rattle.audit.specs.At.{IsHeld};
