@@ -19,9 +19,12 @@ use Rattle.pairing.specs.Answer.{AreGiven}
 use Rattle.pairing.specs.declared.exchange.Exchange.{Exchange}
 use Rattle.sample_interval.specs.Moment.{error_of}
 use Rattle.checker.specs.Refutation.{IsAgainst, HasCourse}
+use Rattle.courses.specs.DriftRefutation.{HasDriftCourse}
 use Rattle.audit.specs.Captured.{frame_of}
 use Rattle.audit.specs.Claimed.{IsClaimText}
 use Rattle.audit.specs.Contested.{HasCourseBeyond, IsBeyond, IsBeyondNanoseconds}
+use Rattle.audit.specs.Evidence.{EvidenceData}
+use Rattle.audit.specs.Refute.{IsStanding}
 use Rattle.audit.proofs.CapturedLemmas.{captured, each_record}
 use Rattle.audit.proofs.ExchangedLemmas.{in_place}
 
@@ -101,6 +104,32 @@ course_beyond claim xs r against (course, of) =
       error_is = of.off_throughout.one_error course.observation (inl refl);
       beyond = against.beyond_bound;
     }
+
+-- the course of one whose error may drift
+drift_course_beyond : (claim : ClaimData) (xs : List Exchange) (r : RefutationData) → IsAgainst claim r
+    → HasDriftCourse claim xs r → HasCourseBeyond claim xs
+drift_course_beyond claim xs r against of =
+    let n = of.course.fineness in
+    let span = against.in_span in
+    record {
+      course = of.course;
+      fits = of.fits;
+      in_span = rw of.observed.reading (
+        times_le claim.first (pos r.reading) n span.0,
+        times_le (pos r.reading) claim.last n span.1,
+      );
+      error = r.error;
+      error_is = of.observed.error;
+      beyond = against.beyond_bound;
+    }
+
+-- one that stands has a course beyond the bound
+pub standing_beyond : (drift : Bool) (r : RefutationData) (e : EvidenceData) → IsStanding drift r e
+    → HasCourseBeyond e.claim e.collection.exchanges
+standing_beyond true r e stands =
+    drift_course_beyond e.claim e.collection.exchanges r stands.accepted.against stands.course
+standing_beyond false r e stands =
+    course_beyond e.claim e.collection.exchanges r stands.accepted.against stands.course
 
 -- ---- the records of a capture
 

@@ -22,17 +22,20 @@ use Rattle.audit.specs.Check.{IsDenied, IsTracedByPieces, IsTracedTo}
 use Rattle.audit.specs.Envelope.{IsEnvelopeOf}
 use Rattle.audit.specs.Evidence.{EvidenceData, GiveEvidence, OfClaimAndCapture, evidence_of}
 use Rattle.audit.specs.Find.{IsFoundOf, IsNothingOf}
+use Rattle.audit.specs.Contested.{CourseContests, IsContestedShown}
 use Rattle.audit.specs.Headline.{IsShown, ShowsHeadline}
 use Rattle.audit.specs.Nanoseconds.{GivesNanoseconds}
 use Rattle.audit.specs.Question.{QuestionData, TaskData, samples, at, find, check, refute, envelope, seek, check_of, refute_by, check_read, refute_read, task_read, Shows, ShowsOf}
 use Rattle.audit.specs.Refute.{GiveRefutation, IsFallen, IsStanding}
 use Rattle.audit.specs.Report.{ShowsAfter}
 use Rattle.audit.specs.Seek.{IsSoughtInVain, IsSoughtOf}
+use Rattle.audit.proofs.Excess.{standing_beyond}
 
 -- the laws on bytes that a yes needs
 pub record BytesLaws : Type 0 where
   pub nanoseconds : GivesNanoseconds
   pub headline : ShowsHeadline
+  pub contested : CourseContests
 
 -- what is shown of the task is shown of what it is
 of_task : (e : EvidenceData) (outcome : Outcome) (task same : TaskData) → task ≡ same →
@@ -159,6 +162,17 @@ module _ (c : ClaimData) where
         };
       }
 
+  contested_shown : (laws : BytesLaws) (drift : Bool) (claim second capture : Option (List ℕ)) → Is claim →
+      ShowsAfter (refute drift) c second capture outcomes.Yes →
+      IfSome claim (λ b. IfSome capture (λ f. IsBytes f → IsContestedShown b f))
+  contested_shown laws drift None second capture is after = tt
+  contested_shown laws drift (Some b) second None is after = tt
+  contested_shown laws drift (Some b) second (Some f) is after =
+      let e = evidence_of c after.collection in
+      let stands = of_task e outcomes.Yes after.task _ after.is_task.1 after.shows in
+      λ bytes. laws.contested b f c after.collection bytes is after.collection_is
+      (standing_beyond drift after.is_task.0 e stands)
+
 module _ (laws : BytesLaws) (claim second capture : FeedState) (c : ClaimData) (is : Is c claim.remaining) where
   -- of a question that has no second input
   alone : (P : EvidenceData → Type 0) (question : QuestionData) (outcome : Outcome)
@@ -184,9 +198,11 @@ module _ (laws : BytesLaws) (claim second capture : FeedState) (c : ClaimData) (
     by_pieces = traced_by_pieces c laws claim.remaining second.remaining capture.remaining is after;
   }
   from_bytes check outcomes.No after = denied c claim.remaining second.remaining capture.remaining is after
-  from_bytes (refute drift) outcomes.Yes after =
-      refuted c drift (IsStanding drift) outcomes.Yes (λ r e shows. shows)
-      claim.remaining second.remaining capture.remaining is after
+  from_bytes (refute drift) outcomes.Yes after = record {
+    stands = refuted c drift (IsStanding drift) outcomes.Yes (λ r e shows. shows)
+        claim.remaining second.remaining capture.remaining is after;
+    shown = contested_shown c laws drift claim.remaining second.remaining capture.remaining is after;
+  }
   from_bytes (refute drift) outcomes.No after =
       refuted c drift (IsFallen drift) outcomes.No (λ r e shows. shows)
       claim.remaining second.remaining capture.remaining is after

@@ -1,5 +1,6 @@
 -- The report of `refute`, and what its outcome says.
 use Rattle.std.specs.Prelude.{◌≡◌, ℕ, List, Bool, true, false, Option, IfSome, Ok}
+use Rattle.byte_stream.specs.Bytes.{IsBytes}
 use Rattle.byte_stream.specs.State.{FeedState}
 use Rattle.certificate.specs.Certificate.{CertificateData}
 use Rattle.certificate.specs.Refutation.{RefutationData}
@@ -15,6 +16,7 @@ use Rattle.report.specs.declared.fault.Outcome.TheVariants.{Yes, No}
 use Rattle.report.specs.Reports.{Report, whole_text}
 use Rattle.audit_text.specs.Refutation.{refuted_text}
 use Rattle.audit.specs.Check.{verdict_on}
+use Rattle.audit.specs.Contested.{IsContestedShown}
 use Rattle.audit.specs.Evidence.{EvidenceData, GiveEvidence, OfClaimAndCapture}
 
 -- the outcome for whether a refutation stands
@@ -72,10 +74,14 @@ pub record GiveRefutation (P : RefutationData → EvidenceData → Type 0)
   pub refutation_is : IfSome refutation_bytes (λ bytes. refutation_read bytes ≡ Ok refutation)
   pub evidence : GiveEvidence (P refutation) claim capture
 
--- At a yes the refutation stands, if the bytes of claim and capture are known.
-abbrev pub IsContested : Bool → FeedState → FeedState → FeedState → Type 0
-IsContested drift claim second capture =
-    OfClaimAndCapture claim capture (GiveRefutation (IsStanding drift) second.remaining)
+-- At a yes the refutation stands, and that a course breaks the claim is shown in relations alone,
+-- if the bytes of claim and capture are known.
+pub record IsContested (drift : Bool) (claim second capture : FeedState) : Type 0 where
+  pub stands : OfClaimAndCapture claim capture
+      (GiveRefutation (IsStanding drift) second.remaining)
+  pub shown : OfClaimAndCapture claim capture
+      (λ claim_bytes capture_bytes. IsBytes capture_bytes
+      → IsContestedShown claim_bytes capture_bytes)
 
 -- At a no it falls, if these bytes are known.
 abbrev pub IsUncontested : Bool → FeedState → FeedState → FeedState → Type 0

@@ -25,7 +25,10 @@ ghost use Rattle.audit.specs.Run.{AnswersFor, MayRun, RunsFor, ShowsAt};
 
 use crate::capture_input::read_capture_from;
 use crate::evidence::Evidence;
-use crate::laws::{bounds_of_bytes_hold_in_nanoseconds, yes_shows_the_headline};
+use crate::laws::{
+    bounds_of_bytes_hold_in_nanoseconds, course_beyond_the_bound_contests_the_claim,
+    yes_shows_the_headline,
+};
 use crate::question::{Question, make, read_task};
 use byte_stream::{Feed, Sink};
 use claim_file::Claim;
@@ -135,6 +138,7 @@ pub fn run<C: Feed, T: Feed, F: Feed, S: Sink, H: BuildHasher + Drop>(
     let (capture, made) = make_report(alloc, question, claim, second, capture, hasher);
     bounds_of_bytes_hold_in_nanoseconds();
     yes_shows_the_headline();
+    course_beyond_the_bound_contests_the_claim();
     let answer = publish(out, &made);
     (capture, answer)
 }
@@ -172,6 +176,7 @@ pub fn answer<C: Feed, T: Feed, F: Feed, S: Sink, E: Sink, H: BuildHasher + Drop
     let (capture, made) = make_report(alloc, question, claim, second, capture, hasher);
     bounds_of_bytes_hold_in_nanoseconds();
     yes_shows_the_headline();
+    course_beyond_the_bound_contests_the_claim();
     let answer = publish(&mut to.out, &made);
     (capture, tell(&answer, &mut to.err))
 }

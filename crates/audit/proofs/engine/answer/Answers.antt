@@ -41,6 +41,7 @@ returns-clause-shows g c =
     (run_shows (record {
       nanoseconds = c.bounds_of_bytes_hold_in_nanoseconds.ensures;
       headline = c.yes_shows_the_headline.ensures;
+      contested = c.course_beyond_the_bound_contests_the_claim.ensures;
     }) (data_of c.args.question) _ _ _ c.read_claim_from-claim.result c.make_report-capture.result.1 _
     c.read_claim_from-claim.ensures.known made.read made.shows c.publish-answer.ensures.stays)
 
