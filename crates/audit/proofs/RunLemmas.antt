@@ -106,7 +106,8 @@ same_most which limit (Err fault) answer same = sym (ap (most_read which limit) 
 same_most_second : (question : QuestionData) (made : Result Made RunFault) (answer : Result Outcome RunFault) →
     IsAnswerFor made answer → most_second question made ≡ most_second question answer
 same_most_second questions.check made answer stays = same_most inputs.Certificate max_certificate made answer stays
-same_most_second (questions.refute drift) made answer stays = same_most inputs.Refutation max_refutation made answer stays
+same_most_second (questions.refute drift) made answer stays =
+    same_most inputs.Refutation max_refutation made answer stays
 same_most_second question made answer stays = refl
 
 -- ---- what was lawful if memory is refused

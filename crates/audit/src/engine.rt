@@ -172,11 +172,6 @@ pub fn answer<C: Feed, T: Feed, F: Feed, S: Sink, E: Sink, H: BuildHasher + Drop
     ensures shows { ShowsAt result.1 (data_of question)
         (C.state claim.old) (T.state second.old) (F.state capture) }
 {
-    let claim = read_claim_from(alloc, claim);
-    let (capture, made) = make_report(alloc, question, claim, second, capture, hasher);
-    bounds_of_bytes_hold_in_nanoseconds();
-    yes_shows_the_headline();
-    course_beyond_the_bound_contests_the_claim();
-    let answer = publish(&mut to.out, &made);
+    let (capture, answer) = run(alloc, question, claim, second, capture, &mut to.out, hasher);
     (capture, tell(&answer, &mut to.err))
 }

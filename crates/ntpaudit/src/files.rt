@@ -1,6 +1,7 @@
 //! The files that a command line names, opened.
 
-ghost use Rattle.std.specs.Prelude.{◌≡◌, None, Some, IfOk, IfSome};
+ghost use Rattle.std.specs.Prelude.{◌≡◌, None, Some, IfOk, IfErr, IfSome};
+ghost use Rattle.report.specs.declared.fault.RunFault.TheVariants.{Device};
 
 use crate::invocation::{Paths, SecondPath};
 use byte_stream::{Feed, ReadFeed};
@@ -22,7 +23,8 @@ pub(crate) struct Inputs {
 /// Opens the file of an input, which hasn't failed yet. If it can't be opened, that's the fault of
 /// the input's device.
 pub(crate) fn open(rt: &HostRuntime, path: &str, which: Input) -> Result<ReadFeed<File>, RunFault>
-    ensures { IfOk result (λ feed. (⟦<ReadFeed<File> as Feed>⟧.state feed).faults ≡ 0) }
+    ensures unfailed { IfOk result (λ feed. (⟦<ReadFeed<File> as Feed>⟧.state feed).faults ≡ 0) }
+    ensures fault { IfErr result (λ fault. fault ≡ Device which) }
 {
     match fs::open(rt, path) {
         Ok(file) => Ok(ReadFeed::new(file)),
