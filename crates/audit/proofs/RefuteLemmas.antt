@@ -1,5 +1,5 @@
 -- What it shows whether a refutation stands.
-use Rattle.std.proofs.Common.{◌≡◌, Bool, true, false, refl, sym, subst, true≢false}
+use Rattle.std.proofs.Common.{Bool, true, false, refl, sym, true≢false}
 use Rattle.std.specs.Prelude.{AllPairs}
 use Rattle.certificate.specs.Refutation.{RefutationData}
 use Rattle.pairing.specs.Exchange.{SameRequest}

@@ -1,5 +1,5 @@
 -- What an outcome shows, from the bytes of the inputs.
-use Rattle.std.proofs.Common.{◌≡◌, ◌∙◌, ℕ, Bool, List, Option, Some, None, Result, Ok, Err, refl, sym, ap, subst, inl, inr}
+use Rattle.std.proofs.Common.{◌≡◌, ◌∙◌, ℕ, Bool, false, List, Option, Some, None, Result, Ok, Err, refl, sym, ap, subst, inl, inr}
 use Rattle.std.specs.Prelude.{IfSome, IfOk, IfErr}
 use Rattle.byte_stream.specs.Bytes.{IsBytes}
 use Rattle.byte_stream.specs.State.{FeedState}
@@ -22,7 +22,7 @@ use Rattle.audit.specs.Check.{IsDenied, IsTracedByPieces, IsTracedTo}
 use Rattle.audit.specs.Envelope.{IsEnvelopeOf}
 use Rattle.audit.specs.Evidence.{EvidenceData, GiveEvidence, OfClaimAndCapture, evidence_of}
 use Rattle.audit.specs.Find.{IsFoundOf, IsNothingOf}
-use Rattle.audit.specs.Contested.{CourseContests, IsContestedShown}
+use Rattle.audit.specs.Contested.{CourseContests, ShowsContested}
 use Rattle.audit.specs.Headline.{IsShown, ShowsHeadline}
 use Rattle.audit.specs.Nanoseconds.{GivesNanoseconds}
 use Rattle.audit.specs.Question.{QuestionData, TaskData, samples, at, find, check, refute, envelope, seek, check_of, refute_by, check_read, refute_read, task_read, Shows, ShowsOf}
@@ -164,7 +164,7 @@ module _ (c : ClaimData) where
 
   contested_shown : (laws : BytesLaws) (drift : Bool) (claim second capture : Option (List ℕ)) → Is claim →
       ShowsAfter (refute drift) c second capture outcomes.Yes →
-      IfSome claim (λ b. IfSome capture (λ f. IsBytes f → IsContestedShown b f))
+      IfSome claim (λ b. IfSome capture (ShowsContested b))
   contested_shown laws drift None second capture is after = tt
   contested_shown laws drift (Some b) second None is after = tt
   contested_shown laws drift (Some b) second (Some f) is after =
@@ -172,6 +172,16 @@ module _ (c : ClaimData) where
       let stands = of_task e outcomes.Yes after.task _ after.is_task.1 after.shows in
       λ bytes. laws.contested b f c after.collection bytes is after.collection_is
       (standing_beyond drift after.is_task.0 e stands)
+
+  refutable_shown : (laws : BytesLaws) (claim second capture : Option (List ℕ)) → Is claim →
+      ShowsAfter seek c second capture outcomes.Yes → IfSome claim (λ b. IfSome capture (ShowsContested b))
+  refutable_shown laws None second capture is after = tt
+  refutable_shown laws (Some b) second None is after = tt
+  refutable_shown laws (Some b) second (Some f) is after =
+      let e = evidence_of c after.collection in
+      let found = of_task e outcomes.Yes after.task _ after.is_task after.shows in
+      λ bytes. laws.contested b f c after.collection bytes is after.collection_is
+      (standing_beyond false found.refutation e found.stands)
 
 module _ (laws : BytesLaws) (claim second capture : FeedState) (c : ClaimData) (is : Is c claim.remaining) where
   -- of a question that has no second input
@@ -209,8 +219,10 @@ module _ (laws : BytesLaws) (claim second capture : FeedState) (c : ClaimData) (
   from_bytes (envelope step servers) outcome after =
       alone (IsEnvelopeOf step outcome) (envelope step servers) outcome after
       (of_task _ outcome after.task _ after.is_task after.shows)
-  from_bytes seek outcomes.Yes after =
-      alone IsSoughtOf seek outcomes.Yes after (of_task _ outcomes.Yes after.task _ after.is_task after.shows)
+  from_bytes seek outcomes.Yes after = record {
+    found = alone IsSoughtOf seek outcomes.Yes after (of_task _ outcomes.Yes after.task _ after.is_task after.shows);
+    shown = refutable_shown c laws claim.remaining second.remaining capture.remaining is after;
+  }
   from_bytes seek outcomes.No after =
       alone IsSoughtInVain seek outcomes.No after (of_task _ outcomes.No after.task _ after.is_task after.shows)
 

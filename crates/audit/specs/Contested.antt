@@ -62,6 +62,11 @@ pub record IsContestedShown (claim_bytes capture_bytes : List ℕ) : Type 0 wher
   pub beyond : IsBeyond course claim.bound
   pub beyond_nanoseconds : IsBeyondNanoseconds course claim.bound_ns
 
+-- the same of bytes that are below 256
+abbrev pub ShowsContested : List ℕ → List ℕ → Type 0
+ShowsContested claim_bytes capture_bytes =
+    IsBytes capture_bytes → IsContestedShown claim_bytes capture_bytes
+
 -- if the bytes of a claim and of a capture are read, and there is a course like that for what they
 -- give, it is shown for them; a byte is below 256
 abbrev pub CourseContests : Type 0

@@ -1,6 +1,5 @@
 -- The report of `refute`, and what its outcome says.
 use Rattle.std.specs.Prelude.{◌≡◌, ℕ, List, Bool, true, false, Option, IfSome, Ok}
-use Rattle.byte_stream.specs.Bytes.{IsBytes}
 use Rattle.byte_stream.specs.State.{FeedState}
 use Rattle.certificate.specs.Certificate.{CertificateData}
 use Rattle.certificate.specs.Refutation.{RefutationData}
@@ -16,7 +15,7 @@ use Rattle.report.specs.declared.fault.Outcome.TheVariants.{Yes, No}
 use Rattle.report.specs.Reports.{Report, whole_text}
 use Rattle.audit_text.specs.Refutation.{refuted_text}
 use Rattle.audit.specs.Check.{verdict_on}
-use Rattle.audit.specs.Contested.{IsContestedShown}
+use Rattle.audit.specs.Contested.{ShowsContested}
 use Rattle.audit.specs.Evidence.{EvidenceData, GiveEvidence, OfClaimAndCapture}
 
 -- the outcome for whether a refutation stands
@@ -79,9 +78,7 @@ pub record GiveRefutation (P : RefutationData → EvidenceData → Type 0)
 pub record IsContested (drift : Bool) (claim second capture : FeedState) : Type 0 where
   pub stands : OfClaimAndCapture claim capture
       (GiveRefutation (IsStanding drift) second.remaining)
-  pub shown : OfClaimAndCapture claim capture
-      (λ claim_bytes capture_bytes. IsBytes capture_bytes
-      → IsContestedShown claim_bytes capture_bytes)
+  pub shown : OfClaimAndCapture claim capture ShowsContested
 
 -- At a no it falls, if these bytes are known.
 abbrev pub IsUncontested : Bool → FeedState → FeedState → FeedState → Type 0

@@ -9,6 +9,7 @@ use Rattle.report.specs.declared.fault.Outcome.{Outcome}
 use Rattle.report.specs.declared.fault.Outcome.TheVariants.{Yes, No}
 use Rattle.report.specs.Reports.{Report, whole_text}
 use Rattle.audit_text.specs.Refutation.{no_refutation_text}
+use Rattle.audit.specs.Contested.{ShowsContested}
 use Rattle.audit.specs.Evidence.{EvidenceData, GiveEvidence, OfClaimAndCapture}
 use Rattle.audit.specs.Refute.{IsStanding}
 
@@ -43,9 +44,11 @@ pub record IsSoughtInVain (e : EvidenceData) : Type 0 where
   pub found_is : sought_in e ≡ None
   pub none_accepted : NoneIsRefuted e.claim e.collection.exchanges
 
--- At a yes a refutation is found, which stands, if the bytes of claim and capture are known.
-abbrev pub IsRefutable : FeedState → FeedState → Type 0
-IsRefutable claim capture = OfClaimAndCapture claim capture (GiveEvidence IsSoughtOf)
+-- At a yes a refutation is found, which stands, and that a course breaks the claim is shown in
+-- relations alone, if the bytes of claim and capture are known.
+pub record IsRefutable (claim capture : FeedState) : Type 0 where
+  pub found : OfClaimAndCapture claim capture (GiveEvidence IsSoughtOf)
+  pub shown : OfClaimAndCapture claim capture ShowsContested
 
 -- At a no none is accepted, if these bytes are known.
 abbrev pub IsIrrefutable : FeedState → FeedState → Type 0
