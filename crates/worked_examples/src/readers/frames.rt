@@ -71,16 +71,29 @@ fn padding(rt: HostRuntime) {
     assert_equal(&rt, datagram(&frame), Ok(REQUEST));
 }
 
-/// The request of `V1` behind one VLAN tag, and behind two.
-#[test]
-fn tags(rt: HostRuntime) {
+/// The request of `V1` behind one VLAN tag, in 94 bytes, or behind two.
+fn tagged(twice: bool) -> [u8; 98] {
     let mut frame = [0; 98];
     frame[..12].copy_from_slice(&V1[40..52]);
     frame[12..16].copy_from_slice(b"\x81\x00\x00\x05");
-    frame[16..94].copy_from_slice(&V1[52..130]);
+    if twice {
+        frame[16..20].copy_from_slice(b"\x81\x00\x00\x05");
+        frame[20..].copy_from_slice(&V1[52..130]);
+    } else {
+        frame[16..94].copy_from_slice(&V1[52..130]);
+    }
+    frame
+}
+
+#[test]
+fn one_tag(rt: HostRuntime) {
+    let frame = tagged(false);
     assert_equal(&rt, datagram(&frame[..94]), Ok(REQUEST));
     assert_equal(&rt, datagram(&frame[..16]), Err(Skip::Short));
-    frame[16..20].copy_from_slice(b"\x81\x00\x00\x05");
-    frame[20..].copy_from_slice(&V1[52..130]);
+}
+
+#[test]
+fn two_tags(rt: HostRuntime) {
+    let frame = tagged(true);
     assert_equal(&rt, datagram(&frame), Err(Skip::OtherType));
 }
