@@ -4,6 +4,7 @@ ghost use Rattle.std.specs.Prelude.{◌≡◌, ◌≤◌, ◌==◌, not, IsTrue,
 ghost use Rattle.std.specs.List.{concat, list_all};
 ghost use Rattle.claim_file.specs.declared.fault.ClaimFault.TheVariants.{Groups};
 ghost use Rattle.json_text.specs.Step.{given};
+ghost use Rattle.claim_file.specs.Claim.{group_count};
 ghost use Rattle.claim_file.specs.Fault.{Answers};
 ghost use Rattle.claim_file.specs.Group as spec;
 
@@ -136,4 +137,17 @@ fn group_of(groups: &[Vec<u64>], server: u64) -> usize
         }
     }
     0
+}
+
+/// How many groups there are: one more than the greatest number of a group.
+///
+/// `groups` has the number of each server's group, as a claim holds them.
+pub fn group_count(groups: &[u8]) -> u32
+    ensures exact { result ≡ group_count groups.now }
+    ensures at_most { result ≤ 256 }
+{
+    match groups {
+        [] => 0,
+        [group, rest @ ..] => group_count(rest).max(u32::from(*group) + 1),
+    }
 }

@@ -9,6 +9,8 @@ pub mod Tallies
 pub mod Order
 pub mod Pairs
 pub mod Servers
-pub mod WindowLemmas
+pub mod Windows
 pub mod Words
 pub mod Keys
+pub mod Parts
+pub mod SourceSteps

@@ -77,7 +77,7 @@ IsAnswerTo shown claim result coming =
     (λ fault. IsFromOutside fault ⊎ (answer_of claim coming ≡ Err fault))
 
 -- What collecting a source answers and how it leaves the source. What is given keeps every limit,
--- also if the records aren't known.
+-- even if the records aren't known.
 pub record Collects {X : Type 0} (shown : X → Collection) (claim : ClaimData) (old : SourceState)
     (result : Result X PairFault) (new : SourceState) : Type 0 where
   pub exact : IfSome old.remaining (IsAnswerTo shown claim result)

@@ -13,5 +13,6 @@ pub mod Pairing
 pub mod Provenance
 pub mod Reading
 pub mod Refusal
+pub mod Sources
 pub mod Statement
 pub mod Window

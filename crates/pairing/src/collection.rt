@@ -57,8 +57,8 @@ fn gather<S: RecordSource>(
 }
 
 /// Collects the exchanges and counts of a whole capture, in one pass, with an index of requests
-/// whose hash is keyed by two numbers of `hasher`. Who doesn't trust the capture's writer passes a
-/// hasher with a random key.
+/// whose hash is keyed by two numbers of `hasher`. Callers that don't trust the capture's writer
+/// should pass a hasher with a random key.
 ///
 /// The source has given nothing and answered no fault, and the claim keeps its limits. `Capture`
 /// comes if the source ends with a fault, `TooManyExchanges` if it ends whole with over 1,000,000

@@ -4,6 +4,9 @@
 //! of the index. So the hash depends on two numbers that the caller's hasher gives, and that nobody
 //! else knows: one is hashed before the key, and the last step multiplies by the other.
 
+ghost use Rattle.std.specs.Prelude.{◌≡◌, ◌%◌};
+ghost use Rattle.pairing.specs.Hashing.{hash_of, keyed};
+
 use std::hash::{BuildHasher, FoldHasher, Hasher};
 
 /// A hasher of keys, and what makes one: it starts from two numbers.
@@ -16,8 +19,13 @@ pub(crate) struct KeyHasher {
 }
 
 impl KeyHasher {
-    /// Takes the two numbers from a hasher.
-    pub(crate) fn keyed_by<H: BuildHasher>(hasher: &H) -> KeyHasher {
+    /// Takes the two numbers from a hasher: what it makes of 0, and of 1.
+    pub(crate) fn keyed_by<H: BuildHasher>(hasher: &H) -> KeyHasher
+        ensures both_numbers { result ≡ keyed
+            (hash_of H.Hasher.write H.Hasher.finish (H.build_hasher hasher.now) 0)
+            (hash_of H.Hasher.write H.Hasher.finish (H.build_hasher hasher.now) 1) }
+        ensures odd { result.multiplier % 2 ≡ 1 }
+    {
         let mut folded = FoldHasher::default();
         folded.write_u64(hasher.hash_one(0_u64));
         KeyHasher {

@@ -103,6 +103,24 @@ impl HeldExchange {
         }
     }
 
+    /// The server's number.
+    #[inline(always)]
+    #[tactic(auto, using(crate::proofs::Parts::server_is))]
+    pub(crate) fn server(&self) -> u8
+        ensures { result ≡ (exchange_shown self.now).server }
+    {
+        self.server
+    }
+
+    /// The reference identifier.
+    #[inline(always)]
+    #[tactic(auto, using(crate::proofs::Parts::reference_is))]
+    pub(crate) fn reference(&self) -> [u8; 4]
+        ensures { result ≡ (exchange_shown self.now).reference }
+    {
+        self.reference
+    }
+
     /// The exchange with the request of this record and this window.
     #[inline(always)]
     fn exchange_with(&self, width: u16, number: u32, low: u64) -> Exchange

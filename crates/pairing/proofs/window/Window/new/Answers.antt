@@ -1,6 +1,6 @@
 use Rattle.std.proofs.Common.{arith}
 use Rattle.std.proofs.lemmas.Grind.{common_steps}
-use Rattle.pairing.proofs.WindowLemmas.{window_high-near}
+use Rattle.pairing.proofs.Windows.{window_high-near}
 use Rattle.pairing.proofs.window.Window.new.Goals as goal
 
 pub overflow_cast-result-2 : goal.overflow_cast-result-2

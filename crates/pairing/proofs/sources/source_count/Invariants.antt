@@ -1,0 +1,10 @@
+use Rattle.std.proofs.Common.{◌≡◌, ◌≤◌, map}
+use Rattle.pairing.specs.Held.{exchange_shown}
+use Rattle.pairing.specs.Sources.{source_count}
+use Rattle.pairing.proofs.sources.source_count.Given as goal
+
+abbrev pub invariant-loop-server : goal.invariant-loop-server
+invariant-loop-server l = record {
+  so_far : l.count ≡ source_count (map exchange_shown l.exchanges) l.server;
+  fits : l.count ≤ l.server;
+}

@@ -1,0 +1,54 @@
+//! Which servers the exchanges are with, and which clock those say they follow.
+
+ghost use Rattle.std.specs.Prelude.{◌≡◌, ℕ, ◌<◌, false, get_or, map};
+ghost use Rattle.std.specs.List.{list_all};
+ghost use Rattle.std.specs.Str.{bytes_eq};
+ghost use Rattle.pairing.specs.Held.{exchange_shown};
+ghost use Rattle.pairing.specs.Sources.{common_reference, is_source, source_count};
+
+use crate::held::HeldExchange;
+
+/// For each number of a server, whether an exchange is with it.
+fn sources(exchanges: &[HeldExchange]) -> [bool; 256]
+    ensures { (server : ℕ) → server < 256 →
+        get_or result server false ≡ is_source (map exchange_shown exchanges.now) server }
+{
+    let mut seen = [false; 256];
+    for held in exchanges {
+        seen[usize::from(held.server())] = true;
+    }
+    seen
+}
+
+/// How many of the servers whose numbers are below `servers` have an exchange.
+pub fn source_count(exchanges: &[HeldExchange], servers: u8) -> u8
+    ensures exact { result ≡ source_count (map exchange_shown exchanges.now) servers }
+{
+    let seen = sources(exchanges);
+    let mut count = 0;
+    for server in 0..servers {
+        count += u8::from(seen[usize::from(server)]);
+    }
+    count
+}
+
+/// Whether all these exchanges name this reference identifier.
+fn have_reference(exchanges: &[HeldExchange], reference: [u8; 4]) -> bool
+    ensures { result
+        ≡ list_all (λ x. bytes_eq (exchange_shown x).reference reference) exchanges.now }
+{
+    exchanges.iter().all(|held| held.reference() == reference)
+}
+
+/// The reference identifier that all exchanges name, if there is one.
+pub fn common_reference(exchanges: &[HeldExchange]) -> Option<[u8; 4]>
+    ensures exact { result ≡ common_reference (map exchange_shown exchanges.now) }
+{
+    match exchanges {
+        [] => None,
+        [first, rest @ ..] => {
+            let reference = first.reference();
+            have_reference(rest, reference).then_some(reference)
+        }
+    }
+}
