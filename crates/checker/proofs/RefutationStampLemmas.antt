@@ -1,5 +1,5 @@
 -- What a course that a refutation stands for says about the stamps and the claim.
-use Rattle.std.proofs.Common.{◌≡◌, ℕ, ◌*◌, ◌<◌, ℤ, pos, negsuc, ◌+ℤ◌, ◌-ℤ◌, ◌*ℤ◌, ◌≤ℤ◌, ◌<ℤ◌, unsigned_abs, false, inl, inr, List, Some, refl, sym, ◌∙◌, arith}
+use Rattle.std.proofs.Common.{◌≡◌, ℕ, ◌*◌, ◌<◌, ℤ, pos, negsuc, ◌+ℤ◌, ◌-ℤ◌, ◌*ℤ◌, ◌≤ℤ◌, ◌<ℤ◌, unsigned_abs, false, inl, inr, List, Some, refl, sym, arith}
 use Rattle.std.specs.Prelude.{slice_get, int_le}
 use Rattle.std.specs.List.{slice_index_or}
 use Rattle.std.proofs.lemmas.Int.{ints}
@@ -10,8 +10,8 @@ use Rattle.intersection.specs.Fineness.{times_le, times-add}
 use Rattle.pairing.specs.declared.exchange.Exchange.{Exchange}
 use Rattle.sample_interval.specs.Moment.{Moment, error_of}
 use Rattle.sample_interval.specs.Window.{request_start, reply_end}
-use Rattle.checker.specs.Course.{Course, Fits}
-use Rattle.checker.specs.Refutation.{is_liar, AdmitsError, Admits, IsAgainst, IsRefuted, IsOffThroughout, IsCourseOf}
+use Rattle.checker.specs.Course.{Course}
+use Rattle.checker.specs.Refutation.{is_liar, AdmitsError, Admits, IsAgainst, IsRefuted, IsCourseOf, ShowsThroughout}
 use Rattle.checker.specs.Traceability.{IsObservedIn, IsWithin}
 use Rattle.checker.proofs.PartLemmas.{by_test}
 
@@ -113,7 +113,7 @@ module _ (start end t2 t3 distance error : ℤ) (n : ℕ) (some : 0 < n) where
   }
 
 module _ (claim : ClaimData) (xs : List Exchange) (r : RefutationData) (against : IsAgainst claim r)
-    (course : Course) (fits : Fits claim xs course) (off : IsOffThroughout xs r course) where
+    (course : Course) (shows : ShowsThroughout claim xs r course) where
   course_admits : (k : ℕ) (x : Exchange) → slice_get xs k ≡ Some x → is_liar r.liars x.server ≡ false
       → Admits claim.reading r.error x
   course_admits k x at true' =
@@ -121,14 +121,15 @@ module _ (claim : ClaimData) (xs : List Exchange) (r : RefutationData) (against 
       let w = request_start x claim.reading in
       let z = reply_end x claim.reading in
       let listed = slice_get_within xs k x at in
-      let not_false : course.is_false x.server ≡ false = off.just_liars_false x.server ∙ true' in
+      let fits = shows.fits in
+      let not_false : course.is_false x.server ≡ false = shows.others_true x.server true' in
       let windows = fits.in_windows k x at in
       let near = fits.within_root_distance k x at not_false in
       room_once w z x.t2 x.t3 x.distance r.error n fits.some_fineness
       (scaled_room (w *ℤ pos n) (z *ℤ pos n) (x.t2 *ℤ pos n) (x.t3 *ℤ pos n) (x.distance *ℤ pos n) (r.error *ℤ pos n)
       (course.request k) (course.reply k) (course.received k) (course.sent k)
-      (off.one_error (course.request k) (inr (k, listed, inl refl)))
-      (off.one_error (course.reply k) (inr (k, listed, inr refl)))
+      (shows.one_error (course.request k) (inr (k, listed, inl refl)))
+      (shows.one_error (course.reply k) (inr (k, listed, inr refl)))
       windows.0.0 windows.1.1 (fits.ordered k x at not_false) near.0 near.1)
 
   pub refuted_by_course : IsRefuted claim xs r

@@ -81,6 +81,16 @@ pub record IsOffThroughout (xs : List Exchange) (refutation : RefutationData) (c
   pub one_error : (moment : Moment) → IsClientMoment course (length xs) moment
       → error_of moment ≡ (refutation.error *ℤ pos course.fineness)
 
+-- a course shows a refutation: no server is false but those that it names, maybe not all of them,
+-- and the error is the one that it names at every moment of the client
+pub record ShowsThroughout (claim : ClaimData) (xs : List Exchange) (refutation : RefutationData)
+    (course : Course) : Type 0 where
+  pub fits : Fits claim xs course
+  pub others_true : (server : ℕ) → is_liar refutation.liars server ≡ false
+      → course.is_false server ≡ false
+  pub one_error : (moment : Moment) → IsClientMoment course (length xs) moment
+      → error_of moment ≡ (refutation.error *ℤ pos course.fineness)
+
 -- a course that a refutation stands for
 pub record IsCourseOf (claim : ClaimData) (xs : List Exchange) (refutation : RefutationData)
     (course : Course) : Type 0 where

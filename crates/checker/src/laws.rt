@@ -164,7 +164,7 @@ pub fn yes_is_acceptance()
     hull_is_one_answer();
 }
 
-/// Courses that fit are not made up: one server's exchange, of which the capture says that the
+/// Courses that fit do exist: one server's exchange, of which the capture says that the
 /// clock's error was from -42,949,674 to 42,953,969 ticks, fits a course with no error at all, one
 /// with an error of 42,953,968 ticks, and, if the server's clock is off by the tick that it
 /// announces, one with each of these two errors. So neither end could be narrower. And a clock that
@@ -181,7 +181,7 @@ pub fn worked_courses_fit()
         (pos (worked_second + 85899345)) (pos (worked_second + 42949674))) }
 {}
 
-/// A step of the clock before the exchanges that a piece names is no matter to the piece: the
+/// A step of the clock before the exchanges that a piece names doesn't affect the piece: the
 /// course of a clock that was stepped fits what an entry names of the exchange after the step, and
 /// doesn't fit the two exchanges.
 pub fn step_before_a_piece_is_no_matter()

@@ -7,9 +7,11 @@
 //! allocates. [`laws`] has the theorem, its steps, and how verdicts compare.
 //!
 //! [`check_refutation`] settles whether there is evidence against the claim: an error beyond the
-//! bound for which such a course fits. It and a yes never meet.
+//! bound for which such a course fits. No claim gets both a yes and a refutation from one list of
+//! exchanges.
 //!
-//! Whether a certificate shows its claim, proved in worked_verdicts, `uses.rt`:
+//! Whether a certificate shows its claim, as `is_shown` of `worked_examples/src/uses.rt` asks, with
+//! its proof:
 //!
 //! ```text
 //! match check(samples, claim, certificate) {

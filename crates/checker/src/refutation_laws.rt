@@ -7,7 +7,7 @@ ghost use Rattle.claim_file.specs.Claim.{ClaimData, IsLawful};
 ghost use Rattle.pairing.specs.Exchange.{IsLawful as IsLawfulExchange, SameRequest};
 ghost use Rattle.pairing.specs.declared.exchange.Exchange.{Exchange};
 ghost use Rattle.checker.specs.Course.{Course, Fits};
-ghost use Rattle.checker.specs.Refutation.{IsAgainst, IsRefuted, IsOffThroughout, IsCourseOf};
+ghost use Rattle.checker.specs.Refutation.{IsAgainst, IsRefuted, IsCourseOf, ShowsThroughout};
 ghost use Rattle.checker.specs.Refutation.{Admits, HasCourse, SomeCourseFits};
 ghost use Rattle.checker.specs.RefutationTest.{admits, is_refuted};
 ghost use Rattle.checker.specs.Traceability.{samples_of, IsObservedIn, IsWithin};
@@ -42,11 +42,12 @@ pub fn accepted_refutations_have_a_course()
 {}
 
 /// The converse: a refutation whose own words are against the claim is accepted if a course fits in
-/// which just the servers that it names are false and the error is its own throughout.
+/// which no server is false but those that it names, all of them or some, and the error is its own
+/// throughout.
 pub fn refutations_with_a_course_are_accepted()
     ensures { (claim : ClaimData) (xs : List Exchange) (refutation : RefutationData)
-        (course : Course) → IsAgainst claim refutation → Fits claim xs course →
-        IsOffThroughout xs refutation course → IsRefuted claim xs refutation }
+        (course : Course) → IsAgainst claim refutation →
+        ShowsThroughout claim xs refutation course → IsRefuted claim xs refutation }
 {}
 
 /// For one list of exchanges and one claim there is no certificate with a yes if there is an

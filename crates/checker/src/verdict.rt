@@ -21,7 +21,7 @@ use sample_interval::{ExchangeSamples, SampleSource};
 pub enum Why {
     /// The piece ends before it begins, or after the span.
     Cut,
-    /// An entry names a sample that there is not.
+    /// An entry names a sample that doesn't exist.
     BadSample,
     /// An entry names samples of two servers.
     MixedServers,

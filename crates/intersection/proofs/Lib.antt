@@ -1,7 +1,7 @@
-pub mod FractionLemmas
-pub mod IntervalLemmas
-pub mod EndPointLemmas
-pub mod HullLemmas
-pub mod MarzulloLemmas
-pub mod MarzulloSoundness
-pub mod EndsLemmas
+pub mod Fractions
+pub mod Intervals
+pub mod EndPoints
+pub mod Hulls
+pub mod Walks
+pub mod Soundness
+pub mod SortedEnds

@@ -1,6 +1,6 @@
 use Rattle.std.proofs.Common.{rules}
 use Rattle.arrayvec.proofs.ArrayVecLemmas.{items-with_items}
-use Rattle.intersection.proofs.EndsLemmas.{in_order}
+use Rattle.intersection.proofs.SortedEnds.{in_order}
 use Rattle.intersection.proofs.ends.sorted_ends.Goals as goal
 
 pub returns-clause-order : goal.returns-clause-order

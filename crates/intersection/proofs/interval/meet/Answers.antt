@@ -1,5 +1,5 @@
 use Rattle.std.proofs.Common.{rules}
-use Rattle.intersection.proofs.IntervalLemmas.{meet_leaves_out}
+use Rattle.intersection.proofs.Intervals.{meet_leaves_out}
 use Rattle.intersection.proofs.interval.meet.Goals as goal
 
 pub returns-clause-common : goal.returns-clause-common

@@ -1,4 +1,4 @@
-use Rattle.intersection.proofs.EndPointLemmas.{IsHull-hull_of}
+use Rattle.intersection.proofs.EndPoints.{IsHull-hull_of}
 use Rattle.intersection.proofs.laws.every_list_has_a_hull.Goals as goal
 
 pub returns : goal.returns

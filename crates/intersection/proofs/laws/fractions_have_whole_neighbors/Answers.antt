@@ -1,4 +1,4 @@
-use Rattle.intersection.proofs.FractionLemmas.{has_floor, has_ceiling}
+use Rattle.intersection.proofs.Fractions.{has_floor, has_ceiling}
 use Rattle.intersection.proofs.laws.fractions_have_whole_neighbors.Goals as goal
 
 pub returns-clause-floor : goal.returns-clause-floor

@@ -1,4 +1,4 @@
-use Rattle.intersection.proofs.HullLemmas.{one_answer}
+use Rattle.intersection.proofs.Hulls.{one_answer}
 use Rattle.intersection.proofs.laws.hull_is_one_answer.Goals as goal
 
 pub returns : goal.returns

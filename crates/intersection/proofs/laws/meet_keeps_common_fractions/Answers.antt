@@ -1,4 +1,4 @@
-use Rattle.intersection.proofs.IntervalLemmas.{meet_leaves_fraction_out}
+use Rattle.intersection.proofs.Intervals.{meet_leaves_fraction_out}
 use Rattle.intersection.proofs.laws.meet_keeps_common_fractions.Goals as goal
 
 pub returns : goal.returns

@@ -1,4 +1,4 @@
-use Rattle.intersection.proofs.FractionLemmas.{floor_inside, ceiling_inside, floor_admissible, ceiling_admissible, hull_is_fine}
+use Rattle.intersection.proofs.Fractions.{floor_inside, ceiling_inside, floor_admissible, ceiling_admissible, hull_is_fine}
 use Rattle.intersection.proofs.laws.whole_points_are_fine_enough.Goals as goal
 
 pub returns-clause-floor : goal.returns-clause-floor

@@ -1,6 +1,6 @@
 use Rattle.std.proofs.Common.{arith}
 use Rattle.intersection.specs.declared.kinds.Hull.TheVariants.{Unbounded}
-use Rattle.intersection.proofs.HullLemmas.{described}
+use Rattle.intersection.proofs.Hulls.{described}
 use Rattle.intersection.proofs.marzullo.hull_walk.Goals as goal
 
 pub returns-then-len-wrong-clause-described : goal.returns-then-len-wrong-clause-described

@@ -4,8 +4,8 @@ use Rattle.std.proofs.lemmas.Int.{to_z-of_z}
 use Rattle.arrayvec.proofs.ArrayVecLemmas.{items-with_items}
 use Rattle.intersection.specs.Hull.{IsHull}
 use Rattle.intersection.specs.declared.kinds.Hull.TheVariants.{Empty, Bounded}
-use Rattle.intersection.proofs.HullLemmas.{described}
-use Rattle.intersection.proofs.MarzulloSoundness.{walk_up, walk_down, found_none, found_both, found_one}
+use Rattle.intersection.proofs.Hulls.{described}
+use Rattle.intersection.proofs.Soundness.{walk_up, walk_down, found_none, found_both, found_one}
 use Rattle.intersection.proofs.marzullo.walk_both_ways.Goals as goal
 
 pub returns-in_default : goal.returns-in_default

@@ -3,7 +3,7 @@ use Rattle.std.proofs.Common.{◌≡◌, ℕ, ◌<◌, ◌≤◌, ℤ, ◌↔◌
 use Rattle.std.proofs.lemmas.Int.{ints}
 use Rattle.std.proofs.lemmas.List.Sorted.{sum_by-IsPermutation, length_permutation, IsPermutation-sym}
 use Rattle.intersection.specs.Hull.{count_leaving_out, IsAdmissible, IsLeastAdmissible, IsGreatestAdmissible, IsHull, HullHolds, IfBounded, DescribesHull, hull_of}
-use Rattle.intersection.proofs.EndPointLemmas.{IsHull-hull_of}
+use Rattle.intersection.proofs.EndPoints.{IsHull-hull_of}
 use Rattle.intersection.specs.declared.kinds.Interval.{Interval}
 use Rattle.intersection.specs.declared.kinds.Hull.{Hull}
 use Rattle.intersection.specs.declared.kinds.Hull.TheVariants.{Unbounded, Empty, Bounded}

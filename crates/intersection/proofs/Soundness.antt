@@ -14,7 +14,7 @@ use Rattle.intersection.specs.declared.kinds.Hull.TheVariants.{Empty, Bounded}
 use Rattle.intersection.specs.declared.ends.End.{End}
 use Rattle.intersection.specs.declared.ends.Side.{Side}
 use Rattle.intersection.specs.declared.ends.Side.TheVariants.{Low, High}
-use Rattle.intersection.proofs.MarzulloLemmas.{Follows, is_met, IsShortOf, entered_by, left_by, ordered_from_pairs, pairs_reversed, short_of_stop, stop_reaches}
+use Rattle.intersection.proofs.Walks.{Follows, is_met, IsShortOf, entered_by, left_by, ordered_from_pairs, pairs_reversed, short_of_stop, stop_reaches}
 
 -- ---- ends against intervals
 balance_at : (walk : Side) (lo hi p : ℤ) (b : Bool) → int_le lo hi ≡ b → let ends : List End =

@@ -6,7 +6,7 @@ use Rattle.std.proofs.lemmas.Int.{ints, clamps}
 use Rattle.std.proofs.lemmas.List.Sums.{sum_by-cons}
 use Rattle.std.proofs.lemmas.Bool.{cond-true, cond-false}
 use Rattle.std.proofs.lemmas.Bool.Decides.{nat_tests}
-use Rattle.intersection.proofs.IntervalLemmas.{int_max_or, int_min_or}
+use Rattle.intersection.proofs.Intervals.{int_max_or, int_min_or}
 use Rattle.intersection.specs.Interval.{leaves_out}
 use Rattle.intersection.specs.Hull.{count_leaving_out, IsAdmissible, IsHull, end_points, admissible_ends, range_of, hull_of}
 use Rattle.intersection.specs.declared.kinds.Interval.{Interval}
