@@ -1,11 +1,15 @@
 -- Lists of kept marks, as they are gathered.
-use Rattle.std.proofs.Common.{◌≡◌, ℕ, ◌+◌, ◌<◌, suc, drop, length, Some, subst, ℤ, Bool, true, false, not, List, [], ◌∷◌, ◌++◌, map, refl, sym, ap, ap₂, ◌∙◌, arith}
-use Rattle.std.specs.Prelude.{All, slice_get}
+use Rattle.std.proofs.Common.{◌≡◌, ℕ, ◌+◌, ◌<◌, ◌≤◌, suc, drop, length, Some, subst, ℤ, Bool, true, false, not, List, [], ◌∷◌, ◌++◌, map, refl, sym, ap, ap₂, ◌∙◌, arith}
+use Rattle.std.specs.Prelude.{All, slice_get, slice_index, ◌==◌}
+use Rattle.std.proofs.lemmas.Bool.Decides.{nat_tests}
+use Rattle.std.proofs.lemmas.Grind.{get_or_default_zero}
+use Rattle.courses.specs.GroupMarks.{is_outside}
 use Rattle.std.specs.List.{list_all, slice_index_or}
 use Rattle.std.proofs.lemmas.Bool.{cond-true, cond-false}
 use Rattle.std.proofs.lemmas.List.Elements.{All-append, All-cons, All-nil}
+use Rattle.std.proofs.Math.ListN.{drop_of_length-le}
 use Rattle.std.proofs.Math.Seq.{append_snoc, drop-cons}
-use Rattle.std.proofs.lemmas.Option.{get_or_from_slice_get, slice_get_within}
+use Rattle.std.proofs.lemmas.Option.{get_or_from_slice_get, slice_get-get_or, slice_get_within}
 use Rattle.std.proofs.lemmas.List.{get_or-map, length-map}
 use Rattle.marks.specs.declared.mark.Mark.{Mark}
 use Rattle.marks.specs.Range.{IsWithinRange}
@@ -34,6 +38,10 @@ module _ {X : Type 0} (shown : X → Exchange) (xs : List X) (k : ℕ) (item : X
   first_left x is =
       drop-cons (map shown xs) k (shown item) within
       ∙ ap₂ (λ y n. y ∷ drop n (map shown xs)) (is_shown ∙ sym is) (next k)
+
+  -- it stands there
+  pub shown_at : (x : Exchange) → x ≡ shown item → slice_get (map shown xs) k ≡ Some x
+  shown_at x is = slice_get-get_or (map shown xs) k (shown item) within ∙ ap Some (is_shown ∙ sym is)
 
   -- it is lawful, if all that is shown is
   pub lawful_shown : (servers : ℕ) (x : Exchange) → x ≡ shown item →
@@ -103,3 +111,42 @@ module _ (allowance : ℤ) (is_false : ℕ → Bool) (x : Exchange) (rest : List
     stopped true' cannot =
         let same = kept true' in
         sym (before.possible ∙ ap (list_all (is_possible allowance)) same ∙ rw cannot refl)
+
+-- ---- the group of a server
+
+pub within_groups : (server servers groups len : ℕ) → server < servers → groups ≡ servers → len ≡ groups → server < len
+within_groups server servers groups len below same is = omega arith
+
+same_number : (n : ℕ) → (n == n) ≡ true
+same_number n = grind (arith, nat_tests)
+
+other_number : (a b : ℕ) → (a ≡ b → ⊥) → (a == b) ≡ false
+other_number a b differ = grind (arith, nat_tests)
+
+module _ (groups : List ℕ) (group server read : ℕ) (below : server < length groups)
+    (is : read ≡ slice_index_or groups server read) where
+  read_is : slice_index groups server ≡ read
+  read_is = sym (is ∙ get_or_default_zero groups server read below)
+
+  pub is_inside : read ≡ group → is_outside groups group server ≡ false
+  is_inside same = ap not (ap (λ (n : ℕ). n == group) (read_is ∙ same) ∙ same_number group)
+
+  pub isnt_inside : (read ≡ group → ⊥) → is_outside groups group server ≡ true
+  isnt_inside apart = ap not (ap (λ (n : ℕ). n == group) read_is ∙ other_number read group apart)
+
+-- ---- a list of what is made of each exchange
+
+pub one_more_made : (f : Exchange → Mark) (whole : List Mark) (x : Exchange) (rest left : List Exchange) (ms items : List Mark)
+    → left ≡ x ∷ rest → whole ≡ ms ++ map f left → items ≡ ms ++ f x ∷ [] → whole ≡ items ++ map f rest
+one_more_made f whole x rest left ms items split before is =
+    before ∙ ap (λ (ys : List Exchange). ms ++ map f ys) split ∙ sym (append_snoc ms (f x) (map f rest))
+    ∙ ap (λ (ns : List Mark). ns ++ map f rest) (sym is)
+
+append_nil : (ms : List Mark) → ms ++ [] ≡ ms
+append_nil [] = refl
+append_nil (m ∷ ms) = ap (λ (ns : List Mark). m ∷ ns) (append_nil ms)
+
+pub all_made : (f : Exchange → Mark) (xs : List Exchange) (k : ℕ) (whole items : List Mark) → length xs ≤ k
+    → whole ≡ items ++ map f (drop k xs) → items ≡ whole
+all_made f xs k whole items past is =
+    sym (is ∙ ap (λ (ys : List Exchange). items ++ map f ys) (drop_of_length-le xs past) ∙ append_nil items)

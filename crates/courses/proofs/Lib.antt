@@ -28,3 +28,7 @@ pub mod CoverBusiest
 pub mod CoverRows
 pub mod CoverWithin
 pub mod CoverFound
+pub mod PartialTables
+pub mod SortedMarks
+pub mod TableCovers
+pub mod FirstPairs

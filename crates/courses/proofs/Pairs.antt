@@ -1,5 +1,5 @@
 -- Where the exchanges with servers that aren't false agree, the lowest course fits.
-use Rattle.std.proofs.Common.{ℕ, ◌≤◌, pos, Bool, List, [], ◌∷◌, map, length}
+use Rattle.std.proofs.Common.{ℕ, ◌≤◌, ℤ, pos, Bool, List, [], ◌∷◌, map, length, refl}
 use Rattle.std.specs.Prelude.{All}
 use Rattle.std.proofs.lemmas.List.Elements.{All-nil, All-head}
 use Rattle.claim_file.specs.Claim.{ClaimData, IsLawful}
@@ -8,6 +8,7 @@ use Rattle.pairing.specs.declared.exchange.Exchange.{Exchange}
 use Rattle.marks.specs.declared.mark.Mark.{Mark}
 use Rattle.marks.specs.Mark.{low_mark, high_mark, AreCompatible}
 use Rattle.checker.specs.Groups.{false_group_count}
+use Rattle.courses.specs.Cover.{SomeCourseAt}
 use Rattle.courses.specs.TrueMarks.{true_exchanges, low_marks, AreAllCompatible, DoAgree, FitsWithFalse}
 use Rattle.courses.specs.LowestCourse.{lowest_course}
 use Rattle.courses.proofs.LowestCourse.{Needs, lowest_fits}
@@ -24,13 +25,26 @@ first_agrees ppb low high [] all = All-nil (AreCompatible ppb (first_of []))
 first_agrees ppb low high (t ∷ ts) all =
     All-head (λ mark. All (AreCompatible ppb mark) (map high (t ∷ ts))) (low t) (map low ts) all
 
-pub agreement_gives_course : (claim : ClaimData) (xs : List Exchange) (is_false : ℕ → Bool) → IsLawful claim
-    → All (IsLawfulExchange (length claim.servers)) xs → false_group_count claim.groups is_false ≤ claim.false_max
-    → DoAgree claim is_false xs → FitsWithFalse claim is_false xs
-agreement_gives_course claim xs is_false lawful each few agree =
-    let first = first_of (low_marks claim.reading is_false xs) in
-    let agrees = first_agrees claim.drift_ppb (low_mark claim.reading) (high_mark claim.reading)
-    (true_exchanges is_false xs) agree.compatible in
-    let needs : Needs claim is_false first xs =
-    record { lawful = lawful; each = each; agree = agree; first_agrees = agrees } in
-    (lowest_course claim is_false first claim.first xs, lowest_fits needs claim.first few, λ server true'. true')
+module _ (claim : ClaimData) (xs : List Exchange) (is_false : ℕ → Bool) (lawful : IsLawful claim)
+    (each : All (IsLawfulExchange (length claim.servers)) xs)
+    (few : false_group_count claim.groups is_false ≤ claim.false_max) (agree : DoAgree claim is_false xs) where
+  abbrev first : Mark
+  first = first_of (low_marks claim.reading is_false xs)
+
+  needs : Needs claim is_false first xs
+  needs = record {
+    lawful = lawful;
+    each = each;
+    agree = agree;
+    first_agrees = first_agrees claim.drift_ppb (low_mark claim.reading) (high_mark claim.reading)
+        (true_exchanges is_false xs) agree.compatible;
+  }
+
+  -- observed at any reading
+  pub agreement_gives_course_at : (reading : ℤ) → SomeCourseAt claim xs reading
+  agreement_gives_course_at reading =
+      (lowest_course claim is_false first reading xs, lowest_fits needs reading few, refl)
+
+  pub agreement_gives_course : FitsWithFalse claim is_false xs
+  agreement_gives_course =
+      (lowest_course claim is_false first claim.first xs, lowest_fits needs claim.first few, λ server true'. true')

@@ -1,11 +1,15 @@
 -- The marks of a group, and what they say of it and of another group.
-use Rattle.std.specs.Prelude.{ℕ, ◌==◌, List, map, filter, All}
+use Rattle.std.specs.Prelude.{ℕ, ◌==◌, Bool, not, List, map, filter, slice_index, All}
 use Rattle.claim_file.specs.Claim.{ClaimData}
 use Rattle.courses.specs.Cover.{group_of}
 use Rattle.courses.specs.TrueMarks.{AreAllCompatible}
 use Rattle.marks.specs.Mark.{low_mark, high_mark, IsPossible}
 use Rattle.marks.specs.declared.mark.Mark.{Mark}
 use Rattle.pairing.specs.declared.exchange.Exchange.{Exchange}
+
+-- a server isn't of a group
+abbrev pub is_outside : List ℕ → ℕ → ℕ → Bool
+is_outside groups group server = not (slice_index groups server == group)
 
 -- the exchanges with servers of a group
 abbrev pub group_exchanges : ClaimData → List Exchange → ℕ → List Exchange

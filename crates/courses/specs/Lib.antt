@@ -14,3 +14,6 @@ pub mod Conflicts
 pub mod Groups
 pub mod CoverSearch
 pub mod ConflictsView
+pub mod SortedMarks
+pub mod PartialTable
+pub mod PairMarks

@@ -1,10 +1,10 @@
 //! A set of groups.
 
-ghost use Rattle.std.specs.Prelude.{◌≡◌, ◌<◌, ◌≤◌, count_by};
+ghost use Rattle.std.specs.Prelude.{◌≡◌, ◌==◌, ◌||◌, ◌<◌, ◌≤◌, ℕ, count_by};
 ghost use Rattle.span_cover.specs.Group.{numbers_below};
 ghost use Rattle.courses.specs.Groups.{holds};
 
-use crate::members::{both, first, has, size};
+use crate::members::{both, first, has, size, with};
 
 /// A set of groups, which have numbers from 0 to 31.
 #[derive(Clone, Copy, Default)]
@@ -14,6 +14,16 @@ pub struct Groups {
 }
 
 impl Groups {
+    /// The set and this group.
+    pub fn with(self, group: u8) -> Groups
+        requires { group < 32 }
+        ensures { (k : ℕ) → holds result k ≡ ((k == group) || holds self k) }
+    {
+        Groups {
+            bits: with(self.bits, group),
+        }
+    }
+
     /// Whether a group is in the set.
     pub fn contains(&self, group: u8) -> bool
         requires { group < 32 }

@@ -1,29 +1,44 @@
 //! The marks that a course has to keep.
 
-ghost use Rattle.std.specs.Prelude.{◌≡◌, [], ◌∷◌, ◌++◌, IfOk, IsTrue, length, map, All};
+ghost use Rattle.std.specs.Prelude.{◌≡◌, [], ◌∷◌, ◌++◌, ◌↔◌, IfOk, IsTrue, IsPermutation, length, map, All};
 ghost use Rattle.std.specs.List.{list_all};
 ghost use Rattle.claim_file.specs.Claim.{IsLawful, data_of as claim_data};
 ghost use Rattle.pairing.specs.Exchange.{IsLawful as IsLawfulExchange};
 ghost use Rattle.checker.specs.Refutation.{is_liar};
 ghost use Rattle.courses.specs.DriftTest.{all_compatible, is_possible};
-ghost use Rattle.courses.specs.TrueMarks.{true_exchanges, low_marks, high_marks};
+ghost use Rattle.courses.specs.GroupMarks.{is_outside};
+ghost use Rattle.courses.specs.SortedMarks.{AreSorted};
+ghost use Rattle.courses.specs.TrueMarks.{true_exchanges, low_marks, high_marks, AreAllCompatible};
 ghost use Rattle.marks.specs.Mark.{low_mark, high_mark};
 ghost use Rattle.marks.specs.Range.{IsWithinRange};
 ghost use Rattle.sample_interval.specs.Widening.{IsRate};
 
 use claim_file::Claim;
-use marks::{Mark, all_compatible, high_mark, is_possible, low_mark};
+use marks::{
+    Mark, all_compatible, all_compatible_in_order, high_mark, is_possible, low_mark, sort_marks,
+};
 use pairing::{Exchange, ToExchange};
 use std::alloc::{AllocError, Global};
 
 /// Low marks and high marks.
 #[derive(Drop)]
 pub(crate) struct KeptMarks {
-    lows: Vec<Mark>,
-    highs: Vec<Mark>,
+    pub(crate) lows: Vec<Mark>,
+    pub(crate) highs: Vec<Mark>,
 }
 
 impl KeptMarks {
+    /// No mark yet.
+    pub(crate) fn none(alloc: Global) -> KeptMarks
+        ensures lows { result.lows.items ≡ [] }
+        ensures highs { result.highs.items ≡ [] }
+    {
+        KeptMarks {
+            lows: Vec::new(alloc),
+            highs: Vec::new(alloc),
+        }
+    }
+
     /// One mark, as a low one and as a high one.
     pub(crate) fn of_one(alloc: Global, mark: Mark) -> Result<KeptMarks, AllocError>
         requires { IsWithinRange mark }
@@ -98,6 +113,43 @@ impl KeptMarks {
         Ok(true)
     }
 
+    /// Adds the marks of the exchanges with servers of a group, as long as each of these is
+    /// possible by itself, and says whether all are.
+    pub(crate) fn add_group<X: ToExchange>(
+        &mut self,
+        exchanges: &[X],
+        claim: &Claim,
+        group: u8,
+    ) -> Result<bool, AllocError>
+        requires claim { IsLawful (claim_data claim.now) }
+        requires exchanges { All (IsLawfulExchange (length claim.now.servers.items))
+            (map X.shown exchanges.now) }
+        requires low_range { All IsWithinRange self.old.lows.items }
+        requires high_range { All IsWithinRange self.old.highs.items }
+        ensures possible { IfOk result (λ possible. possible
+            ≡ list_all (is_possible claim.now.reading)
+            (true_exchanges (is_outside claim.now.groups.items group) (map X.shown exchanges.now))) }
+        ensures lows { IfOk result (λ possible. IsTrue possible → self.new.lows.items
+            ≡ self.old.lows.items ++ low_marks claim.now.reading
+            (is_outside claim.now.groups.items group) (map X.shown exchanges.now)) }
+        ensures highs { IfOk result (λ possible. IsTrue possible → self.new.highs.items
+            ≡ self.old.highs.items ++ high_marks claim.now.reading
+            (is_outside claim.now.groups.items group) (map X.shown exchanges.now)) }
+        ensures low_range { IfOk result (λ possible. IsTrue possible →
+            All IsWithinRange self.new.lows.items) }
+        ensures high_range { IfOk result (λ possible. IsTrue possible →
+            All IsWithinRange self.new.highs.items) }
+    {
+        for exchange in exchanges {
+            let exchange = exchange.to_exchange();
+            let is_inside = claim.groups[exchange.server as usize] == group;
+            if is_inside && !self.add(&exchange, claim)? {
+                return Ok(false);
+            }
+        }
+        Ok(true)
+    }
+
     /// Whether each low mark is compatible with each high mark, at this rate of drift in parts of
     /// 10^9, up to 500,000,000. The marks change their order.
     pub(crate) fn are_compatible(&mut self, drift_ppb: u32) -> bool
@@ -108,5 +160,22 @@ impl KeptMarks {
             ≡ all_compatible drift_ppb self.old.lows.items self.old.highs.items }
     {
         all_compatible(drift_ppb, &mut self.lows, &mut self.highs)
+    }
+
+    /// Puts the marks in the order of their places, and says whether each low mark is compatible
+    /// with each high mark, at this rate of drift in parts of 10^9, up to 500,000,000.
+    pub(crate) fn sort_and_compare(&mut self, drift_ppb: u32) -> bool
+        requires rate { IsRate drift_ppb }
+        requires low_range { All IsWithinRange self.old.lows.items }
+        requires high_range { All IsWithinRange self.old.highs.items }
+        ensures exact { IsTrue result
+            ↔ AreAllCompatible drift_ppb self.old.lows.items self.old.highs.items }
+        ensures lows { IsPermutation self.old.lows.items self.new.lows.items }
+        ensures highs { IsPermutation self.old.highs.items self.new.highs.items }
+        ensures sorted { AreSorted self.new }
+    {
+        sort_marks(&mut self.lows);
+        sort_marks(&mut self.highs);
+        all_compatible_in_order(drift_ppb, &self.lows, &self.highs)
     }
 }

@@ -13,7 +13,7 @@ ghost use Rattle.checker.specs.Course.{Course, Fits};
 ghost use Rattle.checker.specs.Groups.{holds_false, false_group_count};
 ghost use Rattle.checker.specs.Refutation.{SharesRequests};
 ghost use Rattle.courses.specs.ConflictTable.{IsConflictTable, HasSmallTableCover};
-ghost use Rattle.courses.specs.Cover.{IsCover, size_of, HasSmallCover, SomeCourse};
+ghost use Rattle.courses.specs.Cover.{IsCover, size_of, HasSmallCover, SomeCourse, SomeCourseAt};
 ghost use Rattle.courses.specs.DriftSettlement.{SettlesFit};
 ghost use Rattle.courses.specs.Keeping.{KeepsLow, KeepsHigh};
 ghost use Rattle.courses.specs.LowestCourse.{fineness_of, most_rise, most_fall};
@@ -73,8 +73,8 @@ pub fn true_exchanges_keep_their_marks()
 {}
 
 /// A mark that some moment keeps holds at its place: when the clock reads a low mark's place, the
-/// error is no less than the mark's, and when it reads a high mark's place, no more. So the far ends
-/// of the windows lose nothing.
+/// error is no less than the mark's, and when it reads a high mark's place, no more. So the far
+/// ends of the windows lose nothing.
 pub fn marks_hold_at_their_places()
     ensures low { (ppb n : ℕ) (mark : Mark) (kept at_place : Moment) → ppb < billion →
         DriftsWithin ppb kept at_place → at_place.reading ≡ mark.place *ℤ pos n →
@@ -186,6 +186,14 @@ pub fn some_course_fits_where_a_cover_is_small()
     ensures { (claim : ClaimData) (xs : List Exchange) → IsLawful claim →
         All (IsLawfulExchange (length claim.servers)) xs →
         SomeCourse claim xs ↔ HasSmallCover claim xs }
+{}
+
+/// If some course fits, then at every reading one is observed that fits: a whole number of ticks
+/// that the clock shows.
+pub fn some_course_is_observed_at_any_reading()
+    ensures { (claim : ClaimData) (xs : List Exchange) (reading : ℤ) → IsLawful claim →
+        All (IsLawfulExchange (length claim.servers)) xs → SomeCourse claim xs →
+        SomeCourseAt claim xs reading }
 {}
 
 /// A table of broken groups and conflicts has a small cover exactly if the exchanges have one. So a

@@ -11,23 +11,29 @@
 //! [`check_refutation_with_drift`] settles, and covers, by which it is settled whether any course
 //! fits (specs/Cover). [`laws`] has the theorems and their steps.
 //!
-//! Which groups can't all be right is a graph, [`Conflicts`], and [`smallest_cover`] finds the
-//! fewest groups that have to be false for it (specs/Conflicts).
+//! Which groups can't all be right is a graph, [`Conflicts`], which finds groups that account for
+//! it if they are false (specs/Conflicts). [`conflicts_of`] makes it of the exchanges, and by it
+//! [`course_fits`] settles whether any course fits.
 #![tactic(auto)]
 
 mod conflict_laws;
 mod conflicts;
-mod cover;
+mod contradiction;
 pub mod cover_laws;
 mod cover_search;
+mod fits;
 mod groups;
 mod kept_marks;
 pub mod laws;
 mod members;
 mod refutation;
 mod refutation_laws;
+mod sorted_marks;
+mod table;
 
 pub use conflicts::Conflicts;
-pub use cover::{has_cover, smallest_cover, smallest_covers};
+pub use contradiction::{Contradiction, first_contradiction};
+pub use fits::course_fits;
 pub use groups::Groups;
 pub use refutation::check_refutation_with_drift;
+pub use table::conflicts_of;

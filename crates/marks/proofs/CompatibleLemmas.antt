@@ -11,7 +11,7 @@ use Rattle.marks.specs.Line.{rising_line}
 use Rattle.marks.specs.Mark.{AreCompatible}
 use Rattle.marks.specs.declared.mark.Mark.{Mark}
 use Rattle.marks.specs.declared.direction.Direction.{Direction}
-use Rattle.marks.specs.declared.direction.Direction.TheVariants.{Forwards, Backwards}
+use Rattle.marks.specs.declared.direction.Direction.TheVariants.{Falling, Rising}
 use Rattle.marks.proofs.PairLemmas.{falls_line, rises_line, rising_lines}
 
 pub no_truth : IsTrue false → ⊥
@@ -43,7 +43,7 @@ no_less a b h = omega (arith, ints)
 pub none_between : (a b : ℤ) → a ≡ b → (b -ℤ a) ≡ pos 0
 none_between a b h = omega (arith, ints)
 
-both_ways : (a b : ℤ) → a ≤ℤ b → neg_ℤ a ≤ℤ neg_ℤ b → a ≡ b
+both_ways : (a b : ℤ) → a ≤ℤ b → b ≤ℤ a → a ≡ b
 both_ways a b p q = omega (arith, ints)
 
 as_far : (a b : ℤ) → a ≡ b → a ≤ℤ b
@@ -52,8 +52,11 @@ as_far a b e = omega (arith, ints)
 not_behind : (a b : ℤ) → a ≡ b → b <ℤ a → ⊥
 not_behind a b e h = omega (arith, ints)
 
-turned : (a b : ℤ) → b <ℤ a → neg_ℤ a ≤ℤ neg_ℤ b
-turned a b h = omega (arith, ints)
+no_further : (a b : ℤ) → a <ℤ b → a ≤ℤ b
+no_further a b h = omega (arith, ints)
+
+upright : (a b : ℤ) → neg_ℤ b ≤ℤ neg_ℤ a → a ≤ℤ b
+upright a b h = omega (arith, ints)
 
 -- at one place two marks are compatible exactly if the low one lies no higher
 pub at_one_place : (ppb : ℕ) (low high : Mark) → IsRate ppb → low.place ≡ high.place →
@@ -78,61 +81,61 @@ equal_rises ppb low high same le =
     (rw (no_advance ppb (low.place -ℤ high.place) (none_between high.place low.place (sym same)))
     (none_above (billion + ppb) (low.error -ℤ high.error) (no_less low.error high.error le)))
 
+upside_down : (a b : ℤ) → a ≤ℤ b → neg_ℤ b ≤ℤ neg_ℤ a
+upside_down a b h = omega (arith, ints)
+
 pub both : (ppb : ℕ) (low high : Mark) → IsRate ppb →
-    AreCompatible ppb low high → KeepsBelow Forwards ppb low high × KeepsBelow Backwards ppb low high
+    AreCompatible ppb low high → KeepsBelow Falling ppb low high × KeepsBelow Rising ppb high low
 both ppb low high rate fits = (
   λ before. (falls_line ppb low high before).1 fits,
-  λ behind. by_lt_z high.place low.place
+  λ behind. upside_down (rising_line ppb low) (rising_line ppb high) (by_lt_z high.place low.place
       (λ after. (rises_line ppb low high after).1 fits)
       (λ before. equal_rises ppb low high (both_ways low.place high.place before behind)
-      ((at_one_place ppb low high rate (both_ways low.place high.place before behind)).0 fits)),
+      ((at_one_place ppb low high rate (both_ways low.place high.place before behind)).0 fits))),
 )
 
-pub from_both : (ppb : ℕ) (low high : Mark) → KeepsBelow Forwards ppb low high → KeepsBelow Backwards ppb low high →
+pub from_both : (ppb : ℕ) (low high : Mark) → KeepsBelow Falling ppb low high → KeepsBelow Rising ppb high low →
     AreCompatible ppb low high
-from_both ppb low high forwards backwards =
+from_both ppb low high falling rising =
     by_lt_z high.place low.place
-    (λ after. (rises_line ppb low high after).0 (backwards (turned low.place high.place after)))
-    (λ before. (falls_line ppb low high before).0 (forwards before))
+    (λ after. (rises_line ppb low high after).0
+    (upright (rising_line ppb low) (rising_line ppb high) (rising (no_further high.place low.place after))))
+    (λ before. (falls_line ppb low high before).0 (falling before))
+
+module _ (ppb : ℕ) (rate : IsRate ppb) (lows highs : List Mark) (falling : Bool)
+    (f : IsTrue falling ↔ AllKeepBelow Falling ppb lows highs) where
+  all_from : AllKeepBelow Falling ppb lows highs → AllKeepBelow Rising ppb highs lows → AllCompatible ppb lows highs
+  all_from first second i d within j d' within' =
+      from_both ppb (get_or lows i d) (get_or highs j d') (first j d' within' i d within)
+      (second i d within j d' within')
+
+  all_falling : AllCompatible ppb lows highs → AllKeepBelow Falling ppb lows highs
+  all_falling all j d' within' i d within =
+      (both ppb (get_or lows i d) (get_or highs j d') rate (all i d within j d' within')).0
+
+  all_rising : AllCompatible ppb lows highs → AllKeepBelow Rising ppb highs lows
+  all_rising all i d within j d' within' =
+      (both ppb (get_or lows i d) (get_or highs j d') rate (all i d within j d' within')).1
+
+  pub where_falling : (rising : Bool) → IsTrue rising ↔ AllKeepBelow Rising ppb highs lows → falling ≡ true →
+      IsTrue rising ↔ AllCompatible ppb lows highs
+  where_falling rising (from, to) is = (λ t. all_from (f.0 is) (from t), λ all. to (all_rising all))
+
+  pub where_not : falling ≡ false → IsTrue falling ↔ AllCompatible ppb lows highs
+  where_not is = (λ t. absurd (no_truth (sym is ∙ t)), λ all. f.1 (all_falling all))
 
 -- lists in another order
-kept_permutation : (direction : Direction) (ppb : ℕ) (lows lows' highs highs' : List Mark) →
-    IsPermutation lows lows' → IsPermutation highs highs' →
-    AllKeepBelow direction ppb lows highs → AllKeepBelow direction ppb lows' highs'
-kept_permutation direction ppb lows lows' highs highs' p q h =
-    All-permutation (λ high. All (λ low. KeepsBelow direction ppb low high) lows') highs highs' q
-    (λ k d within. All-permutation (λ low. KeepsBelow direction ppb low (get_or highs k d)) lows lows' p (h k d within))
+pub of_permutation : (ppb : ℕ) (lows lows' highs highs' : List Mark) → IsPermutation lows lows' →
+    IsPermutation highs highs' → AllCompatible ppb lows highs → AllCompatible ppb lows' highs'
+of_permutation ppb lows lows' highs highs' p q h =
+    All-permutation (λ low. All (λ high. AreCompatible ppb low high) highs') lows lows' p
+    (λ k d within. All-permutation (λ high. AreCompatible ppb (get_or lows k d) high) highs highs' q (h k d within))
 
-module _ (ppb : ℕ) (rate : IsRate ppb) (lows highs sorted_lows sorted_highs turned_lows turned_highs : List Mark)
-    (p : IsPermutation lows sorted_lows) (q : IsPermutation highs sorted_highs)
-    (p' : IsPermutation sorted_lows turned_lows) (q' : IsPermutation sorted_highs turned_highs)
-    (forwards backwards : Bool)
-    (f : IsTrue forwards ↔ AllKeepBelow Forwards ppb sorted_lows sorted_highs)
-    (b : IsTrue backwards ↔ AllKeepBelow Backwards ppb turned_lows turned_highs) where
-  all_from : AllKeepBelow Forwards ppb sorted_lows sorted_highs → AllKeepBelow Backwards ppb turned_lows turned_highs →
-      AllCompatible ppb lows highs
-  all_from first second i d within j d' within' =
-      from_both ppb (get_or lows i d) (get_or highs j d')
-      (kept_permutation Forwards ppb sorted_lows lows sorted_highs highs (IsPermutation-sym lows sorted_lows p)
-      (IsPermutation-sym highs sorted_highs q) first j d' within' i d within)
-      (kept_permutation Backwards ppb turned_lows lows turned_highs highs
-      (IsPermutation-sym lows turned_lows (IsPermutation-trans lows sorted_lows turned_lows p p'))
-      (IsPermutation-sym highs turned_highs (IsPermutation-trans highs sorted_highs turned_highs q q'))
-      second j d' within' i d within)
-
-  all_forwards : AllCompatible ppb lows highs → AllKeepBelow Forwards ppb sorted_lows sorted_highs
-  all_forwards all =
-      kept_permutation Forwards ppb lows sorted_lows highs sorted_highs p q
-      (λ j d' within' i d within. (both ppb (get_or lows i d) (get_or highs j d') rate (all i d within j d' within')).0)
-
-  all_backwards : AllCompatible ppb lows highs → AllKeepBelow Backwards ppb turned_lows turned_highs
-  all_backwards all =
-      kept_permutation Backwards ppb lows turned_lows highs turned_highs
-      (IsPermutation-trans lows sorted_lows turned_lows p p') (IsPermutation-trans highs sorted_highs turned_highs q q')
-      (λ j d' within' i d within. (both ppb (get_or lows i d) (get_or highs j d') rate (all i d within j d' within')).1)
-
-  pub where_forwards : forwards ≡ true → IsTrue backwards ↔ AllCompatible ppb lows highs
-  where_forwards is = (λ t. all_from (f.0 is) (b.0 t), λ all. b.1 (all_backwards all))
-
-  pub where_not : forwards ≡ false → IsTrue forwards ↔ AllCompatible ppb lows highs
-  where_not is = (λ t. absurd (no_truth (sym is ∙ t)), λ all. f.1 (all_forwards all))
+pub of_sorted : (ppb : ℕ) (lows lows' highs highs' : List Mark) → IsPermutation lows lows' →
+    IsPermutation highs highs' → (answer : Bool) → IsTrue answer ↔ AllCompatible ppb lows' highs' →
+    IsTrue answer ↔ AllCompatible ppb lows highs
+of_sorted ppb lows lows' highs highs' p q answer (from, to) = (
+  λ t. of_permutation ppb lows' lows highs' highs (IsPermutation-sym lows lows' p) (IsPermutation-sym highs highs' q)
+      (from t),
+  λ all. to (of_permutation ppb lows lows' highs highs' p q all),
+)

@@ -4,7 +4,7 @@ use Rattle.std.specs.List.{All, AllWithin, HoldsAt}
 use Rattle.std.proofs.lemmas.Int.{ints, by_lt_z}
 use Rattle.std.proofs.lemmas.List.{get_or_default}
 use Rattle.std.proofs.lemmas.Bool.{cases_lt}
-use Rattle.marks.specs.Direction.{Precedes, IsBelow, KeepsBelow, IsInOrder, place_along, line_along}
+use Rattle.marks.specs.Direction.{Precedes, IsBelow, KeepsBelow, IsInOrder, line_along}
 use Rattle.marks.specs.Passage.{IsHighest, HasPassed}
 use Rattle.marks.specs.declared.mark.Mark.{Mark}
 use Rattle.marks.specs.declared.direction.Direction.{Direction}
@@ -74,7 +74,7 @@ module _ (direction : Direction) (ppb : ℕ) (lows : List Mark) (passed highest 
 
 -- no low mark's line lies above a high mark's if the highest of those passed doesn't
 module _ (direction : Direction) (ppb : ℕ) (lows : List Mark) (high : Mark) (p : Passage)
-    (has : HasPassed direction ppb lows high p) (order : IsInOrder direction lows) where
+    (has : HasPassed direction ppb lows high p) (order : IsInOrder lows) where
   pub all_kept : (0 < p.passed → HoldsAt (λ low. IsBelow direction ppb low high) lows p.highest) →
       All (λ low. KeepsBelow direction ppb low high) lows
   all_kept below k d within precedes =
@@ -83,16 +83,16 @@ module _ (direction : Direction) (ppb : ℕ) (lows : List Mark) (high : Mark) (p
       (line_along direction ppb (get_or lows p.highest d)) (line_along direction ppb high)
       (has.highest.others k d before) (below (omega arith) d))
       (λ (after : p.passed ≤ k). absurd (has.next (omega arith) d
-      (up_to (place_along direction (get_or lows p.passed d)) (place_along direction (get_or lows k d))
-      (place_along direction high) (order p.passed k d after within) precedes)))
+      (up_to (get_or lows p.passed d).place (get_or lows k d).place
+      high.place (order p.passed k d after within) precedes)))
       (cases_lt k p.passed)
 
 -- what precedes a high mark precedes the later ones
 pub precede_later : (direction : Direction) (ppb : ℕ) (lows highs : List Mark) (j : ℕ) (e : Mark) (p : Passage) →
-    HasPassed direction ppb lows (get_or highs j e) p → IsInOrder direction highs →
+    HasPassed direction ppb lows (get_or highs j e) p → IsInOrder highs →
     (k : ℕ) (d : Mark) → j ≤ k → k < length highs →
-    AllWithin (λ low. Precedes direction low (get_or highs k d)) lows 0 p.passed
+    AllWithin (λ low. Precedes low (get_or highs k d)) lows 0 p.passed
 precede_later direction ppb lows highs j e p has order k d le within i d' from before =
-    up_to (place_along direction (get_or lows i d')) (place_along direction (get_or highs j e))
-    (place_along direction (get_or highs k d)) (has.precede i d' from before)
-    (at_any (λ m. Precedes direction m (get_or highs k d)) highs j d (omega arith) (order j k d le within) e)
+    up_to (get_or lows i d').place (get_or highs j e).place
+    (get_or highs k d).place (has.precede i d' from before)
+    (at_any (λ m. Precedes m (get_or highs k d)) highs j d (omega arith) (order j k d le within) e)

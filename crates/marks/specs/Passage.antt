@@ -18,7 +18,7 @@ pub record IsHighest (direction : Direction) (ppb : ℕ) (lows : List Mark) (pas
 pub record HasPassed (direction : Direction) (ppb : ℕ) (lows : List Mark) (high : Mark)
     (passage : Passage) : Type 0 where
   pub within : passage.passed ≤ length lows
-  pub precede : AllWithin (λ low. Precedes direction low high) lows 0 passage.passed
+  pub precede : AllWithin (λ low. Precedes low high) lows 0 passage.passed
   pub next : passage.passed < length lows
-      → HoldsAt (λ low. ¬ (Precedes direction low high)) lows passage.passed
+      → HoldsAt (λ low. ¬ (Precedes low high)) lows passage.passed
   pub highest : IsHighest direction ppb lows passage

@@ -18,6 +18,13 @@ pub struct Passage {
     pub highest: usize,
 }
 
+/// Whether the first mark stands no further on than the second.
+fn precedes(a: Mark, b: Mark) -> bool
+    ensures { IsTrue result ↔ Precedes a b }
+{
+    a.place <= b.place
+}
+
 /// Passes the low marks that precede a high mark, the first of which were passed before.
 fn advance(
     direction: Direction,
@@ -30,14 +37,14 @@ fn advance(
     requires lows { All IsWithinRange lows.now }
     requires high { IsWithinRange high }
     requires within { from.passed ≤ length lows.now }
-    requires precede { AllWithin (λ low. Precedes direction low high) lows.now 0 from.passed }
+    requires precede { AllWithin (λ low. Precedes low high) lows.now 0 from.passed }
     requires highest { IsHighest direction drift_ppb lows.now from }
     ensures { HasPassed direction drift_ppb lows.now high result }
 {
     let mut passed = from.passed;
     let mut highest = from.highest;
     while passed < lows.len() {
-        if !direction.precedes(lows[passed], high) {
+        if !precedes(lows[passed], high) {
             return Passage { passed, highest };
         }
         if direction.is_below(drift_ppb, lows[highest], lows[passed]) {
@@ -53,8 +60,8 @@ pub fn keep_below(direction: Direction, drift_ppb: u32, lows: &[Mark], highs: &[
     requires rate { IsRate drift_ppb }
     requires lows { All IsWithinRange lows.now }
     requires highs { All IsWithinRange highs.now }
-    requires lows_in_order { IsInOrder direction lows.now }
-    requires highs_in_order { IsInOrder direction highs.now }
+    requires lows_in_order { IsInOrder lows.now }
+    requires highs_in_order { IsInOrder highs.now }
     ensures { IsTrue result ↔ AllKeepBelow direction drift_ppb lows.now highs.now }
 {
     let mut passage = Passage {

@@ -13,9 +13,9 @@ loop-passed-preserved c =
     let precedes = c.if-not-precedes.ensures in
     record {
       within = omega arith;
-      precede = AllWithin-more (λ low. Precedes c.args.direction low c.args.high) lows 0 i
+      precede = AllWithin-more (λ low. Precedes low c.args.high) lows 0 i
           c.loop-passed.invariant.precede
-          (at_any (λ low. Precedes c.args.direction low c.args.high) lows i _ (omega arith) (precedes.0 refl));
+          (at_any (λ low. Precedes low c.args.high) lows i _ (omega arith) (precedes.0 refl));
       highest = elim c.if-is_below.branch [
         | then-is_below w ↦ let below = w.if-is_below.ensures in
             subst (λ (h : ℕ). IsHighest c.args.direction c.args.drift_ppb lows record { passed = i + 1; highest = h })

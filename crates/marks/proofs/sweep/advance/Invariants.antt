@@ -7,7 +7,7 @@ use Rattle.marks.proofs.sweep.advance.Given as goal
 abbrev pub invariant-loop-passed : goal.invariant-loop-passed
 invariant-loop-passed l = record {
   within : l.passed ≤ length l.lows;
-  precede : AllWithin (λ low. Precedes l.direction low l.high) l.lows 0 l.passed;
+  precede : AllWithin (λ low. Precedes low l.high) l.lows 0 l.passed;
   highest : IsHighest l.direction l.drift_ppb l.lows record { passed = l.passed; highest = l.highest };
 }
 

@@ -9,7 +9,7 @@ abbrev pub invariant-loop-high : goal.invariant-loop-high
 invariant-loop-high l = record {
   within : l.passage.passed ≤ length l.lows;
   precede : (j : ℕ) (d : Mark) → l.high-index ≤ j → j < length l.highs →
-      AllWithin (λ low. Precedes l.direction low (get_or l.highs j d)) l.lows 0 l.passage.passed;
+      AllWithin (λ low. Precedes low (get_or l.highs j d)) l.lows 0 l.passage.passed;
   highest : IsHighest l.direction l.drift_ppb l.lows l.passage;
   so_far : AllWithin (λ high. All (λ low. KeepsBelow l.direction l.drift_ppb low high) l.lows) l.highs 0 l.high-index;
 }

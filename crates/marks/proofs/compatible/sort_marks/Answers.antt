@@ -1,7 +1,7 @@
 use Rattle.std.proofs.Common.{rules}
 use Rattle.std.proofs.lemmas.List.Sorted.{answers_always}
 use Rattle.marks.proofs.OrderLemmas.{in_order}
-use Rattle.marks.proofs.compatible.sort.Goals as goal
+use Rattle.marks.proofs.compatible.sort_marks.Goals as goal
 
 pub returns-clause-order : goal.returns-clause-order
 returns-clause-order c =

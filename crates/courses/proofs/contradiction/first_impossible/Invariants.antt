@@ -1,0 +1,8 @@
+use Rattle.std.proofs.Common.{ℕ, ◌<◌, map}
+use Rattle.claim_file.specs.Claim.{data_of as claim_data}
+use Rattle.courses.specs.PairMarks.{IsImpossibleAt}
+use Rattle.courses.proofs.contradiction.first_impossible.Given as goal
+
+abbrev pub invariant-loop-number : goal.invariant-loop-number
+invariant-loop-number g l =
+    (k : ℕ) → k < l.number → ¬ (IsImpossibleAt (claim_data l.claim) (map g.X.ToExchange.shown l.exchanges) l.group k)

@@ -1,0 +1,10 @@
+use Rattle.std.proofs.Common.{◌≡◌, length, map}
+use Rattle.claim_file.specs.Claim.{data_of as claim_data}
+use Rattle.courses.specs.SortedMarks.{AreOfGroupsInOrder}
+use Rattle.courses.proofs.sorted_marks.marks_by_group.Given as goal
+
+abbrev pub invariant-loop-group : goal.invariant-loop-group
+invariant-loop-group g l = record {
+  count : length l.marks.items ≡ l.group;
+  each : AreOfGroupsInOrder (claim_data l.claim) (map g.X.ToExchange.shown l.exchanges) l.marks.items;
+}
