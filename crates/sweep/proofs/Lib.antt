@@ -10,3 +10,6 @@ mod MirrorLemmas
 mod ReachLemmas
 mod ChoiceLemmas
 mod MeritLemmas
+mod PeakLemmas
+mod LevelLemmas
+mod TableLemmas

@@ -31,7 +31,7 @@ counted_up : (value : ℤ) (end wide apart : ℕ) → IsFromOrigin (neg_ℤ valu
 counted_up value end wide apart is same = omega (arith, ints)
 
 -- a sample's merit, counted from the origin, is its extreme's end moved down
-merit_is : (side : Side) (p q : ℤ) (ppb : ℕ) (sample : Sample) (extreme : Extreme) (stretch : Stretch) →
+pub merit_is : (side : Side) (p q : ℤ) (ppb : ℕ) (sample : Sample) (extreme : Extreme) (stretch : Stretch) →
     IsExtremeOf side sample extreme → IsLawfulExtreme extreme → IsStretchOf p q stretch → IsLawfulStretch stretch →
     merit side sample p q ppb +ℤ pos (2 ^ 75) ≡ pos extreme.end -ℤ pos (widening ppb (distance extreme stretch))
 unfolding moved_low moved_high

@@ -10,16 +10,24 @@
 //! none ceases to be. So a pass over the pieces puts each sample into a ranking when it becomes
 //! early, and asks the ranking for the best. A second pass does the same with time running
 //! backwards, for the samples that are late. The better of the two is the best of all.
+//!
+//! Where the pieces aren't known beforehand, [`tables_of`] lays the samples of each server out
+//! once, by a sort, and [`parts_over`] says by a search what the best of them say over any one
+//! piece. Of the samples that are early the table has only those that are higher than all before
+//! them, so that the last of these up to the piece's middle is the highest.
 #![tactic(auto)]
 
 mod choice;
 mod extreme;
 mod passage;
+mod peak;
 mod pieces;
 mod queue;
 mod stretch;
+mod table;
 mod tick;
 mod top;
 
 pub use extreme::servers_of;
 pub use pieces::best_of_pieces;
+pub use table::{BestTable, parts_over, tables_of};

@@ -1,5 +1,5 @@
 //! Ticks counted from an origin that lies before everything.
-ghost use Rattle.std.specs.Prelude.{◌≡◌, ◌+◌, ◌-◌, ◌^◌, ◌≤◌, pos, ◌+ℤ◌, unsigned_abs};
+ghost use Rattle.std.specs.Prelude.{◌≡◌, ◌+◌, ◌-◌, ◌^◌, ◌≤◌, pos, ◌+ℤ◌, ◌-ℤ◌, unsigned_abs};
 
 // 2^75 ticks before zero.
 const ORIGIN: i128 = 1 << 75;
@@ -13,6 +13,14 @@ pub fn from_origin(ticks: i128) -> u128
     ensures { pos result ≡ ticks +ℤ pos (2 ^ 75) }
 {
     (ticks + ORIGIN) as u128
+}
+
+/// A number of ticks that was counted from the origin, counted from zero.
+pub fn from_zero(counted: u128) -> i128
+    requires { counted ≤ 2 ^ 100 }
+    ensures { result ≡ pos counted -ℤ pos (2 ^ 75) }
+{
+    counted as i128 - ORIGIN
 }
 
 /// The same tick with time running backwards through zero.

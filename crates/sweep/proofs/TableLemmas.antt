@@ -1,0 +1,128 @@
+-- The tables of servers, and what they give one after another.
+use Rattle.std.proofs.Common.{◌≡◌, ℕ, zero, suc, ◌+◌, ◌<◌, Bool, true, false, ℤ, List, [], ◌∷◌, ◌++◌, length, map, take}
+use Rattle.std.proofs.Common.{get_or, Option, Some, None, refl, sym, ◌∙◌, ap, arith}
+use Rattle.std.proofs.Common.{cond, nat_eq, ◌||◌, add-one, true≢false}
+use Rattle.std.specs.List.{slice_get, filter, filter_map, cons_option, range_with_len}
+use Rattle.std.proofs.lemmas.Bool.Decides.{nat_tests}
+use Rattle.std.proofs.lemmas.List.{append-nil, take_more, map-append}
+use Rattle.std.proofs.lemmas.List.Elements.{filter-append, filter_map-append}
+use Rattle.std.proofs.lemmas.Option.{slice_get-get_or}
+use Rattle.sample_interval.specs.declared.kinds.Sample.{Sample}
+use Rattle.span_cover.specs.Best.{HasNoSample, best_of}
+use Rattle.span_cover.specs.declared.part.Part.{Part}
+use Rattle.sweep.specs.Table.{AreTablesOf, IsTableOf, best_part, best_parts, has_sample}
+use Rattle.sweep.specs.declared.extreme.Extreme.{Extreme}
+use Rattle.sweep.specs.declared.table.BestTable.{BestTable}
+
+-- ---- whether a server has a sample
+
+pub none_has : (samples : List Sample) (server : ℕ) → HasNoSample samples server → has_sample samples server ≡ false
+none_has [] server none = refl
+none_has (s ∷ samples) server none =
+    let other : nat_eq s.server server ≡ false = differs s.server server (none zero s refl) in
+    let rest = none_has samples server (λ i t is. none (suc i) t is) in
+    rw other rest
+  where
+    differs : (a b : ℕ) → (a ≡ b → ⊥) → nat_eq a b ≡ false
+    differs a b other = grind (arith, nat_tests)
+
+one_has : (samples : List Sample) (server i : ℕ) (s : Sample) → slice_get samples i ≡ Some s → s.server ≡ server →
+    has_sample samples server ≡ true
+one_has [] server i s is of = absurd cc
+one_has (t ∷ samples) server zero s is of = rw (agrees t.server server (same t s is of)) refl
+  where
+    same : (t s : Sample) → ◌≡◌ {A = Option Sample} (Some t) (Some s) → s.server ≡ server → t.server ≡ server
+    same t s is of = cc
+
+    agrees : (a b : ℕ) → a ≡ b → nat_eq a b ≡ true
+    agrees a b same = grind (arith, nat_tests)
+one_has (t ∷ samples) server (suc i) s is of = or_true (nat_eq t.server server) _ (one_has samples server i s is of)
+  where
+    or_true : (a b : Bool) → b ≡ true → (a || b) ≡ true
+    or_true true b is = refl
+    or_true false b is = is
+
+module _ (samples : List Sample) (ppb : ℕ) (table : BestTable) (is : IsTableOf samples ppb table) where
+  pub table_has : has_sample samples table.server ≡ true
+  table_has =
+      let none : Extreme = record { number = 0; end = 0; from = 0; to = 0 } in
+      let lows = is.lows in
+      let own = lows.are.each 0 (get_or lows.extremes 0 none) (slice_get-get_or lows.extremes 0 none lows.some) in
+      one_has samples table.server _ own.sample own.stands own.of_server
+
+-- ---- the servers that have one, in their order
+
+range_more : (a n j : ℕ) → a + n ≡ j → range_with_len a (n + 1) ≡ range_with_len a n ++ j ∷ []
+range_more a n j e = rw add-one (pushed a n j e)
+  where
+    pushed : (a n j : ℕ) → a + n ≡ j → range_with_len a (suc n) ≡ range_with_len a n ++ j ∷ []
+    pushed a zero j e = ap (λ (k : ℕ). k ∷ []) (let same : a ≡ j = omega (arith, e) in same)
+    pushed a (suc n) j e = ap (λ (ks : List ℕ). a ∷ ks) (pushed (a + 1) n j (omega (arith, e)))
+
+module _ (samples : List Sample) (n : ℕ) (tables : List BestTable)
+    (so_far : map (λ table. table.server) tables ≡ filter (has_sample samples) (range_with_len 0 n)) where
+  one_more : filter (has_sample samples) (range_with_len 0 (n + 1))
+      ≡ filter (has_sample samples) (range_with_len 0 n) ++ filter (has_sample samples) (n ∷ [])
+  one_more =
+      ap (filter (has_sample samples)) (range_more 0 n n (omega arith))
+      ∙ filter-append (has_sample samples) (range_with_len 0 n) (n ∷ [])
+
+  -- a server without a sample
+  pub servers_without : has_sample samples n ≡ false →
+      map (λ table. table.server) tables ≡ filter (has_sample samples) (range_with_len 0 (n + 1))
+  servers_without none =
+      so_far ∙ sym (one_more
+      ∙ ap (λ (b : Bool). filter (has_sample samples) (range_with_len 0 n) ++ cond b (n ∷ []) []) none
+      ∙ append-nil (filter (has_sample samples) (range_with_len 0 n)))
+
+  -- a server with its table
+  pub servers_more : (table : BestTable) → table.server ≡ n → has_sample samples n ≡ true →
+      map (λ table. table.server) (tables ++ table ∷ []) ≡ filter (has_sample samples) (range_with_len 0 (n + 1))
+  servers_more table of has =
+      map-append (λ (t : BestTable). t.server) tables (table ∷ [])
+      ∙ ap (λ (ns : List ℕ). ns ++ table.server ∷ []) so_far
+      ∙ ap (λ (k : ℕ). filter (has_sample samples) (range_with_len 0 n) ++ k ∷ []) of
+      ∙ sym (one_more
+      ∙ ap (λ (b : Bool). filter (has_sample samples) (range_with_len 0 n) ++ cond b (n ∷ []) []) has)
+
+-- ---- what they say
+
+-- one more element of which h gives something
+pub filter_map_more : {X Y : Type 0} (h : X → Option Y) (xs : List X) (i : ℕ) (d : X) (y : Y) (old : List Y) →
+    old ≡ filter_map h (take i xs) → i < length xs → h (get_or xs i d) ≡ Some y →
+    old ++ y ∷ [] ≡ filter_map h (take (i + 1) xs)
+filter_map_more h xs i d y old so_far within gives =
+    ap (λ ys. ys ++ y ∷ []) so_far
+    ∙ ap (λ o. filter_map h (take i xs) ++ cons_option o []) (sym gives)
+    ∙ sym (filter_map-append h (take i xs) (get_or xs i d ∷ []))
+    ∙ ap (filter_map h) (sym (take_more xs i d within))
+
+module _ (f : ℕ → Option Part) where
+  of_servers : (tables : List BestTable) →
+      filter_map (λ table. f table.server) tables ≡ filter_map f (map (λ table. table.server) tables)
+  of_servers [] = refl
+  of_servers (table ∷ tables) = ap (cons_option (f table.server)) (of_servers tables)
+
+  of_passed : (p : ℕ → Bool) → ((n : ℕ) → p n ≡ false → f n ≡ None) → (ns : List ℕ) →
+      filter_map f (filter p ns) ≡ filter_map f ns
+  of_passed p none [] = refl
+  of_passed p none (n ∷ ns) = step (of_passed p none ns) (p n) refl
+    where
+      step : filter_map f (filter p ns) ≡ filter_map f ns → (b : Bool) → p n ≡ b →
+          filter_map f (cond b (n ∷ filter p ns) (filter p ns)) ≡ cons_option (f n) (filter_map f ns)
+      step rest true e = ap (cons_option (f n)) rest
+      step rest false e = rest ∙ ap (λ o. cons_option o (filter_map f ns)) (sym (none n e))
+
+pub parts_are : ((samples : List Sample) (server : ℕ) (p q : ℤ) (ppb : ℕ) → HasNoSample samples server →
+    best_of samples server p q ppb ≡ None) → (samples : List Sample) (count : ℕ) (p q : ℤ) (ppb : ℕ)
+    (tables : List BestTable) → AreTablesOf samples count ppb tables →
+    filter_map (λ table. best_part samples p q ppb table.server) tables ≡ best_parts samples count p q ppb
+parts_are law samples count p q ppb tables are =
+    of_servers (best_part samples p q ppb) tables
+    ∙ ap (filter_map (best_part samples p q ppb)) are.servers
+    ∙ of_passed (best_part samples p q ppb) (has_sample samples) none (range_with_len 0 count)
+  where
+    none : (n : ℕ) → has_sample samples n ≡ false → best_part samples p q ppb n ≡ None
+    none n fails =
+        rw (law samples n p q ppb
+        (λ i s is of. true≢false (sym (one_has samples n i s is of) ∙ fails))) refl

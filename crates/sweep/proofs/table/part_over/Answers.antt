@@ -1,0 +1,33 @@
+use Rattle.std.proofs.Common.{ℤ, refl, subst}
+use Rattle.std.proofs.lemmas.Int.{to_z-of_z}
+use mir.Syntax.{w128}
+use Rattle.intersection.specs.declared.ends.Side.TheVariants.{Low, High}
+use Rattle.span_cover.specs.declared.part.Part.{Part}
+use Rattle.sweep.specs.Extreme.{IsFromOrigin}
+use Rattle.sweep.specs.Stretch.{IsStretchOf}
+use Rattle.sweep.specs.declared.stretch.Stretch.{Stretch}
+use Rattle.sweep.proofs.ExtremeLemmas.{lawful_extremes}
+use Rattle.sweep.proofs.LevelLemmas.{interval_is, part_is}
+use Rattle.sweep.proofs.StretchLemmas.{lawful_stretch}
+use Rattle.sweep.proofs.table.part_over.Goals as goal
+
+pub returns : goal.returns
+returns c samples is =
+    let server = c.args.table.now.server in
+    let stretch : Stretch = record { begin = c.from_origin.result; end = c.from_origin-2.result } in
+    let at : IsStretchOf c.args.begin c.args.end stretch = record {
+      begin = subst (λ (x : ℤ). IsFromOrigin x c.from_origin.result) (to_z-of_z w128 c.args.begin c.ranges.begin)
+          c.from_origin.ensures;
+      end = subst (λ (x : ℤ). IsFromOrigin x c.from_origin-2.result) (to_z-of_z w128 c.args.end c.ranges.end)
+          c.from_origin-2.ensures;
+    } in
+    let part : Part = record { server = server; interval = c.interval_between.result } in
+    part_is samples c.args.begin c.args.end c.args.drift_ppb server part refl
+    (interval_is c.best_samples_are_the_first_best.ensures samples server c.args.begin c.args.end c.args.drift_ppb
+    stretch at (lawful_stretch c.args.begin c.args.end stretch c.requires.piece at) c.level_over-low.result
+    c.level_over-high.result c.interval_between.result c.interval_between.ensures.lo c.interval_between.ensures.hi
+    is.lows.extremes is.highs.extremes is.lows.are is.highs.are is.lows.some
+    (c.level_over-low.ensures.level is.lows.extremes is.lows.peaks_are
+    (lawful_extremes Low samples server is.lows.extremes is.lows.are) is.lows.some)
+    (c.level_over-high.ensures.level is.highs.extremes is.highs.peaks_are
+    (lawful_extremes High samples server is.highs.extremes is.highs.are) is.highs.some))

@@ -1,0 +1,44 @@
+use Rattle.std.proofs.Common.{◌≡◌, ◌<◌, ℤ, length, Some, ap, ◌∙◌, subst, sym, arith, to_z, of_z}
+use Rattle.std.specs.List.{filter_map}
+use Rattle.std.proofs.lemmas.Int.{to_z-of_z}
+use Rattle.std.proofs.lemmas.Grind.{common_steps}
+use Rattle.std.proofs.lemmas.List.{take_all}
+use mir.Syntax.{w128}
+use Rattle.sweep.specs.Table.{IsTableOf, best_part, best_parts}
+use Rattle.sweep.specs.declared.table.BestTable.{BestTable}
+use Rattle.sweep.proofs.TableLemmas.{filter_map_more, parts_are}
+use Rattle.sweep.proofs.table.parts_over.Goals as goal
+
+pub loop-table-preserved : goal.loop-table-preserved
+loop-table-preserved c =
+    let ppb = c.args.drift_ppb in
+    let begin : ℤ = to_z w128 (of_z w128 c.args.begin) in
+    let end : ℤ = to_z w128 (of_z w128 c.args.end) in
+    let tables = c.args.tables.now in
+    let index = c.loop-table.table-index in
+    let table = c.table-item.result in
+    let within : index < length tables = c.loop-table-test.true in
+    record {
+      few = grind (arith, common_steps);
+      so_far = λ samples each.
+          c.push.ensures.items
+          ∙ filter_map_more (λ (t : BestTable). best_part samples begin end ppb t.server) tables index table
+          c.part_over.result c.loop-table.parts.items (c.loop-table.invariant.so_far samples each) within
+          (subst (λ (t : BestTable). best_part samples begin end ppb t.server ≡ Some c.part_over.result)
+          c.table-item.is
+          (c.part_over.ensures samples
+          (subst (IsTableOf samples ppb) (sym c.table-item.is) (each index table within))));
+    }
+
+pub returns : goal.returns
+returns c samples count are =
+    let ppb = c.args.drift_ppb in
+    let begin : ℤ = to_z w128 (of_z w128 c.args.begin) in
+    let end : ℤ = to_z w128 (of_z w128 c.args.end) in
+    let tables = c.args.tables.now in
+    c.loop-table.invariant.so_far samples are.each
+    ∙ ap (filter_map (λ (t : BestTable). best_part samples begin end ppb t.server))
+    (take_all c.loop-table.table-index tables c.loop-table-test.false)
+    ∙ parts_are c.first_best_of_both_ends_are_the_best.ensures.none samples count begin end ppb tables are
+    ∙ ap (λ (x : ℤ). best_parts samples count x end ppb) (to_z-of_z w128 c.args.begin c.ranges.begin)
+    ∙ ap (λ (y : ℤ). best_parts samples count c.args.begin y ppb) (to_z-of_z w128 c.args.end c.ranges.end)

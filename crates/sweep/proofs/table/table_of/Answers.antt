@@ -1,0 +1,53 @@
+use Rattle.std.proofs.Common.{rules, List, length, ◌<◌, subst, sym}
+use Rattle.std.specs.List.{All}
+use Rattle.intersection.specs.declared.ends.Side.TheVariants.{Low, High}
+use Rattle.sweep.specs.Extreme.{IsLawfulExtreme}
+use Rattle.sweep.specs.Table.{ArePeaksBothWays}
+use Rattle.sweep.specs.declared.extreme.Extreme.{Extreme}
+use Rattle.sweep.proofs.ExtremeLemmas.{lawful_extremes, some_sample, some_extreme}
+use Rattle.sweep.proofs.table.table_of.Goals as goal
+
+pub both_ways-requires-clause-extremes : goal.both_ways-requires-clause-extremes
+both_ways-requires-clause-extremes g c =
+    let P : List Extreme → Type 0 = All IsLawfulExtreme in
+    subst P (sym c.as_slice.ensures.value)
+    (lawful_extremes Low (g.S.SampleSource.samples c.args.samples) c.args.server c.in_ok-lows.lows.items
+    c.in_ok-lows.ensures.lows)
+
+pub both_ways-requires-2-clause-extremes : goal.both_ways-requires-2-clause-extremes
+both_ways-requires-2-clause-extremes g c =
+    let P : List Extreme → Type 0 = All IsLawfulExtreme in
+    subst P (sym c.as_slice-2.ensures.value)
+    (lawful_extremes High (g.S.SampleSource.samples c.args.samples) c.args.server c.in_ok-lows.highs.items
+    c.in_ok-lows.ensures.highs)
+
+pub returns-clause-none : goal.returns-clause-none
+returns-clause-none g c = (
+  λ none. absurd cc,
+  λ none. absurd
+      (let some : 0 < length c.in_ok-lows.lows.items = search rules in
+      some_sample Low (g.S.SampleSource.samples c.args.samples) c.args.server c.in_ok-lows.lows.items
+      c.in_ok-lows.ensures.lows some none),
+)
+
+pub returns-clause-table : goal.returns-clause-table
+returns-clause-table g c =
+    let samples = g.S.SampleSource.samples c.args.samples in
+    let some : 0 < length c.in_ok-lows.lows.items = search rules in
+    record {
+      lows = record {
+        extremes = c.in_ok-lows.lows.items;
+        are = c.in_ok-lows.ensures.lows;
+        some = some;
+        peaks_are = subst (λ (xs : List Extreme). ArePeaksBothWays c.args.drift_ppb xs c.in_ok-lows-2.lows)
+            c.as_slice.ensures.value c.in_ok-lows-2.ensures;
+      };
+      highs = record {
+        extremes = c.in_ok-lows.highs.items;
+        are = c.in_ok-lows.ensures.highs;
+        some = some_extreme High samples c.args.server c.in_ok-lows.highs.items c.in_ok-lows.ensures.highs
+            (some_sample Low samples c.args.server c.in_ok-lows.lows.items c.in_ok-lows.ensures.lows some);
+        peaks_are = subst (λ (xs : List Extreme). ArePeaksBothWays c.args.drift_ppb xs c.in_ok-highs.highs)
+            c.as_slice-2.ensures.value c.in_ok-highs.ensures;
+      };
+    }

@@ -1,0 +1,67 @@
+-- A server's samples, laid out so that its interval over any piece is found by a search.
+use Rattle.std.specs.Prelude.{◌≡◌, ℕ, ◌<◌, ◌≤◌, ◌==◌, Bool, ℤ, List, length, map, filter}
+use Rattle.std.specs.Prelude.{Option, All}
+use Rattle.std.specs.List.{filter_map, list_any, range_with_len}
+use Rattle.std.specs.Option.{option_map}
+use Rattle.intersection.specs.declared.kinds.Interval.{Interval}
+use Rattle.intersection.specs.declared.ends.Side.{Side}
+use Rattle.intersection.specs.declared.ends.Side.TheVariants.{Low, High}
+use Rattle.sample_interval.specs.declared.kinds.Sample.{Sample}
+use Rattle.span_cover.specs.Gathering.{best_interval}
+use Rattle.span_cover.specs.declared.part.Part.{Part}
+use Rattle.sweep.specs.Extreme.{AreExtremesOf, mirrored_extreme}
+use Rattle.sweep.specs.Peak.{ArePeaksOf}
+use Rattle.sweep.specs.Top.{IsAtLeast}
+use Rattle.sweep.specs.declared.extreme.Extreme.{Extreme}
+use Rattle.sweep.specs.declared.stretch.Stretch.{Stretch}
+use Rattle.sweep.specs.declared.table.BestTable.{BestTable}
+use Rattle.sweep.specs.declared.table.Peaks.{Peaks}
+
+-- what a server's best samples say over a piece, if it has a sample
+abbrev pub said_by : ℕ → Interval → Part
+said_by server interval = record { server = server; interval = interval }
+
+abbrev pub best_part : List Sample → ℤ → ℤ → ℕ → ℕ → Option Part
+best_part samples p q ppb server =
+    option_map (said_by server) (best_interval samples server p q ppb)
+
+-- the same of each server below this number, in their order
+abbrev pub best_parts : List Sample → ℕ → ℤ → ℤ → ℕ → List Part
+best_parts samples count p q ppb =
+    filter_map (best_part samples p q ppb) (range_with_len 0 count)
+
+-- is a sample of this server
+abbrev pub has_sample : List Sample → ℕ → Bool
+has_sample samples server = list_any (λ sample. sample.server == server) samples
+
+-- the peaks of the extremes, and of the same with time running backwards
+pub record ArePeaksBothWays (ppb : ℕ) (extremes : List Extreme) (peaks : Peaks) : Type 0 where
+  pub early : ArePeaksOf ppb extremes peaks.early.items
+  pub late : ArePeaksOf ppb (map mirrored_extreme extremes) peaks.late.items
+
+-- the highest level that an extreme reaches over the stretch
+pub record IsLevelOver (ppb : ℕ) (extremes : List Extreme) (stretch : Stretch) (level : ℕ)
+    : Type 0 where
+  pub index : ℕ
+  pub reached : IsAtLeast ppb extremes stretch index level
+  pub highest : (other lower : ℕ) → IsAtLeast ppb extremes stretch other lower → lower ≤ level
+
+-- the peaks of the ends of a server's samples, of which there are some
+pub record ArePeaksOfEnds (side : Side) (samples : List Sample) (server ppb : ℕ) (peaks : Peaks)
+    : Type 0 where
+  pub extremes : List Extreme
+  pub are : AreExtremesOf side samples server extremes
+  pub some : 0 < length extremes
+  pub peaks_are : ArePeaksBothWays ppb extremes peaks
+
+-- a server's table
+pub record IsTableOf (samples : List Sample) (ppb : ℕ) (table : BestTable) : Type 0 where
+  pub lows : ArePeaksOfEnds Low samples table.server ppb table.lows
+  pub highs : ArePeaksOfEnds High samples table.server ppb table.highs
+
+-- the tables of the servers below this number that have a sample, in their order
+pub record AreTablesOf (samples : List Sample) (count ppb : ℕ) (tables : List BestTable)
+    : Type 0 where
+  pub each : All (IsTableOf samples ppb) tables
+  pub servers : map (λ table. table.server) tables
+      ≡ filter (has_sample samples) (range_with_len 0 count)

@@ -1,0 +1,191 @@
+//! Tables of the best samples, which are asked for any piece.
+ghost use Rattle.std.specs.Prelude.{◌≡◌, ℕ, ◌<◌, ◌≤◌, ◌^◌, ◌↔◌, List, length, map, All, Some};
+ghost use Rattle.std.specs.Prelude.{IfOk, IfSome, IsNone, pos, ◌-ℤ◌, neg_ℤ};
+ghost use Rattle.sample_interval.specs.Sample.{IsLawfulSample};
+ghost use Rattle.sample_interval.specs.Widening.{IsRate};
+ghost use Rattle.sample_interval.specs.declared.kinds.Sample.{Sample};
+ghost use Rattle.span_cover.specs.Best.{HasNoSample};
+ghost use Rattle.span_cover.specs.Piece.{IsPiece};
+ghost use Rattle.sweep.specs.Extreme.{IsLawfulExtreme};
+ghost use Rattle.sweep.specs.Stretch.{IsLawfulStretch};
+ghost use Rattle.sweep.specs.Table.{best_part, best_parts, ArePeaksBothWays, IsLevelOver};
+ghost use Rattle.sweep.specs.Table.{IsTableOf, AreTablesOf};
+ghost use Rattle.sweep.specs.declared.extreme.Extreme.{Extreme as TheExtreme};
+
+use crate::extreme::{Extreme, extremes_of, mirrored_extremes, servers_of};
+use crate::peak::{Peak, early_level, peaks_of};
+use crate::stretch::Stretch;
+use crate::tick::{from_origin, from_zero, mirrored_tick};
+use arrayvec::ArrayVec;
+use intersection::kinds::Interval;
+use sample_interval::SampleSource;
+use sample_interval::laws::widening_is_one_number;
+use span_cover::Part;
+use span_cover::laws::{best_samples_are_the_first_best, first_best_of_both_ends_are_the_best};
+use std::alloc::{AllocError, Global};
+
+/// The peaks of extremes, and of the same with time running backwards.
+#[derive(Drop)]
+struct Peaks {
+    early: Vec<Peak>,
+    late: Vec<Peak>,
+}
+
+/// A server's samples, laid out so that its interval over any piece is found by a search.
+#[derive(Drop)]
+pub struct BestTable {
+    server: u8,
+    lows: Peaks,
+    highs: Peaks,
+}
+
+/// A table for each of the first `count` servers that has a sample, in their order. Its one error
+/// is that it is out of memory.
+///
+/// The rate is up to 500,000,000 parts in 10^9, and the samples are at most 1,000,000.
+pub fn tables_of<S: SampleSource>(
+    alloc: Global,
+    samples: S,
+    count: u8,
+    drift_ppb: u32,
+) -> Result<Vec<BestTable>, AllocError>
+    requires samples { All IsLawfulSample (S.samples samples) }
+    requires few { length (S.samples samples) ≤ 1_000_000 }
+    requires rate { IsRate drift_ppb }
+    ensures few { IfOk result (λ tables. length tables.items ≤ count) }
+    ensures are { IfOk result (λ tables.
+        AreTablesOf (S.samples samples) count drift_ppb tables.items) }
+{
+    let servers = servers_of(alloc, samples)?;
+    let mut tables = Vec::new(alloc);
+    for server in 0..count {
+        let table = table_of(alloc, samples, servers.as_slice(), server, drift_ppb)?;
+        if let Some(table) = table {
+            tables.push(table)?;
+        }
+    }
+    Ok(tables)
+}
+
+// The table of a server, if it has a sample.
+fn table_of<S: SampleSource>(
+    alloc: Global,
+    samples: S,
+    servers: &[u8],
+    server: u8,
+    drift_ppb: u32,
+) -> Result<Option<BestTable>, AllocError>
+    requires samples { All IsLawfulSample (S.samples samples) }
+    requires few { length (S.samples samples) ≤ 1_000_000 }
+    requires servers { servers.now ≡ map (λ sample. sample.server) (S.samples samples) }
+    requires rate { IsRate drift_ppb }
+    ensures none { IfOk result (λ found. IsNone found ↔ HasNoSample (S.samples samples) server) }
+    ensures of_server { IfOk result (λ found. IfSome found (λ table. table.server ≡ server)) }
+    ensures table { IfOk result (λ found. IfSome found
+        (IsTableOf (S.samples samples) drift_ppb)) }
+{
+    let (lows, highs) = extremes_of(alloc, samples, servers, server)?;
+    if lows.is_empty() {
+        return Ok(None);
+    }
+    let lows = both_ways(alloc, lows.as_slice(), drift_ppb)?;
+    let highs = both_ways(alloc, highs.as_slice(), drift_ppb)?;
+    Ok(Some(BestTable {
+        server,
+        lows,
+        highs,
+    }))
+}
+
+// The peaks of extremes both ways.
+fn both_ways(alloc: Global, extremes: &[Extreme], drift_ppb: u32) -> Result<Peaks, AllocError>
+    requires extremes { All IsLawfulExtreme extremes.now }
+    requires few { length extremes.now ≤ 1_000_000 }
+    requires rate { IsRate drift_ppb }
+    ensures { IfOk result (λ peaks. ArePeaksBothWays drift_ppb extremes.now peaks) }
+{
+    let early = peaks_of(alloc, extremes, drift_ppb)?;
+    let mirrored = mirrored_extremes(alloc, extremes)?;
+    let late = peaks_of(alloc, mirrored.as_slice(), drift_ppb)?;
+    Ok(Peaks { early, late })
+}
+
+// The highest level that an extreme reaches over a stretch.
+fn level_over(peaks: &Peaks, stretch: Stretch, drift_ppb: u32) -> u128
+    requires stretch { IsLawfulStretch stretch }
+    requires rate { IsRate drift_ppb }
+    ensures small { result ≤ 2 ^ 100 }
+    ensures level { (extremes : List TheExtreme) → ArePeaksBothWays drift_ppb extremes peaks.now →
+        All IsLawfulExtreme extremes → 0 < length extremes →
+        IsLevelOver drift_ppb extremes stretch result }
+{
+    // What the proof knows of widenings.
+    widening_is_one_number();
+    let early = early_level(peaks.early.as_slice(), stretch, drift_ppb);
+    let mirrored = Stretch {
+        begin: mirrored_tick(stretch.end),
+        end: mirrored_tick(stretch.begin),
+    };
+    let late = early_level(peaks.late.as_slice(), mirrored, drift_ppb);
+    early.max(late)
+}
+
+// What a server says over a piece.
+fn part_over(table: &BestTable, begin: i128, end: i128, drift_ppb: u32) -> Part
+    requires piece { IsPiece begin end }
+    requires rate { IsRate drift_ppb }
+    ensures { (samples : List Sample) → IsTableOf samples drift_ppb table.now →
+        best_part samples begin end drift_ppb table.now.server ≡ Some result }
+{
+    best_samples_are_the_first_best();
+    let stretch = Stretch {
+        begin: from_origin(begin),
+        end: from_origin(end),
+    };
+    let low = level_over(&table.lows, stretch, drift_ppb);
+    let high = level_over(&table.highs, stretch, drift_ppb);
+    Part {
+        server: table.server,
+        interval: interval_between(low, high),
+    }
+}
+
+// The interval of the greatest low end and of the greatest high end with its sign turned, both
+// counted from the origin.
+fn interval_between(low: u128, high: u128) -> Interval
+    requires low { low ≤ 2 ^ 100 }
+    requires high { high ≤ 2 ^ 100 }
+    ensures lo { result.lo ≡ pos low -ℤ pos (2 ^ 75) }
+    ensures hi { result.hi ≡ neg_ℤ (pos high -ℤ pos (2 ^ 75)) }
+{
+    Interval {
+        lo: from_zero(low),
+        hi: -from_zero(high),
+    }
+}
+
+/// What each server that has a sample says over the piece `begin` to `end`, in the order of the
+/// servers: the interval of its best samples there.
+///
+/// The piece is of Unix ticks, from 0 to below 2^64. The rate is the one that the tables were made
+/// for, and they are at most 32.
+pub fn parts_over(
+    tables: &[BestTable],
+    begin: i128,
+    end: i128,
+    drift_ppb: u32,
+) -> ArrayVec<Part, 32>
+    requires few { length tables.now ≤ 32 }
+    requires piece { IsPiece begin end }
+    requires rate { IsRate drift_ppb }
+    ensures { (samples : List Sample) (count : ℕ) →
+        AreTablesOf samples count drift_ppb tables.now →
+        result.items ≡ best_parts samples count begin end drift_ppb }
+{
+    first_best_of_both_ends_are_the_best();
+    let mut parts = ArrayVec::new();
+    for table in tables {
+        parts.push(part_over(table, begin, end, drift_ppb));
+    }
+    parts
+}
