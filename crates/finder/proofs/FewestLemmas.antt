@@ -148,7 +148,7 @@ module _ (laws : Laws) (samples : List Sample) (claim : ClaimData) (lawful : IsL
   -- ---- an accepted certificate has no fewer
 
   -- from a reading no later than ours its piece ends no later
-  no_further : (a p q : ℤ) (t : PieceData) → InSpan claim p → a ≤ℤ p → IsLongest samples claim p q
+  pub no_further : (a p q : ℤ) (t : PieceData) → InSpan claim p → a ≤ℤ p → IsLongest samples claim p q
       → piece_fault samples claim a t ≡ None → pos t.upto ≤ℤ q
   no_further a p q t is earlier long passes = ⊎_elim
       (λ beyond. absurd (
@@ -186,7 +186,7 @@ module _ (laws : Laws) (samples : List Sample) (claim : ClaimData) (lawful : IsL
       (omega arith) in
       omega (arith, rest)
 
-  pass_of : (other : CertificateData) → verdict_of samples claim other ≡ Yes
+  pub pass_of : (other : CertificateData) → verdict_of samples claim other ≡ Yes
       → Pass samples claim claim.first other.pieces
   pass_of other accepted k piece at =
       laws.each samples claim other accepted k piece (slice_get_within other.pieces k piece at) at
@@ -209,7 +209,7 @@ module _ (laws : Laws) (samples : List Sample) (claim : ClaimData) (lawful : IsL
   -- ---- a tick that doesn't show it
 
   -- a piece of whatever cuts the span holds the whole of the tick
-  some_over : (a p : ℤ) (theirs : List PieceData) → a ≤ℤ p → 0 < length theirs
+  pub some_over : (a p : ℤ) (theirs : List PieceData) → a ≤ℤ p → 0 < length theirs
       → next_tick samples claim p ≤ℤ last_end a theirs
       → (k : ℕ) × IsSomeAnd (slice_get (stretches_from a theirs) k)
       (λ piece. HoldsWhole piece (stretch_over p (next_tick samples claim p)))

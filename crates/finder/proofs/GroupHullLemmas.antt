@@ -24,11 +24,11 @@ use Rattle.finder.proofs.ListLemmas.{by_test}
 -- ---- what a group's interval passes, one of its parts does
 
 -- a test on intervals that a meet passes exactly if one of the two does
-abbrev IsOfEither : (Interval → Bool) → Type 0
+abbrev pub IsOfEither : (Interval → Bool) → Type 0
 IsOfEither p = (a b : Interval) → p (meet_of a b) ≡ (p a || p b)
 
 -- there is an interval, and it passes
-abbrev passes : (Interval → Bool) → Option Interval → Bool
+abbrev pub passes : (Interval → Bool) → Option Interval → Bool
 passes p None = false
 passes p (Some interval) = p interval
 
@@ -58,12 +58,12 @@ module _ (p : Interval → Bool) (either : IsOfEither p) where
         | false ↦ fold_passes test o parts
       ]
 
-  group_passes : (groups : List ℕ) (parts : List Part) (g : ℕ) → passes p (group_interval groups parts g)
+  pub group_passes : (groups : List ℕ) (parts : List Part) (g : ℕ) → passes p (group_interval groups parts g)
       ≡ list_any (λ part. (slice_index groups part.server == g) && p part.interval) parts
   group_passes groups parts g = fold_passes (λ part. slice_index groups part.server == g) None parts
 
   -- as many intervals pass as groups that have one which does
-  counted : (h : ℕ → Option Interval) (gs : List ℕ)
+  pub counted : (h : ℕ → Option Interval) (gs : List ℕ)
       → count_by p (filter_map h gs) ≡ count_by (λ g. passes p (h g)) gs
   counted h [] = refl
   counted h (g ∷ gs) =
@@ -153,7 +153,7 @@ meet_leaves_it_out point a b = by_test (leaves_out a point)
     held_test (meet_of a b) point (omega (arith, ints, clamps)) (omega (arith, ints, clamps))
     ∙ sym (or_from (leaves_out a point) (leaves_out b point) held held')))
 
-all_counted : (list : List Interval) → count_by (λ i. true) list ≡ length list
+pub all_counted : (list : List Interval) → count_by (λ i. true) list ≡ length list
 all_counted [] = refl
 all_counted (i ∷ list) =
     let rest = all_counted list in

@@ -5,6 +5,8 @@ pub mod BestLemmas
 pub mod PieceLemmas
 pub mod TableLemmas
 pub mod EntryLemmas
+pub mod PartList
+pub mod PartLemmas
 pub mod FoundLemmas
 pub mod VerdictLemmas
 pub mod GroupHullLemmas
@@ -13,9 +15,15 @@ pub mod RefusalLemmas
 pub mod AnswerLemmas
 pub mod NearestLemmas
 pub mod FewestLemmas
+pub mod Beyond
 pub mod LongestLemmas
 pub mod FewestAnswerLemmas
 pub mod BoundLemmas
+pub mod UnboundedHulls
+pub mod Needs
+pub mod Search
+pub mod Undercut
+pub mod NeediestPiece
 pub mod EnvelopeLemmas
 pub mod CarriedLemmas
 pub mod FinerLemmas
@@ -23,5 +31,6 @@ pub mod RoomLemmas
 pub mod GroupLemmas
 pub mod RoomsLemmas
 pub mod SoughtLemmas
+pub mod HeldExchange
 pub mod LiarLemmas
 pub mod FoundRefutationLemmas

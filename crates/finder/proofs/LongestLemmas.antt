@@ -8,13 +8,10 @@ use Rattle.std.proofs.lemmas.List.{take_more}
 use Rattle.std.specs.Int.Signed.{non_neg, yes_non_neg}
 use Rattle.certificate.specs.Certificate.{PieceData, max_pieces}
 use Rattle.claim_file.specs.Claim.{ClaimData, IsLawful}
-use Rattle.intersection.specs.declared.kinds.Hull.{Hull}
 use Rattle.sample_interval.specs.declared.kinds.Sample.{Sample}
-use Rattle.span_cover.specs.Group.{piece_hull}
 use Rattle.span_cover.specs.Piece.{IsPiece}
-use Rattle.span_cover.specs.declared.stretch.Stretch.{Stretch}
 use Rattle.sweep.specs.Pieces.{ArePieces, IsPieceAt}
-use Rattle.finder.specs.Entry.{best_entries, best_hull, parts_named}
+use Rattle.finder.specs.Entry.{best_entries}
 use Rattle.finder.specs.Fewest.{AreLongest, IsLongest, end_after, next_tick, piece_over, pieces_over, shows, stretch_over}
 use Rattle.finder.specs.Reach.{AreEnds}
 use Rattle.finder.specs.Samples.{AreSamplesOf}
@@ -29,37 +26,12 @@ use Rattle.finder.proofs.VerdictLemmas.{from_zero_kept}
 pub tick_kept : (n : ℕ) (z : ℤ) → n < 2 ^ 64 → z ≡ pos n → to_z w128 (of_z w128 z) ≡ pos n
 tick_kept n z below is = ap (λ (x : ℤ). to_z w128 (of_z w128 x)) is ∙ kept (pos n) (omega (arith, ints))
 
-pub tick_kept_twice : (n : ℕ) (z : ℤ) → n < 2 ^ 64 → z ≡ pos n
-    → to_z w128 (of_z w128 (to_z w128 (of_z w128 z))) ≡ pos n
-tick_kept_twice n z below is = tick_kept n _ below (tick_kept n z below is)
-
 pub last_is : (claim : ClaimData) → IsLawful claim
     → pos (unsigned_abs (to_z w128 (of_z w128 claim.last))) ≡ claim.last
 last_is claim lawful =
     let begins = lawful.span_begins in
     let forward = lawful.span_forward in
     rw (last_kept claim lawful) (from_zero_kept claim.last (omega (arith, ints)))
-
--- ---- the hull over a stretch
-
-module _ (samples : List Sample) (claim : ClaimData) (a b p q : ℤ) (begins : a ≡ p) (ends : b ≡ q) where
-  pub stretch_made : ◌≡◌ {A = Stretch} (record { begin = a; end = b }) (stretch_over p q)
-  stretch_made = ap (λ (x : ℤ). stretch_over x b) begins ∙ ap (λ (y : ℤ). stretch_over p y) ends
-
-  pub entries_made : (entries : List (ℕ × ℕ)) → entries ≡ best_entries samples claim (stretch_over a b)
-      → entries ≡ best_entries samples claim (stretch_over p q)
-  entries_made entries is = is ∙ ap (best_entries samples claim) stretch_made
-
-  pub hull_made : (entries : List (ℕ × ℕ)) (hull : Hull)
-      → entries ≡ best_entries samples claim (stretch_over p q)
-      → hull ≡ piece_hull claim.groups claim.false_max (parts_named samples claim (stretch_over a b) entries)
-      → hull ≡ best_hull samples claim (stretch_over p q)
-  unfolding best_hull
-  hull_made entries hull are is =
-      is
-      ∙ ap (λ (s : Stretch). piece_hull claim.groups claim.false_max (parts_named samples claim s entries)) stretch_made
-      ∙ ap (λ (es : List (ℕ × ℕ)). piece_hull claim.groups claim.false_max
-      (parts_named samples claim (stretch_over p q) es)) are
 
 -- ---- halving
 

@@ -2,6 +2,7 @@ pub mod Fault
 pub mod Samples
 pub mod Piece
 pub mod Entry
+pub mod TickParts
 pub mod Found
 pub mod Refusal
 pub mod Envelope
@@ -9,5 +10,9 @@ pub mod Fewest
 pub mod Reach
 pub mod Answer
 pub mod FewestAnswer
+pub mod Need
+pub mod NeedSearch
+pub mod Neediest
+pub mod NeedAnswer
 pub mod Room
 pub mod Sought

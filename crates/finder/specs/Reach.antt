@@ -1,14 +1,28 @@
 -- How far the longest pieces of a span reach. Only the code's own contracts speak of it.
-use Rattle.std.specs.Prelude.{◌≡◌, ◌<◌, ℤ, pos, List, [], ◌∷◌, ◌++◌, length}
+use Rattle.std.specs.Prelude.{◌≡◌, ◌<◌, ◌≤◌, ℤ, pos, List, [], ◌∷◌, ◌++◌, length}
 use Rattle.certificate.specs.Certificate.{max_pieces}
 use Rattle.claim_file.specs.Claim.{ClaimData}
 use Rattle.sample_interval.specs.declared.kinds.Sample.{Sample}
+use Rattle.sweep.specs.Table.{AreTablesOf}
+use Rattle.sweep.specs.declared.table.BestTable.{BestTable}
 use Rattle.finder.specs.Fewest.{AreLongest, IsLongest, IsStuck, IsTooLong, end_after}
+use Rattle.finder.specs.Samples.{AreSamplesOf}
 use Rattle.finder.specs.declared.reach.Reach.{Reach}
 use Rattle.finder.specs.declared.reach.Reach.TheVariants.{End, Stuck, TooLong}
 
--- these are the ends of the longest pieces, the last of which ends with the span, and no more than a
--- certificate may have
+-- the tables of these samples, which are of the claim's servers
+pub record AreTablesFor (samples : List Sample) (claim : ClaimData) (tables : List BestTable)
+    : Type 0 where
+  pub of_claim : AreSamplesOf claim samples
+  pub few : length tables ≤ 32
+  pub are : AreTablesOf samples (length claim.servers) claim.drift_ppb tables
+
+-- the tables of some samples
+abbrev pub IsTabled : ClaimData → List BestTable → Type 0
+IsTabled claim tables = (samples : List Sample) × AreTablesFor samples claim tables
+
+-- these are the ends of the longest pieces, the last of which ends with the span, and no more than
+-- a certificate may have
 pub record AreEnds (samples : List Sample) (claim : ClaimData) (ends : List ℤ) : Type 0 where
   pub earlier : List ℤ
   pub longest : AreLongest samples claim claim.first earlier

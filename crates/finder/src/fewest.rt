@@ -46,7 +46,8 @@ pub enum Fewest {
 ///
 /// The samples are those of all exchanges, in their order, at most 1,000,000.
 ///
-/// `TooManyPieces` comes if 100,000 pieces don't reach the span's end, and `Memory` if none is left.
+/// `TooManyPieces` comes if 100,000 pieces don't reach the span's end, and `Memory` if none is
+/// left.
 pub fn find_fewest(alloc: Global, samples: &[Sample], claim: &Claim) -> Result<Fewest, FindFault>
     requires claim { IsLawful (claim_data claim.now) }
     requires samples { AreSamplesOf (claim_data claim.now) samples.now }

@@ -1,26 +1,33 @@
 //! What holds of the definitions. A law is a function that does nothing: its contract is the law,
 //! for every number.
-ghost use Rattle.std.specs.Prelude.{◌≡◌, ◌⊎◌, ℕ, ◌<◌, ◌≤◌, ◌*◌, ℤ, ◌≤ℤ◌, true, List, [], Ok, All, length};
+ghost use Rattle.std.specs.Prelude.{◌≡◌, ◌⊎◌, ℕ, ◌<◌, ◌≤◌, ◌*◌, ℤ, ◌≤ℤ◌, pos, true, List, [], Ok, All, length, Option, slice_get};
+ghost use Rattle.certificate.specs.Certificate.{CertificateData, PieceData};
 ghost use Rattle.claim_file.specs.Claim.{ClaimData, IsLawful, max_drift_ppb};
 ghost use Rattle.pairing.specs.Exchange.{IsLawful as IsLawfulExchange};
 ghost use Rattle.pairing.specs.declared.exchange.Exchange.{Exchange};
 ghost use Rattle.sample_interval.specs.Sample.{IsLawfulSample};
 ghost use Rattle.sample_interval.specs.declared.kinds.Sample.{Sample};
 ghost use Rattle.checker.specs.Traceability.{HoldsError, samples_of};
-ghost use Rattle.checker.specs.Verdict.{parts_after, parts_fault, hull_fault};
-ghost use Rattle.span_cover.specs.Group.{is_inside};
+ghost use Rattle.checker.specs.Verdict.{parts_after, parts_fault, hull_fault, verdict_of};
+ghost use Rattle.checker.specs.declared.verdict.Verdict.{Verdict};
+ghost use Rattle.span_cover.specs.Group.{is_inside, piece_hull};
 ghost use Rattle.span_cover.specs.Piece.{IsPiece};
 ghost use Rattle.span_cover.specs.declared.stretch.Stretch.{Stretch};
 ghost use Rattle.finder.specs.Entry.{best_entries, best_hull, parts_named};
 ghost use Rattle.finder.specs.Envelope.{EnvelopeData, IsCertified, IsLeast, IsNotCertified, envelope_of, least_of, with_bound};
-ghost use Rattle.finder.specs.Fewest.{IsNoWider};
+ghost use Rattle.finder.specs.Fewest.{AreLongest, IsNoWider, stretch_over};
 ghost use Rattle.finder.specs.Found.{found_of, hull_at};
+ghost use Rattle.finder.specs.Need.{IsFirstOfNeed, IsLeastNeedIfAny, IsNeediest, piece_holding};
 ghost use Rattle.finder.specs.Piece.{IsPieceCount, piece_count_of};
 ghost use Rattle.finder.specs.Refusal.{HoldsWhole};
 ghost use Rattle.finder.specs.Samples.{AreSamplesOf};
+ghost use Rattle.finder.specs.TickParts.{best_parts};
 ghost use Rattle.finder.specs.declared.least.LeastBound.{LeastBound};
+ghost use Rattle.finder.specs.declared.need.LeastNeed.{LeastNeed};
 
-use checker::laws::{hulls_hold_the_error, narrower_parts_narrow, parts_are_of_samples};
+use checker::laws::{
+    hulls_hold_the_error, narrower_parts_narrow, parts_are_of_samples, pieces_give_the_verdict,
+};
 use era_unfold::laws::{
     nanoseconds_lie_between_their_ticks, ratios_are_rounded_as_little_as_can_be,
 };
@@ -59,6 +66,20 @@ pub fn best_entries_are_accepted()
         let entries = best_entries samples claim stretch in
         parts_fault claim (parts_after samples stretch claim.drift_ppb [] entries)
         ≡ hull_fault claim.bound (best_hull samples claim stretch) }
+{
+    best_samples_are_the_first_best();
+}
+
+/// What each server says at a tick is what the best entries say of the piece that begins and ends
+/// there, and the hull over it is that piece's.
+pub fn ticks_are_pieces_of_one_reading()
+    ensures parts { (samples : List Sample) (claim : ClaimData) (tick : ℤ) →
+        let stretch = stretch_over tick tick in
+        best_parts samples claim tick
+        ≡ parts_named samples claim stretch (best_entries samples claim stretch) }
+    ensures hull { (samples : List Sample) (claim : ClaimData) (tick : ℤ) →
+        piece_hull claim.groups claim.false_max (best_parts samples claim tick)
+        ≡ best_hull samples claim (stretch_over tick tick) }
 {
     best_samples_are_the_first_best();
 }
@@ -106,6 +127,33 @@ pub fn pieces_within_have_no_wider_hulls()
     piece_inside_another_is_narrower();
     parts_are_of_samples();
     narrower_parts_narrow();
+    every_list_has_a_hull();
+}
+
+/// However an accepted certificate cuts the span, none of its pieces ends after the longest piece
+/// of the same number.
+pub fn accepted_pieces_end_no_later()
+    ensures { (samples : List Sample) (claim : ClaimData) (ends : List ℤ)
+        (other : CertificateData) (k : ℕ) (end : ℤ) (piece : PieceData) → IsLawful claim →
+        AreSamplesOf claim samples → AreLongest samples claim claim.first ends →
+        verdict_of samples claim other ≡ Verdict.Yes → slice_get ends k ≡ Some end →
+        slice_get other.pieces k ≡ Some piece → pos piece.upto ≤ℤ end }
+{
+    best_samples_are_the_first_best();
+    best_entries_show_as_much();
+    pieces_within_have_no_wider_hulls();
+    pieces_give_the_verdict();
+    best_hulls_hold_the_error();
+}
+
+/// A hull is unbounded if no more groups have a sample than may be false. The readings of a piece
+/// have no part in that, so that the hull over any other stretch is unbounded too.
+pub fn unbounded_hulls_are_so_everywhere()
+    ensures { (samples : List Sample) (claim : ClaimData) (one other : Stretch) →
+        best_hull samples claim one ≡ Hull.Unbounded →
+        best_hull samples claim other ≡ Hull.Unbounded }
+{
+    best_samples_are_the_first_best();
     every_list_has_a_hull();
 }
 
@@ -160,4 +208,20 @@ pub fn finer_pieces_need_no_wider_bound()
     best_entries_show_as_much();
     ratios_are_rounded_as_little_as_can_be();
     nanoseconds_lie_between_their_ticks();
+}
+
+/// No other tick is the first of those that need the widest bound, so that there is one answer.
+pub fn least_need_is_one()
+    ensures { (samples : List Sample) (claim : ClaimData) (a b : Option LeastNeed) →
+        IsLeastNeedIfAny samples claim a → IsLeastNeedIfAny samples claim b → a ≡ b }
+{}
+
+/// Of the pieces that are cut every so many seconds, the one with the neediest tick is the first
+/// with a tick that needs as much.
+pub fn piece_with_the_tick_is_the_first()
+    ensures { (samples : List Sample) (claim : ClaimData) (step n : ℕ) (p : ℤ) → IsLawful claim →
+        0 < step → IsNeediest samples claim p n →
+        IsFirstOfNeed samples claim step n (piece_holding claim step p) }
+{
+    last_piece_ends_with_the_span();
 }

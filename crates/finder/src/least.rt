@@ -71,7 +71,7 @@ fn with_need(bound_ns: u128, piece: u32, number: u32, needed: u128) -> LeastBoun
 }
 
 /// How many ticks the hull from `lo` to `hi` reaches to either side of zero.
-fn reach_of(lo: i128, hi: i128) -> u128
+pub(crate) fn reach_of(lo: i128, hi: i128) -> u128
     ensures value { result ≡ reach_of lo hi }
     ensures in_range { result ≤ 2 ^ 127 }
 {
@@ -83,7 +83,7 @@ fn reach_of(lo: i128, hi: i128) -> u128
 /// The least number of nanoseconds that has no fewer ticks, also if they are rounded down.
 ///
 /// Whole seconds are counted apart, so that no product is out of range.
-fn nanoseconds_of(ticks: u128) -> u128
+pub(crate) fn nanoseconds_of(ticks: u128) -> u128
     requires { ticks ≤ 2 ^ 127 }
     ensures value { result ≡ nanoseconds_of ticks }
     ensures in_range { result < 2 ^ 127 }

@@ -8,31 +8,44 @@
 //! the samples contradict each other. [`find_envelope`] takes the pieces of [`find`], and gives the
 //! hull of each and the least bound that holds over all of them. [`find_over`],
 //! [`find_fewest_over`] and [`find_envelope_over`] do so over samples from any source.
-//! [`find_refutation`] gives a refutation, which the checker accepts, unless it accepts none.
-//! [`laws`] has what holds of the definitions.
+//! [`least_bound`] gives the least bound that every tick of the span allows: no certificate has a
+//! lesser one. [`best_parts`] gives what each server says at one tick. [`find_refutation`] gives a
+//! refutation, which the checker accepts, unless it accepts none, and
+//! [`find_refutation_with_drift`] one of which the clock drifts, if it finds one with the groups of
+//! one of the given covers false. [`laws`] has what holds of the definitions.
 #![tactic(auto)]
 
+mod drift_refutation;
 mod entry;
 mod envelope;
 mod fault;
 mod fewest;
 mod found;
+mod halving;
 mod hull;
 pub mod laws;
 mod least;
+mod leeway;
 mod longest;
+mod need;
+mod neediest;
 mod piece;
 mod piece_hull;
 mod reach;
 mod room;
+mod side;
 mod sought;
 mod table;
+mod tick_parts;
 
+pub use drift_refutation::find_refutation_with_drift;
 pub use envelope::{Envelope, find_envelope, find_envelope_over};
 pub use fault::FindFault;
 pub use fewest::{Fewest, find_fewest, find_fewest_over};
 pub use found::{Found, find, find_over};
 pub use hull::parts;
 pub use least::LeastBound;
+pub use need::{LeastNeed, least_bound, least_bound_over, piece_holding};
 pub use piece_hull::PieceHull;
 pub use sought::find_refutation;
+pub use tick_parts::best_parts;

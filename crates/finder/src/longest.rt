@@ -1,70 +1,66 @@
 //! The longest piece from a reading.
 
-ghost use Rattle.std.specs.Prelude.{◌≡◌, ◌≤◌, length, pos, ◌+ℤ◌, ◌≤ℤ◌, true, IfOk};
+ghost use Rattle.std.specs.Prelude.{◌≡◌, ◌≤◌, pos, ◌+ℤ◌, ◌≤ℤ◌, true, List, length, IfOk};
 ghost use Rattle.std.specs.Int.{int_min};
 ghost use Rattle.claim_file.specs.Claim.{IsLawful, data_of};
+ghost use Rattle.sample_interval.specs.declared.kinds.Sample.{Sample};
 ghost use Rattle.finder.specs.Entry.{best_hull};
-ghost use Rattle.finder.specs.Fewest.{IsLongest, next_tick, shows, stretch_over};
+ghost use Rattle.finder.specs.Fewest.{IsLongest, shows, stretch_over};
+ghost use Rattle.finder.specs.Reach.{AreTablesFor, IsTabled};
 ghost use Rattle.finder.specs.Samples.{AreSamplesOf};
 
-use crate::entry::entries_at;
-use crate::hull::hull_of;
 use crate::laws::{
     best_entries_show_as_much, best_hulls_hold_the_error, pieces_within_have_no_wider_hulls,
 };
-use crate::table::tables_over;
 use checker::laws::pieces_give_the_verdict;
 use claim_file::Claim;
 use intersection::kinds::Hull;
 use sample_interval::SampleSource;
 use span_cover::laws::best_samples_are_the_first_best;
-use span_cover::{Stretch, is_inside};
+use span_cover::{is_inside, piece_hull};
 use std::alloc::{AllocError, Global};
+use sweep::{BestTable, parts_over, tables_of};
 
-/// The hull of the best entries of a stretch.
-pub(crate) fn hull_over<S: SampleSource>(
+/// The tables of the servers that have a sample. Once they are made, a hull is found by a search.
+pub(crate) fn tables_for<S: SampleSource>(
     alloc: Global,
     samples: S,
     claim: &Claim,
-    begin: u64,
-    end: u64,
-) -> Result<Hull, AllocError>
+) -> Result<Vec<BestTable>, AllocError>
     requires claim { IsLawful (data_of claim.now) }
     requires samples { AreSamplesOf (data_of claim.now) (S.samples samples) }
     requires few { length (S.samples samples) ≤ 1_000_000 }
+    ensures { IfOk result (λ tables.
+        AreTablesFor (S.samples samples) (data_of claim.now) tables.items) }
+{
+    let count = claim.servers.len() as u8;
+    let tables = tables_of(alloc, samples, count, claim.drift_ppb)?;
+    Ok(tables)
+}
+
+/// The hull of the best entries of a stretch, by the tables of the servers.
+pub(crate) fn hull_over(tables: &[BestTable], claim: &Claim, begin: u64, end: u64) -> Hull
+    requires claim { IsLawful (data_of claim.now) }
+    requires tables { IsTabled (data_of claim.now) tables.now }
     requires in_order { begin ≤ end }
-    ensures { IfOk result (λ hull. hull ≡ best_hull (S.samples samples) (data_of claim.now)
-        (stretch_over (pos begin) (pos end))) }
+    ensures { (samples : List Sample) → AreTablesFor samples (data_of claim.now) tables.now →
+        result ≡ best_hull samples (data_of claim.now) (stretch_over (pos begin) (pos end)) }
 {
     best_samples_are_the_first_best();
-    let stretch = Stretch {
-        begin: i128::from(begin),
-        end: i128::from(end),
-    };
-    let tables = tables_over(alloc, samples, claim, stretch.begin, &[stretch.end])?;
-    let entries = entries_at(tables.as_slice(), 0);
-    let hull = hull_of(samples, claim, stretch, &entries);
-    Ok(hull)
+    let parts = parts_over(tables, i128::from(begin), i128::from(end), claim.drift_ppb);
+    piece_hull(parts.as_slice(), claim.groups.as_slice(), claim.false_max)
 }
 
 /// Whether the hull over a stretch shows that the error is within the bound there.
-fn is_shown<S: SampleSource>(
-    alloc: Global,
-    samples: S,
-    claim: &Claim,
-    begin: u64,
-    end: u64,
-) -> Result<bool, AllocError>
+fn is_shown(tables: &[BestTable], claim: &Claim, begin: u64, end: u64) -> bool
     requires claim { IsLawful (data_of claim.now) }
-    requires samples { AreSamplesOf (data_of claim.now) (S.samples samples) }
-    requires few { length (S.samples samples) ≤ 1_000_000 }
+    requires tables { IsTabled (data_of claim.now) tables.now }
     requires in_order { begin ≤ end }
-    ensures { IfOk result (λ shown. shown
-        ≡ shows (S.samples samples) (data_of claim.now) (pos begin) (pos end)) }
+    ensures { (samples : List Sample) → AreTablesFor samples (data_of claim.now) tables.now →
+        result ≡ shows samples (data_of claim.now) (pos begin) (pos end) }
 {
-    let hull = hull_over(alloc, samples, claim, begin, end)?;
-    let shown = is_inside(claim.bound, hull);
-    Ok(shown)
+    let hull = hull_over(tables, claim, begin, end);
+    is_inside(claim.bound, hull)
 }
 
 /// The next tick, but no later than the last one.
@@ -78,21 +74,15 @@ pub(crate) fn tick_after(begin: u64, last: u64) -> u64
 /// Where the longest piece from `begin` ends, if the piece from there to `next`, the next tick,
 /// shows that the error is within the bound. What a piece shows each shorter one shows too, so that
 /// the end is found by halving.
-pub(crate) fn longest_end<S: SampleSource>(
-    alloc: Global,
-    samples: S,
-    claim: &Claim,
-    begin: u64,
-    next: u64,
-) -> Result<u64, AllocError>
+pub(crate) fn longest_end(tables: &[BestTable], claim: &Claim, begin: u64, next: u64) -> u64
     requires claim { IsLawful (data_of claim.now) }
-    requires samples { AreSamplesOf (data_of claim.now) (S.samples samples) }
-    requires few { length (S.samples samples) ≤ 1_000_000 }
+    requires tables { IsTabled (data_of claim.now) tables.now }
     requires in_span { pos begin ≤ℤ claim.now.last }
-    requires next { pos next ≡ next_tick (S.samples samples) (data_of claim.now) (pos begin) }
-    requires shown { shows (S.samples samples) (data_of claim.now) (pos begin) (pos next) ≡ true }
-    ensures { IfOk result (λ end.
-        IsLongest (S.samples samples) (data_of claim.now) (pos begin) (pos end)) }
+    requires next { pos next ≡ int_min (pos begin +ℤ pos 1) claim.now.last }
+    requires shown { (samples : List Sample) → AreTablesFor samples (data_of claim.now) tables.now →
+        shows samples (data_of claim.now) (pos begin) (pos next) ≡ true }
+    ensures { (samples : List Sample) → AreTablesFor samples (data_of claim.now) tables.now →
+        IsLongest samples (data_of claim.now) (pos begin) (pos result) }
 {
     best_samples_are_the_first_best();
     best_entries_show_as_much();
@@ -103,11 +93,11 @@ pub(crate) fn longest_end<S: SampleSource>(
     let mut high = claim.last as u64;
     while low < high {
         let middle = high - (high - low) / 2;
-        if is_shown(alloc, samples, claim, begin, middle)? {
+        if is_shown(tables, claim, begin, middle) {
             low = middle;
         } else {
             high = middle - 1;
         }
     }
-    Ok(low)
+    low
 }

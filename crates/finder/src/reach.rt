@@ -1,17 +1,19 @@
 //! How far the longest pieces reach.
 
-ghost use Rattle.std.specs.Prelude.{◌≡◌, ◌≤◌, length, IfOk};
+ghost use Rattle.std.specs.Prelude.{◌≤◌, length, IfOk, List};
 ghost use Rattle.claim_file.specs.Claim.{IsLawful, data_of};
-ghost use Rattle.finder.specs.Reach.{IsReach};
+ghost use Rattle.sample_interval.specs.declared.kinds.Sample.{Sample};
+ghost use Rattle.finder.specs.Reach.{AreTablesFor, IsReach, IsTabled};
 ghost use Rattle.finder.specs.Samples.{AreSamplesOf};
 
-use crate::longest::{hull_over, longest_end, tick_after};
+use crate::longest::{hull_over, longest_end, tables_for, tick_after};
 use certificate::MAX_PIECES;
 use claim_file::Claim;
 use intersection::kinds::Hull;
 use sample_interval::SampleSource;
 use span_cover::is_inside;
 use std::alloc::{AllocError, Global};
+use sweep::BestTable;
 
 /// How far the longest pieces of a span reach, one after another.
 #[derive(Drop)]
@@ -36,16 +38,28 @@ pub(crate) fn longest_ends<S: SampleSource>(
     requires few { length (S.samples samples) ≤ 1_000_000 }
     ensures { IfOk result (IsReach (S.samples samples) (data_of claim.now)) }
 {
+    let tables = tables_for(alloc, samples, claim)?;
+    ends_over(alloc, tables.as_slice(), claim)
+}
+
+/// The same by the tables of the servers.
+fn ends_over(alloc: Global, tables: &[BestTable], claim: &Claim) -> Result<Reach, AllocError>
+    requires claim { IsLawful (data_of claim.now) }
+    requires tables { IsTabled (data_of claim.now) tables.now }
+    ensures { IfOk result (λ reach. (samples : List Sample) →
+        AreTablesFor samples (data_of claim.now) tables.now →
+        IsReach samples (data_of claim.now) reach) }
+{
     let last = claim.last as u64;
     let mut begin = claim.first as u64;
     let mut ends: Vec<i128> = Vec::new(alloc);
     while ends.len() < MAX_PIECES {
         let end = tick_after(begin, last);
-        let hull = hull_over(alloc, samples, claim, begin, end)?;
+        let hull = hull_over(tables, claim, begin, end);
         if !is_inside(claim.bound, hull) {
             return Ok(Reach::Stuck { begin, end, hull });
         }
-        begin = longest_end(alloc, samples, claim, begin, end)?;
+        begin = longest_end(tables, claim, begin, end);
         ends.push(i128::from(begin))?;
         if begin == last {
             return Ok(Reach::End(ends));

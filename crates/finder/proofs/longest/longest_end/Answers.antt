@@ -4,7 +4,7 @@ use Rattle.finder.proofs.LongestLemmas.{halved_down, halved_end, halved_first, h
 use Rattle.finder.proofs.longest.longest_end.Goals as goal
 
 pub loop-low-init : goal.loop-low-init
-loop-low-init g c =
+loop-low-init c samples tabled =
     halved_first (record {
       best = c.best_samples_are_the_first_best.ensures;
       narrow = c.best_entries_show_as_much.ensures;
@@ -12,19 +12,20 @@ loop-low-init g c =
       each = c.pieces_give_the_verdict.ensures.each;
       covers = c.pieces_give_the_verdict.ensures.covers;
       held = c.best_hulls_hold_the_error.ensures;
-    }) (g.S.SampleSource.samples c.args.samples) (data_of c.args.claim.now) c.requires.claim c.requires.samples
-    c.args.begin c.args.next c.requires.in_span c.requires.next _ (last_is (data_of c.args.claim.now) c.requires.claim)
-    c.requires.shown
+    }) samples (data_of c.args.claim.now) c.requires.claim tabled.of_claim
+    c.args.begin c.args.next c.requires.in_span c.requires.next _
+    (last_is (data_of c.args.claim.now) c.requires.claim) (c.requires.shown samples tabled)
 
 pub is_shown-requires-clause-in_order : goal.is_shown-requires-clause-in_order
-is_shown-requires-clause-in_order g c =
+is_shown-requires-clause-in_order c =
     let first = next_not_before c.args.begin c.args.next c.args.claim.now.last c.requires.in_span c.requires.next in
-    let some = c.loop-low.invariant.some in
-    let order = c.loop-low.invariant.in_order in
+    let halved = c.loop-low.invariant c.requires.tables.0 c.requires.tables.1 in
+    let some = halved.some in
+    let order = halved.in_order in
     omega arith
 
-pub loop-low-preserved-then-branch : goal.loop-low-preserved-then-branch
-loop-low-preserved-then-branch g c =
+pub loop-low-preserved-then-is_shown : goal.loop-low-preserved-then-is_shown
+loop-low-preserved-then-is_shown c samples tabled =
     let below = c.loop-low-test.true in
     halved_up (record {
       best = c.best_samples_are_the_first_best.ensures;
@@ -33,12 +34,13 @@ loop-low-preserved-then-branch g c =
       each = c.pieces_give_the_verdict.ensures.each;
       covers = c.pieces_give_the_verdict.ensures.covers;
       held = c.best_hulls_hold_the_error.ensures;
-    }) (g.S.SampleSource.samples c.args.samples) (data_of c.args.claim.now) c.requires.claim c.requires.samples
+    }) samples (data_of c.args.claim.now) c.requires.claim tabled.of_claim
     c.args.begin c.args.next c.requires.in_span c.requires.next c.loop-low.low c.loop-low.high _
-    c.loop-low.invariant (omega arith) (omega arith) (sym c.in_ok-is_shown.ensures ∙ c.if-branch.true)
+    (c.loop-low.invariant samples tabled) (omega arith) (omega arith)
+    (sym (c.is_shown.ensures samples tabled) ∙ c.if-is_shown.true)
 
 pub loop-low-preserved : goal.loop-low-preserved
-loop-low-preserved g c =
+loop-low-preserved c samples tabled =
     let below = c.loop-low-test.true in
     halved_down (record {
       best = c.best_samples_are_the_first_best.ensures;
@@ -47,14 +49,14 @@ loop-low-preserved g c =
       each = c.pieces_give_the_verdict.ensures.each;
       covers = c.pieces_give_the_verdict.ensures.covers;
       held = c.best_hulls_hold_the_error.ensures;
-    }) (g.S.SampleSource.samples c.args.samples) (data_of c.args.claim.now) c.requires.claim c.requires.samples
+    }) samples (data_of c.args.claim.now) c.requires.claim tabled.of_claim
     c.args.begin c.args.next c.requires.in_span c.requires.next c.loop-low.low c.loop-low.high
     (c.loop-low.high - (c.loop-low.high - c.loop-low.low) / 2)
-    c.loop-low.invariant (omega arith) (omega arith) c.requires.shown
-    (sym c.in_ok-is_shown.ensures ∙ c.if-branch.false)
+    (c.loop-low.invariant samples tabled) (omega arith) (omega arith) (c.requires.shown samples tabled)
+    (sym (c.is_shown.ensures samples tabled) ∙ c.if-is_shown.false)
 
 pub returns : goal.returns
-returns g c =
+returns c samples tabled =
     halved_end (record {
       best = c.best_samples_are_the_first_best.ensures;
       narrow = c.best_entries_show_as_much.ensures;
@@ -62,6 +64,6 @@ returns g c =
       each = c.pieces_give_the_verdict.ensures.each;
       covers = c.pieces_give_the_verdict.ensures.covers;
       held = c.best_hulls_hold_the_error.ensures;
-    }) (g.S.SampleSource.samples c.args.samples) (data_of c.args.claim.now) c.requires.claim c.requires.samples
+    }) samples (data_of c.args.claim.now) c.requires.claim tabled.of_claim
     c.args.begin c.args.next c.requires.in_span c.requires.next c.loop-low.low c.loop-low.high
-    c.loop-low.invariant c.loop-low-test.false
+    (c.loop-low.invariant samples tabled) c.loop-low-test.false

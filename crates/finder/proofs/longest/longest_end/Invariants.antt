@@ -1,11 +1,13 @@
-use Rattle.std.proofs.Common.{◌-◌}
+use Rattle.std.proofs.Common.{◌-◌, List}
 use Rattle.claim_file.specs.Claim.{data_of}
+use Rattle.sample_interval.specs.declared.kinds.Sample.{Sample}
+use Rattle.finder.specs.Reach.{AreTablesFor}
 use Rattle.finder.proofs.LongestLemmas.{IsHalved}
 use Rattle.finder.proofs.longest.longest_end.Given as goal
 
 abbrev pub invariant-loop-low : goal.invariant-loop-low
-invariant-loop-low g l =
-    IsHalved (g.S.SampleSource.samples l.samples) (data_of l.claim) l.begin l.next l.low l.high
+invariant-loop-low l = (samples : List Sample) → AreTablesFor samples (data_of l.claim) l.tables
+    → IsHalved samples (data_of l.claim) l.begin l.next l.low l.high
 
 abbrev pub decreases-loop-low : goal.decreases-loop-low
-decreases-loop-low g l = l.high - l.low
+decreases-loop-low l = l.high - l.low

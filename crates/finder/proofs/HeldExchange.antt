@@ -1,0 +1,13 @@
+-- The exchange at a place of the list that says them, of a claim with any number of servers.
+use Rattle.std.proofs.Common.{◌≡◌, ℕ, ◌<◌, List, length, get_or, subst}
+use Rattle.std.specs.Prelude.{map, All}
+use Rattle.pairing.specs.Exchange.{IsLawful}
+use Rattle.pairing.specs.declared.exchange.Exchange.{Exchange}
+use Rattle.finder.proofs.RoomsLemmas.{shown_here, within_shown}
+
+module _ {X : Type 0} (shown : X → Exchange) (held : List X) (index : ℕ) (item : X) (x : Exchange)
+    (below : index < length held) (is : item ≡ get_or held index item) (says : x ≡ shown item) where
+  pub lawful_of : (servers : ℕ) → All (IsLawful servers) (map shown held) → IsLawful servers x
+  lawful_of servers all =
+      subst (IsLawful servers) (shown_here shown held index item x below is says)
+      (all index x (within_shown shown held index item x below is says))

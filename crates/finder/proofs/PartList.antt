@@ -1,0 +1,90 @@
+-- What servers say at one reading of the clock, one server after another.
+use Rattle.std.proofs.Common.{zero, suc, ◌≡◌, ◌∙◌, ℕ, ℤ, ◌+◌, ◌<◌, ◌≤◌, ◌++◌, List, [], ◌∷◌, length, take, Option, Some, None, refl, sym, ap, subst, add-one, append-nil, arith, length-append}
+use Rattle.std.specs.Prelude.{filter_map, slice_get, All}
+use Rattle.std.specs.List.{cons_option, range_with_len}
+use Rattle.std.proofs.lemmas.List.{take_more}
+use Rattle.std.proofs.lemmas.List.Elements.{filter_map-append, All-push}
+use Rattle.std.proofs.lemmas.Option.{get_or_from_slice_get, slice_get_within}
+use Rattle.sample_interval.specs.declared.kinds.Sample.{Sample}
+use Rattle.span_cover.specs.Gathering.{Gathered, Gathering}
+use Rattle.span_cover.specs.declared.part.Part.{Part}
+use Rattle.span_cover.specs.Group.{numbers_below, piece_hull}
+use Rattle.claim_file.specs.Claim.{ClaimData}
+use Rattle.claim_file.specs.Group.{servers_of}
+use Rattle.finder.specs.Entry.{best_entries, best_hull, parts_named}
+use Rattle.finder.specs.Fewest.{stretch_over}
+use Rattle.finder.specs.TickParts.{best_part, best_parts}
+use Rattle.finder.proofs.BestLemmas.{BestLaw}
+use Rattle.finder.proofs.ListLemmas.{range_more}
+use Rattle.finder.proofs.PartLemmas.{parts_said}
+
+-- one sample more was taken
+pub gathered_more : (samples : List Sample) (i : ℕ) (s : Sample) (tick : ℤ) (ppb : ℕ) (best : Gathering)
+    → slice_get samples i ≡ Some s → Gathered (take i samples ++ s ∷ []) tick tick ppb best
+    → Gathered (take (i + 1) samples) tick tick ppb best
+gathered_more samples i s tick ppb best is gathered =
+    let same : take i samples ++ s ∷ [] ≡ take (i + 1) samples =
+    ap (λ (x : Sample). take i samples ++ x ∷ []) (sym (get_or_from_slice_get samples i s s is))
+    ∙ sym (take_more samples i s (slice_get_within samples i s is)) in
+    subst (λ (ts : List Sample). Gathered ts tick tick ppb best) same gathered
+
+module _ (says : ℕ → Option Part) (server : ℕ) where
+  one_more : filter_map says (numbers_below (server + 1)) ≡
+      filter_map says (numbers_below server) ++ filter_map says (server ∷ [])
+  one_more = rw add-one (filter_map-append says (numbers_below server) (server ∷ []))
+
+  with_part : (part : Part) → says server ≡ Some part →
+      filter_map says (numbers_below server) ++ part ∷ [] ≡ filter_map says (numbers_below (server + 1))
+  with_part part is =
+      ap (λ (o : Option Part). filter_map says (numbers_below server) ++ cons_option o []) (sym is) ∙ sym one_more
+
+  without_part : says server ≡ None →
+      filter_map says (numbers_below server) ≡ filter_map says (numbers_below (server + 1))
+  without_part is =
+      sym (append-nil (filter_map says (numbers_below server)))
+      ∙ ap (λ (o : Option Part). filter_map says (numbers_below server) ++ cons_option o []) (sym is) ∙ sym one_more
+
+-- the parts of the servers whose number is below `server`, of a claim with this many servers
+pub record StandsFor (says : ℕ → Option Part) (servers server : ℕ) (parts : List Part) : Type 0 where
+  pub so_far : parts ≡ filter_map says (numbers_below server)
+  pub fits : length parts ≤ server
+  pub listed : All (λ part. part.server < servers) parts
+
+module _ (says : ℕ → Option Part) (servers server : ℕ) (within : server < servers) where
+  pub one_stands : (old new : List Part) (part : Part) → StandsFor says servers server old → says server ≡ Some part →
+      part.server ≡ server → new ≡ old ++ part ∷ [] → StandsFor says servers (server + 1) new
+  one_stands old new part stands is same pushed = record {
+    so_far = pushed ∙ ap (λ (ps : List Part). ps ++ part ∷ []) stands.so_far ∙ with_part says server part is;
+    fits = omega (arith, ap length pushed, length-append old (part ∷ []), stands.fits);
+    listed = subst (All (λ p. p.server < servers)) (sym pushed)
+        (All-push (λ (p : Part). p.server < servers) old part stands.listed (omega (arith, same, within)));
+  }
+
+  pub none_stands : (old new : List Part) → StandsFor says servers server old → says server ≡ None → new ≡ old →
+      StandsFor says servers (server + 1) new
+  none_stands old new stands is same = record {
+    so_far = same ∙ stands.so_far ∙ without_part says server is;
+    fits = omega (arith, ap length same, stands.fits);
+    listed = subst (All (λ p. p.server < servers)) (sym same) stands.listed;
+  }
+
+-- ---- the same by the best entries
+
+numbers_are : (n : ℕ) → numbers_below n ≡ servers_of n
+numbers_are zero = refl
+numbers_are (suc n) =
+    let one : numbers_below n ++ n ∷ [] ≡ range_with_len 0 (n + 1) =
+    ap (λ (ks : List ℕ). ks ++ n ∷ []) (numbers_are n) ∙ sym (range_more 0 n n (omega arith)) in
+    subst (λ (m : ℕ). numbers_below n ++ n ∷ [] ≡ range_with_len 0 m) (add-one n) one
+
+module _ (law : BestLaw) (samples : List Sample) (claim : ClaimData) (tick : ℤ) where
+  pub parts_of_entries : best_parts samples claim tick
+      ≡ parts_named samples claim (stretch_over tick tick) (best_entries samples claim (stretch_over tick tick))
+  parts_of_entries =
+      ap (filter_map (best_part samples claim.drift_ppb tick)) (numbers_are (length claim.servers))
+      ∙ parts_said law samples claim tick tick
+
+  pub hull_of_entries : piece_hull claim.groups claim.false_max (best_parts samples claim tick)
+      ≡ best_hull samples claim (stretch_over tick tick)
+  unfolding best_hull
+  hull_of_entries = ap (piece_hull claim.groups claim.false_max) parts_of_entries

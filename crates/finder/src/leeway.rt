@@ -1,0 +1,118 @@
+//! How great an error the exchanges of each group let be at a reading.
+
+ghost use Rattle.std.specs.Prelude.{◌≡◌, ◌^◌, ◌<◌, ◌≤◌, unsigned_abs, length, map, All, IfSome};
+ghost use Rattle.claim_file.specs.Claim.{IsLawful, data_of as claim_data};
+ghost use Rattle.marks.specs.Range.{IsWithinRange};
+ghost use Rattle.pairing.specs.Exchange.{IsLawful as IsLawfulExchange};
+ghost use Rattle.sample_interval.specs.Widening.{IsRate};
+
+use crate::side::Side;
+use claim_file::Claim;
+use courses::Groups;
+use marks::Mark;
+use pairing::ToExchange;
+use sample_interval::PARTS;
+
+/// What a group without an exchange lets the error be, in ticks.
+pub(crate) const NO_LIMIT: i128 = i128::MAX;
+
+/// How much the error can change while the clock advances, in whole ticks: by `rate` parts in
+/// `parts` of the distance.
+fn change(rate: u32, parts: u128, distance: u128) -> u128
+    requires rate { IsRate rate }
+    requires parts { 0 < parts }
+    requires distance { distance ≤ 2 ^ 75 }
+    ensures { result ≤ 2 ^ 105 }
+{
+    u128::from(rate) * distance / parts
+}
+
+/// The greatest whole error that a mark above it lets be at a reading, both in ticks.
+///
+/// From the reading to a mark behind it the error can fall, and from a mark before it rise.
+fn most_under(drift_ppb: u32, mark: Mark, reading: i128) -> i128
+    requires rate { IsRate drift_ppb }
+    requires mark { IsWithinRange mark }
+    requires reading { unsigned_abs reading ≤ 2 ^ 64 }
+{
+    let rate = u128::from(drift_ppb);
+    let parts = if reading <= mark.place {
+        PARTS - rate
+    } else {
+        PARTS + rate
+    };
+    let distance = (mark.place - reading).unsigned_abs();
+    mark.error + change(drift_ppb, parts, distance) as i128
+}
+
+/// The group of a server.
+pub(crate) fn group_of(claim: &Claim, server: u8) -> u8
+    requires claim { IsLawful (claim_data claim.now) }
+    requires listed { server < length claim.now.servers.items }
+    ensures { result < 32 }
+{
+    claim.groups[usize::from(server)]
+}
+
+/// No less than the greatest whole error, in ticks, that the exchanges of each group let be at a
+/// reading from `begin` to `end`, on this side of zero. If both are one reading, it is that error.
+/// It looks once at each exchange, and takes no memory.
+///
+/// What a mark lets be is least at its place, and so greatest at one end or the other.
+pub(crate) fn leeways_over<X: ToExchange>(
+    exchanges: &[X],
+    claim: &Claim,
+    side: Side,
+    begin: u64,
+    end: u64,
+) -> [i128; 32]
+    requires claim { IsLawful (claim_data claim.now) }
+    requires exchanges { All (IsLawfulExchange (length claim.now.servers.items))
+        (map X.shown exchanges.now) }
+{
+    let begin = side.turned(i128::from(begin));
+    let end = side.turned(i128::from(end));
+    let mut leeways = [NO_LIMIT; 32];
+    for held in exchanges {
+        let exchange = held.to_exchange();
+        let mark = side.mark_of(&exchange, claim.reading);
+        let mut most = most_under(claim.drift_ppb, mark, begin);
+        if begin != end {
+            most = most.max(most_under(claim.drift_ppb, mark, end));
+        }
+        let group = usize::from(group_of(claim, exchange.server));
+        leeways[group] = leeways[group].min(most);
+    }
+    leeways
+}
+
+/// The group that lets least be, of those that aren't in a set and have an exchange.
+pub(crate) fn tightest(leeways: &[i128; 32], left_out: Groups) -> Option<u8>
+    ensures { IfSome result (λ group. group < 32) }
+{
+    let mut least = NO_LIMIT;
+    let mut tightest = 0u8;
+    for group in 0..32u8 {
+        let most = leeways[usize::from(group)];
+        if !left_out.contains(group) && most < least {
+            least = most;
+            tightest = group;
+        }
+    }
+    if least < NO_LIMIT {
+        Some(tightest)
+    } else {
+        None
+    }
+}
+
+/// The groups of a cover, and as many more as the claim lets be false: those that let least be.
+pub(crate) fn false_groups(claim: &Claim, cover: Groups, leeways: &[i128; 32]) -> Groups {
+    let mut found = cover;
+    for _ in 0..claim.false_max.saturating_sub(cover.count(32)) {
+        if let Some(group) = tightest(leeways, found) {
+            found = found.with(group);
+        }
+    }
+    found
+}
