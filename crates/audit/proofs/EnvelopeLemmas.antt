@@ -24,6 +24,7 @@ use Rattle.finder.specs.Samples.{AreSamplesOf}
 use Rattle.report.specs.declared.fault.Outcome.{Outcome}
 use Rattle.audit.specs.Envelope.{IsEnvelopeOf, bound_outcome}
 use Rattle.audit.specs.Evidence.{EvidenceData, samples_in}
+use Rattle.audit.specs.Least.{IsCarriedByNone}
 
 -- ---- the pieces
 
@@ -46,6 +47,10 @@ module _ (samples : List Sample) (claim : ClaimData) (step : ℕ) where
   whole envelope e = whole_if (nat_lt max_pieces (count_of claim step)) refl envelope e
 
   -- an envelope that is held in memory has no more pieces than a certificate
+  pub count_is_few : (envelope : Envelope) → envelope_of samples claim step ≡ Ok (data_of envelope) →
+      count_of claim step ≤ max_pieces
+  count_is_few envelope e = (whole (data_of envelope) e).few
+
   pub few_pieces : (envelope : Envelope) → envelope_of samples claim step ≡ Ok (data_of envelope) →
       length envelope.pieces.items ≤ max_pieces
   few_pieces envelope e =
@@ -78,10 +83,11 @@ HullLaw = (claim : ClaimData) (samples : List Sample) (stretch : Stretch) → Is
     → All (λ sample. sample.server < length claim.servers) samples
     → HoldsError claim samples stretch (best_hull samples claim stretch)
 
-module _ (law : HullLaw) (step : ℕ) (e : EvidenceData) (lawful : IsLawful e.claim) where
+module _ (law : HullLaw) (step : ℕ) (least : Bool) (e : EvidenceData) (lawful : IsLawful e.claim)
+    (carried : least ≡ true → IsCarriedByNone e) where
   shown : AreSamplesOf e.claim (samples_in e) → (envelope : Envelope)
       → FindsEnvelope (samples_in e) e.claim step (Ok envelope)
-      → IsEnvelopeOf step (bound_outcome envelope.least) e
+      → IsEnvelopeOf step least (bound_outcome envelope.least) e
   shown are envelope finds =
       let samples = samples_in e in
       let is = whole samples e.claim step (data_of envelope) finds.exact in
@@ -96,14 +102,15 @@ module _ (law : HullLaw) (step : ℕ) (e : EvidenceData) (lawful : IsLawful e.cl
         holds_error = subst (λ (d : EnvelopeData). All Holds d.pieces) (sym is.same) (all_pieces Holds at held_at n);
         empty = subst (λ (d : EnvelopeData). All Void d.pieces) (sym is.same) (all_pieces Void at
             (λ k. contradicted e.claim samples (at k).stretch (at k).hull (held_at k)) n);
-        least = finds.least;
+        bound = finds.least;
+        carried_by_none = carried;
         outcome_is = refl;
       }
 
   -- what its outcome shows
   pub envelope_shows : AreSamplesOf e.claim (samples_in e) → (samples : List Sample) → samples ≡ samples_in e
       → (envelope : Envelope) (outcome : Outcome) → outcome ≡ bound_outcome envelope.least
-      → FindsEnvelope samples e.claim step (Ok envelope) → IsEnvelopeOf step outcome e
+      → FindsEnvelope samples e.claim step (Ok envelope) → IsEnvelopeOf step least outcome e
   envelope_shows are samples same envelope outcome is finds =
-      subst (λ (o : Outcome). IsEnvelopeOf step o e) (sym is)
+      subst (λ (o : Outcome). IsEnvelopeOf step least o e) (sym is)
       (shown are envelope (subst (λ (s : List Sample). FindsEnvelope s e.claim step (Ok envelope)) same finds))

@@ -1,10 +1,10 @@
 pub mod NanosecondLemmas
 pub mod SampleLemmas
 pub mod CaptureLemmas
-pub mod PartsLemmas
 pub mod CheckLemmas
 pub mod FindLemmas
 pub mod RefuteLemmas
+pub mod LeastLemmas
 pub mod EnvelopeLemmas
 pub mod SeekLemmas
 pub mod RunLemmas

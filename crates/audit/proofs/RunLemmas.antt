@@ -28,9 +28,10 @@ use Rattle.report.specs.Run.{RunState}
 use Rattle.report.specs.Runs.{HasClaim, HasLawfulHeader, IsBeforeCapture, IsBeforeSecond, IsUnwrittenAt}
 use Rattle.report.proofs.InputLemmas.{takes_within}
 use Rattle.audit.specs.declared.question.Task.{Task}
+use Rattle.line_writer.specs.declared.field.Style.{Style}
 use Rattle.audit.specs.CaptureInput.{IsOfCapture, capture_read}
 use Rattle.audit.specs.Question as questions
-use Rattle.audit.specs.Question.{HasSecond, QuestionData, TaskData, most_second, task_data}
+use Rattle.audit.specs.Question.{AskedData, HasSecond, QuestionData, TaskData, most_second, task_data}
 use Rattle.audit.specs.Report.{after_capture, after_claim, after_second, report_of_bytes, run_report}
 use Rattle.audit.specs.Run.{RunsFor}
 
@@ -96,6 +97,16 @@ claim_taken (Ok claim) made before after is h = takes_within inputs.Claim max_cl
 claim_taken (Err fault) made before after is h =
     subst (λ (m : Result Made RunFault). TakesAtMost (most_read inputs.Claim max_claim m) before after) (sym is) h
 
+-- what is taken of a second input that was read is within its limit at any later answer
+pub second_taken : (question : QuestionData) (read : Task) (answer : Result Made RunFault)
+    (before after : Option (List ℕ)) → TakesAtMost (most_second question (Ok read)) before after →
+    TakesAtMost (most_second question answer) before after
+second_taken questions.check read answer before after h =
+    takes_within inputs.Certificate max_certificate answer before after h
+second_taken (questions.refute drift) read answer before after h =
+    takes_within inputs.Refutation max_refutation answer before after h
+second_taken question read answer before after h = h
+
 -- the answer says about an input's length what was known once the text was made
 same_most : (which : Input) (limit : ℕ) (made : Result Made RunFault) (answer : Result Outcome RunFault) →
     IsAnswerFor made answer → most_read which limit made ≡ most_read which limit answer
@@ -140,9 +151,9 @@ published_text None made h p = tt
 published_text (Some r) made h p = p.text r h
 
 -- what is known of a run once its text is made
-pub record HasMade {T F : Type 0} (question : QuestionData) (before after : RunState)
+pub record HasMade {T F : Type 0} (asked : AskedData) (before after : RunState)
     (second second' : T) (capture capture' : F) (made : Result Made RunFault) : Type 0 where
-  pub is_made : IfSome (run_report question before) (λ r. IsMadeFor r made)
+  pub is_made : IfSome (run_report asked before) (λ r. IsMadeFor r made)
   pub unwritten : IsUnwritten made
   pub claim_faults : CountsFault (is_device is_claim made) before.claim.faults after.claim.faults
   pub second_faults : CountsFault (is_device is_second made) before.second.faults after.second.faults
@@ -150,20 +161,20 @@ pub record HasMade {T F : Type 0} (question : QuestionData) (before after : RunS
   pub second_untouched : IfErr made (λ fault. IsBeforeSecond fault → second' ≡ second)
   pub capture_untouched : IfErr made (λ fault. IsBeforeCapture fault → capture' ≡ capture)
   pub claim_at_most : TakesAtMost (most_read inputs.Claim max_claim made) before.claim.remaining after.claim.remaining
-  pub second_at_most : TakesAtMost (most_second question made) before.second.remaining after.second.remaining
+  pub second_at_most : TakesAtMost (most_second asked.question made) before.second.remaining after.second.remaining
   pub capture_at_most : TakesAtMost most_taken before.capture.remaining after.capture.remaining
   pub claim_memory : made ≡ Err faults.Memory →
       ((second' ≡ second) × (capture' ≡ capture)) ⊎ HasClaim before.claim.remaining
-  pub second_memory : made ≡ Err faults.Memory → (capture' ≡ capture) ⊎ HasSecond question before.second.remaining
+  pub second_memory : made ≡ Err faults.Memory → (capture' ≡ capture) ⊎ HasSecond asked.question before.second.remaining
   pub capture_memory : made ≡ Err faults.Memory → (capture' ≡ capture) ⊎ HasLawfulHeader before.capture.remaining
 
-module _ {T F : Type 0} (question : QuestionData) (before after : RunState)
+module _ {T F : Type 0} (asked : AskedData) (before after : RunState)
     (second second' : T) (capture capture' : F) (made : Result Made RunFault)
     (answer : Result Outcome RunFault) where
-  pub run_reports : HasMade question before after second second' capture capture' made →
-      Publishes before.sink after.sink made answer → Reports (run_report question before) before after answer
+  pub run_reports : HasMade asked before after second second' capture capture' made →
+      Publishes before.sink after.sink made answer → Reports (run_report asked before) before after answer
   run_reports h p = record {
-    text = published_text (run_report question before) made h.is_made p;
+    text = published_text (run_report asked before) made h.is_made p;
     closed = p.closed;
     sink = p.sink;
     claim = rw (p.device is_claim) h.claim_faults;
@@ -172,9 +183,9 @@ module _ {T F : Type 0} (question : QuestionData) (before after : RunState)
   }
 
   -- what was made is published, and the promise is kept
-  pub made_runs : HasMade question before after second second' capture capture' made →
+  pub made_runs : HasMade asked before after second second' capture capture' made →
       Publishes before.sink after.sink made answer →
-      RunsFor question before after second second' capture capture' answer
+      RunsFor asked before after second second' capture capture' answer
   made_runs h p = record {
     reports = run_reports h p;
     unwritten = of_fault (λ fault. IsUnwrittenAt fault before.sink.contents after.sink.contents)
@@ -186,7 +197,7 @@ module _ {T F : Type 0} (question : QuestionData) (before after : RunState)
     claim_at_most = subst (λ (n : ℕ). TakesAtMost n before.claim.remaining after.claim.remaining)
         (same_most inputs.Claim max_claim made answer p.stays) h.claim_at_most;
     second_at_most = subst (λ (n : ℕ). TakesAtMost n before.second.remaining after.second.remaining)
-        (same_most_second question made answer p.stays) h.second_at_most;
+        (same_most_second asked.question made answer p.stays) h.second_at_most;
     capture_at_most = h.capture_at_most;
     claim_memory = λ is. h.claim_memory (was_memory made answer p.stays is);
     second_memory = λ is. h.second_memory (was_memory made answer p.stays is);
@@ -204,19 +215,19 @@ not_written : (fault : RunFault) → IsOfCapture fault → IsUnwritten (Err faul
 not_written (faults.Write sent) h = absurd h
 not_written fault h = tt
 
-module _ (claim : ClaimData) (fault : RunFault) (of : IsOfCapture fault) where
+module _ (style : Style) (claim : ClaimData) (fault : RunFault) (of : IsOfCapture fault) where
   refused_after : (task : TaskData) (read : Result Collection RunFault) → Reads held_data read (Err fault) →
-      IsMadeFor (after_capture task claim read) (Err fault)
-  refused_after task read (inl outside) = made_outside (after_capture task claim read) fault outside
+      IsMadeFor (after_capture style task claim read) (Err fault)
+  refused_after task read (inl outside) = made_outside (after_capture style task claim read) fault outside
   refused_after task read (inr is) =
-      subst (λ (r : Result Collection RunFault). IsMadeFor (after_capture task claim r) (Err fault)) (sym is)
+      subst (λ (r : Result Collection RunFault). IsMadeFor (after_capture style task claim r) (Err fault)) (sym is)
       (refusal_for fault (not_written fault of))
 
   -- its refusal is what the bytes of the inputs call for
   pub capture_refusal : (task : Task) (second : Option (Result TaskData RunFault)) (capture : Option (List ℕ)) →
       IfSome second (λ expected. Reads task_data expected (Ok task)) →
       IfSome capture (λ bytes. Reads held_data (capture_read claim bytes) (Err fault)) →
-      IfSome (after_second claim second capture) (λ report. IsMadeFor report (Err fault))
+      IfSome (after_second style claim second capture) (λ report. IsMadeFor report (Err fault))
   capture_refusal task None capture read refused = tt
   capture_refusal task (Some (Err other)) capture read refused = absurd cc
   capture_refusal task (Some (Ok known)) None read refused = tt
@@ -226,10 +237,10 @@ module _ (claim : ClaimData) (fault : RunFault) (of : IsOfCapture fault) where
 -- ---- from the claim's bytes
 
 -- what was made of a claim that was read, or refused, is what its bytes call for
-pub made_of_bytes : (question : QuestionData) (claim second capture : Option (List ℕ)) (read : Result Claim RunFault)
+pub made_of_bytes : (asked : AskedData) (claim second capture : Option (List ℕ)) (read : Result Claim RunFault)
     (made : Result Made RunFault) → IfSome claim (λ bytes. Reads claim_data (claim_read bytes) read) →
     ((expected : Result ClaimData RunFault) → Reads claim_data expected read →
-    IfSome (after_claim question expected second capture) (λ report. IsMadeFor report made)) →
-    IfSome (report_of_bytes question claim second capture) (λ report. IsMadeFor report made)
-made_of_bytes question None second capture read made reads is = tt
-made_of_bytes question (Some bytes) second capture read made reads is = is (claim_read bytes) reads
+    IfSome (after_claim asked expected second capture) (λ report. IsMadeFor report made)) →
+    IfSome (report_of_bytes asked claim second capture) (λ report. IsMadeFor report made)
+made_of_bytes asked None second capture read made reads is = tt
+made_of_bytes asked (Some bytes) second capture read made reads is = is (claim_read bytes) reads

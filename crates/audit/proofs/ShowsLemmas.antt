@@ -216,8 +216,8 @@ module _ (laws : BytesLaws) (claim second capture : FeedState) (c : ClaimData) (
   from_bytes (refute drift) outcomes.No after =
       refuted c drift (IsFallen drift) outcomes.No (λ r e shows. shows)
       claim.remaining second.remaining capture.remaining is after
-  from_bytes (envelope step servers) outcome after =
-      alone (IsEnvelopeOf step outcome) (envelope step servers) outcome after
+  from_bytes (envelope step servers least) outcome after =
+      alone (IsEnvelopeOf step least outcome) (envelope step servers least) outcome after
       (of_task _ outcome after.task _ after.is_task after.shows)
   from_bytes seek outcomes.Yes after = record {
     found = alone IsSoughtOf seek outcomes.Yes after (of_task _ outcomes.Yes after.task _ after.is_task after.shows);

@@ -1,6 +1,6 @@
 -- The report of `at`: what each server says about the clock's error at one moment, and the hull
 -- over the groups, which holds the error.
-use Rattle.std.specs.Prelude.{ℕ, List}
+use Rattle.std.specs.Prelude.{ℕ, ◌*◌, ◌^◌, ℤ, pos, List}
 use Rattle.byte_stream.specs.State.{FeedState}
 use Rattle.claim_file.specs.Claim.{ClaimData}
 use Rattle.span_cover.specs.Group.{piece_hull}
@@ -8,24 +8,30 @@ use Rattle.checker.specs.Traceability.{HoldsError}
 use Rattle.span_cover.specs.declared.part.Part.{Part}
 use Rattle.span_cover.specs.declared.stretch.Stretch.{Stretch}
 use Rattle.intersection.specs.declared.kinds.Hull.{Hull}
+use Rattle.finder.specs.TickParts.{best_parts}
 use Rattle.report.specs.declared.fault.Outcome.TheVariants.{Yes}
 use Rattle.report.specs.Reports.{Report, whole_text}
-use Rattle.line_writer.specs.declared.field.Style.TheVariants.{Plain}
+use Rattle.line_writer.specs.declared.field.Style.{Style}
 use Rattle.audit_text.specs.Parts.{parts_text}
 use Rattle.audit.specs.Evidence.{EvidenceData, IsEvidenceOf, OfClaimAndCapture, samples_in}
-use Rattle.audit.specs.Parts.{parts_at, tick_of}
+
+-- the tick of 2^-32 s at which a Unix second begins
+abbrev pub tick_of : ℕ → ℤ
+tick_of second = pos (second * 2 ^ 32)
 
 -- the text for what these servers say, with the hull over the groups
-abbrev pub hull_text : ClaimData → List Part → List ℕ
-hull_text claim parts = parts_text Plain claim parts (piece_hull claim.groups claim.false_max parts)
+abbrev pub hull_text : Style → ClaimData → List Part → List ℕ
+hull_text style claim parts =
+    parts_text style claim parts (piece_hull claim.groups claim.false_max parts)
 
 -- the whole text for a Unix second
-abbrev pub at_text : ℕ → EvidenceData → List ℕ
-at_text second e = hull_text e.claim (parts_at e.claim (samples_in e) (tick_of second))
+abbrev pub at_text : Style → ℕ → EvidenceData → List ℕ
+at_text style second e =
+    hull_text style e.claim (best_parts (samples_in e) e.claim (tick_of second))
 
 -- the report of `at` on a claim and the exchanges of a capture
-abbrev pub at_report : ℕ → EvidenceData → Report
-at_report second e = whole_text (at_text second e) Yes
+abbrev pub at_report : Style → ℕ → EvidenceData → Report
+at_report style second e = whole_text (at_text style second e) Yes
 
 -- a Unix second's first tick, as a stretch of readings
 abbrev pub stretch_at : ℕ → Stretch
@@ -34,7 +40,7 @@ stretch_at second = record { begin = tick_of second; end = tick_of second }
 -- the hull that is shown
 abbrev pub hull_at : ℕ → EvidenceData → Hull
 hull_at second e =
-    piece_hull e.claim.groups e.claim.false_max (parts_at e.claim (samples_in e) (tick_of second))
+    piece_hull e.claim.groups e.claim.false_max (best_parts (samples_in e) e.claim (tick_of second))
 
 -- In every course of events that fits the exchanges, the error lies in that hull at every moment
 -- at which the clock reads the second's first tick. An unbounded hull says nothing, and an empty

@@ -3,8 +3,9 @@ use Rattle.std.specs.Prelude.{◌≡◌, ℕ, List, length, Some, Ok, slice_get,
 use Rattle.byte_stream.specs.Bytes.{IsBytes}
 use Rattle.byte_stream.specs.State.{FeedState}
 use Rattle.certificate.specs.Certificate.{PieceData, CertificateData}
-use Rattle.claim_file.specs.Claim.{ClaimData}
+use Rattle.claim_file.specs.Claim.{ClaimData, group_count}
 use Rattle.pairing.specs.Pairing.{Collection}
+use Rattle.pairing.specs.Sources.{common_reference, source_count}
 use Rattle.checker.specs.Course.{Course, Fits}
 use Rattle.checker.specs.PieceFit.{FitsPiece}
 use Rattle.checker.specs.Stretch.{stretch_of, stretches_of}
@@ -21,7 +22,8 @@ use Rattle.report.specs.ClaimInput.{claim_read}
 use Rattle.report.specs.declared.fault.Outcome.{Outcome}
 use Rattle.report.specs.declared.fault.Outcome.TheVariants as outcomes
 use Rattle.report.specs.Reports.{Report, whole_text}
-use Rattle.line_writer.specs.declared.field.Style.TheVariants.{Plain}
+use Rattle.line_writer.specs.declared.field.Style.{Style}
+use Rattle.audit_text.specs.declared.check_report.Findings.{Findings}
 use Rattle.audit_text.specs.CheckReport.{check_text}
 use Rattle.audit.specs.CaptureInput.{capture_read}
 use Rattle.audit.specs.Evidence.{EvidenceData, IsEvidenceOf, OfClaimAndCapture, samples_in}
@@ -36,11 +38,21 @@ outcome_of (verdicts.No piece why) = outcomes.No
 abbrev pub verdict_on : CertificateData → EvidenceData → Verdict
 verdict_on certificate e = verdict_of (samples_in e) e.claim certificate
 
+-- what is calculated for the report beside the counts: how many groups and how many servers with
+-- an exchange there are, the one reference identifier, how many pieces, and the verdict
+abbrev pub findings_on : CertificateData → EvidenceData → Findings
+findings_on certificate e = record {
+  groups = group_count e.claim.groups;
+  sources = source_count e.collection.exchanges (length e.claim.servers);
+  reference = common_reference e.collection.exchanges;
+  pieces = length certificate.pieces;
+  verdict = verdict_on certificate e;
+}
+
 -- the report of `check` on a certificate, a claim and the exchanges of a capture
-abbrev pub check_report : CertificateData → EvidenceData → Report
-check_report certificate e =
-    whole_text
-    (check_text Plain e.claim e.collection (length certificate.pieces) (verdict_on certificate e))
+abbrev pub check_report : Style → CertificateData → EvidenceData → Report
+check_report style certificate e =
+    whole_text (check_text style e.claim e.collection (findings_on certificate e))
     (outcome_of (verdict_on certificate e))
 
 -- The verdict is yes. So the error is within the bound in every course of events that fits the

@@ -18,16 +18,16 @@ use Rattle.report.specs.declared.fault.Outcome.TheVariants as outcomes
 use Rattle.report.specs.declared.fault.RunFault.{RunFault}
 use Rattle.report.specs.declared.fault.RunFault.TheVariants.{Pieces, Memory}
 use Rattle.report.specs.Reports.{Report, refused, whole_text}
-use Rattle.line_writer.specs.declared.field.Style.TheVariants.{Plain}
+use Rattle.line_writer.specs.declared.field.Style.{Style}
 use Rattle.audit_text.specs.Nothing.{nothing_text}
 use Rattle.audit.specs.Check.{verdict_on}
 use Rattle.audit.specs.Evidence.{EvidenceData, GiveEvidence, OfClaimAndCapture, samples_in}
 
--- what is found, in words: the certificate's compact text and a line feed, or the number of the
--- piece that fails and its hull
-unfoldable pub found_text : FoundData → List ℕ
-found_text (certificate c) = certificate_text c ++ codes "\n"
-found_text (nothing piece hull) = nothing_text Plain piece hull
+-- what is found, in words: the certificate's compact text and a line feed, in any style, or the
+-- number of the piece that fails and its hull
+unfoldable pub found_text : Style → FoundData → List ℕ
+found_text style (certificate c) = certificate_text c ++ codes "\n"
+found_text style (nothing piece hull) = nothing_text style piece hull
 
 -- the outcome: yes if there is a certificate
 abbrev pub found_outcome : FoundData → Outcome
@@ -40,17 +40,17 @@ find_run_fault_of finds.TooManyPieces = Pieces
 find_run_fault_of finds.Memory = Memory
 
 -- the report on what is found
-abbrev pub found_report : Result FoundData FindFault → Report
-found_report (Ok found) = whole_text (found_text found) (found_outcome found)
-found_report (Err fault) = refused (find_run_fault_of fault)
+abbrev pub found_report : Style → Result FoundData FindFault → Report
+found_report style (Ok found) = whole_text (found_text style found) (found_outcome found)
+found_report style (Err fault) = refused (find_run_fault_of fault)
 
 -- what is found in the samples of a capture, for pieces of this many seconds
 abbrev pub found_in : ℕ → EvidenceData → Result FoundData FindFault
 found_in step e = found_of (samples_in e) e.claim step
 
 -- the report of `find` on a claim and the exchanges of a capture
-abbrev pub find_report : ℕ → EvidenceData → Report
-find_report step e = found_report (found_in step e)
+abbrev pub find_report : Style → ℕ → EvidenceData → Report
+find_report style step e = found_report style (found_in step e)
 
 -- a certificate is found of this evidence, and it is accepted
 pub record IsFoundOf (step : ℕ) (e : EvidenceData) : Type 0 where

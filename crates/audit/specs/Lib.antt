@@ -1,10 +1,10 @@
 pub mod CaptureInput
 pub mod Evidence
 pub mod Samples
-pub mod Parts
 pub mod At
 pub mod Check
 pub mod Find
+pub mod Least
 pub mod Envelope
 pub mod Refute
 pub mod Seek

@@ -14,6 +14,8 @@ use Rattle.report.specs.declared.fault.Outcome.{Outcome}
 use Rattle.report.specs.declared.fault.Outcome.TheVariants.{Yes, No}
 use Rattle.report.specs.declared.fault.RunFault.{RunFault}
 use Rattle.report.specs.declared.fault.RunFault.TheVariants.{Certificate, Refutation, TooBig, Device, Memory}
+use Rattle.line_writer.specs.declared.field.Style.{Style}
+use Rattle.line_writer.specs.declared.field.Style.TheVariants.{Plain}
 use Rattle.audit.specs.At.{IsHeld, IsHeldAt, at_report}
 use Rattle.audit.specs.Check.{HasVerdictNo, HasVerdictYes, IsNotTraced, IsTraced, check_report}
 use Rattle.audit.specs.Envelope.{IsEnveloped, IsEnvelopeOf, envelope_report}
@@ -22,21 +24,28 @@ use Rattle.audit.specs.Find.{IsAccepted, IsFoundOf, IsNotFound, IsNothingOf, fin
 use Rattle.audit.specs.Refute.{IsContested, IsFallen, IsStanding, IsUncontested, refute_report}
 use Rattle.audit.specs.Samples.{samples_report}
 use Rattle.audit.specs.Seek.{IsIrrefutable, IsRefutable, IsSoughtInVain, IsSoughtOf, seek_report}
+use Rattle.audit.specs.declared.question.Asked.{Asked}
 use Rattle.audit.specs.declared.question.Question.{Question}
 use Rattle.audit.specs.declared.question.Question.TheVariants as questions
 use Rattle.audit.specs.declared.question.Task.{Task}
 use Rattle.audit.specs.declared.question.Task.TheVariants as tasks
 
 -- a question, as numbers: a time in Unix seconds, the length of a piece in seconds; whether the
--- error of a refutation may drift; and whether it is shown what each server says
+-- error of a refutation may drift; and of an envelope whether it is shown what each server says,
+-- and what any certificate needs
 pub data QuestionData : Type 0 where
   samples : QuestionData
   at : ℕ → QuestionData
   find : ℕ → QuestionData
   check : QuestionData
   refute : Bool → QuestionData
-  envelope : ℕ → Bool → QuestionData
+  envelope : ℕ → Bool → Bool → QuestionData
   seek : QuestionData
+
+-- a question, and for whom the answer is written
+pub record AskedData : Type 0 where
+  pub question : QuestionData
+  pub style : Style
 
 -- a question with what its second input says
 pub data TaskData : Type 0 where
@@ -45,7 +54,7 @@ pub data TaskData : Type 0 where
   find_with : ℕ → TaskData
   check_of : CertificateData → TaskData
   refute_by : Bool → RefutationData → TaskData
-  show_envelope : ℕ → Bool → TaskData
+  show_envelope : ℕ → Bool → Bool → TaskData
   seek_refutation : TaskData
 
 -- ---- what values of the program say
@@ -56,8 +65,11 @@ data_of (questions.At second) = at second
 data_of (questions.Find step) = find step.seconds
 data_of questions.Check = check
 data_of (questions.Refute drift) = refute drift
-data_of (questions.Envelope step servers) = envelope step.seconds servers
+data_of (questions.Envelope step servers least) = envelope step.seconds servers least
 data_of questions.Seek = seek
+
+abbrev pub asked_of : Asked → AskedData
+asked_of asked = record { question = data_of asked.question; style = asked.style }
 
 abbrev pub task_data : Task → TaskData
 task_data tasks.Samples = show_samples
@@ -65,8 +77,12 @@ task_data (tasks.At second) = show_at second
 task_data (tasks.Find step) = find_with step.seconds
 task_data (tasks.Check certificate) = check_of (certificate_data certificate)
 task_data (tasks.Refute drift refutation) = refute_by drift (refutation_data refutation)
-task_data (tasks.Envelope step servers) = show_envelope step.seconds servers
+task_data (tasks.Envelope step servers least) = show_envelope step.seconds servers least
 task_data tasks.Seek = seek_refutation
+
+-- a question whose answer is for a program
+abbrev pub plainly : QuestionData → AskedData
+plainly question = record { question = question; style = Plain }
 
 -- its certificate keeps its limits
 abbrev pub IsLawfulTask : Task → Type 0
@@ -94,7 +110,7 @@ task_read (find step) second = Some (Ok (find_with step))
 task_read check second = option_map (λ bytes. check_read (certificate_read bytes)) second
 task_read (refute drift) second =
     option_map (λ bytes. refute_read drift (refutation_read bytes)) second
-task_read (envelope step servers) second = Some (Ok (show_envelope step servers))
+task_read (envelope step servers least) second = Some (Ok (show_envelope step servers least))
 task_read seek second = Some (Ok seek_refutation)
 
 -- this is what a question became
@@ -105,7 +121,7 @@ IsTaskOf (find step) task = task ≡ find_with step
 IsTaskOf check task = (certificate : CertificateData) × (task ≡ check_of certificate)
 IsTaskOf (refute drift) task =
     (refutation : RefutationData) × (task ≡ refute_by drift refutation)
-IsTaskOf (envelope step servers) task = task ≡ show_envelope step servers
+IsTaskOf (envelope step servers least) task = task ≡ show_envelope step servers least
 IsTaskOf seek task = task ≡ seek_refutation
 
 -- The bytes of the second input, if they are known, say what the question asks for.
@@ -138,15 +154,16 @@ AsksNoSecond _ = Unit {0}
 
 -- ---- the report, and what its outcome shows
 
--- the report of each task on a claim and the exchanges of a capture
-abbrev pub report_on : TaskData → EvidenceData → Report
-report_on show_samples e = samples_report e
-report_on (show_at second) e = at_report second e
-report_on (find_with step) e = find_report step e
-report_on (check_of certificate) e = check_report certificate e
-report_on (refute_by drift refutation) e = refute_report drift refutation e
-report_on (show_envelope step servers) e = envelope_report step servers e
-report_on seek_refutation e = seek_report e
+-- the report of each task on a claim and the exchanges of a capture, in this style: a certificate,
+-- a refutation and the line of a refutation are for programs in any
+abbrev pub report_on : Style → TaskData → EvidenceData → Report
+report_on style show_samples e = samples_report style e
+report_on style (show_at second) e = at_report style second e
+report_on style (find_with step) e = find_report style step e
+report_on style (check_of certificate) e = check_report style certificate e
+report_on style (refute_by drift refutation) e = refute_report drift refutation e
+report_on style (show_envelope step servers least) e = envelope_report style step servers least e
+report_on style seek_refutation e = seek_report e
 
 -- what its outcome shows of them
 abbrev pub ShowsOf : TaskData → EvidenceData → Outcome → Type 0
@@ -157,7 +174,7 @@ ShowsOf (check_of certificate) e Yes = HasVerdictYes certificate e
 ShowsOf (check_of certificate) e No = HasVerdictNo certificate e
 ShowsOf (refute_by drift refutation) e Yes = IsStanding drift refutation e
 ShowsOf (refute_by drift refutation) e No = IsFallen drift refutation e
-ShowsOf (show_envelope step servers) e outcome = IsEnvelopeOf step outcome e
+ShowsOf (show_envelope step servers least) e outcome = IsEnvelopeOf step least outcome e
 ShowsOf seek_refutation e Yes = IsSoughtOf e
 ShowsOf seek_refutation e No = IsSoughtInVain e
 ShowsOf _ e outcome = Unit {0}
@@ -171,8 +188,8 @@ Shows check claim second capture Yes = IsTraced claim second capture
 Shows check claim second capture No = IsNotTraced claim second capture
 Shows (refute drift) claim second capture Yes = IsContested drift claim second capture
 Shows (refute drift) claim second capture No = IsUncontested drift claim second capture
-Shows (envelope step servers) claim second capture outcome =
-    IsEnveloped step outcome claim capture
+Shows (envelope step servers least) claim second capture outcome =
+    IsEnveloped step least outcome claim capture
 Shows seek claim second capture Yes = IsRefutable claim capture
 Shows seek claim second capture No = IsIrrefutable claim capture
 Shows _ claim second capture outcome = Unit {0}

@@ -9,42 +9,43 @@ use Rattle.report.specs.declared.fault.RunFault.{RunFault}
 use Rattle.report.specs.declared.fault.RunFault.TheVariants.{Pieces, Memory}
 use Rattle.report.specs.Reports.{Report, refused}
 use Rattle.report.specs.Run.{RunState}
+use Rattle.line_writer.specs.declared.field.Style.{Style}
 use Rattle.audit.specs.CaptureInput.{capture_read}
 use Rattle.audit.specs.Evidence.{evidence_of}
-use Rattle.audit.specs.Question.{QuestionData, TaskData, IsTaskOf, ShowsOf, report_on, task_read}
+use Rattle.audit.specs.Question.{AskedData, QuestionData, TaskData, IsTaskOf, ShowsOf, report_on, task_read}
 
 -- what a capture gives that is held against a claim
-abbrev pub after_capture : TaskData → ClaimData → Result Collection RunFault → Report
-after_capture task claim (Ok collection) = report_on task (evidence_of claim collection)
-after_capture task claim (Err fault) = refused fault
+abbrev pub after_capture : Style → TaskData → ClaimData → Result Collection RunFault → Report
+after_capture style task claim (Ok collection) = report_on style task (evidence_of claim collection)
+after_capture style task claim (Err fault) = refused fault
 
 -- a refusal of the second input needs no capture
-abbrev pub after_second :
+abbrev pub after_second : Style →
     ClaimData → Option (Result TaskData RunFault) → Option (List ℕ) → Option Report
-after_second claim None capture = None
-after_second claim (Some (Err fault)) capture = Some (refused fault)
-after_second claim (Some (Ok task)) None = None
-after_second claim (Some (Ok task)) (Some capture) =
-    Some (after_capture task claim (capture_read claim capture))
+after_second style claim None capture = None
+after_second style claim (Some (Err fault)) capture = Some (refused fault)
+after_second style claim (Some (Ok task)) None = None
+after_second style claim (Some (Ok task)) (Some capture) =
+    Some (after_capture style task claim (capture_read claim capture))
 
 -- a refusal of the claim needs neither of the others
-abbrev pub after_claim : QuestionData →
+abbrev pub after_claim : AskedData →
     Result ClaimData RunFault → Option (List ℕ) → Option (List ℕ) → Option Report
-after_claim question (Err fault) second capture = Some (refused fault)
-after_claim question (Ok claim) second capture =
-    after_second claim (task_read question second) capture
+after_claim asked (Err fault) second capture = Some (refused fault)
+after_claim asked (Ok claim) second capture =
+    after_second asked.style claim (task_read asked.question second) capture
 
 -- the report on the bytes of the inputs, as far as they are known
-abbrev pub report_of_bytes : QuestionData →
+abbrev pub report_of_bytes : AskedData →
     Option (List ℕ) → Option (List ℕ) → Option (List ℕ) → Option Report
-report_of_bytes question None second capture = None
-report_of_bytes question (Some claim) second capture =
-    after_claim question (claim_read claim) second capture
+report_of_bytes asked None second capture = None
+report_of_bytes asked (Some claim) second capture =
+    after_claim asked (claim_read claim) second capture
 
 -- the report of a run that begins so
-abbrev pub run_report : QuestionData → RunState → Option Report
-run_report question before =
-    report_of_bytes question before.claim.remaining before.second.remaining
+abbrev pub run_report : AskedData → RunState → Option Report
+run_report asked before =
+    report_of_bytes asked before.claim.remaining before.second.remaining
     before.capture.remaining
 
 -- why nothing can be made of evidence

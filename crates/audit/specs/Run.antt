@@ -7,7 +7,7 @@ use Rattle.report.specs.declared.fault.RunFault.{RunFault}
 use Rattle.report.specs.Run.{RunState}
 use Rattle.report.specs.Runs.{Runs}
 use Rattle.report.specs.Telling.{IsTold}
-use Rattle.audit.specs.Question.{HasSecond, QuestionData, Shows, most_second}
+use Rattle.audit.specs.Question.{AskedData, HasSecond, QuestionData, Shows, most_second, plainly}
 use Rattle.audit.specs.Report.{run_report}
 
 -- A run may begin: each input may be pulled from, and its sink may be written to.
@@ -19,24 +19,24 @@ pub record MayRun (before : RunState) : Type 0 where
 
 -- What a run promises that a question is asked of: the text and the answer are those that the
 -- bytes of its inputs call for.
-abbrev pub RunsFor : {T F : Type 0} → QuestionData → RunState → RunState → T → T → F → F →
+abbrev pub RunsFor : {T F : Type 0} → AskedData → RunState → RunState → T → T → F → F →
     Result Outcome RunFault → Type 0
-RunsFor question before after second second' capture capture' answer =
-    Runs (run_report question before) (most_second question answer) (HasSecond question)
+RunsFor asked before after second second' capture capture' answer =
+    Runs (run_report asked before) (most_second asked.question answer) (HasSecond asked.question)
     before after second second' capture capture' answer
 
--- the same of a question without a second input
+-- the same of a question without a second input, whose answer is for a program
 abbrev pub RunsAlone : {F : Type 0} → QuestionData → RunState → RunState → F → F →
     Result Outcome RunFault → Type 0
 RunsAlone question before after capture capture' answer =
-    RunsFor {T = Unit {0}} question before after (tt {0}) (tt {0}) capture capture' answer
+    RunsFor {T = Unit {0}} (plainly question) before after (tt {0}) (tt {0}) capture capture' answer
 
 -- What a caller of a whole command sees: all that a run promises, and its answer, reported by a
 -- line and a status.
-abbrev pub AnswersFor : {T F : Type 0} → QuestionData → RunState → RunState → T → T → F → F →
+abbrev pub AnswersFor : {T F : Type 0} → AskedData → RunState → RunState → T → T → F → F →
     SinkState → SinkState → ℕ → Type 0
-AnswersFor question before after second second' capture capture' err err' status =
-    IsTold (RunsFor question before after second second' capture capture') err err' status
+AnswersFor asked before after second second' capture capture' err err' status =
+    IsTold (RunsFor asked before after second second' capture capture') err err' status
 
 -- what the exit status of a run shows, by the outcome that it reports
 abbrev pub ShowsAt : ℕ → QuestionData → FeedState → FeedState → FeedState → Type 0

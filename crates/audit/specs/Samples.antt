@@ -1,10 +1,10 @@
 -- The report of `samples`: a line for each sample of the capture, and the counts.
 use Rattle.report.specs.declared.fault.Outcome.TheVariants.{Yes}
 use Rattle.report.specs.Reports.{Report, whole_text}
-use Rattle.line_writer.specs.declared.field.Style.TheVariants.{Plain}
+use Rattle.line_writer.specs.declared.field.Style.{Style}
 use Rattle.audit_text.specs.Samples.{samples_text}
 use Rattle.audit.specs.Evidence.{EvidenceData}
 
 -- the report of `samples` on a claim and the exchanges of a capture
-abbrev pub samples_report : EvidenceData → Report
-samples_report e = whole_text (samples_text Plain e.claim e.collection) Yes
+abbrev pub samples_report : Style → EvidenceData → Report
+samples_report style e = whole_text (samples_text style e.claim e.collection) Yes

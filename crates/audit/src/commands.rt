@@ -1,4 +1,4 @@
-//! The engine of each command: one question, asked with std's hasher of a fixed key.
+//! The engine of each command: one question, asked for a program, with std's hasher of a fixed key.
 
 ghost use Rattle.std.specs.Prelude.{◌≡◌, ◌≤◌, Ok, IfOk, true, false};
 ghost use Rattle.finder.specs.Piece.{IsStep};
@@ -7,15 +7,16 @@ ghost use Rattle.audit.specs.At.{IsHeld};
 ghost use Rattle.audit.specs.Check.{IsNotTraced, IsTraced};
 ghost use Rattle.audit.specs.Envelope.{IsEnveloped};
 ghost use Rattle.audit.specs.Find.{IsAccepted, IsNotFound};
-ghost use Rattle.audit.specs.Question.{samples, at, find, check, refute, envelope, seek};
+ghost use Rattle.audit.specs.Question.{samples, at, find, check, refute, envelope, seek, plainly};
 ghost use Rattle.audit.specs.Refute.{IsContested, IsUncontested};
 ghost use Rattle.audit.specs.Run.{MayRun, RunsAlone, RunsFor};
 ghost use Rattle.audit.specs.Seek.{IsIrrefutable, IsRefutable};
 
 use crate::engine::run;
-use crate::question::Question;
+use crate::question::{Asked, Question};
 use crate::step::Step;
 use byte_stream::{Feed, ReadFeed, Sink};
+use line_writer::Style;
 use report::{Outcome, RunFault};
 use std::alloc::Global;
 use std::hash::{BuildHasherDefault, FoldHasher};
@@ -37,8 +38,11 @@ pub fn run_samples<C: Feed, F: Feed, S: Sink>(
 {
     let hasher = BuildHasherDefault::<FoldHasher>::new();
     let mut none = ReadFeed::new(io::empty());
-    let question = Question::Samples;
-    run(alloc, question, claim, &mut none, capture, out, hasher)
+    let asked = Asked {
+        question: Question::Samples,
+        style: Style::Plain,
+    };
+    run(alloc, asked, claim, &mut none, capture, out, hasher)
 }
 
 /// Shows what each server says about the clock of the claim's client at one moment, by its best
@@ -62,8 +66,11 @@ pub fn run_at<C: Feed, F: Feed, S: Sink>(
 {
     let hasher = BuildHasherDefault::<FoldHasher>::new();
     let mut none = ReadFeed::new(io::empty());
-    let question = Question::At(second);
-    run(alloc, question, claim, &mut none, capture, out, hasher)
+    let asked = Asked {
+        question: Question::At(second),
+        style: Style::Plain,
+    };
+    run(alloc, asked, claim, &mut none, capture, out, hasher)
 }
 
 /// Settles whether a certificate shows that the clock of the claim's client stayed within the
@@ -78,7 +85,7 @@ pub fn run_check<C: Feed, F: Feed, T: Feed, S: Sink>(
 ) -> (F, Result<Outcome, RunFault>)
     requires { MayRun (run_state
         (C.state claim.old) (T.state certificate.old) (F.state capture) (S.state out.old)) }
-    ensures runs { RunsFor check (run_state
+    ensures runs { RunsFor (plainly check) (run_state
         (C.state claim.old) (T.state certificate.old) (F.state capture) (S.state out.old))
         (run_state
         (C.state claim.new) (T.state certificate.new) (F.state result.0) (S.state out.new))
@@ -89,8 +96,11 @@ pub fn run_check<C: Feed, F: Feed, T: Feed, S: Sink>(
         IsNotTraced (C.state claim.old) (T.state certificate.old) (F.state capture) }
 {
     let hasher = BuildHasherDefault::<FoldHasher>::new();
-    let question = Question::Check;
-    run(alloc, question, claim, certificate, capture, out, hasher)
+    let asked = Asked {
+        question: Question::Check,
+        style: Style::Plain,
+    };
+    run(alloc, asked, claim, certificate, capture, out, hasher)
 }
 
 /// Settles whether a refutation stands against the claim: whether the clock of the claim's client
@@ -106,7 +116,7 @@ pub fn run_refute<C: Feed, F: Feed, T: Feed, S: Sink>(
 ) -> (F, Result<Outcome, RunFault>)
     requires { MayRun (run_state
         (C.state claim.old) (T.state refutation.old) (F.state capture) (S.state out.old)) }
-    ensures runs { RunsFor (refute false) (run_state
+    ensures runs { RunsFor (plainly (refute false)) (run_state
         (C.state claim.old) (T.state refutation.old) (F.state capture) (S.state out.old))
         (run_state
         (C.state claim.new) (T.state refutation.new) (F.state result.0) (S.state out.new))
@@ -117,8 +127,11 @@ pub fn run_refute<C: Feed, F: Feed, T: Feed, S: Sink>(
         IsUncontested false (C.state claim.old) (T.state refutation.old) (F.state capture) }
 {
     let hasher = BuildHasherDefault::<FoldHasher>::new();
-    let question = Question::Refute { drift: false };
-    run(alloc, question, claim, refutation, capture, out, hasher)
+    let asked = Asked {
+        question: Question::Refute { drift: false },
+        style: Style::Plain,
+    };
+    run(alloc, asked, claim, refutation, capture, out, hasher)
 }
 
 /// Settles whether a refutation stands against the claim if the clock's error may drift as the
@@ -134,7 +147,7 @@ pub fn run_refute_with_drift<C: Feed, F: Feed, T: Feed, S: Sink>(
 ) -> (F, Result<Outcome, RunFault>)
     requires { MayRun (run_state
         (C.state claim.old) (T.state refutation.old) (F.state capture) (S.state out.old)) }
-    ensures runs { RunsFor (refute true) (run_state
+    ensures runs { RunsFor (plainly (refute true)) (run_state
         (C.state claim.old) (T.state refutation.old) (F.state capture) (S.state out.old))
         (run_state
         (C.state claim.new) (T.state refutation.new) (F.state result.0) (S.state out.new))
@@ -145,8 +158,11 @@ pub fn run_refute_with_drift<C: Feed, F: Feed, T: Feed, S: Sink>(
         IsUncontested true (C.state claim.old) (T.state refutation.old) (F.state capture) }
 {
     let hasher = BuildHasherDefault::<FoldHasher>::new();
-    let question = Question::Refute { drift: true };
-    run(alloc, question, claim, refutation, capture, out, hasher)
+    let asked = Asked {
+        question: Question::Refute { drift: true },
+        style: Style::Plain,
+    };
+    run(alloc, asked, claim, refutation, capture, out, hasher)
 }
 
 /// Looks for a certificate of the claim in pieces of `step_s` seconds, from 1 to 86,400: the answer
@@ -175,8 +191,11 @@ pub fn run_find<C: Feed, F: Feed, S: Sink>(
 {
     let hasher = BuildHasherDefault::<FoldHasher>::new();
     let mut none = ReadFeed::new(io::empty());
-    let question = Question::Find(Step { seconds: step_s });
-    run(alloc, question, claim, &mut none, capture, out, hasher)
+    let asked = Asked {
+        question: Question::Find(Step { seconds: step_s }),
+        style: Style::Plain,
+    };
+    run(alloc, asked, claim, &mut none, capture, out, hasher)
 }
 
 /// Looks for a refutation of the claim: the answer is `Yes` with the refutation, which stands, or
@@ -199,14 +218,17 @@ pub fn run_seek<C: Feed, F: Feed, S: Sink>(
 {
     let hasher = BuildHasherDefault::<FoldHasher>::new();
     let mut none = ReadFeed::new(io::empty());
-    let question = Question::Seek;
-    run(alloc, question, claim, &mut none, capture, out, hasher)
+    let asked = Asked {
+        question: Question::Seek,
+        style: Style::Plain,
+    };
+    run(alloc, asked, claim, &mut none, capture, out, hasher)
 }
 
 /// Shows how far off the clock of the claim's client may have been in each piece of `step_s`
 /// seconds, from 1 to 86,400, and the least bound in nanoseconds that holds over the span; with
-/// `servers` also what each server says about each piece. The answer is `Yes` if there is such a
-/// bound.
+/// `servers` also what each server says about each piece, and with `least` the least bound that any
+/// certificate carries. The answer is `Yes` if there is a bound that holds.
 ///
 /// `Pieces` comes if the span has over 100,000 pieces of that length, after every other refusal.
 pub fn run_envelope<C: Feed, F: Feed, S: Sink>(
@@ -215,21 +237,29 @@ pub fn run_envelope<C: Feed, F: Feed, S: Sink>(
     capture: F,
     step_s: u32,
     servers: bool,
+    least: bool,
     out: &mut S,
 ) -> (F, Result<Outcome, RunFault>)
     requires run { MayRun
         (run_state (C.state claim.old) no_feed (F.state capture) (S.state out.old)) }
     requires step { IsStep step_s }
-    ensures runs { RunsAlone (envelope step_s servers)
+    ensures runs { RunsAlone (envelope step_s servers least)
         (run_state (C.state claim.old) no_feed (F.state capture) (S.state out.old))
         (run_state (C.state claim.new) no_feed (F.state result.0) (S.state out.new))
         capture result.0 result.1 }
     ensures holds { IfOk result.1 (λ outcome.
-        IsEnveloped step_s outcome (C.state claim.old) (F.state capture)) }
+        IsEnveloped step_s least outcome (C.state claim.old) (F.state capture)) }
 {
     let hasher = BuildHasherDefault::<FoldHasher>::new();
     let mut none = ReadFeed::new(io::empty());
     let step = Step { seconds: step_s };
-    let question = Question::Envelope { step, servers };
-    run(alloc, question, claim, &mut none, capture, out, hasher)
+    let asked = Asked {
+        question: Question::Envelope {
+            step,
+            servers,
+            least,
+        },
+        style: Style::Plain,
+    };
+    run(alloc, asked, claim, &mut none, capture, out, hasher)
 }

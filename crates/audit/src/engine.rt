@@ -19,7 +19,9 @@ ghost use Rattle.report.specs.Run.{run_state};
 ghost use Rattle.report.specs.Runs.{HasLawfulHeader, IsBeforeCapture, IsBeforeSecond};
 ghost use Rattle.report.specs.declared.fault.RunFault.{RunFault as TheFault};
 ghost use Rattle.audit.specs.Check.{IsTraced};
-ghost use Rattle.audit.specs.Question.{AsksNoSecond, HasSecond, Shows, data_of, most_second};
+ghost use Rattle.audit.specs.Question.{AsksNoSecond, HasSecond, Shows};
+ghost use Rattle.audit.specs.Question.{asked_of, data_of, most_second};
+ghost use Rattle.audit.specs.declared.question.Question.{Question};
 ghost use Rattle.audit.specs.Report.{ShowsAfter, after_claim};
 ghost use Rattle.audit.specs.Run.{AnswersFor, MayRun, RunsFor, ShowsAt};
 
@@ -29,7 +31,7 @@ use crate::laws::{
     bounds_of_bytes_hold_in_nanoseconds, course_beyond_the_bound_contests_the_claim,
     yes_shows_the_headline,
 };
-use crate::question::{Question, make, read_task};
+use crate::question::{Asked, make, read_task};
 use byte_stream::{Feed, Sink};
 use claim_file::Claim;
 use report::{Made, Outcome, RunFault, publish, read_claim_from, tell};
@@ -49,7 +51,7 @@ pub struct Outputs<S, E> {
 /// whole text. The capture's feed is handed back beside it.
 fn make_report<T: Feed, F: Feed, H: BuildHasher + Drop>(
     alloc: Global,
-    question: Question,
+    asked: Asked,
     claim: Result<Claim, RunFault>,
     second: &mut T,
     capture: F,
@@ -60,12 +62,12 @@ fn make_report<T: Feed, F: Feed, H: BuildHasher + Drop>(
     requires second { IsReadable (T.state second.old) }
     requires capture { IsReadable (F.state capture) }
     ensures made { (expected : Result ClaimData TheFault) → Reads claim_data expected claim →
-        IfSome (after_claim (data_of question) expected
+        IfSome (after_claim (asked_of asked) expected
         (T.state second.old).remaining (F.state capture).remaining)
         (λ report. IsMadeFor report result.1) }
     ensures unwritten { IsUnwritten result.1 }
     ensures shows { IfOk result.1 (λ made. IfOk claim (λ c.
-        ShowsAfter (data_of question) (claim_data c)
+        ShowsAfter (data_of asked.question) (claim_data c)
         (T.state second.old).remaining (F.state capture).remaining made.outcome)) }
     ensures read { IfErr claim (λ fault. result.1 ≡ Err fault) }
     ensures unread { IfErr claim (λ fault. (second.new ≡ second.old) × (result.0 ≡ capture)) }
@@ -78,13 +80,13 @@ fn make_report<T: Feed, F: Feed, H: BuildHasher + Drop>(
         IsBeforeSecond fault → second.new ≡ second.old) }
     ensures capture_untouched { IfErr result.1 (λ fault.
         IsBeforeCapture fault → result.0 ≡ capture) }
-    ensures unasked { AsksNoSecond (data_of question) → second.new ≡ second.old }
-    ensures second_at_most { TakesAtMost (most_second (data_of question) result.1)
+    ensures unasked { AsksNoSecond (data_of asked.question) → second.new ≡ second.old }
+    ensures second_at_most { TakesAtMost (most_second (data_of asked.question) result.1)
         (T.state second.old).remaining (T.state second.new).remaining }
     ensures capture_at_most { TakesAtMost most_taken
         (F.state capture).remaining (F.state result.0).remaining }
     ensures second_memory { result.1 ≡ Err RunFault.Memory →
-        (result.0 ≡ capture) ⊎ HasSecond (data_of question) (T.state second.old).remaining }
+        (result.0 ≡ capture) ⊎ HasSecond (data_of asked.question) (T.state second.old).remaining }
     ensures capture_memory { result.1 ≡ Err RunFault.Memory →
         (result.0 ≡ capture) ⊎ HasLawfulHeader (F.state capture).remaining }
 {
@@ -92,7 +94,7 @@ fn make_report<T: Feed, F: Feed, H: BuildHasher + Drop>(
         Ok(claim) => claim,
         Err(fault) => return (capture, Err(fault)),
     };
-    let task = match read_task(alloc, question, second) {
+    let task = match read_task(alloc, asked.question, second) {
         Ok(task) => task,
         Err(fault) => return (capture, Err(fault)),
     };
@@ -100,15 +102,15 @@ fn make_report<T: Feed, F: Feed, H: BuildHasher + Drop>(
     match collected {
         Ok(held) => {
             let evidence = Evidence { claim, held };
-            (capture, make(alloc, &task, &evidence))
+            (capture, make(alloc, asked.style, &task, &evidence))
         }
         Err(fault) => (capture, Err(fault)),
     }
 }
 
 /// Answers a question by a claim, the question's second input and a capture: the text goes to
-/// `out`, and the capture's feed is handed back. A question without a second input takes nothing of
-/// `second`.
+/// `out`, in the style that is asked for, and the capture's feed is handed back. A question without
+/// a second input takes nothing of `second`.
 ///
 /// The claim is read first, then the second input, then the capture; what stands later isn't read
 /// after a refusal. Nothing is written before all of it is made. `Device` comes if a feed failed,
@@ -117,7 +119,7 @@ fn make_report<T: Feed, F: Feed, H: BuildHasher + Drop>(
 /// with a random key.
 pub fn run<C: Feed, T: Feed, F: Feed, S: Sink, H: BuildHasher + Drop>(
     alloc: Global,
-    question: Question,
+    asked: Asked,
     claim: &mut C,
     second: &mut T,
     capture: F,
@@ -126,16 +128,16 @@ pub fn run<C: Feed, T: Feed, F: Feed, S: Sink, H: BuildHasher + Drop>(
 ) -> (F, Result<Outcome, RunFault>)
     requires { MayRun
         (run_state (C.state claim.old) (T.state second.old) (F.state capture) (S.state out.old)) }
-    ensures runs { RunsFor (data_of question)
+    ensures runs { RunsFor (asked_of asked)
         (run_state (C.state claim.old) (T.state second.old) (F.state capture) (S.state out.old))
         (run_state (C.state claim.new) (T.state second.new) (F.state result.0) (S.state out.new))
         second.old second.new capture result.0 result.1 }
-    ensures shows { IfOk result.1 (Shows (data_of question)
+    ensures shows { IfOk result.1 (Shows (data_of asked.question)
         (C.state claim.old) (T.state second.old) (F.state capture)) }
-    ensures unasked { AsksNoSecond (data_of question) → second.new ≡ second.old }
+    ensures unasked { AsksNoSecond (data_of asked.question) → second.new ≡ second.old }
 {
     let claim = read_claim_from(alloc, claim);
-    let (capture, made) = make_report(alloc, question, claim, second, capture, hasher);
+    let (capture, made) = make_report(alloc, asked, claim, second, capture, hasher);
     bounds_of_bytes_hold_in_nanoseconds();
     yes_shows_the_headline();
     course_beyond_the_bound_contests_the_claim();
@@ -152,7 +154,7 @@ pub fn run<C: Feed, T: Feed, F: Feed, S: Sink, H: BuildHasher + Drop>(
 /// it in relations alone, with no word on how the bytes are read.
 pub fn answer<C: Feed, T: Feed, F: Feed, S: Sink, E: Sink, H: BuildHasher + Drop>(
     alloc: Global,
-    question: Question,
+    asked: Asked,
     claim: &mut C,
     second: &mut T,
     capture: F,
@@ -162,16 +164,16 @@ pub fn answer<C: Feed, T: Feed, F: Feed, S: Sink, E: Sink, H: BuildHasher + Drop
     requires run { MayRun (run_state
         (C.state claim.old) (T.state second.old) (F.state capture) (S.state to.old.out)) }
     requires err { IsWritable (E.state to.old.err) }
-    ensures answers { AnswersFor (data_of question)
+    ensures answers { AnswersFor (asked_of asked)
         (run_state (C.state claim.old) (T.state second.old) (F.state capture) (S.state to.old.out))
         (run_state (C.state claim.new) (T.state second.new) (F.state result.0) (S.state to.new.out))
         second.old second.new capture result.0 (E.state to.old.err) (E.state to.new.err) result.1 }
-    ensures unasked { AsksNoSecond (data_of question) → second.new ≡ second.old }
-    ensures traceable { question ≡ Question.Check → result.1 ≡ 0 →
+    ensures unasked { AsksNoSecond (data_of asked.question) → second.new ≡ second.old }
+    ensures traceable { asked.question ≡ Question.Check → result.1 ≡ 0 →
         IsTraced (C.state claim.old) (T.state second.old) (F.state capture) }
-    ensures shows { ShowsAt result.1 (data_of question)
+    ensures shows { ShowsAt result.1 (data_of asked.question)
         (C.state claim.old) (T.state second.old) (F.state capture) }
 {
-    let (capture, answer) = run(alloc, question, claim, second, capture, &mut to.out, hasher);
+    let (capture, answer) = run(alloc, asked, claim, second, capture, &mut to.out, hasher);
     (capture, tell(&answer, &mut to.err))
 }

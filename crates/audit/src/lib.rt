@@ -2,11 +2,12 @@
 //!
 //! [`run`] reads the claim, then the question's second input if it has one, and then the capture,
 //! makes its whole text, and writes it; [`answer`] does the same and reports the answer by an exit
-//! status. What is asked stands in `question`, a small module for each command; how a text is shown
-//! is said by audit_text. `specs/Run` says what a run needs and promises, `specs/Report` what it
-//! writes, and `specs/Question` what an outcome means. [`run_samples`], [`run_at`], [`run_check`],
+//! status. What is asked stands in `question`, a small module for each command, and beside it the
+//! style of the text, for a program or for a person; how a text is shown is said by audit_text.
+//! `specs/Run` says what a run needs and promises, `specs/Report` what it writes, and
+//! `specs/Question` what an outcome means. [`run_samples`], [`run_at`], [`run_check`],
 //! [`run_find`], [`run_refute`], [`run_seek`] and [`run_envelope`] are the engines of the commands,
-//! with a hasher of a fixed key.
+//! for a program, with a hasher of a fixed key.
 #![tactic(auto)]
 
 mod capture_input;
@@ -14,7 +15,7 @@ mod commands;
 mod engine;
 mod evidence;
 pub mod laws;
-mod parts;
+mod least_line;
 mod question;
 mod sample_list;
 mod step;
@@ -24,5 +25,6 @@ pub use commands::{
     run_seek,
 };
 pub use engine::{Outputs, answer, run};
-pub use question::Question;
+pub use line_writer::Style;
+pub use question::{Asked, Question};
 pub use step::Step;

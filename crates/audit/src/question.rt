@@ -1,8 +1,9 @@
 //! What may be asked of a claim and a capture.
 //!
 //! A [`Question`] is what is known before any input is read, and a [`Task`] is a question with what
-//! its second input says. What is particular to a question, how its report is made of a claim and
-//! the exchanges of a capture, stands in its own module, and here it is named.
+//! its second input says. What is [`Asked`] has a style beside its question: for whom the answer is
+//! written. What is particular to a question, how its report is made of a claim and the exchanges
+//! of a capture, stands in its own module, and here it is named.
 
 ghost use Rattle.std.specs.Prelude.{◌≡◌, IfOk, IfErr, IfSome};
 ghost use Rattle.byte_stream.specs.Fault.{CountsFault};
@@ -35,6 +36,7 @@ use crate::question::seek::make_seek;
 use crate::step::Step;
 use byte_stream::Feed;
 use certificate::{Certificate, Refutation};
+use line_writer::Style;
 use report::{Made, RunFault, read_certificate_from, read_refutation_from};
 use std::alloc::Global;
 
@@ -60,9 +62,21 @@ pub enum Question {
         step: Step,
         /// Whether to show what each server says about each piece.
         servers: bool,
+        /// Whether to show the least bound that any certificate carries.
+        least: bool,
     },
     /// Is there a refutation of the claim?
     Seek,
+}
+
+/// A question, and for whom the answer is written.
+#[derive(Clone, Copy, Debug)]
+pub struct Asked {
+    /// What is asked.
+    pub question: Question,
+    /// How the text is written: for a program, or for a person. Certificates, refutations and the
+    /// lines of faults are for programs in any style.
+    pub style: Style,
 }
 
 /// What is to be done for a question, once its second input is read.
@@ -89,6 +103,8 @@ pub(crate) enum Task {
         step: Step,
         /// Whether to show what each server says about each piece.
         servers: bool,
+        /// Whether to show the least bound that any certificate carries.
+        least: bool,
     },
     /// Look for a refutation.
     Seek,
@@ -126,27 +142,46 @@ pub(crate) fn read_task<T: Feed>(
             Ok(refutation) => Ok(Task::Refute { drift, refutation }),
             Err(fault) => Err(fault),
         },
-        Question::Envelope { step, servers } => Ok(Task::Envelope { step, servers }),
+        Question::Envelope {
+            step,
+            servers,
+            least,
+        } => Ok(Task::Envelope {
+            step,
+            servers,
+            least,
+        }),
         Question::Seek => Ok(Task::Seek),
     }
 }
 
-/// Makes the whole text and the outcome of a task, of a claim and the exchanges of a capture.
-pub(crate) fn make(alloc: Global, task: &Task, evidence: &Evidence) -> Result<Made, RunFault>
+/// Makes the whole text in this style and the outcome of a task, of a claim and the exchanges of a
+/// capture.
+pub(crate) fn make(
+    alloc: Global,
+    style: Style,
+    task: &Task,
+    evidence: &Evidence,
+) -> Result<Made, RunFault>
     requires task { IsLawfulTask task.now }
     requires evidence { IsLawfulEvidence evidence.now }
-    ensures made { IsMadeFor (report_on (task_data task.now) (evidence_data evidence.now)) result }
+    ensures made { IsMadeFor
+        (report_on style (task_data task.now) (evidence_data evidence.now)) result }
     ensures fault { IfErr result IsOfMaking }
     ensures shows { IfOk result (λ made.
         ShowsOf (task_data task.now) (evidence_data evidence.now) made.outcome) }
 {
     match task {
-        Task::Samples => make_samples(alloc, evidence),
-        Task::At(second) => make_at(alloc, *second, evidence),
-        Task::Find(step) => make_find(alloc, *step, evidence),
-        Task::Check(certificate) => make_check(alloc, certificate, evidence),
+        Task::Samples => make_samples(alloc, style, evidence),
+        Task::At(second) => make_at(alloc, style, *second, evidence),
+        Task::Find(step) => make_find(alloc, style, *step, evidence),
+        Task::Check(certificate) => make_check(alloc, style, certificate, evidence),
         Task::Refute { drift, refutation } => make_refute(alloc, *drift, refutation, evidence),
-        Task::Envelope { step, servers } => make_envelope(alloc, *step, *servers, evidence),
+        Task::Envelope {
+            step,
+            servers,
+            least,
+        } => make_envelope(alloc, style, *step, *servers, *least, evidence),
         Task::Seek => make_seek(alloc, evidence),
     }
 }

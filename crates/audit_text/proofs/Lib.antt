@@ -1,4 +1,3 @@
-pub mod SourceLemmas
 pub mod SampleLemmas
 pub mod ShownLemmas
 pub mod EnvelopeLemmas

@@ -1,18 +1,22 @@
 -- The text of `envelope`: what is known of the clock's error in each piece of a span, and the least
 -- bound that holds in all of them.
 use Rattle.std.specs.Prelude.{ℕ, ◌+◌, List, [], ◌∷◌, ◌++◌, Bool, codes, flat_map, if◌then◌else◌}
-use Rattle.line_writer.specs.Field.{line_of, Word, Named, Number, Second, Nanoseconds, Address, Low, High}
+use Rattle.line_writer.specs.Field.{line_of, Named, Number, Second, Nanoseconds, Address, Low, High}
 use Rattle.line_writer.specs.declared.field.Style.{Style}
 use Rattle.claim_file.specs.Claim.{ClaimData}
 use Rattle.sample_interval.specs.declared.kinds.Sample.{Sample}
 use Rattle.span_cover.specs.declared.part.Part.{Part}
+use Rattle.span_cover.specs.declared.stretch.Stretch.{Stretch}
 use Rattle.finder.specs.Entry.{parts_named}
 use Rattle.finder.specs.Envelope.{EnvelopeData, PieceHullData}
 use Rattle.finder.specs.declared.least.LeastBound.{LeastBound}
 use Rattle.finder.specs.declared.least.LeastBound.TheVariants.{Holds, NoneHolds}
 use Rattle.audit_text.specs.Second.{second_of}
+use Rattle.audit_text.specs.Heading.{heading, is_plain, rows, piece_heading, word_for}
 use Rattle.audit_text.specs.HullLine.{hull_low, hull_high}
+use Rattle.audit_text.specs.LeastLine.{least_line}
 use Rattle.audit_text.specs.SampleLine.{server_of}
+use Rattle.audit_text.specs.declared.least_line.LeastLine.{LeastLine}
 
 -- a piece's number, the Unix seconds of its begin and its end, and what is known of the error there
 unfoldable pub piece_line : Style → ℕ → PieceHullData → List ℕ
@@ -20,15 +24,21 @@ piece_line style number piece = line_of style (
     Number number ∷ Second (second_of piece.stretch.begin) ∷ Second (second_of piece.stretch.end) ∷
     hull_low piece.hull ∷ hull_high piece.hull ∷ [])
 
--- what a server says about the error in the piece of this number
-unfoldable pub server_line : Style → ClaimData → ℕ → Part → List ℕ
-server_line style claim number part = line_of style (
+-- what a server says about the error in the piece of this number: for a person after the piece's
+-- begin and end, so that it stands in the columns of the piece
+unfoldable pub server_line : Style → ClaimData → ℕ → Stretch → Part → List ℕ
+server_line style claim number stretch part =
+    if is_plain style then line_of style (
     Number number ∷ Address (server_of claim part.server) ∷
     Low part.interval.lo ∷ High part.interval.hi ∷ [])
+    else line_of style (
+    Number number ∷ Second (second_of stretch.begin) ∷ Second (second_of stretch.end) ∷
+    Low part.interval.lo ∷ High part.interval.hi ∷ Address (server_of claim part.server) ∷ [])
 
 -- the lines of the servers that have a sample, in their order
 abbrev pub server_lines : Style → List Sample → ClaimData → ℕ → PieceHullData → List ℕ
-server_lines style samples claim number piece = flat_map (server_line style claim number)
+server_lines style samples claim number piece =
+    flat_map (server_line style claim number piece.stretch)
     (parts_named samples claim piece.stretch piece.entries)
 
 -- the lines of a piece, with those of its servers if they are asked for
@@ -45,16 +55,22 @@ lines_from style samples claim servers number (piece ∷ pieces) =
     piece_lines style samples claim servers number piece ++
     lines_from style samples claim servers (number + 1) pieces
 
--- the last line: the least bound in nanoseconds, and the first piece that needs it; or the first
--- piece in which no bound holds
+-- the line behind them: the least bound in nanoseconds, and the first piece that needs it; or the
+-- first piece in which no bound holds
 unfoldable pub bound_line : Style → LeastBound → List ℕ
 bound_line style (Holds n piece) =
-    line_of style (Word (codes "bound_ns") ∷ Nanoseconds n ∷ Named (codes "piece") piece ∷ [])
+    line_of style (
+    word_for style (codes "bound_ns") (codes "bound") ∷ Nanoseconds n ∷
+    Named (codes "piece") piece ∷ [])
 bound_line style (NoneHolds piece) =
-    line_of style (Word (codes "bound_ns none") ∷ Named (codes "piece") piece ∷ [])
+    line_of style (
+    word_for style (codes "bound_ns none") (codes "bound none") ∷
+    Named (codes "piece") piece ∷ [])
 
 -- the whole text
 unfoldable pub envelope_text :
-    Style → List Sample → ClaimData → Bool → EnvelopeData → List ℕ
-envelope_text style samples claim servers envelope =
-    lines_from style samples claim servers 0 envelope.pieces ++ bound_line style envelope.least
+    Style → List Sample → ClaimData → Bool → EnvelopeData → LeastLine → List ℕ
+envelope_text style samples claim servers envelope least =
+    heading style (piece_heading servers) ++
+    lines_from (rows style) samples claim servers 0 envelope.pieces ++
+    bound_line style envelope.least ++ least_line style least

@@ -1,9 +1,11 @@
 pub mod Second
+pub mod Heading
 pub mod SampleLine
 pub mod CountsLine
 pub mod Samples
 pub mod IntervalLine
 pub mod HullLine
+pub mod LeastLine
 pub mod Parts
 pub mod CheckReport
 pub mod Nothing

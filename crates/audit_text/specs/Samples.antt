@@ -5,6 +5,7 @@ use Rattle.line_writer.specs.declared.field.Style.{Style}
 use Rattle.claim_file.specs.Claim.{ClaimData}
 use Rattle.pairing.specs.declared.exchange.Exchange.{Exchange}
 use Rattle.pairing.specs.Pairing.{Collection}
+use Rattle.audit_text.specs.Heading.{heading, rows, sample_heading}
 use Rattle.audit_text.specs.SampleLine.{sample_line}
 use Rattle.audit_text.specs.CountsLine.{counts_line}
 
@@ -17,5 +18,5 @@ sample_lines style claim number (x ∷ xs) =
 -- the whole text
 unfoldable pub samples_text : Style → ClaimData → Collection → List ℕ
 samples_text style claim collection =
-    sample_lines style claim 0 collection.exchanges ++
+    heading style sample_heading ++ sample_lines (rows style) claim 0 collection.exchanges ++
     counts_line style collection.counts (length collection.exchanges)

@@ -1,35 +1,39 @@
 //! The text of `check`.
 
-ghost use Rattle.std.specs.Prelude.{◌≡◌, ◌+◌, ◌<◌, ◌≤◌, ◌==◌, ◌++◌, IfOk, length, map};
-ghost use Rattle.std.specs.List.{list_all, list_any};
-ghost use Rattle.std.specs.Str.{bytes_eq};
+ghost use Rattle.std.specs.Prelude.{◌≡◌, ◌≤◌, ◌++◌, IfOk, length};
 ghost use Rattle.line_writer.specs.Field.{field_data};
-ghost use Rattle.claim_file.specs.Claim.{IsLawful, data_of, group_count};
+ghost use Rattle.claim_file.specs.Claim.{IsLawful, data_of};
 ghost use Rattle.pairing.specs.Exchange.{most_exchanges};
-ghost use Rattle.pairing.specs.Held.{exchange_shown, held_data};
+ghost use Rattle.pairing.specs.Held.{held_data};
 ghost use Rattle.audit_text.specs.CheckReport as spec;
-ghost use Rattle.audit_text.specs.CheckReport.{client_line, groups_field, reference_advice, source_count, sources_advice, span_line, verdict_line, why_word};
+ghost use Rattle.audit_text.specs.CheckReport.{client_line, groups_field, pieces_line, reference_advice};
+ghost use Rattle.audit_text.specs.CheckReport.{sources_advice, span_line, verdict_line, why_word};
 
 use crate::counts_line::add_counts;
+use crate::heading::word_for;
 use crate::second::second_of;
 use checker::{Verdict, Why};
 use claim_file::Claim;
 use line_writer::{Field, Style, add_line};
-use pairing::{Held, HeldExchange, ToExchange};
+use pairing::Held;
 use std::alloc::{AllocError, Global};
 
 /// The fewest servers with which one false one can be told from the others.
 const ENOUGH_SOURCES: u8 = 4;
 
-/// How many groups of servers there are: one more than the greatest number of a group.
-fn group_count(groups: &[u8]) -> u32
-    ensures exact { result ≡ group_count groups.now }
-    ensures at_most { result ≤ 256 }
-{
-    match groups {
-        [] => 0,
-        [group, rest @ ..] => group_count(rest).max(u32::from(*group) + 1),
-    }
+/// What is found on a claim, its exchanges and a certificate.
+#[derive(Clone, Copy, Debug)]
+pub struct Findings {
+    /// How many groups of servers the claim has.
+    pub groups: u32,
+    /// How many of the claim's servers have a sample.
+    pub sources: u8,
+    /// The reference identifier that all samples' servers name, if they name one.
+    pub reference: Option<[u8; 4]>,
+    /// How many pieces the certificate has.
+    pub pieces: u32,
+    /// The verdict on the certificate.
+    pub verdict: Verdict,
 }
 
 /// How many groups there are, if one holds several servers.
@@ -45,10 +49,15 @@ fn groups_field(groups: u32, servers: u64) -> Field<'static>
 
 /// Adds the line of the client and its servers.
 #[tactic(auto, unfolding(crate::specs::CheckReport::client_line))]
-fn add_client(text: &mut Vec<u8>, style: Style, claim: &Claim) -> Result<(), AllocError>
+fn add_client(
+    text: &mut Vec<u8>,
+    style: Style,
+    claim: &Claim,
+    groups: u32,
+) -> Result<(), AllocError>
     requires { IsLawful (data_of claim.now) }
     ensures { IfOk result (λ _. text.new.items ≡
-        text.old.items ++ client_line style (data_of claim.now)) }
+        text.old.items ++ client_line style (data_of claim.now) groups) }
 {
     let servers = claim.servers.len() as u64;
     let fields = [
@@ -56,7 +65,7 @@ fn add_client(text: &mut Vec<u8>, style: Style, claim: &Claim) -> Result<(), All
         Field::Address(claim.client),
         Field::Named("servers", servers),
         Field::Named("false_max", u64::from(claim.false_max)),
-        groups_field(group_count(&claim.groups), servers),
+        groups_field(groups, servers),
     ];
     add_line(text, style, &fields)
 }
@@ -72,37 +81,14 @@ fn add_span(text: &mut Vec<u8>, style: Style, claim: &Claim) -> Result<(), Alloc
         Field::Word("span"),
         Field::Second(second_of(claim.first)),
         Field::Second(second_of(claim.last)),
-        Field::Word("bound_ns"),
+        word_for(style, "bound_ns", "bound"),
         Field::Nanoseconds(u128::from(claim.bound_ns)),
-        Field::Word("drift_ppb"),
+        word_for(style, "drift_ppb", "drift"),
         Field::Billionths(claim.drift_ppb),
-        Field::Word("reading_ns"),
+        word_for(style, "reading_ns", "reading"),
         Field::Nanoseconds(u128::from(claim.reading_ns)),
     ];
     add_line(text, style, &fields)
-}
-
-/// Whether an exchange is with this server.
-fn is_source(exchanges: &[HeldExchange], server: u8) -> bool
-    ensures { result ≡ list_any (λ x. (exchange_shown x).server == server) exchanges.now }
-{
-    exchanges
-        .iter()
-        .any(|held| held.to_exchange().server == server)
-}
-
-/// How many of the servers with a number below `servers` have an exchange.
-#[tactic(auto, using(crate::proofs::SourceLemmas::source_step))]
-fn source_count(exchanges: &[HeldExchange], servers: u8) -> u8
-    ensures { result ≡ source_count (map exchange_shown exchanges.now) servers }
-{
-    let mut count = 0;
-    for server in 0..servers {
-        if is_source(exchanges, server) {
-            count += 1;
-        }
-    }
-    count
 }
 
 /// Adds the advice to ask more servers, if few have a sample.
@@ -120,34 +106,28 @@ fn add_sources_advice(text: &mut Vec<u8>, style: Style, count: u8) -> Result<(),
     Ok(())
 }
 
-/// Whether all these exchanges have one reference identifier.
-fn have_reference(exchanges: &[HeldExchange], reference: [u8; 4]) -> bool
-    ensures { result ≡
-        list_all (λ x. bytes_eq (exchange_shown x).reference reference) exchanges.now }
-{
-    exchanges
-        .iter()
-        .all(|held| held.to_exchange().reference == reference)
-}
-
 /// Adds the advice on servers that name one reference, if all do.
 #[tactic(auto, unfolding(crate::specs::CheckReport::reference_advice))]
 fn add_reference_advice(
     text: &mut Vec<u8>,
     style: Style,
-    exchanges: &[HeldExchange],
+    reference: Option<[u8; 4]>,
 ) -> Result<(), AllocError>
     ensures { IfOk result (λ _. text.new.items ≡
-        text.old.items ++ reference_advice style (map exchange_shown exchanges.now)) }
+        text.old.items ++ reference_advice style reference) }
 {
-    if let [first, rest @ ..] = exchanges {
-        let reference = first.to_exchange().reference;
-        if have_reference(rest, reference) {
-            let fields = [Field::Word("advice reference"), Field::Reference(reference)];
-            return add_line(text, style, &fields);
-        }
+    if let Some(reference) = reference {
+        let fields = [Field::Word("advice reference"), Field::Reference(reference)];
+        return add_line(text, style, &fields);
     }
     Ok(())
+}
+
+/// Adds the line of how many pieces a certificate has.
+fn add_pieces(text: &mut Vec<u8>, style: Style, pieces: u32) -> Result<(), AllocError>
+    ensures { IfOk result (λ _. text.new.items ≡ text.old.items ++ pieces_line style pieces) }
+{
+    add_line(text, style, &[Field::Named("pieces", u64::from(pieces))])
 }
 
 /// The word for a reason.
@@ -186,36 +166,27 @@ fn add_verdict(text: &mut Vec<u8>, style: Style, verdict: &Verdict) -> Result<()
 }
 
 /// The text of `check`: what is claimed, what became of the capture's records, what is advised, and
-/// the verdict on a certificate of this many pieces.
+/// the verdict on a certificate.
 #[tactic(auto, unfolding(crate::specs::CheckReport::check_text))]
 pub fn check_text(
     alloc: Global,
     style: Style,
     claim: &Claim,
     held: &Held,
-    pieces: u32,
-    verdict: &Verdict,
+    findings: &Findings,
 ) -> Result<Vec<u8>, AllocError>
     requires lawful { IsLawful (data_of claim.now) }
     requires few { length held.now.exchanges.items ≤ most_exchanges }
     ensures { IfOk result (λ text. text.items ≡
-        spec.check_text style (data_of claim.now) (held_data held.now) pieces verdict.now) }
+        spec.check_text style (data_of claim.now) (held_data held.now) findings.now) }
 {
     let mut text = Vec::new(alloc);
-    add_client(&mut text, style, claim)?;
+    add_client(&mut text, style, claim, findings.groups)?;
     add_span(&mut text, style, claim)?;
     add_counts(&mut text, style, held)?;
-    add_sources_advice(
-        &mut text,
-        style,
-        source_count(&held.exchanges, claim.servers.len() as u8),
-    )?;
-    add_reference_advice(&mut text, style, &held.exchanges)?;
-    add_line(
-        &mut text,
-        style,
-        &[Field::Named("pieces", u64::from(pieces))],
-    )?;
-    add_verdict(&mut text, style, verdict)?;
+    add_sources_advice(&mut text, style, findings.sources)?;
+    add_reference_advice(&mut text, style, findings.reference)?;
+    add_pieces(&mut text, style, findings.pieces)?;
+    add_verdict(&mut text, style, &findings.verdict)?;
     Ok(text)
 }

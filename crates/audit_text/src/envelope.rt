@@ -9,14 +9,16 @@ ghost use Rattle.audit_text.specs.Second.{second_of};
 ghost use Rattle.audit_text.specs.Envelope as spec;
 ghost use Rattle.audit_text.specs.Envelope.{bound_line, lines_from, piece_line, server_line, server_lines};
 
+use crate::heading::{add_piece_heading, is_plain, rows, word_for};
 use crate::hull_line::{hull_high, hull_low};
+use crate::least_line::{LeastLine, add_least};
 use crate::sample_line::server_of;
 use crate::second::second_of;
 use claim_file::Claim;
 use finder::{Envelope, LeastBound, PieceHull, parts};
 use line_writer::{Field, Style, add_line};
 use sample_interval::SampleSource;
-use span_cover::Part;
+use span_cover::{Part, Stretch};
 use std::alloc::{AllocError, Global};
 
 /// Adds the line of a piece.
@@ -49,19 +51,25 @@ fn add_part(
     style: Style,
     claim: &Claim,
     number: u32,
+    stretch: Stretch,
     part: &Part,
 ) -> Result<(), AllocError>
-    requires { part.now.server < length claim.now.servers.items }
+    requires listed { part.now.server < length claim.now.servers.items }
+    requires begin { second_of stretch.begin < 2 ^ 32 }
+    requires end { second_of stretch.end < 2 ^ 32 }
     ensures { IfOk result (λ _. text.new.items ≡
-        text.old.items ++ server_line style (data_of claim.now) number part.now) }
+        text.old.items ++ server_line style (data_of claim.now) number stretch part.now) }
 {
-    let fields = [
-        Field::Number(u64::from(number)),
-        Field::Address(server_of(claim, part.server)),
-        Field::Low(part.interval.lo),
-        Field::High(part.interval.hi),
-    ];
-    add_line(text, style, &fields)
+    let number = Field::Number(u64::from(number));
+    let server = Field::Address(server_of(claim, part.server));
+    let low = Field::Low(part.interval.lo);
+    let high = Field::High(part.interval.hi);
+    if is_plain(style) {
+        return add_line(text, style, &[number, server, low, high]);
+    }
+    let begin = Field::Second(second_of(stretch.begin));
+    let end = Field::Second(second_of(stretch.end));
+    add_line(text, style, &[number, begin, end, low, high, server])
 }
 
 /// Adds the line of each of these servers.
@@ -70,14 +78,17 @@ fn add_parts(
     style: Style,
     claim: &Claim,
     number: u32,
+    stretch: Stretch,
     parts: &[Part],
 ) -> Result<(), AllocError>
-    requires { All (λ part. part.server < length claim.now.servers.items) parts.now }
-    ensures { IfOk result (λ _. text.new.items ≡
-        text.old.items ++ flat_map (server_line style (data_of claim.now) number) parts.now) }
+    requires listed { All (λ part. part.server < length claim.now.servers.items) parts.now }
+    requires begin { second_of stretch.begin < 2 ^ 32 }
+    requires end { second_of stretch.end < 2 ^ 32 }
+    ensures { IfOk result (λ _. text.new.items ≡ text.old.items
+        ++ flat_map (server_line style (data_of claim.now) number stretch) parts.now) }
 {
     for part in parts {
-        add_part(text, style, claim, number, part)?;
+        add_part(text, style, claim, number, stretch, part)?;
     }
     Ok(())
 }
@@ -94,14 +105,14 @@ fn add_servers<S: SampleSource>(
     requires claim { IsLawful (data_of claim.now) }
     requires samples { AreSamplesOf (data_of claim.now) (S.samples samples) }
     requires piece { IsLawfulPiece (length (S.samples samples)) (piece_data piece.now) }
-    ensures { IfOk result (λ _. text.new.items ≡ text.old.items
-        ++ server_lines style (S.samples samples) (data_of claim.now) number (piece_data piece.now)) }
+    ensures { IfOk result (λ _. text.new.items ≡ text.old.items ++ server_lines
+        style (S.samples samples) (data_of claim.now) number (piece_data piece.now)) }
 {
     let parts = parts(samples, claim, piece.stretch, &piece.entries);
-    add_parts(text, style, claim, number, parts.as_slice())
+    add_parts(text, style, claim, number, piece.stretch, parts.as_slice())
 }
 
-/// Adds the last line.
+/// Adds the line of the least bound of the pieces.
 #[tactic(auto, unfolding(crate::specs::Envelope::bound_line))]
 fn add_bound(text: &mut Vec<u8>, style: Style, least: LeastBound) -> Result<(), AllocError>
     ensures { IfOk result (λ _. text.new.items ≡ text.old.items ++ bound_line style least) }
@@ -109,7 +120,7 @@ fn add_bound(text: &mut Vec<u8>, style: Style, least: LeastBound) -> Result<(), 
     match least {
         LeastBound::Holds { bound_ns, piece } => {
             let fields = [
-                Field::Word("bound_ns"),
+                word_for(style, "bound_ns", "bound"),
                 Field::Nanoseconds(bound_ns),
                 Field::Named("piece", u64::from(piece)),
             ];
@@ -117,7 +128,7 @@ fn add_bound(text: &mut Vec<u8>, style: Style, least: LeastBound) -> Result<(), 
         }
         LeastBound::NoneHolds { piece } => {
             let fields = [
-                Field::Word("bound_ns none"),
+                word_for(style, "bound_ns none", "bound none"),
                 Field::Named("piece", u64::from(piece)),
             ];
             add_line(text, style, &fields)
@@ -153,9 +164,9 @@ fn add_pieces<S: SampleSource>(
 
 /// The text of `envelope`: a line for each piece, numbered from 0, with its begin and end in Unix
 /// seconds and its hull in ticks of 2^-32 s; before it, if `servers` is true, a line for each
-/// server that has a sample, with its address and its interval in the piece; and last the least
-/// bound in nanoseconds, and the first piece that needs it, or the first piece in which no bound
-/// holds.
+/// server that has a sample, with its address and its interval in the piece; then the least bound
+/// in nanoseconds, and the first piece that needs it, or the first piece in which no bound holds;
+/// and last `least`, the least bound that any certificate carries, if it is asked for.
 ///
 /// The envelope is of these samples, at most 1,000,000, and of this claim.
 #[tactic(auto, unfolding(crate::specs::Envelope::envelope_text))]
@@ -166,16 +177,26 @@ pub fn envelope_text<S: SampleSource>(
     claim: &Claim,
     servers: bool,
     envelope: &Envelope,
+    least: LeastLine,
 ) -> Result<Vec<u8>, AllocError>
     requires claim { IsLawful (data_of claim.now) }
     requires samples { AreSamplesOf (data_of claim.now) (S.samples samples) }
     requires few { length envelope.now.pieces.items ≤ 100_000 }
     requires envelope { IsLawfulEnvelope (length (S.samples samples)) envelope.now }
     ensures { IfOk result (λ text. text.items ≡ spec.envelope_text style (S.samples samples)
-        (data_of claim.now) servers (envelope_data envelope.now)) }
+        (data_of claim.now) servers (envelope_data envelope.now) least) }
 {
     let mut text = Vec::new(alloc);
-    add_pieces(&mut text, style, samples, claim, servers, &envelope.pieces)?;
+    add_piece_heading(&mut text, style, servers)?;
+    add_pieces(
+        &mut text,
+        rows(style),
+        samples,
+        claim,
+        servers,
+        &envelope.pieces,
+    )?;
     add_bound(&mut text, style, envelope.least)?;
+    add_least(&mut text, style, least)?;
     Ok(text)
 }

@@ -14,8 +14,8 @@ pub(crate) fn hull_low(hull: Hull) -> Field<'static>
     ensures { field_data result ≡ spec.hull_low hull }
 {
     match hull {
-        Hull::Unbounded => Field::Word("unbounded"),
-        Hull::Empty => Field::Word("empty"),
+        Hull::Unbounded => Field::Instead("unbounded"),
+        Hull::Empty => Field::Instead("empty"),
         Hull::Bounded { lo, .. } => Field::Low(lo),
     }
 }

@@ -11,8 +11,10 @@
 mod check_report;
 mod counts_line;
 mod envelope;
+mod heading;
 mod hull_line;
 mod interval_line;
+mod least_line;
 mod nothing;
 mod parts;
 mod refutation;
@@ -20,8 +22,9 @@ mod sample_line;
 mod samples;
 mod second;
 
-pub use check_report::check_text;
+pub use check_report::{Findings, check_text};
 pub use envelope::envelope_text;
+pub use least_line::LeastLine;
 pub use nothing::nothing_text;
 pub use parts::parts_text;
 pub use refutation::{no_refutation_text, refuted_text};

@@ -8,6 +8,7 @@ ghost use Rattle.audit_text.specs.Samples as spec;
 ghost use Rattle.audit_text.specs.Samples.{sample_lines};
 
 use crate::counts_line::add_counts;
+use crate::heading::{add_sample_heading, rows};
 use crate::sample_line::add_sample;
 use claim_file::Claim;
 use line_writer::Style;
@@ -24,8 +25,8 @@ fn add_samples(
     requires lawful { IsLawful (data_of claim.now) }
     requires exchanges { AreLawful (length claim.now.servers.items)
         (map exchange_shown exchanges.now) }
-    ensures { IfOk result (λ _. text.new.items ≡
-        text.old.items ++ sample_lines style (data_of claim.now) 0 (map exchange_shown exchanges.now)) }
+    ensures { IfOk result (λ _. text.new.items ≡ text.old.items ++ sample_lines
+        style (data_of claim.now) 0 (map exchange_shown exchanges.now)) }
 {
     for (number, held) in exchanges.iter().enumerate() {
         add_sample(text, style, claim, number as u32, &held.to_exchange())?;
@@ -48,7 +49,8 @@ pub fn samples_text(
         text.items ≡ spec.samples_text style (data_of claim.now) (held_data held.now)) }
 {
     let mut text = Vec::new(alloc);
-    add_samples(&mut text, style, claim, &held.exchanges)?;
+    add_sample_heading(&mut text, style)?;
+    add_samples(&mut text, rows(style), claim, &held.exchanges)?;
     add_counts(&mut text, style, held)?;
     Ok(text)
 }

@@ -2,3 +2,7 @@ pub mod Digits
 pub mod Last
 pub mod Pairs
 pub mod Threes
+pub mod Parts
+pub mod Columns
+pub mod Ends
+pub mod Calendar

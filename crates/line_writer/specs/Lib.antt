@@ -1,2 +1,4 @@
 pub mod Text
+pub mod Date
+pub mod Millisecond
 pub mod Field

@@ -1,6 +1,7 @@
 -- Pieces of text that the lines of every command are joined from. A text is the list of its bytes.
-use Rattle.std.specs.Prelude.{ℕ, ◌-◌, List, ◌++◌, length, codes, slice_index, replicate}
+use Rattle.std.specs.Prelude.{ℕ, ◌-◌, ◌/◌, ◌%◌, Bool, ◌&&◌, nat_lt, List, ◌++◌, length, codes, slice_index, replicate}
 use Rattle.std.specs.Fmt.{decimal}
+use Rattle.std.specs.List.{list_all}
 use Rattle.hex.specs.Hex.{encode_lower}
 use Rattle.byteorder.specs.Endian.{big_bytes}
 
@@ -21,3 +22,14 @@ endpoint bytes port = address bytes ++ codes ":" ++ decimal port
 -- a number of `width` bytes in hexadecimal, two digits a byte, the highest first
 abbrev pub hexadecimal : ℕ → ℕ → List ℕ
 hexadecimal width n = encode_lower (big_bytes width n)
+
+-- a letter, a digit or a sign that is printed, and no blank
+abbrev pub is_printable : ℕ → Bool
+is_printable byte = nat_lt 32 byte && nat_lt byte 127
+
+abbrev pub are_printable : List ℕ → Bool
+are_printable bytes = list_all is_printable bytes
+
+-- parts of 10^9 as parts of 10^6, with three decimals
+abbrev pub millionths : ℕ → List ℕ
+millionths n = decimal (n / 1000) ++ codes "." ++ zero_padded 3 (n % 1000)

@@ -87,7 +87,7 @@ impl Line {
 
     /// Writes three digits of a number below a thousand.
     #[inline]
-    fn put_three_digits(&mut self, n: u32)
+    pub(crate) fn put_three_digits(&mut self, n: u32)
         requires small { n < 1000 }
         requires room { length self.old + 3 ≤ CAPACITY }
         ensures text { self.new ≡ zero_padded 3 n ++ self.old }

@@ -1,9 +1,13 @@
 //! A line as a list of fields, in the order in which they are read.
 
-ghost use Rattle.std.specs.Prelude.{◌≡◌, ◌+◌, ◌≤◌, ◌++◌, IfOk, length, map};
-ghost use Rattle.line_writer.specs.Field.{field_data, text_of, next_text, fields_text, line_of, rest_text, most_of, room_of};
+ghost use Rattle.std.specs.Prelude.{◌≡◌, ◌+◌, ◌-◌, ◌≤◌, ◌++◌, IfOk, length, map, replicate};
+ghost use Rattle.line_writer.specs.Text.{are_printable, is_printable, millionths};
+ghost use Rattle.line_writer.specs.Field.{field_data, fields_text, human_text, in_column, is_absent, is_short, line_of};
+ghost use Rattle.line_writer.specs.Field.{most_of, next_text, plain_text, reference_text, rest_text, room_of, text_of, width_of};
 
+use crate::date::put_time;
 use crate::line::{CAPACITY, Line};
+use crate::millisecond::{put_high, put_low, put_milliseconds};
 use crate::number::put_wide;
 use std::alloc::AllocError;
 
@@ -28,6 +32,8 @@ pub enum Field<'a> {
     Low(i128),
     /// The high end of a range of ticks of 2^-32 s.
     High(i128),
+    /// A word in the place of the ends of a range.
+    Instead(&'a str),
     /// An IPv4 address.
     Address([u8; 4]),
     /// A reference identifier.
@@ -36,21 +42,25 @@ pub enum Field<'a> {
     Nothing,
 }
 
-/// How a field is written.
+/// How fields are written.
 #[derive(Clone, Copy, Debug)]
 pub enum Style {
-    /// For programs.
+    /// For programs: whole numbers alone.
     Plain,
+    /// For a person, in milliseconds.
+    Human,
+    /// The same, each field in a column of its own, whose heading stands for its label.
+    Columns,
 }
 
-/// Writes the text of a field before what stands in `line`.
-fn put_field(line: &mut Line, style: Style, field: &Field<'_>)
+/// Writes the text of a field for a program.
+fn put_plain(line: &mut Line, field: &Field<'_>)
     requires { length line.old + most_of (field_data field.now) ≤ CAPACITY + 1 }
-    ensures text { line.new ≡ text_of style (field_data field.now) ++ line.old }
+    ensures text { line.new ≡ plain_text (field_data field.now) ++ line.old }
     ensures at_most { length line.new + 1 ≤ length line.old + most_of (field_data field.now) }
 {
     match field {
-        Field::Word(word) | Field::Label(word) => line.put_text(word),
+        Field::Word(word) | Field::Label(word) | Field::Instead(word) => line.put_text(word),
         Field::Number(n) => line.put_number(*n),
         Field::Named(name, n) => {
             line.put_number(*n);
@@ -66,14 +76,140 @@ fn put_field(line: &mut Line, style: Style, field: &Field<'_>)
     }
 }
 
+/// Whether a byte is a letter, a digit or a sign.
+fn is_printable(byte: u8) -> bool
+    ensures { result ≡ is_printable byte }
+{
+    32 < byte && byte < 127
+}
+
+/// Whether each of four bytes is a letter, a digit or a sign.
+fn are_printable(bytes: &[u8; 4]) -> bool
+    ensures { result ≡ are_printable bytes.now }
+{
+    bytes.iter().all(|byte| is_printable(*byte))
+}
+
+/// Writes a reference identifier by its four letters, or as an address.
+fn put_reference(line: &mut Line, bytes: &[u8; 4])
+    requires { length line.old + 15 ≤ CAPACITY }
+    ensures text { line.new ≡ reference_text bytes.now ++ line.old }
+    ensures at_most { length line.new ≤ length line.old + 15 }
+{
+    if are_printable(bytes) {
+        line.put_byte(bytes[3]);
+        line.put_byte(bytes[2]);
+        line.put_byte(bytes[1]);
+        line.put_byte(bytes[0]);
+    } else {
+        line.put_address(bytes);
+    }
+}
+
+/// Writes parts of 10^9 as parts of 10^6.
+fn put_millionths(line: &mut Line, n: u32)
+    requires { length line.old + 14 ≤ CAPACITY }
+    ensures text { line.new ≡ millionths n ++ line.old }
+    ensures at_most { length line.new ≤ length line.old + 14 }
+{
+    line.put_three_digits(n % 1_000);
+    line.put_byte(b'.');
+    line.put_number(n / 1_000);
+}
+
+/// Writes the text of a field for a person.
+fn put_human(line: &mut Line, field: &Field<'_>)
+    requires { length line.old + most_of (field_data field.now) ≤ CAPACITY + 1 }
+    ensures text { line.new ≡ human_text (field_data field.now) ++ line.old }
+    ensures at_most { length line.new + 1 ≤ length line.old + most_of (field_data field.now) }
+{
+    match field {
+        Field::Second(n) => put_time(line, *n),
+        Field::Nanoseconds(n) => {
+            line.put_text(" ms");
+            put_milliseconds(line, *n);
+        }
+        Field::Billionths(n) => {
+            line.put_text(" ppm");
+            put_millionths(line, *n);
+        }
+        Field::Low(tick) => put_low(line, *tick),
+        Field::High(tick) => put_high(line, *tick),
+        Field::Reference(bytes) => put_reference(line, bytes),
+        _ => put_plain(line, field),
+    }
+}
+
+/// How wide the column of a field is.
+fn width_of(field: &Field<'_>) -> usize
+    ensures width { result ≡ width_of (field_data field.now) }
+    ensures narrow { result ≤ 20 }
+{
+    match field {
+        Field::Number(_) => 8,
+        Field::Second(_) => 20,
+        Field::Low(_) | Field::High(_) | Field::Instead(_) => 14,
+        Field::Address(_) | Field::Word(_) => 15,
+        _ => 0,
+    }
+}
+
+/// Writes blanks before what stands in `line`.
+#[tactic(auto, using(crate::proofs::Columns::one_more))]
+fn put_blanks(line: &mut Line, count: usize)
+    requires { length line.old + count ≤ CAPACITY }
+    ensures { line.new ≡ replicate count 32 ++ line.old }
+{
+    for _done in 0..count {
+        line.put_byte(b' ');
+    }
+}
+
+/// Writes the text of a field, in a column of its own, before what stands in `line`.
+#[tactic(auto, using(crate::proofs::Columns::in_room, crate::proofs::Columns::is_in_column))]
+fn put_column(line: &mut Line, field: &Field<'_>)
+    requires { length line.old + most_of (field_data field.now) ≤ CAPACITY + 1 }
+    ensures text { line.new ≡ text_of Style.Columns (field_data field.now) ++ line.old }
+    ensures at_most { length line.new + 1 ≤ length line.old + most_of (field_data field.now) }
+{
+    let end = line.as_bytes().len() + width_of(field);
+    put_human(line, field);
+    put_blanks(line, end.saturating_sub(line.as_bytes().len()));
+}
+
+/// Writes the text of a field before what stands in `line`.
+#[tactic(auto)]
+fn put_field(line: &mut Line, style: Style, field: &Field<'_>)
+    requires { length line.old + most_of (field_data field.now) ≤ CAPACITY + 1 }
+    ensures text { line.new ≡ text_of style (field_data field.now) ++ line.old }
+    ensures at_most { length line.new + 1 ≤ length line.old + most_of (field_data field.now) }
+{
+    match style {
+        Style::Plain => put_plain(line, field),
+        Style::Human => put_human(line, field),
+        Style::Columns => put_column(line, field),
+    }
+}
+
+/// Whether a field that follows another leaves no trace.
+fn is_absent(style: Style, field: &Field<'_>) -> bool
+    ensures { result ≡ is_absent style (field_data field.now) }
+{
+    match field {
+        Field::Nothing => true,
+        Field::Label(_) => matches!(style, Style::Columns),
+        _ => false,
+    }
+}
+
 /// Writes the text of a field and a blank before it, if it stands there.
 fn put_next(line: &mut Line, style: Style, field: &Field<'_>)
     requires { length line.old + most_of (field_data field.now) ≤ CAPACITY }
     ensures text { line.new ≡ next_text style (field_data field.now) ++ line.old }
     ensures at_most { length line.new ≤ length line.old + most_of (field_data field.now) }
 {
-    put_field(line, style, field);
-    if !matches!(field, Field::Nothing) {
+    if !is_absent(style, field) {
+        put_field(line, style, field);
         line.put_byte(b' ');
     }
 }
@@ -101,7 +237,18 @@ pub fn put_fields(line: &mut Line, style: Style, fields: &[Field<'_>])
     }
 }
 
-/// Adds the text of a field. `line` is what it is written in.
+/// Whether the longest text of a field has at most 100 bytes.
+fn is_short(field: &Field<'_>) -> bool
+    ensures { result ≡ is_short (field_data field.now) }
+{
+    match field {
+        Field::Word(word) | Field::Label(word) | Field::Instead(word) => word.len() <= 100,
+        Field::Named(name, _) => name.len() <= 79,
+        _ => true,
+    }
+}
+
+/// Adds the text of a field. `line` is what it is written in, unless it is a long word.
 fn add_field(
     text: &mut Vec<u8>,
     line: &mut Line,
@@ -112,16 +259,22 @@ fn add_field(
         text.old.items ++ text_of style (field_data field.now)) }
 {
     line.clear();
+    if is_short(field) {
+        put_field(line, style, field);
+        return text.extend_from_slice(line.as_bytes());
+    }
     match field {
-        Field::Word(word) | Field::Label(word) => return text.extend_from_slice(word.as_bytes()),
+        Field::Word(word) | Field::Label(word) | Field::Instead(word) => {
+            text.extend_from_slice(word.as_bytes())
+        }
         Field::Named(name, n) => {
             text.extend_from_slice(name.as_bytes())?;
             line.put_number(*n);
             line.put_byte(b' ');
+            text.extend_from_slice(line.as_bytes())
         }
-        _ => put_field(line, style, field),
+        _ => Ok(()),
     }
-    text.extend_from_slice(line.as_bytes())
 }
 
 /// Adds a blank and the text of a field, if it stands there.
@@ -134,7 +287,7 @@ fn add_next(
     ensures { IfOk result (λ _. text.new.items ≡
         text.old.items ++ next_text style (field_data field.now)) }
 {
-    if matches!(field, Field::Nothing) {
+    if is_absent(style, field) {
         return Ok(());
     }
     text.push(b' ')?;

@@ -5,11 +5,14 @@
 //! line is then one slice to copy.
 #![tactic(auto)]
 
+mod date;
 mod decimal;
 mod endpoint;
 mod field;
 mod hexadecimal;
+pub mod laws;
 mod line;
+mod millisecond;
 mod number;
 
 pub use field::{Field, Style, add_line, put_fields};

@@ -1,7 +1,7 @@
 //! The commands: operands and options, what help says about them, and what their words call for.
 
 use crate::invocation::{Invocation, Paths, SecondPath};
-use audit::{Question, Step};
+use audit::{Asked, Question, Step, Style};
 use claim_file::read_time;
 use clap::{Arg, ArgAction, ArgMatches, Command};
 use report::Input;
@@ -24,7 +24,8 @@ More:     man ntpaudit, which has the fields";
 
 const SAMPLES_HELP: &str = "\
 Prints:   a line for each exchange, `K SERVER REQUEST REPLY offset LO HI delay LO HI low L high H`,
-          with the numbers of its two records, and ticks of 2^-32 s; then a line of counts
+          with the numbers of its two records, and ticks of 2^-32 s; then a line of counts.
+          With --human milliseconds, in columns under a heading
 Status:   0 done; 2 an input is refused; 3 out of memory; 4 a file or the output failed; 5 the
           command line is refused
 Example:  ntpaudit samples claim.json recording.pcap
@@ -33,14 +34,16 @@ More:     man ntpaudit, which has the fields and the counts";
 const AT_HELP: &str = "\
 Prints:   a line for each server that has a sample, `SERVER LO HI`: the clock's error, from LO to HI
           ticks of 2^-32 s, if this server is right; then `hull LO HI`, `hull unbounded` or
-          `hull empty`: the clock's error if at most false_max groups of servers are wrong
+          `hull empty`: the clock's error if at most false_max groups of servers are wrong.
+          With --human milliseconds, in columns under a heading
 Status:   0 done; 2 an input is refused; 3 out of memory; 4 a file or the output failed; 5 the
           command line is refused
 Example:  ntpaudit at claim.json recording.pcap 2026-11-22T06:46:09Z
 More:     man ntpaudit";
 
 const CHECK_HELP: &str = "\
-Prints:   a report, whose last line is `verdict yes` or `verdict no piece K WHY`
+Prints:   a report, whose last line is `verdict yes` or `verdict no piece K WHY`. With --human
+          milliseconds, and times as 2026-11-22T06:46:09Z
 Status:   0 yes; 1 no; 2 an input is refused; 3 out of memory; 4 a file or the output failed; 5 the
           command line is refused
 Example:  ntpaudit check claim.json recording.pcap certificate.json
@@ -48,7 +51,8 @@ More:     man ntpaudit, which says what a yes means";
 
 const FIND_HELP: &str = "\
 Prints:   a certificate, or `nothing piece K` and the hull of the first piece that shows too little.
-          Only `check` settles the claim. With --refutation: a refutation, or `nothing refutation`
+          Only `check` settles the claim. With --refutation: a refutation, or `nothing refutation`.
+          With --human the hull is in milliseconds
 Status:   0 something is found; 1 nothing; 2 an input is refused, or there are over 100000 pieces;
           3 out of memory; 4 a file or the output failed; 5 the command line is refused
 Example:  ntpaudit find claim.json recording.pcap --step 8 > certificate.json
@@ -64,7 +68,8 @@ More:     man ntpaudit, which says when a refutation stands";
 const ENVELOPE_HELP: &str = "\
 Prints:   a line for each piece, `K FROM TO LOW HIGH`, `K FROM TO unbounded` or `K FROM TO empty`:
           the clock's error, from LOW to HIGH ticks of 2^-32 s; then `bound_ns N piece K`, the
-          least bound that holds, or `bound_ns none piece K`. The claim's bound is ignored
+          least bound that holds, or `bound_ns none piece K`. The claim's bound is ignored. With
+          --human milliseconds and times as 2026-11-22T06:46:09Z, in columns under a heading
 Status:   0 a bound holds; 1 none; 2 an input is refused, or there are over 100000 pieces; 3 out of
           memory; 4 a file or the output failed; 5 the command line is refused
 Example:  ntpaudit envelope claim.json recording.pcap --step 8
@@ -84,6 +89,11 @@ fn capture_operand<'a>(alloc: Global) -> Arg<'a> {
         .required(true)
 }
 
+/// The option `--human`.
+fn human_option<'a>(alloc: Global) -> Arg<'a> {
+    flag(alloc, "human", "Show milliseconds and times of the day").short('H')
+}
+
 /// A command that reads a claim and a capture, with these words about it.
 fn evidence_command<'a>(
     alloc: Global,
@@ -95,7 +105,8 @@ fn evidence_command<'a>(
         .about(about)
         .after_help(help)
         .arg(claim_operand(alloc))?
-        .arg(capture_operand(alloc))
+        .arg(capture_operand(alloc))?
+        .arg(human_option(alloc))
 }
 
 /// The command `list`.
@@ -173,10 +184,12 @@ fn find_command<'a>(alloc: Global) -> Result<Command<'a>, AllocError> {
 fn envelope_command<'a>(alloc: Global) -> Result<Command<'a>, AllocError> {
     let step = "Seconds of each piece, 1 to 86400";
     let servers = "Print before each piece what each server says about it, `K SERVER LOW HIGH`";
+    let least = "Print last the least bound that any certificate carries, `least_ns N piece K`";
     let about = "Print how far off the clock may have been, piece by piece";
     evidence_command(alloc, "envelope", about, ENVELOPE_HELP)?
         .arg(step_option(alloc, step))?
-        .arg(flag(alloc, "servers", servers))
+        .arg(flag(alloc, "servers", servers))?
+        .arg(flag(alloc, "least", least))
 }
 
 /// Adds the commands that show what a capture says: `list`, `samples` and `at`.
@@ -199,7 +212,7 @@ fn with_judgements<'a>(alloc: Global, program: Command<'a>) -> Result<Command<'a
 /// The program with its commands.
 pub(crate) fn program<'a>(alloc: Global) -> Result<Command<'a>, AllocError> {
     let program = Command::new(alloc, "ntpaudit")
-        .version("0.3.0 (logic dac8208d650f15bf)")
+        .version("0.4.0 (logic dac8208d650f15bf)")
         .about("What a packet capture of NTP shows about a clock")
         .after_help(PROGRAM_HELP)
         .subcommand_required(true);
@@ -219,6 +232,16 @@ fn list(alloc: Global, matches: &ArgMatches) -> Result<Invocation, AllocError> {
     }
 }
 
+/// A question, and for whom the answer is written.
+fn asked(matches: &ArgMatches, question: Question) -> Asked {
+    let style = if matches.get_flag("human") {
+        Style::Human
+    } else {
+        Style::Plain
+    };
+    Asked { question, style }
+}
+
 /// A question on the claim and the capture that are named.
 fn ask(alloc: Global, matches: &ArgMatches, question: Question) -> Result<Invocation, AllocError> {
     let claim = operand(alloc, matches, "CLAIM")?;
@@ -228,7 +251,7 @@ fn ask(alloc: Global, matches: &ArgMatches, question: Question) -> Result<Invoca
         second: None,
         capture,
     };
-    Ok(Invocation::Ask(question, paths))
+    Ok(Invocation::Ask(asked(matches, question), paths))
 }
 
 /// What `at` calls for: its TIME is read before anything else is done.
@@ -255,7 +278,7 @@ fn ask_with(
         second: Some(SecondPath { input, path }),
         capture,
     };
-    Ok(Invocation::Ask(question, paths))
+    Ok(Invocation::Ask(asked(matches, question), paths))
 }
 
 /// What `check` calls for.
@@ -293,11 +316,15 @@ fn find(alloc: Global, matches: &ArgMatches) -> Result<Invocation, AllocError> {
 
 /// What `envelope` calls for.
 fn envelope(alloc: Global, matches: &ArgMatches) -> Result<Invocation, AllocError> {
-    let servers = matches.get_flag("servers");
-    match step_of(matches) {
-        Some(step) => ask(alloc, matches, Question::Envelope { step, servers }),
-        None => refuse_step(alloc),
-    }
+    let Some(step) = step_of(matches) else {
+        return refuse_step(alloc);
+    };
+    let question = Question::Envelope {
+        step,
+        servers: matches.get_flag("servers"),
+        least: matches.get_flag("least"),
+    };
+    ask(alloc, matches, question)
 }
 
 /// What the words of the command line call for.

@@ -1,6 +1,6 @@
 //! What the words of a command line call for.
 
-use audit::Question;
+use audit::Asked;
 use report::Input;
 
 /// The path of a second input.
@@ -29,7 +29,7 @@ pub(crate) enum Invocation {
     /// List a capture: the file of this path, or standard input.
     List(Option<String>),
     /// Answer a question on a claim and a capture.
-    Ask(Question, Paths),
+    Ask(Asked, Paths),
     /// Show this text: help, or the version.
     Show(String),
     /// The command line is refused, for the reason in this text.

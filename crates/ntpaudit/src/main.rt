@@ -55,7 +55,7 @@ fn respond<S: Sink, E: Sink, H: BuildHasher + Drop>(
     let alloc = rt.alloc();
     match invocation {
         Invocation::List(path) => list(rt, &path, to),
-        Invocation::Ask(question, paths) => {
+        Invocation::Ask(asked, paths) => {
             let Inputs {
                 mut claim,
                 second,
@@ -67,11 +67,11 @@ fn respond<S: Sink, E: Sink, H: BuildHasher + Drop>(
             let claim = &mut claim;
             match second {
                 Some(mut second) => {
-                    answer(alloc, question, claim, &mut second, capture, to, hasher).1
+                    answer(alloc, asked, claim, &mut second, capture, to, hasher).1
                 }
                 None => {
                     let mut none = ReadFeed::new(io::empty());
-                    answer(alloc, question, claim, &mut none, capture, to, hasher).1
+                    answer(alloc, asked, claim, &mut none, capture, to, hasher).1
                 }
             }
         }

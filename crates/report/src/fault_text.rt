@@ -20,7 +20,7 @@ use std::str;
 fn capture_words(fault: &CaptureFault) -> (&'static str, Field<'static>)
     ensures word { result.0.now ≡ capture_word fault.now }
     ensures place { field_data result.1 ≡ place_of fault.now }
-    ensures room { length result.0.now + most_of (field_data result.1) ≤ 57 }
+    ensures room { length result.0.now + most_of (field_data result.1) ≤ 66 }
 {
     match fault {
         CaptureFault::TornHeader => ("torn-header", Field::Nothing),
@@ -41,7 +41,7 @@ fn capture_words(fault: &CaptureFault) -> (&'static str, Field<'static>)
 fn claim_words(fault: &ClaimFault) -> (&'static str, Field<'static>)
     ensures word { result.0.now ≡ claim_word fault.now }
     ensures code { field_data result.1 ≡ code_of fault.now }
-    ensures room { length result.0.now + most_of (field_data result.1) ≤ 57 }
+    ensures room { length result.0.now + most_of (field_data result.1) ≤ 66 }
 {
     match fault {
         ClaimFault::Json => ("json", Field::Nothing),
@@ -59,7 +59,7 @@ fn claim_words(fault: &ClaimFault) -> (&'static str, Field<'static>)
 fn certificate_words(fault: &CertificateFault) -> (&'static str, Field<'static>)
     ensures word { result.0.now ≡ certificate_word fault.now }
     ensures piece { field_data result.1 ≡ piece_of fault.now }
-    ensures room { length result.0.now + most_of (field_data result.1) ≤ 57 }
+    ensures room { length result.0.now + most_of (field_data result.1) ≤ 66 }
 {
     match fault {
         CertificateFault::Json => ("json", Field::Nothing),
@@ -77,7 +77,7 @@ fn certificate_words(fault: &CertificateFault) -> (&'static str, Field<'static>)
 fn refutation_words(fault: &RefutationFault) -> (&'static str, Field<'static>)
     ensures word { result.0.now ≡ refutation_word fault.now }
     ensures alone { field_data result.1 ≡ Nothing }
-    ensures room { length result.0.now + most_of (field_data result.1) ≤ 57 }
+    ensures room { length result.0.now + most_of (field_data result.1) ≤ 66 }
 {
     match fault {
         RefutationFault::Json => ("json", Field::Nothing),
@@ -89,7 +89,7 @@ fn refutation_words(fault: &RefutationFault) -> (&'static str, Field<'static>)
 /// The word for an input.
 fn input_word(input: &Input) -> Field<'static>
     ensures word { field_data result ≡ Word (spec.input_word input.now) }
-    ensures room { most_of (field_data result) ≤ 12 }
+    ensures room { most_of (field_data result) ≤ 16 }
 {
     match input {
         Input::Claim => Field::Word("claim"),
@@ -102,7 +102,7 @@ fn input_word(input: &Input) -> Field<'static>
 /// Writes the line of an input that is refused: which one, its fault's number and word, and where.
 fn put_refused(line: &mut Line, input: Input, number: u8, words: (&'static str, Field<'static>))
     requires room { length line.old + 200 ≤ CAPACITY }
-    requires words { length words.0.now + most_of (field_data words.1) ≤ 57 }
+    requires words { length words.0.now + most_of (field_data words.1) ≤ 66 }
     ensures { line.new ≡ fields_text Plain
         (refused input number words.entry.0.now (field_data words.entry.1)) ++ line.old }
 {

@@ -8,6 +8,7 @@ mod inputs;
 mod lengths;
 mod listings;
 mod moments;
+mod people;
 mod refusals;
 mod refutations;
 mod reports;

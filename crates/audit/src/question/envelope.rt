@@ -8,6 +8,7 @@ ghost use Rattle.audit.specs.Question.{ShowsOf, show_envelope};
 ghost use Rattle.audit.specs.Report.{IsOfMaking};
 
 use crate::evidence::Evidence;
+use crate::least_line::least_line;
 use crate::question::find::run_fault_of;
 use crate::sample_list::samples_of;
 use crate::step::Step;
@@ -29,38 +30,39 @@ fn outcome_of(least: LeastBound) -> Outcome
 }
 
 /// What is known of the clock's error in each piece of this length, with what each server says
-/// there if `servers` is true, and the least bound that holds throughout: `Yes` if there is one.
+/// there if `servers` is true, and the least bound that holds throughout: `Yes` if there is one. If
+/// `least` is true, the least bound that any certificate carries stands behind it.
 pub(crate) fn make_envelope(
     alloc: Global,
+    style: Style,
     step: Step,
     servers: bool,
+    least: bool,
     evidence: &Evidence,
 ) -> Result<Made, RunFault>
     requires { IsLawfulEvidence evidence.now }
     ensures made { IsMadeFor
-        (envelope_report step.seconds servers (evidence_data evidence.now)) result }
+        (envelope_report style step.seconds servers least (evidence_data evidence.now)) result }
     ensures fault { IfErr result IsOfMaking }
-    ensures shows { IfOk result (λ made. ShowsOf (show_envelope step.seconds servers)
+    ensures shows { IfOk result (λ made. ShowsOf (show_envelope step.seconds servers least)
         (evidence_data evidence.now) made.outcome) }
 {
     best_hulls_hold_the_error();
     let claim = &evidence.claim;
     let samples = samples_of(evidence);
     match find_envelope_over(alloc, samples, claim, step.seconds) {
-        Ok(envelope) => match envelope_text(
-            alloc,
-            Style::Plain,
-            samples,
-            claim,
-            servers,
-            &envelope,
-        ) {
-            Ok(text) => Ok(Made {
-                text,
-                outcome: outcome_of(envelope.least),
-            }),
-            Err(AllocError) => Err(RunFault::Memory),
-        },
+        Ok(envelope) => {
+            let Ok(line) = least_line(alloc, step, least, evidence) else {
+                return Err(RunFault::Memory);
+            };
+            match envelope_text(alloc, style, samples, claim, servers, &envelope, line) {
+                Ok(text) => Ok(Made {
+                    text,
+                    outcome: outcome_of(envelope.least),
+                }),
+                Err(AllocError) => Err(RunFault::Memory),
+            }
+        }
         Err(fault) => Err(run_fault_of(fault)),
     }
 }

@@ -53,20 +53,25 @@ fn certificate_line(alloc: Global, certificate: &Certificate) -> Result<Vec<u8>,
 
 /// The whole text.
 #[tactic(auto, unfolding(crate::specs::Find::found_text))]
-fn found_text(alloc: Global, found: &Found) -> Result<Vec<u8>, AllocError>
-    ensures { IfOk result (λ text. text.items ≡ spec.found_text (found_data found.now)) }
+fn found_text(alloc: Global, style: Style, found: &Found) -> Result<Vec<u8>, AllocError>
+    ensures { IfOk result (λ text. text.items ≡ spec.found_text style (found_data found.now)) }
 {
     match found {
         Found::Certificate(certificate) => certificate_line(alloc, certificate),
-        Found::Nothing { piece, hull } => nothing_text(alloc, Style::Plain, *piece, *hull),
+        Found::Nothing { piece, hull } => nothing_text(alloc, style, *piece, *hull),
     }
 }
 
 /// Looks for a certificate with pieces of this length: `Yes` with one that `check` accepts, or `No`
 /// with the first piece for which the samples show too little.
-pub(crate) fn make_find(alloc: Global, step: Step, evidence: &Evidence) -> Result<Made, RunFault>
+pub(crate) fn make_find(
+    alloc: Global,
+    style: Style,
+    step: Step,
+    evidence: &Evidence,
+) -> Result<Made, RunFault>
     requires { IsLawfulEvidence evidence.now }
-    ensures made { IsMadeFor (find_report step.seconds (evidence_data evidence.now)) result }
+    ensures made { IsMadeFor (find_report style step.seconds (evidence_data evidence.now)) result }
     ensures fault { IfErr result IsOfMaking }
     ensures shows { IfOk result (λ made. ShowsOf (find_with step.seconds)
         (evidence_data evidence.now) made.outcome) }
@@ -74,7 +79,7 @@ pub(crate) fn make_find(alloc: Global, step: Step, evidence: &Evidence) -> Resul
     let claim = &evidence.claim;
     let samples = samples_of(evidence);
     match find_over(alloc, samples, claim, step.seconds) {
-        Ok(found) => match found_text(alloc, &found) {
+        Ok(found) => match found_text(alloc, style, &found) {
             Ok(text) => Ok(Made {
                 text,
                 outcome: outcome_of(&found),

@@ -13,12 +13,16 @@ use report::{Made, Outcome, RunFault};
 use std::alloc::{AllocError, Global};
 
 /// The text with a line for each sample, and the counts.
-pub(crate) fn make_samples(alloc: Global, evidence: &Evidence) -> Result<Made, RunFault>
+pub(crate) fn make_samples(
+    alloc: Global,
+    style: Style,
+    evidence: &Evidence,
+) -> Result<Made, RunFault>
     requires { IsLawfulEvidence evidence.now }
-    ensures made { IsMadeFor (samples_report (evidence_data evidence.now)) result }
+    ensures made { IsMadeFor (samples_report style (evidence_data evidence.now)) result }
     ensures fault { IfErr result IsOfMaking }
 {
-    match samples_text(alloc, Style::Plain, &evidence.claim, &evidence.held) {
+    match samples_text(alloc, style, &evidence.claim, &evidence.held) {
         Ok(text) => Ok(Made {
             text,
             outcome: Outcome::Yes,

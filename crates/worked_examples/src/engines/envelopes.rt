@@ -3,7 +3,8 @@
 use crate::engines::inputs::{LONG, claim_of};
 use crate::engines::trial::{Command, Inputs, gives};
 use crate::expectation::assert_ok;
-use Command::Envelope;
+use Command::{Ask, Envelope};
+use audit::{Asked, Question, Step, Style};
 use report::Outcome;
 use std::alloc::Global;
 use std::process::Abort;
@@ -108,5 +109,48 @@ fn spans(rt: HostRuntime) {
         &V1,
         Outcome::Yes,
         &two,
+    );
+}
+
+/// An envelope in pieces of this many seconds, and the least bound that any certificate carries.
+fn with_least(seconds: u32) -> Command {
+    let seconds = seconds.max(1).min(86_400);
+    let question = Question::Envelope {
+        step: Step { seconds },
+        servers: false,
+        least: true,
+    };
+    let style = Style::Plain;
+    Ask(Asked { question, style })
+}
+
+/// No certificate of a moment carries less than its envelope says, and none carries a bound if the
+/// one server may be wrong.
+#[test]
+fn least_of_a_moment(rt: HostRuntime) {
+    let alloc = rt.alloc();
+    let bound = [PIECE, LEAST, "least_ns 10001001 piece 0\n"];
+    let none = [UNBOUNDED, NONE, "least_ns none\n"];
+    envelops(&rt, alloc, with_least(64), &[], &V1, Outcome::Yes, &bound);
+    envelops(&rt, alloc, with_least(64), &[ONE], &V1, Outcome::No, &none);
+}
+
+/// Over a span the drift adds up: the last ticks need the most, in whichever piece they lie.
+#[test]
+fn least_of_a_span(rt: HostRuntime) {
+    let lines = [
+        "0 1000000000 1000000032 -45698509 45701086\n",
+        "1 1000000032 1000000064 -48447343 48449920\n",
+        "bound_ns 11280627 piece 1\n",
+        "least_ns 11280627 piece 1\n",
+    ];
+    envelops(
+        &rt,
+        rt.alloc(),
+        with_least(32),
+        &LONG,
+        &V1,
+        Outcome::Yes,
+        &lines,
     );
 }

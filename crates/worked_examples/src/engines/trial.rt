@@ -3,15 +3,16 @@
 ghost use Rattle.byte_stream.specs.State.{IsWritable};
 
 use crate::expectation::{assert_equal, assert_equal_at, assert_ok};
-use audit::{run_at, run_check, run_envelope, run_find, run_refute, run_samples, run_seek};
+use audit::{Asked, run_at, run_check, run_envelope, run_find, run_refute, run_samples, run_seek};
 use byte_stream::{Cut, Feed, Sink, TestFeed, TestSink};
 use listing::run_list;
 use report::{Outcome, RunFault};
 use std::alloc::Global;
+use std::hash::{BuildHasherDefault, FoldHasher};
 use std::process::Abort;
 
 /// A command, with what it's asked for: a moment in Unix seconds, or the length of pieces and
-/// whether to show the servers.
+/// whether to show the servers; or whatever is asked.
 #[derive(Clone, Copy, Debug)]
 pub(crate) enum Command {
     List,
@@ -22,6 +23,7 @@ pub(crate) enum Command {
     Refute,
     Seek,
     Envelope(u32, bool),
+    Ask(Asked),
 }
 
 /// What the inputs of a run hold: the claim, the certificate or refutation, and the capture. A
@@ -91,7 +93,11 @@ pub(crate) fn run<'a>(
         Command::Seek => run_seek(alloc, &mut claim, capture, out),
         Command::Envelope(step_s, servers) => {
             let step_s = step_s.max(1).min(86_400);
-            run_envelope(alloc, &mut claim, capture, step_s, servers, out)
+            run_envelope(alloc, &mut claim, capture, step_s, servers, false, out)
+        }
+        Command::Ask(asked) => {
+            let hasher = BuildHasherDefault::<FoldHasher>::new();
+            audit::run(alloc, asked, &mut claim, &mut second, capture, out, hasher)
         }
     };
     Ran {

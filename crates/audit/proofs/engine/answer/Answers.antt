@@ -15,7 +15,7 @@ returns-clause-answers g c = record {
 
 pub returns-clause-shows : goal.returns-clause-shows
 returns-clause-shows g c =
-    shown_by_status (Shows (data_of c.args.question) _ _ _) c.run-capture.result.1 c.tell.result
+    shown_by_status (Shows (data_of c.args.asked.question) _ _ _) c.run-capture.result.1 c.tell.result
     c.tell.ensures.status c.run-capture.ensures.shows
 
 pub returns-clause-traceable : goal.returns-clause-traceable

@@ -1,4 +1,4 @@
-use Rattle.audit.specs.Question.{data_of}
+use Rattle.audit.specs.Question.{asked_of, data_of}
 use Rattle.audit.proofs.RunLemmas.{claim_taken, claim_was_read, made_of_bytes, made_runs}
 use Rattle.audit.proofs.ShowsLemmas.{run_shows}
 use Rattle.audit.proofs.engine.run.Goals as goal
@@ -7,7 +7,7 @@ pub returns-clause-runs : goal.returns-clause-runs
 returns-clause-runs g c =
     let read = c.read_claim_from-claim.ensures in
     let made = c.make_report-capture.ensures in
-    made_runs (data_of c.args.question) _ _ _ _ _ _ c.make_report-capture.result.1 _ (record {
+    made_runs (asked_of c.args.asked) _ _ _ _ _ _ c.make_report-capture.result.1 _ (record {
       is_made = made_of_bytes _ _ _ _ c.read_claim_from-claim.result _ read.known made.made;
       unwritten = made.unwritten;
       claim_faults = rw made.claim_device read.counts_fault;
@@ -31,5 +31,5 @@ returns-clause-shows g c =
       nanoseconds = c.bounds_of_bytes_hold_in_nanoseconds.ensures;
       headline = c.yes_shows_the_headline.ensures;
       contested = c.course_beyond_the_bound_contests_the_claim.ensures;
-    }) (data_of c.args.question) _ _ _ c.read_claim_from-claim.result c.make_report-capture.result.1 _
+    }) (data_of c.args.asked.question) _ _ _ c.read_claim_from-claim.result c.make_report-capture.result.1 _
     c.read_claim_from-claim.ensures.known made.read made.shows c.publish-answer.ensures.stays

@@ -7,4 +7,5 @@ use Rattle.audit_text.proofs.envelope.add_parts.Given as goal
 abbrev pub invariant-loop-part : goal.invariant-loop-part
 invariant-loop-part l =
     l.text.items
-    ≡ l.initial.text.items ++ flat_map (server_line l.style (data_of l.claim) l.number) (take l.part-index l.parts)
+    ≡ l.initial.text.items
+    ++ flat_map (server_line l.style (data_of l.claim) l.number l.stretch) (take l.part-index l.parts)

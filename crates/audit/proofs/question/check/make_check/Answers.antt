@@ -5,6 +5,6 @@ use Rattle.audit.proofs.question.check.make_check.Goals as goal
 
 pub returns-in-Ok-clause-shows : goal.returns-in-Ok-clause-shows
 returns-in-Ok-clause-shows c =
-    let verdict = c.check_exchanges-verdict in
-    verdict_shows (certificate_data c.args.certificate.now) (evidence_data c.args.evidence.now) verdict.result
-    c.outcome_of.result c.outcome_of.ensures (rw c.deref.ensures.value at verdict.ensures)
+    let findings = c.findings_on-findings in
+    verdict_shows (certificate_data c.args.certificate.now) (evidence_data c.args.evidence.now)
+    findings.result.verdict c.outcome_of.result c.outcome_of.ensures findings.ensures.verdict

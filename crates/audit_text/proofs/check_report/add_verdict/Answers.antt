@@ -1,0 +1,14 @@
+use Rattle.std.proofs.Common.{◌≡◌, ◌++◌, [], ◌∷◌, codes, sym}
+use Rattle.std.specs.Result.{IfOk}
+use Rattle.line_writer.specs.Field.{line_of, Word, Named}
+use Rattle.audit_text.specs.CheckReport.{verdict_line}
+use Rattle.audit_text.proofs.check_report.add_verdict.Goals as goal
+
+pub returns-in-No : goal.returns-in-No
+unfolding verdict_line
+returns-in-No c =
+    let told : IfOk c.add_line-in-No.result (λ _. c.add_line-in-No.new.text.items ≡
+    c.args.text.now.items ++ line_of c.args.style (
+    Word (codes "verdict no") ∷ Named (codes "piece") c.from.result ∷ Word c.why_word.result.now ∷ [])) =
+    c.add_line-in-No.ensures in
+    rw (c.in-No.is, sym c.from.ensures, sym c.why_word.ensures) told

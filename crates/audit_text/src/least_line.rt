@@ -1,0 +1,53 @@
+//! The line of the least bound that any certificate carries.
+
+ghost use Rattle.std.specs.Prelude.{◌≡◌, ◌++◌, IfOk};
+ghost use Rattle.audit_text.specs.LeastLine as spec;
+
+use crate::heading::word_for;
+use line_writer::{Field, Style, add_line};
+use std::alloc::AllocError;
+
+/// What is said of the least bound that any certificate carries.
+#[derive(Clone, Copy, Debug)]
+pub enum LeastLine {
+    /// It isn't asked for.
+    NotAsked,
+    /// No certificate carries any bound.
+    NoneHolds,
+    /// There is one.
+    Holds {
+        /// The bound in nanoseconds.
+        bound_ns: u128,
+        /// The first piece of the envelope that holds a tick which needs it, counted from 0.
+        piece: u32,
+    },
+}
+
+/// Adds the line of the least bound, if it is asked for.
+#[tactic(auto, unfolding(crate::specs::LeastLine::least_line))]
+pub(crate) fn add_least(
+    text: &mut Vec<u8>,
+    style: Style,
+    least: LeastLine,
+) -> Result<(), AllocError>
+    ensures { IfOk result (λ _. text.new.items ≡ text.old.items ++ spec.least_line style least) }
+{
+    match least {
+        LeastLine::NotAsked => Ok(()),
+        LeastLine::NoneHolds => {
+            add_line(
+                text,
+                style,
+                &[word_for(style, "least_ns none", "least none")],
+            )
+        }
+        LeastLine::Holds { bound_ns, piece } => {
+            let fields = [
+                word_for(style, "least_ns", "least"),
+                Field::Nanoseconds(bound_ns),
+                Field::Named("piece", u64::from(piece)),
+            ];
+            add_line(text, style, &fields)
+        }
+    }
+}

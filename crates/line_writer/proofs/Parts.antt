@@ -1,0 +1,20 @@
+-- Ticks as nanoseconds, by whole seconds and a part of a second.
+use Rattle.std.proofs.Common.{◌≡◌, ◌∙◌, ℕ, ◌+◌, ◌*◌, ◌/◌, ◌%◌, sym, ap, arith}
+use Rattle.std.proofs.lemmas.Nat.{div-add-mod'}
+use Rattle.era_unfold.specs.Ratio.{floor_of, ceiling_of}
+use Rattle.era_unfold.proofs.Rounding.{div-whole_and_part, div-whole_and_part_up}
+use Rattle.line_writer.specs.Millisecond.{shorter, longer}
+
+pub shorter_by_parts : (ticks : ℕ) →
+    ticks / 4294967296 * 1000000000 + ticks % 4294967296 * 1000000000 / 4294967296 ≡ shorter ticks
+unfolding floor_of
+shorter_by_parts ticks =
+    sym (div-whole_and_part (ticks / 4294967296) (ticks % 4294967296) 4294967296 1000000000 (omega arith))
+    ∙ ap (λ n. n * 1000000000 / 4294967296) (div-add-mod' ticks 4294967296)
+
+pub longer_by_parts : (ticks : ℕ) →
+    ticks / 4294967296 * 1000000000 + (ticks % 4294967296 * 1000000000 + 4294967295) / 4294967296 ≡ longer ticks
+unfolding ceiling_of
+longer_by_parts ticks =
+    sym (div-whole_and_part_up (ticks / 4294967296) (ticks % 4294967296) 4294967296 1000000000 (omega arith))
+    ∙ ap (λ n. (n * 1000000000 + 4294967295) / 4294967296) (div-add-mod' ticks 4294967296)
