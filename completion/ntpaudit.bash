@@ -8,9 +8,10 @@ _ntpaudit() {
         return
     fi
     case $command in
-    find) options='--step --refutation --help' ;;
-    envelope) options='--step --servers --help' ;;
-    refute) options='--drift --help' ;;
+    find) options='--step --refutation --human --help' ;;
+    envelope) options='--step --servers --least --human --help' ;;
+    refute) options='--drift --human --help' ;;
+    samples | at | check) options='--human --help' ;;
     help) options='list samples at envelope find check refute' ;;
     *) options='--help' ;;
     esac
