@@ -1,7 +1,7 @@
 -- Texts in columns.
 use Rattle.std.proofs.Common.{◌≡◌, ℕ, ◌+◌, ◌-◌, ◌≤◌, ◌∷◌, ◌++◌, List, length, arith, refl, length-append, add-one, append_assoc}
 use Rattle.std.specs.Prelude.{replicate}
-use Rattle.line_writer.specs.Field.{FieldData, Word, Label, Number, Named, Second, Nanoseconds, Billionths, Low, High, Instead, Address, Reference, Nothing, in_column, width_of, most_of}
+use Rattle.line_writer.specs.Field.{FieldData, Word, Label, Number, Named, Second, TimeBelow, TimeAbove, Nanoseconds, Billionths, Low, High, Instead, Address, Reference, Nothing, in_column, width_of, most_of}
 
 pub one_more : (n : ℕ) (text : List ℕ) → 32 ∷ (replicate n 32 ++ text) ≡ replicate (n + 1) 32 ++ text
 one_more n text = rw add-one refl
@@ -13,6 +13,8 @@ in_room (Label word) = omega arith
 in_room (Number n) = omega arith
 in_room (Named name n) = omega arith
 in_room (Second n) = omega arith
+in_room (TimeBelow tick) = omega arith
+in_room (TimeAbove tick) = omega arith
 in_room (Nanoseconds n) = omega arith
 in_room (Billionths n) = omega arith
 in_room (Low tick) = omega arith

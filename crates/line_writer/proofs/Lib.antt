@@ -6,3 +6,4 @@ pub mod Parts
 pub mod Columns
 pub mod Ends
 pub mod Calendar
+pub mod Moments

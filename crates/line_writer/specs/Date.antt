@@ -64,11 +64,15 @@ minute_of second = second / 60 % 60
 abbrev pub second_of : ℕ → ℕ
 second_of second = second % 60
 
--- a Unix second
-abbrev pub time_text : ℕ → List ℕ
-time_text second =
+-- a Unix second, up to the letter that says UTC
+abbrev pub clock_text : ℕ → List ℕ
+clock_text second =
     date_text (day_number second) ++ codes "T" ++ two_digits (hour_of second) ++ codes ":" ++
-    two_digits (minute_of second) ++ codes ":" ++ two_digits (second_of second) ++ codes "Z"
+    two_digits (minute_of second) ++ codes ":" ++ two_digits (second_of second)
+
+-- the whole
+abbrev pub time_text : ℕ → List ℕ
+time_text second = clock_text second ++ codes "Z"
 
 -- The date that is shown of a day is one of the calendar, and the day's.
 pub record IsDateOf (day : ℕ) : Type 0 where

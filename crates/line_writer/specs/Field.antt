@@ -5,6 +5,7 @@ use Rattle.hex.specs.Hex.{encode_lower}
 use Rattle.line_writer.specs.Text.{address, are_printable, millionths}
 use Rattle.line_writer.specs.Date.{time_text}
 use Rattle.line_writer.specs.Millisecond.{milliseconds, nanosecond_above, nanosecond_below, signed_milliseconds}
+use Rattle.line_writer.specs.Moment.{moment_above, moment_below}
 use Rattle.line_writer.specs.declared.field.Field.{Field}
 use Rattle.line_writer.specs.declared.field.Field.TheVariants as the
 use Rattle.line_writer.specs.declared.field.Style.{Style}
@@ -21,6 +22,9 @@ pub data FieldData : Type 0 where
   Named : List ℕ → ℕ → FieldData
   -- a time in whole Unix seconds
   Second : ℕ → FieldData
+  -- a tick of 2^-32 s of the Unix epoch, rounded down for a person, and one that is rounded up
+  TimeBelow : ℤ → FieldData
+  TimeAbove : ℤ → FieldData
   -- a length of time in nanoseconds, and parts of 10^9
   Nanoseconds : ℕ → FieldData
   Billionths : ℕ → FieldData
@@ -42,6 +46,8 @@ field_data (the.Label word) = Label word.now
 field_data (the.Number n) = Number n
 field_data (the.Named name n) = Named name.now n
 field_data (the.Second n) = Second n
+field_data (the.TimeBelow tick) = TimeBelow tick
+field_data (the.TimeAbove tick) = TimeAbove tick
 field_data (the.Nanoseconds n) = Nanoseconds n
 field_data (the.Billionths n) = Billionths n
 field_data (the.Low tick) = Low tick
@@ -58,6 +64,8 @@ plain_text (Label word) = word
 plain_text (Number n) = decimal n
 plain_text (Named name n) = name ++ codes " " ++ decimal n
 plain_text (Second n) = decimal n
+plain_text (TimeBelow tick) = signed_decimal tick
+plain_text (TimeAbove tick) = signed_decimal tick
 plain_text (Nanoseconds n) = decimal n
 plain_text (Billionths n) = decimal n
 plain_text (Low tick) = signed_decimal tick
@@ -75,6 +83,8 @@ reference_text bytes = if are_printable bytes then bytes else address bytes
 -- and parts of 10^6 with their unit
 abbrev pub human_text : FieldData → List ℕ
 human_text (Second n) = time_text n
+human_text (TimeBelow tick) = moment_below tick
+human_text (TimeAbove tick) = moment_above tick
 human_text (Nanoseconds n) = milliseconds n ++ codes " ms"
 human_text (Billionths n) = millionths n ++ codes " ppm"
 human_text (Low tick) = signed_milliseconds (nanosecond_below tick)

@@ -1,4 +1,5 @@
 pub mod Text
 pub mod Date
 pub mod Millisecond
+pub mod Moment
 pub mod Field

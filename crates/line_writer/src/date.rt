@@ -1,7 +1,7 @@
 //! Unix seconds as dates and times of day in UTC.
 
 ghost use Rattle.std.specs.Prelude.{◌≡◌, ◌+◌, ◌<◌, ◌≤◌, ◌++◌, length};
-ghost use Rattle.line_writer.specs.Date.{date_text, day_of, month_of, time_text, two_digits, year_of};
+ghost use Rattle.line_writer.specs.Date.{clock_text, date_text, day_of, month_of, time_text, two_digits, year_of};
 
 use crate::line::{CAPACITY, Line};
 
@@ -70,13 +70,12 @@ fn put_date(line: &mut Line, day: u32)
     put_two_digits(line, date.year / 100);
 }
 
-/// Writes a Unix second as a date and a time of day.
-pub(crate) fn put_time(line: &mut Line, second: u32)
-    requires { length line.old + 20 ≤ CAPACITY }
-    ensures text { line.new ≡ time_text second ++ line.old }
-    ensures grows { length line.new ≡ length line.old + 20 }
+/// Writes a Unix second as a date and a time of day, up to the letter that says UTC.
+pub(crate) fn put_clock(line: &mut Line, second: u32)
+    requires { length line.old + 19 ≤ CAPACITY }
+    ensures text { line.new ≡ clock_text second ++ line.old }
+    ensures grows { length line.new ≡ length line.old + 19 }
 {
-    line.put_byte(b'Z');
     put_two_digits(line, second % 60);
     line.put_byte(b':');
     put_two_digits(line, second / 60 % 60);
@@ -84,4 +83,14 @@ pub(crate) fn put_time(line: &mut Line, second: u32)
     put_two_digits(line, second / 3600 % 24);
     line.put_byte(b'T');
     put_date(line, second / 86_400);
+}
+
+/// Writes a Unix second as a date and a time of day.
+pub(crate) fn put_time(line: &mut Line, second: u32)
+    requires { length line.old + 20 ≤ CAPACITY }
+    ensures text { line.new ≡ time_text second ++ line.old }
+    ensures grows { length line.new ≡ length line.old + 20 }
+{
+    line.put_byte(b'Z');
+    put_clock(line, second);
 }

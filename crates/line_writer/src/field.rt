@@ -8,6 +8,7 @@ ghost use Rattle.line_writer.specs.Field.{most_of, next_text, plain_text, refere
 use crate::date::put_time;
 use crate::line::{CAPACITY, Line};
 use crate::millisecond::{put_high, put_low, put_milliseconds};
+use crate::moment::{put_moment_above, put_moment_below};
 use crate::number::put_wide;
 use std::alloc::AllocError;
 
@@ -24,6 +25,11 @@ pub enum Field<'a> {
     Named(&'a str, u64),
     /// A time in whole Unix seconds.
     Second(u32),
+    /// A tick of 2^-32 s of the Unix epoch: for a person the time at the nanosecond at or below it.
+    /// A tick before 1970, or of a second that has more than 32 bits, is shown as its number.
+    TimeBelow(i128),
+    /// The same at the nanosecond at or above it.
+    TimeAbove(i128),
     /// A length of time in nanoseconds.
     Nanoseconds(u128),
     /// Parts of 10^9.
@@ -69,7 +75,9 @@ fn put_plain(line: &mut Line, field: &Field<'_>)
         }
         Field::Second(n) | Field::Billionths(n) => line.put_number(*n),
         Field::Nanoseconds(n) => put_wide(line, *n),
-        Field::Low(tick) | Field::High(tick) => line.put_number(*tick),
+        Field::TimeBelow(tick) | Field::TimeAbove(tick) | Field::Low(tick) | Field::High(tick) => {
+            line.put_number(*tick);
+        }
         Field::Address(bytes) => line.put_address(bytes),
         Field::Reference(bytes) => line.put_hexadecimal(bytes),
         Field::Nothing => {}
@@ -125,6 +133,8 @@ fn put_human(line: &mut Line, field: &Field<'_>)
 {
     match field {
         Field::Second(n) => put_time(line, *n),
+        Field::TimeBelow(tick) => put_moment_below(line, *tick),
+        Field::TimeAbove(tick) => put_moment_above(line, *tick),
         Field::Nanoseconds(n) => {
             line.put_text(" ms");
             put_milliseconds(line, *n);

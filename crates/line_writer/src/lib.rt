@@ -13,6 +13,7 @@ mod hexadecimal;
 pub mod laws;
 mod line;
 mod millisecond;
+mod moment;
 mod number;
 
 pub use field::{Field, Style, add_line, put_fields};

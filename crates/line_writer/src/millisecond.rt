@@ -9,14 +9,14 @@ use crate::number::put_wide;
 use era_unfold::TICKS_PER_SECOND;
 
 /// How many nanoseconds a second has.
-const NANOSECONDS_PER_SECOND: u128 = 1_000_000_000;
+pub(crate) const NANOSECONDS_PER_SECOND: u128 = 1_000_000_000;
 
 /// How many nanoseconds a millisecond has.
 const NANOSECONDS_PER_MILLISECOND: u128 = 1_000_000;
 
 /// A length in whole nanoseconds that isn't longer than so many ticks.
 #[tactic(auto, using(crate::proofs::Parts::shorter_by_parts))]
-fn shorter(ticks: u128) -> u128
+pub(crate) fn shorter(ticks: u128) -> u128
     requires { ticks ≤ 2 ^ 127 }
     ensures exact { result ≡ spec.shorter ticks }
     ensures fits { result < 2 ^ 127 }
@@ -27,7 +27,7 @@ fn shorter(ticks: u128) -> u128
 
 /// A length in whole nanoseconds that isn't shorter than so many ticks.
 #[tactic(auto, using(crate::proofs::Parts::longer_by_parts))]
-fn longer(ticks: u128) -> u128
+pub(crate) fn longer(ticks: u128) -> u128
     requires { ticks ≤ 2 ^ 127 }
     ensures exact { result ≡ spec.longer ticks }
     ensures fits { result < 2 ^ 127 }
