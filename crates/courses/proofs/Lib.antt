@@ -31,4 +31,5 @@ pub mod CoverFound
 pub mod PartialTables
 pub mod SortedMarks
 pub mod TableCovers
+pub mod ToldConflicts
 pub mod FirstPairs

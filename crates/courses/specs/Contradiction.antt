@@ -3,9 +3,9 @@
 -- A pair goes by the numbers of its exchanges: first the one whose low mark it is, then the one
 -- whose high mark it is. An exchange that is impossible by itself is a pair with itself. Of several
 -- pairs the first counts, by the first number and then by the second.
-use Rattle.std.specs.Prelude.{◌≡◌, ℕ, ◌<◌, ◌≤◌, ◌⊎◌, List, Some, slice_get}
+use Rattle.std.specs.Prelude.{◌≡◌, ℕ, ◌<◌, ◌≤◌, ◌⊎◌, Bool, true, ◌||◌, List, Some, slice_get, All, AllPairs, Any}
 use Rattle.claim_file.specs.Claim.{ClaimData}
-use Rattle.courses.specs.Cover.{group_of}
+use Rattle.courses.specs.Cover.{group_of, size_of, DoConflict, IsBroken}
 use Rattle.marks.specs.Mark.{low_mark, high_mark, IsPossible, AreCompatible}
 use Rattle.pairing.specs.declared.exchange.Exchange.{Exchange}
 
@@ -49,3 +49,40 @@ pub record IsFirstContradiction (claim : ClaimData) (xs : List Exchange) (a b : 
 -- there is one
 abbrev pub HasContradiction : ClaimData → List Exchange → ℕ → ℕ → Type 0
 HasContradiction claim xs a b = (pair : Pair) × IsContradiction claim xs a b pair
+
+-- ---- all of them
+
+-- a broken group, under its own number twice, or two groups that conflict, of which neither is
+-- broken and the lesser number comes first
+abbrev pub AreToTell : ClaimData → List Exchange → ℕ → ℕ → Type 0
+AreToTell claim xs a b = ((a ≡ b) × IsBroken claim xs a)
+    ⊎ ((a < b) × ¬ (IsBroken claim xs a) × ¬ (IsBroken claim xs b) × DoConflict claim xs a b)
+
+-- such groups, and the pair that shows it
+pub record ShownConflict : Type 0 where
+  pub a : ℕ
+  pub b : ℕ
+  pub pair : Pair
+
+-- the one comes before the other, by the numbers of their groups
+abbrev pub IsBefore : ShownConflict → ShownConflict → Type 0
+IsBefore one other = (one.a < other.a) ⊎ ((one.a ≡ other.a) × (one.b < other.b))
+
+-- these are all the conflicts to tell, each with its first pair, in the order of their groups
+pub record AreAllConflicts (claim : ClaimData) (xs : List Exchange) (told : List ShownConflict)
+    : Type 0 where
+  pub each : All (λ conflict. AreToTell claim xs conflict.a conflict.b) told
+  pub first : All (λ conflict.
+      IsFirstContradiction claim xs conflict.a conflict.b conflict.pair) told
+  pub all : (a b : ℕ) → AreToTell claim xs a b
+      → Any (λ conflict. (conflict.a ≡ a) × (conflict.b ≡ b)) told
+  pub order : AllPairs IsBefore told
+
+-- a set of groups has an end of each
+abbrev pub HoldsAnEnd : (ℕ → Bool) → List ShownConflict → Type 0
+HoldsAnEnd is_in told = All (λ conflict. (is_in conflict.a || is_in conflict.b) ≡ true) told
+
+-- no set of as few groups as may be false has
+abbrev pub NoFewHoldAnEnd : ClaimData → List ShownConflict → Type 0
+NoFewHoldAnEnd claim told =
+    (is_in : ℕ → Bool) → size_of claim is_in ≤ claim.false_max → ¬ (HoldsAnEnd is_in told)

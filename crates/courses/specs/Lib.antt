@@ -17,3 +17,4 @@ pub mod ConflictsView
 pub mod SortedMarks
 pub mod PartialTable
 pub mod PairMarks
+pub mod ToldConflicts

@@ -3,9 +3,10 @@
 use Rattle.std.specs.Prelude.{◌≡◌, ℕ, ◌-◌, ◌^◌, ◌<◌, ◌==◌, ◌||◌, pos, negsuc, Bool, if◌then◌else◌}
 use Rattle.std.specs.Prelude.{List, Some, slice_get}
 use Rattle.claim_file.specs.Claim.{ClaimData}
-use Rattle.courses.specs.Contradiction.{Pair}
+use Rattle.courses.specs.Contradiction.{Pair, ShownConflict}
 use Rattle.courses.specs.Cover.{group_of}
 use Rattle.courses.specs.declared.contradiction.Contradiction.{Contradiction}
+use Rattle.courses.specs.declared.told.Conflict.{Conflict}
 use Rattle.marks.specs.Mark.{low_mark, high_mark, IsPossible}
 use Rattle.marks.specs.declared.mark.Mark.{Mark}
 use Rattle.pairing.specs.declared.exchange.Exchange.{Exchange}
@@ -46,3 +47,6 @@ pub record IsFirstImpossible (claim : ClaimData) (xs : List Exchange) (group k :
 -- what a value of the program says
 abbrev pub pair_of : Contradiction → Pair
 pair_of c = record { low = c.low; high = c.high }
+
+abbrev pub conflict_data : Conflict → ShownConflict
+conflict_data c = record { a = c.a; b = c.b; pair = pair_of c.pair }

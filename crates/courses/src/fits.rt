@@ -5,7 +5,7 @@ ghost use Rattle.claim_file.specs.Claim.{IsLawful, data_of as claim_data};
 ghost use Rattle.courses.specs.DriftSettlement.{SettlesFit};
 ghost use Rattle.pairing.specs.Exchange.{IsLawful as IsLawfulExchange};
 
-use crate::laws::{fits_are_settled, tables_settle_covers};
+use crate::laws::fits_are_settled;
 use crate::table::conflicts_of;
 use claim_file::Claim;
 use pairing::ToExchange;
@@ -27,7 +27,6 @@ pub fn course_fits<X: ToExchange>(
     ensures { IfOk result (SettlesFit (claim_data claim.now) (map X.shown exchanges.now)) }
 {
     fits_are_settled();
-    tables_settle_covers();
     let found = conflicts_of(alloc, exchanges, claim)?;
     Ok(found.has_cover(claim.false_max))
 }

@@ -27,8 +27,8 @@ ghost use Rattle.sample_interval.specs.Moment.{Moment, error_of, DriftsWithin};
 ghost use Rattle.sample_interval.specs.Widening.{billion, IsRate};
 
 pub use crate::conflict_laws::{
-    first_contradiction_is_one, marks_of_groups_tell_conflicts, pairs_show_conflicts,
-    tests_of_marks_make_a_table,
+    ends_of_all_conflicts_are_a_cover, first_contradiction_is_one, marks_of_groups_tell_conflicts,
+    pairs_show_conflicts, tests_of_marks_make_a_table,
 };
 pub use crate::refutation_laws::{
     accepted_refutations_have_a_course, courses_of_refutations_break_the_claim,

@@ -30,6 +30,7 @@ mod refutation;
 mod refutation_laws;
 mod sorted_marks;
 mod table;
+mod told;
 
 pub use conflicts::Conflicts;
 pub use contradiction::{Contradiction, first_contradiction};
@@ -37,3 +38,4 @@ pub use fits::course_fits;
 pub use groups::Groups;
 pub use refutation::check_refutation_with_drift;
 pub use table::conflicts_of;
+pub use told::{Conflict, first_contradictions};

@@ -1,0 +1,26 @@
+use Rattle.std.proofs.Common.{map, sym, ◌∙◌, subst, List}
+use Rattle.claim_file.specs.Claim.{data_of as claim_data}
+use Rattle.courses.specs.PairMarks.{conflict_data}
+use Rattle.courses.specs.ToldConflicts.{AreToldTo}
+use Rattle.courses.specs.declared.told.Conflict.{Conflict}
+use Rattle.courses.proofs.PartialTables.{within_end}
+use Rattle.courses.proofs.ToldConflicts.{all_told, nothing_told, told_in_range}
+use Rattle.courses.proofs.told.first_contradictions.Goals as goal
+
+pub loop-a-init : goal.loop-a-init
+loop-a-init g c =
+    let claim = claim_data c.args.claim.now in
+    let xs = map g.X.ToExchange.shown c.args.exchanges.now in
+    subst (λ (told : List Conflict). AreToldTo claim xs 0 0 (map conflict_data told)) (sym c.new-told.ensures.items)
+    (nothing_told claim xs)
+
+pub loop-a-preserved : goal.loop-a-preserved
+loop-a-preserved g c = c.in_ok-add_conflicts.ensures
+
+pub returns : goal.returns
+returns g c =
+    let claim = claim_data c.args.claim.now in
+    let xs = map g.X.ToExchange.shown c.args.exchanges.now in
+    all_told claim xs c.loop-a.a (map conflict_data c.loop-a.told.items) c.loop-a.invariant
+    (λ a b tell. within_end a _ _ _ (told_in_range claim xs c.requires.claim c.requires.exchanges a b tell).0
+    (c.groups-a-end.ensures.groups ∙ c.requires.groups) c.loop-a-test.false)

@@ -1,0 +1,119 @@
+//! All conflicts, each with what shows it.
+
+ghost use Rattle.std.specs.Prelude.{◌≡◌, ◌<◌, ◌+◌, IfOk, length, map, All};
+ghost use Rattle.claim_file.specs.Claim.{IsLawful, data_of as claim_data};
+ghost use Rattle.courses.specs.ConflictTable.{IsConflictTable};
+ghost use Rattle.courses.specs.ConflictsView.{data_of};
+ghost use Rattle.courses.specs.Contradiction.{AreAllConflicts, AreToTell};
+ghost use Rattle.courses.specs.PairMarks.{conflict_data};
+ghost use Rattle.courses.specs.ToldConflicts as spec;
+ghost use Rattle.courses.specs.ToldConflicts.{AreToldTo, IsToldOf};
+ghost use Rattle.pairing.specs.Exchange.{IsLawful as IsLawfulExchange};
+
+use crate::conflicts::Conflicts;
+use crate::contradiction::{Contradiction, first_contradiction};
+use claim_file::Claim;
+use pairing::ToExchange;
+use std::alloc::{AllocError, Global};
+
+/// Two groups that conflict, or one that is broken, and what shows it.
+#[derive(Clone, Copy)]
+pub struct Conflict {
+    /// The number of the broken group, or the lesser number of two.
+    pub a: u8,
+    /// The other group's number, or the broken group's once more.
+    pub b: u8,
+    /// The first two exchanges that show it.
+    pub pair: Contradiction,
+}
+
+/// Whether two numbers are those of a broken group, or of two others that conflict, the lesser
+/// number first.
+fn is_to_tell(conflicts: &Conflicts, a: u8, b: u8) -> bool
+    requires one { a < (data_of conflicts.now).groups }
+    requires other { b < (data_of conflicts.now).groups }
+    ensures { result ≡ spec.is_to_tell (data_of conflicts.now) a b }
+{
+    if a == b {
+        conflicts.is_broken(a)
+    } else {
+        a < b && !conflicts.is_broken(a) && !conflicts.is_broken(b) && conflicts.is_edge(a, b)
+    }
+}
+
+/// A conflict with the first two exchanges that show it.
+fn shown_conflict<X: ToExchange>(
+    alloc: Global,
+    exchanges: &[X],
+    claim: &Claim,
+    a: u8,
+    b: u8,
+) -> Result<Conflict, AllocError>
+    requires claim { IsLawful (claim_data claim.now) }
+    requires exchanges { All (IsLawfulExchange (length claim.now.servers.items))
+        (map X.shown exchanges.now) }
+    requires to_tell { AreToTell (claim_data claim.now) (map X.shown exchanges.now) a b }
+    ensures { IfOk result (λ conflict. IsToldOf (claim_data claim.now) (map X.shown exchanges.now)
+        a b (conflict_data conflict)) }
+{
+    match first_contradiction(alloc, exchanges, claim, a, b)? {
+        Some(pair) => Ok(Conflict { a, b, pair }),
+        None => unreachable!(),
+    }
+}
+
+/// Adds the conflicts of which a group has the lesser number, or is broken.
+fn add_conflicts<X: ToExchange>(
+    alloc: Global,
+    exchanges: &[X],
+    claim: &Claim,
+    conflicts: &Conflicts,
+    a: u8,
+    told: &mut Vec<Conflict>,
+) -> Result<(), AllocError>
+    requires claim { IsLawful (claim_data claim.now) }
+    requires exchanges { All (IsLawfulExchange (length claim.now.servers.items))
+        (map X.shown exchanges.now) }
+    requires groups { (data_of conflicts.now).groups ≡ length claim.now.groups.items }
+    requires table { IsConflictTable (claim_data claim.now) (map X.shown exchanges.now)
+        (data_of conflicts.now).is_broken (data_of conflicts.now).is_edge }
+    requires within { a < (data_of conflicts.now).groups }
+    requires told { AreToldTo (claim_data claim.now) (map X.shown exchanges.now) a 0
+        (map conflict_data told.old.items) }
+    ensures { IfOk result (λ _. AreToldTo (claim_data claim.now) (map X.shown exchanges.now)
+        (a + 1) 0 (map conflict_data told.new.items)) }
+{
+    for b in 0..conflicts.groups() {
+        if is_to_tell(conflicts, a, b) {
+            told.push(shown_conflict(alloc, exchanges, claim, a, b)?)?;
+        }
+    }
+    Ok(())
+}
+
+/// All conflicts, each with the first two exchanges that show it, in the order of the groups'
+/// numbers: those that are broken, and each two of the others that conflict.
+///
+/// `conflicts` is what [`conflicts_of`](crate::conflicts_of) makes of the same exchanges. Memory is
+/// taken for four marks of each exchange, of 32 bytes each.
+pub fn first_contradictions<X: ToExchange>(
+    alloc: Global,
+    exchanges: &[X],
+    claim: &Claim,
+    conflicts: &Conflicts,
+) -> Result<Vec<Conflict>, AllocError>
+    requires claim { IsLawful (claim_data claim.now) }
+    requires exchanges { All (IsLawfulExchange (length claim.now.servers.items))
+        (map X.shown exchanges.now) }
+    requires groups { (data_of conflicts.now).groups ≡ length claim.now.groups.items }
+    requires table { IsConflictTable (claim_data claim.now) (map X.shown exchanges.now)
+        (data_of conflicts.now).is_broken (data_of conflicts.now).is_edge }
+    ensures { IfOk result (λ told. AreAllConflicts (claim_data claim.now)
+        (map X.shown exchanges.now) (map conflict_data told.items)) }
+{
+    let mut told = Vec::new(alloc);
+    for a in 0..conflicts.groups() {
+        add_conflicts(alloc, exchanges, claim, conflicts, a, &mut told)?;
+    }
+    Ok(told)
+}
