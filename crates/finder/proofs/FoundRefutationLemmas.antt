@@ -99,7 +99,10 @@ module _ (law : RoomLaw) (claim : ClaimData) (lawful : IsLawful claim) (xs : Lis
             ∙ is.others_fail other.error other_over less)))
             (λ le. le)
             (int_cases other.error error);
+        none_above = λ under. absurd (omega (arith, ints));
         greatest_below = λ under. absurd (omega (arith, ints));
+        liars = refl;
+        reading = refl;
       }
 
   found_below : NoneAbove → (number : ℤ) → IsFirstBeyond below claim.bound least_error_below number
@@ -110,6 +113,13 @@ module _ (law : RoomLaw) (claim : ClaimData) (lawful : IsLawful claim) (xs : Lis
       record {
         accepted = refuted_at law claim lawful xs each (neg_ℤ number) (beyond_below number beyond) is.passes;
         least_above = λ over. absurd (omega (arith, ints));
+        none_above = λ under other of_64_bits refuted. ⊎_elim
+            (λ over. absurd (true≢false (sym (possible_of law claim lawful xs each other refuted)
+            ∙ none other.error over of_64_bits.not_above)))
+            (λ not_over. not_over)
+            (int_cases claim.bound other.error);
+        liars = refl;
+        reading = refl;
         greatest_below = λ under other of_64_bits refuted.
             let possible = possible_of law claim lawful xs each other refuted in
             let outside = refuted.against.beyond_bound in

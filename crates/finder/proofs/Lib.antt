@@ -19,6 +19,7 @@ pub mod Beyond
 pub mod LongestLemmas
 pub mod FewestAnswerLemmas
 pub mod BoundLemmas
+pub mod SettlementLemmas
 pub mod UnboundedHulls
 pub mod Needs
 pub mod Search

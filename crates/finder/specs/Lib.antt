@@ -14,5 +14,6 @@ pub mod Need
 pub mod NeedSearch
 pub mod Neediest
 pub mod NeedAnswer
+pub mod Settlement
 pub mod Room
 pub mod Sought

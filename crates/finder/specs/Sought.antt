@@ -86,10 +86,16 @@ module _ (claim : ClaimData) (xs : List Exchange) where
       → ¬ (IsRefuted claim xs other)
 
   -- of the refutations that are accepted this one has the least error above the bound; or none has
-  -- an error above it, and this one the greatest below it on the other side
+  -- an error above it, and this one the greatest below it on the other side. It names just the
+  -- servers that have no room for its error, in their order, and the first reading of the span.
   pub record IsSought (found : RefutationData) : Type 0 where
     pub accepted : IsRefuted claim xs found
     pub least_above : claim.bound <ℤ found.error → (other : RefutationData)
         → IsRefuted claim xs other → claim.bound <ℤ other.error → found.error ≤ℤ other.error
+    pub none_above : found.error <ℤ neg_ℤ claim.bound → (other : RefutationData)
+        → IsErrorOf64Bits other.error → IsRefuted claim xs other → other.error ≤ℤ claim.bound
     pub greatest_below : found.error <ℤ neg_ℤ claim.bound → (other : RefutationData)
         → IsErrorOf64Bits other.error → IsRefuted claim xs other → other.error ≤ℤ found.error
+    pub liars : found.liars
+        ≡ filter (refuses claim.reading xs found.error) (numbers_below (length claim.servers))
+    pub reading : found.reading ≡ unsigned_abs claim.first

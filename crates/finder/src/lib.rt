@@ -12,7 +12,9 @@
 //! lesser one. [`best_parts`] gives what each server says at one tick. [`find_refutation`] gives a
 //! refutation, which the checker accepts, unless it accepts none, and
 //! [`find_refutation_with_drift`] one of which the clock drifts, if it finds one with the groups of
-//! one of the given covers false. [`laws`] has what holds of the definitions.
+//! one of the given covers false. [`settle`] gives a certificate of fewest pieces or a refutation
+//! with drift; or else the tick where such pieces stop, or all conflicts if no course of events
+//! fits. [`laws`] has what holds of the definitions.
 #![tactic(auto)]
 
 mod drift_refutation;
@@ -33,6 +35,7 @@ mod piece;
 mod piece_hull;
 mod reach;
 mod room;
+mod settlement;
 mod side;
 mod sought;
 mod table;
@@ -47,5 +50,6 @@ pub use hull::parts;
 pub use least::LeastBound;
 pub use need::{LeastNeed, least_bound, least_bound_over, piece_holding};
 pub use piece_hull::PieceHull;
+pub use settlement::{Settled, exchange_samples, settle};
 pub use sought::find_refutation;
 pub use tick_parts::best_parts;

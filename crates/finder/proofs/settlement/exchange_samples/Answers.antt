@@ -1,0 +1,15 @@
+use Rattle.std.proofs.Common.{length}
+use Rattle.claim_file.specs.Claim.{data_of as claim_data}
+use Rattle.finder.proofs.ClaimLemmas.{reading_kept}
+use Rattle.finder.proofs.SettlementLemmas.{of_most_servers}
+use Rattle.finder.proofs.settlement.exchange_samples.Goals as goal
+
+pub invariant_of-result : goal.invariant_of-result
+invariant_of-result g c =
+    let claim = c.requires.claim in
+    record {
+      lawful = λ k d below. of_most_servers (length c.args.claim.now.servers.items) _ claim.few_servers
+          (c.requires.exchanges k d below);
+      from_zero = rw (reading_kept (claim_data c.args.claim.now) claim) claim.reading_not_negative;
+      at_most_a_second = rw (reading_kept (claim_data c.args.claim.now) claim) claim.reading_in_range;
+    }

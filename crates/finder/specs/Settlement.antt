@@ -1,0 +1,91 @@
+-- What settles a claim: one of four answers, each with what proves it.
+--
+-- If no course of events fits the exchanges, something that the claim grants isn't true in this
+-- capture, and no more is asked. If one fits, a certificate shows the claim, or a refutation
+-- contests it, or neither was found, and no certificate is accepted.
+use Rattle.std.specs.Prelude.{◌≡◌, ◌⊎◌, ◌≤◌, ℤ, List, length, map, AllPairs, Result, IfOk, IfErr}
+use Rattle.certificate.specs.Certificate.{CertificateData, data_of as certificate_data, max_pieces}
+use Rattle.certificate.specs.Refutation.{RefutationData, data_of as refutation_data}
+use Rattle.claim_file.specs.Claim.{ClaimData}
+use Rattle.intersection.specs.declared.kinds.Hull.{Hull}
+use Rattle.pairing.specs.Exchange.{SameRequest}
+use Rattle.pairing.specs.declared.exchange.Exchange.{Exchange}
+use Rattle.checker.specs.Traceability.{HoldsError, samples_of}
+use Rattle.checker.specs.Verdict.{verdict_of}
+use Rattle.checker.specs.declared.verdict.Verdict.TheVariants.{Yes}
+use Rattle.courses.specs.Contradiction.{ShownConflict, AreAllConflicts, NoFewHoldAnEnd}
+use Rattle.courses.specs.Cover.{SomeCourse}
+use Rattle.courses.specs.DriftRefutation.{IsRefutedWithDrift, HasDriftCourse}
+use Rattle.courses.specs.PairMarks.{conflict_data}
+use Rattle.finder.specs.Fewest.{HasFewest, IsOfLongest, IsStuck, IsTooLong, NoneIsAccepted, NoneOfFewIsAccepted, stretch_over}
+use Rattle.finder.specs.declared.fault.FindFault.{FindFault}
+use Rattle.finder.specs.declared.fault.FindFault.TheVariants.{TooManyPieces, Memory}
+use Rattle.finder.specs.declared.settlement.Settled.{Settled}
+use Rattle.finder.specs.declared.settlement.Settled.TheVariants as the
+
+-- a certificate, a refutation, all conflicts, or the tick at which the certificate of fewest pieces
+-- stops, with its hull
+pub data SettledData : Type 0 where
+  shown : CertificateData → SettledData
+  refuted : RefutationData → SettledData
+  fitted_by_none : List ShownConflict → SettledData
+  left_open : ℤ → ℤ → Hull → SettledData
+
+-- what a value of the program says
+abbrev pub settled_data : Settled → SettledData
+settled_data (the.Shown certificate) = shown (certificate_data certificate)
+settled_data (the.Refuted refutation) = refuted (refutation_data refutation)
+settled_data (the.NothingFits conflicts) = fitted_by_none (map conflict_data conflicts.items)
+settled_data (the.Open begin end hull) = left_open begin end hull
+
+module _ (claim : ClaimData) (xs : List Exchange) where
+  -- The certificate shows the claim: it is accepted, no accepted one has fewer pieces, and a course
+  -- fits the exchanges, so that it says something of some course.
+  pub record IsShownBy (certificate : CertificateData) : Type 0 where
+    pub course : SomeCourse claim xs
+    pub longest : IsOfLongest (samples_of xs claim) claim certificate
+    pub accepted : verdict_of (samples_of xs claim) claim certificate ≡ Yes
+    pub fewest : HasFewest (samples_of xs claim) claim certificate
+    pub few : length certificate.pieces ≤ max_pieces
+
+  -- The refutation contests it: a course fits in which the clock is off by its error, and no
+  -- certificate is accepted.
+  pub record IsContestedBy (refutation : RefutationData) : Type 0 where
+    pub accepted : IsRefutedWithDrift claim xs refutation
+    pub course : AllPairs SameRequest xs → HasDriftCourse claim xs refutation
+    pub none_accepted : NoneIsAccepted (samples_of xs claim) claim
+
+  -- No course fits. These are all conflicts, and no groups that are few enough to be false have an
+  -- end of each.
+  pub record IsFittedByNone (conflicts : List ShownConflict) : Type 0 where
+    pub no_course : ¬ (SomeCourse claim xs)
+    pub all : AreAllConflicts claim xs conflicts
+    pub unaccounted : NoFewHoldAnEnd claim conflicts
+
+  -- A course fits, and no certificate is accepted. Where the longest pieces have come to, the next
+  -- tick isn't shown; in every course that fits, the error lies in its hull at every moment whose
+  -- reading lies there.
+  pub record IsLeftOpen (begin end : ℤ) (hull : Hull) : Type 0 where
+    pub course : SomeCourse claim xs
+    pub stuck : IsStuck (samples_of xs claim) claim begin end hull
+    pub none_accepted : NoneIsAccepted (samples_of xs claim) claim
+    pub held : HoldsError claim (samples_of xs claim) (stretch_over begin end) hull
+
+  abbrev pub IsSettledAs : SettledData → Type 0
+  IsSettledAs (shown certificate) = IsShownBy certificate
+  IsSettledAs (refuted refutation) = IsContestedBy refutation
+  IsSettledAs (fitted_by_none conflicts) = IsFittedByNone conflicts
+  IsSettledAs (left_open begin end hull) = IsLeftOpen begin end hull
+
+  -- A course fits, and as many pieces as a certificate may have don't reach the span's end: none
+  -- that may be written is accepted.
+  pub record HasTooManyPieces : Type 0 where
+    pub course : SomeCourse claim xs
+    pub too_long : IsTooLong (samples_of xs claim) claim
+    pub none_accepted : NoneOfFewIsAccepted (samples_of xs claim) claim
+
+  -- what a search for what settles a claim answers
+  pub record Settles (result : Result Settled FindFault) : Type 0 where
+    pub settled : IfOk result (λ found. IsSettledAs (settled_data found))
+    pub refused : IfErr result (λ fault.
+        (fault ≡ Memory) ⊎ ((fault ≡ TooManyPieces) × HasTooManyPieces))

@@ -1,0 +1,157 @@
+//! What settles a claim.
+
+ghost use Rattle.std.specs.Prelude.{◌≡◌, ◌≤◌, ◌≤ℤ◌, length, map, true, All, IfOk, IfSome};
+ghost use Rattle.certificate.specs.Refutation.{data_of as refutation_data};
+ghost use Rattle.claim_file.specs.Claim.{IsLawful, data_of as claim_data};
+ghost use Rattle.checker.specs.Traceability.{samples_of};
+ghost use Rattle.courses.specs.DriftSettlement.{SettlesWithDrift};
+ghost use Rattle.finder.specs.Samples.{AreSamplesOf};
+ghost use Rattle.finder.specs.Settlement.{Settles};
+ghost use Rattle.pairing.specs.Exchange.{IsLawful as IsLawfulExchange};
+
+use crate::drift_refutation::find_refutation_with_drift;
+use crate::fault::FindFault;
+use crate::fewest::{Fewest, find_fewest_over};
+use crate::laws::samples_of_exchanges_keep_limits;
+use crate::need::least_bound_over;
+use arrayvec::ArrayVec;
+use certificate::{Certificate, Refutation};
+use claim_file::Claim;
+use courses::laws::{
+    ends_of_all_conflicts_are_a_cover, some_course_fits_where_a_cover_is_small,
+    some_course_is_observed_at_any_reading,
+};
+use courses::{Conflict, Conflicts, conflicts_of, first_contradictions};
+use intersection::kinds::Hull;
+use pairing::ToExchange;
+use sample_interval::{ExchangeSamples, SampleSource};
+use std::alloc::{AllocError, Global};
+
+/// One of four answers to a claim, with what proves it.
+#[derive(Drop)]
+pub enum Settled {
+    /// The claim is shown: by a certificate that the checker accepts, of as few pieces as can be.
+    Shown(Certificate),
+    /// The claim is refuted: by a refutation that stands if the clock drifts as the claim grants.
+    Refuted(Refutation),
+    /// No course of events fits the exchanges: these are all conflicts, in the order of the groups.
+    NothingFits(Vec<Conflict>),
+    /// Neither was found, and no certificate is accepted.
+    Open {
+        /// Where the first tick begins that isn't shown, in Unix ticks of 2^-32 s.
+        begin: i128,
+        /// Where it ends: a tick later, or the same if the span is one moment.
+        end: i128,
+        /// The hull of the best entries there, in ticks, over the groups of servers.
+        hull: Hull,
+    },
+}
+
+/// The samples of the exchanges, in their order, with the claimed allowance. Each is made when it
+/// is asked for.
+pub fn exchange_samples<'a, X: ToExchange>(
+    exchanges: &'a [X],
+    claim: &Claim,
+) -> ExchangeSamples<'a, X>
+    requires claim { IsLawful (claim_data claim.now) }
+    requires exchanges { All (IsLawfulExchange (length claim.now.servers.items))
+        (map X.shown exchanges.now) }
+    ensures samples { ⟦<ExchangeSamples<'a, X> as SampleSource>⟧.samples result
+        ≡ samples_of (map X.shown exchanges.now) (claim_data claim.now) }
+    ensures of_claim { AreSamplesOf (claim_data claim.now)
+        (samples_of (map X.shown exchanges.now) (claim_data claim.now)) }
+    ensures as_many { length (samples_of (map X.shown exchanges.now) (claim_data claim.now))
+        ≡ length exchanges.now }
+{
+    samples_of_exchanges_keep_limits();
+    ExchangeSamples {
+        exchanges,
+        reading: claim.reading,
+    }
+}
+
+/// The readings at which a refutation is looked for: the ends of the tick that needs most, and
+/// those of the tick where the certificate of fewest pieces stops.
+fn readings_of<X: ToExchange>(
+    alloc: Global,
+    exchanges: &[X],
+    claim: &Claim,
+    begin: i128,
+    end: i128,
+) -> Result<ArrayVec<u64, 4>, AllocError>
+    requires claim { IsLawful (claim_data claim.now) }
+    requires exchanges { All (IsLawfulExchange (length claim.now.servers.items))
+        (map X.shown exchanges.now) }
+    requires few { length exchanges.now ≤ 1_000_000 }
+    requires from_first { claim.now.first ≤ℤ begin }
+    requires in_order { begin ≤ℤ end }
+    requires to_last { end ≤ℤ claim.now.last }
+{
+    let mut readings = ArrayVec::new();
+    if let Some(need) = least_bound_over(alloc, exchange_samples(exchanges, claim), claim)? {
+        readings.push(need.begin as u64);
+        readings.push(need.end as u64);
+    }
+    readings.push(begin as u64);
+    readings.push(end as u64);
+    Ok(readings)
+}
+
+/// A refutation that stands, if one is found, where the certificate of fewest pieces stops.
+fn refutation_of<X: ToExchange>(
+    alloc: Global,
+    exchanges: &[X],
+    claim: &Claim,
+    conflicts: &Conflicts,
+    begin: i128,
+    end: i128,
+) -> Result<Option<Refutation>, AllocError>
+    requires claim { IsLawful (claim_data claim.now) }
+    requires exchanges { All (IsLawfulExchange (length claim.now.servers.items))
+        (map X.shown exchanges.now) }
+    requires few { length exchanges.now ≤ 1_000_000 }
+    requires from_first { claim.now.first ≤ℤ begin }
+    requires in_order { begin ≤ℤ end }
+    requires to_last { end ≤ℤ claim.now.last }
+    ensures { IfOk result (λ sought. IfSome sought (λ found. SettlesWithDrift
+        (claim_data claim.now) (map X.shown exchanges.now) (refutation_data found) true)) }
+{
+    let readings = readings_of(alloc, exchanges, claim, begin, end)?;
+    let covers = conflicts.covers(claim.false_max);
+    find_refutation_with_drift(alloc, exchanges, claim, &covers, &readings)
+}
+
+/// Settles a claim: by a certificate if there is one, or else by a refutation with drift if one is
+/// found. If no course of events fits the exchanges, neither is looked for.
+///
+/// There are at most 1,000,000 exchanges. `TooManyPieces` comes if a course fits and 100,000 of the
+/// longest pieces don't reach the span's end, and `Memory` if none is left.
+pub fn settle<X: ToExchange>(
+    alloc: Global,
+    exchanges: &[X],
+    claim: &Claim,
+) -> Result<Settled, FindFault>
+    requires claim { IsLawful (claim_data claim.now) }
+    requires exchanges { All (IsLawfulExchange (length claim.now.servers.items))
+        (map X.shown exchanges.now) }
+    requires few { length exchanges.now ≤ 1_000_000 }
+    ensures { Settles (claim_data claim.now) (map X.shown exchanges.now) result }
+{
+    some_course_fits_where_a_cover_is_small();
+    some_course_is_observed_at_any_reading();
+    ends_of_all_conflicts_are_a_cover();
+    let conflicts = conflicts_of(alloc, exchanges, claim)?;
+    if !conflicts.has_cover(claim.false_max) {
+        let told = first_contradictions(alloc, exchanges, claim, &conflicts)?;
+        return Ok(Settled::NothingFits(told));
+    }
+    match find_fewest_over(alloc, exchange_samples(exchanges, claim), claim)? {
+        Fewest::Certificate(certificate) => Ok(Settled::Shown(certificate)),
+        Fewest::Nothing { begin, end, hull } => {
+            match refutation_of(alloc, exchanges, claim, &conflicts, begin, end)? {
+                Some(refutation) => Ok(Settled::Refuted(refutation)),
+                None => Ok(Settled::Open { begin, end, hull }),
+            }
+        }
+    }
+}
