@@ -19,3 +19,7 @@ status_of (Err (TooBig input)) = 2
 status_of (Err Memory) = 3
 status_of (Err (Device input)) = 4
 status_of (Err (Write sent)) = 4
+
+-- of a refused command line
+abbrev pub refused_status : ℕ
+refused_status = 5

@@ -3,6 +3,7 @@
 ghost use Rattle.std.specs.Prelude.{◌≡◌, codes, string_bytes};
 ghost use Rattle.byte_stream.specs.State.{IsWritable};
 ghost use Rattle.report.specs.Delivery.{IsDelivered};
+ghost use Rattle.report.specs.ExitStatus.{refused_status};
 
 use crate::delivery::deliver;
 use byte_stream::Sink;
@@ -15,7 +16,7 @@ const REFUSED_COMMAND_LINE: u8 = 5;
 pub fn refuse<E: Sink>(text: String, err: &mut E) -> u8
     requires { IsWritable (E.state err.old) }
     ensures says { IsDelivered (string_bytes text) (E.state err.old) (E.state err.new) }
-    ensures status { result ≡ REFUSED_COMMAND_LINE }
+    ensures status { result ≡ refused_status }
 {
     let _ = deliver(text.as_bytes(), err);
     REFUSED_COMMAND_LINE
@@ -26,7 +27,7 @@ pub fn refuse<E: Sink>(text: String, err: &mut E) -> u8
 pub fn refuse_time<E: Sink>(err: &mut E) -> u8
     requires { IsWritable (E.state err.old) }
     ensures says { IsDelivered (codes "ntpaudit: time\n") (E.state err.old) (E.state err.new) }
-    ensures status { result ≡ REFUSED_COMMAND_LINE }
+    ensures status { result ≡ refused_status }
 {
     let _ = deliver(b"ntpaudit: time\n", err);
     REFUSED_COMMAND_LINE
