@@ -1,22 +1,26 @@
--- What exchanges show that are held.
-use Rattle.std.proofs.Common.{◌≡◌, ◌∙◌, ◌<◌, ℕ, List, length, map, get_or, sym, subst}
+-- The exchange of a held one, at its place.
+use Rattle.std.proofs.Common.{◌≡◌, ◌∙◌, ◌<◌, ℕ, List, length, map, get_or, All, Some, ap, sym, subst}
+use Rattle.std.specs.Prelude.{option_map, slice_get}
 use Rattle.std.proofs.lemmas.List.{get_or-map, length-map}
-use Rattle.std.specs.Prelude.{All}
+use Rattle.std.proofs.lemmas.Option.{slice_get-get_or, slice_get-map}
 use Rattle.pairing.specs.declared.exchange.Exchange.{Exchange}
-use Rattle.pairing.specs.declared.held.HeldExchange.{HeldExchange}
 use Rattle.pairing.specs.Exchange.{IsLawful}
-use Rattle.pairing.specs.Held.{exchange_shown}
 
-module _ (held : List HeldExchange) (i : ℕ) (d : HeldExchange) (within : i < length held)
-    (x : Exchange) (is : x ≡ exchange_shown (get_or held i d)) where
+module _ {X : Type 0} (shown : X → Exchange) (held : List X) (i : ℕ) (d : X) (within : i < length held)
+    (x : Exchange) (is : x ≡ shown (get_or held i d)) where
   -- it is the exchange at its place
-  pub stands_at : (e : Exchange) → x ≡ get_or (map exchange_shown held) i e
-  stands_at e = is ∙ sym (get_or-map exchange_shown held i d e within)
+  pub stands_at : (e : Exchange) → x ≡ get_or (map shown held) i e
+  stands_at e = is ∙ sym (get_or-map shown held i d e within)
 
   -- which is one of them
-  pub is_inside : i < length (map exchange_shown held)
-  is_inside = rw (length-map held exchange_shown) within
+  pub is_inside : i < length (map shown held)
+  is_inside = rw (length-map held shown) within
+
+  -- and is found there
+  pub found_at : slice_get (map shown held) i ≡ Some x
+  found_at =
+      slice_get-map shown held i ∙ ap (option_map shown) (slice_get-get_or held i d within) ∙ ap Some (sym is)
 
   -- and keeps the limits that all keep
-  pub keeps_limits : (servers : ℕ) → All (IsLawful servers) (map exchange_shown held) → IsLawful servers x
+  pub keeps_limits : (servers : ℕ) → All (IsLawful servers) (map shown held) → IsLawful servers x
   keeps_limits servers each = subst (IsLawful servers) (sym (stands_at x)) (each i x is_inside)

@@ -1,6 +1,6 @@
 -- What is shown to a person beside the fields: headings over columns, and words with no unit.
 use Rattle.std.specs.Prelude.{ℕ, List, [], ◌∷◌, codes, Bool, true, false}
-use Rattle.line_writer.specs.Field.{FieldData, line_of, Word}
+use Rattle.line_writer.specs.Field.{FieldData, line_of, Word, Nothing}
 use Rattle.line_writer.specs.declared.field.Style.{Style}
 use Rattle.line_writer.specs.declared.field.Style.TheVariants.{Plain, Human, Columns}
 
@@ -18,6 +18,11 @@ is_plain style = false
 abbrev pub word_for : Style → List ℕ → List ℕ → FieldData
 word_for Plain program person = Word program
 word_for style program person = Word person
+
+-- a field for a person alone
+abbrev pub for_person : Style → FieldData → FieldData
+for_person Plain field = Nothing
+for_person style field = field
 
 -- the line over a table: none for programs
 unfoldable pub heading : Style → List ℕ → List ℕ

@@ -11,3 +11,4 @@ pub mod CheckReport
 pub mod Nothing
 pub mod Envelope
 pub mod Refutation
+pub mod Settlement

@@ -50,6 +50,16 @@ pub(crate) fn word_for(style: Style, program: &'static str, person: &'static str
     }
 }
 
+/// A field for a person alone.
+pub(crate) fn for_person(style: Style, field: Field<'static>) -> Field<'static>
+    ensures { field_data result ≡ spec.for_person style (field_data field.entry) }
+{
+    match style {
+        Style::Plain => Field::Nothing,
+        _ => field,
+    }
+}
+
 /// Adds the heading over a table, for a person.
 #[tactic(auto, unfolding(crate::specs::Heading::heading))]
 fn add_heading(text: &mut Vec<u8>, style: Style, words: &'static str) -> Result<(), AllocError>

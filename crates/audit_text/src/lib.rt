@@ -21,6 +21,7 @@ mod refutation;
 mod sample_line;
 mod samples;
 mod second;
+mod settlement;
 
 pub use check_report::{Findings, check_text};
 pub use envelope::envelope_text;
@@ -29,3 +30,4 @@ pub use nothing::nothing_text;
 pub use parts::parts_text;
 pub use refutation::{no_refutation_text, refuted_text};
 pub use samples::samples_text;
+pub use settlement::{conflicts_text, open_text};

@@ -1,0 +1,29 @@
+use Rattle.std.proofs.Common.{◌≡◌, ◌∙◌, ℤ, ap, arith, to_z, of_z}
+use Rattle.std.proofs.lemmas.Int.{ints, to_z-of_z, fits_signed_from_abs}
+use mir.Syntax.{w128}
+use Rattle.line_writer.specs.Field.{TimeAbove}
+use Rattle.pairing.specs.Exchange.{IsInRange}
+use Rattle.audit_text.specs.Heading.{for_person}
+use Rattle.audit_text.specs.Settlement.{pair_line}
+use Rattle.audit_text.proofs.settlement.add_pair.Goals as goal
+
+kept : (tick : ℤ) → IsInRange tick → to_z w128 (of_z w128 tick) ≡ tick
+kept tick range =
+    to_z-of_z w128 tick (fits_signed_from_abs w128 tick (omega (arith, ints, range.least, range.greatest)))
+
+pub returns : goal.returns
+unfolding pair_line
+returns c =
+    let time : ℤ → _ = λ tick. for_person c.args.style (TimeAbove tick) in
+    rw (
+      c.server_of.ensures,
+      c.server_of-2.ensures,
+      c.from.ensures,
+      c.from-2.ensures,
+      c.for_person.ensures,
+      c.for_person-2.ensures,
+      c.for_person-3.ensures ∙ ap time (kept c.args.low.now.t1_low c.requires.low.t1_low),
+      c.for_person-4.ensures,
+      c.for_person-5.ensures,
+      c.for_person-6.ensures ∙ ap time (kept c.args.high.now.t4_low c.requires.high.t4_low),
+    ) at c.add_line.ensures
