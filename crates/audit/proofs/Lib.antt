@@ -7,6 +7,7 @@ pub mod RefuteLemmas
 pub mod LeastLemmas
 pub mod EnvelopeLemmas
 pub mod SeekLemmas
+pub mod SettleLemmas
 pub mod RunLemmas
 pub mod ShowsLemmas
 pub mod StatusLemmas

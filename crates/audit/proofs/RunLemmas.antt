@@ -1,7 +1,7 @@
 -- A run, once its text is made.
 use Rattle.std.proofs.Common.{◌≡◌, ◌∙◌, ◌⊎◌, ◌++◌, ℕ, List, [], ◌∷◌, Option, Some, None, Result, Ok, Err, refl, sym, ap, subst, inl, inr, append-nil}
 use Rattle.std.specs.List.{concat}
-use Rattle.std.specs.Prelude.{IfSome, IfErr, IsOk}
+use Rattle.std.specs.Prelude.{IfSome, IfErr, IsOk, MatchResult}
 use Rattle.std.specs.Io.KnownBytes.{Appends, Keeps}
 use Rattle.byte_stream.specs.Fault.{CountsFault}
 use Rattle.byte_stream.specs.Intake.{TakesAtMost}
@@ -15,25 +15,27 @@ use Rattle.report.specs.declared.fault.RunFault.TheVariants as faults
 use Rattle.report.specs.declared.publication.Made.{Made}
 use Rattle.claim_file.specs.declared.claim.Claim.{Claim}
 use Rattle.claim_file.specs.Claim.{ClaimData, data_of as claim_data}
+use Rattle.pairing.specs.declared.held.Held.{Held}
 use Rattle.pairing.specs.Held.{held_data}
 use Rattle.pairing.specs.Pairing.{Collection}
 use Rattle.report.specs.CertificateInput.{max_certificate}
-use Rattle.report.specs.ClaimInput.{claim_read, max_claim}
+use Rattle.report.specs.ClaimInput.{IsOfClaim, claim_read, max_claim}
 use Rattle.report.specs.Input.{most_read}
 use Rattle.report.specs.RefutationInput.{max_refutation}
 use Rattle.report.specs.Publication.{IsAnswerFor, IsMadeFor, IsUnwritten, Publishes}
 use Rattle.report.specs.Reports.{Report, Reports, GetsText, is_claim, is_second, is_capture, is_device, refused}
 use Rattle.report.specs.Reading.{IsFromOutside, Reads}
 use Rattle.report.specs.Run.{RunState}
-use Rattle.report.specs.Runs.{HasClaim, HasLawfulHeader, IsBeforeCapture, IsBeforeSecond, IsUnwrittenAt}
+use Rattle.report.specs.Runs.{HasClaim, HasLawfulHeader, IsBeforeCapture, IsBeforeSecond, IsUnwrittenAt, Runs}
 use Rattle.report.proofs.InputLemmas.{takes_within}
 use Rattle.audit.specs.declared.question.Task.{Task}
 use Rattle.line_writer.specs.declared.field.Style.{Style}
 use Rattle.audit.specs.CaptureInput.{IsOfCapture, capture_read}
 use Rattle.audit.specs.Question as questions
-use Rattle.audit.specs.Question.{AskedData, HasSecond, QuestionData, TaskData, most_second, task_data}
-use Rattle.audit.specs.Report.{after_capture, after_claim, after_second, report_of_bytes, run_report}
-use Rattle.audit.specs.Run.{RunsFor}
+use Rattle.audit.specs.Evidence.{evidence_of}
+use Rattle.audit.specs.Question.{AskedData, HasSecond, IsFindingAfter, IsFindingFor, IsOfSecond, IsTaskOf, QuestionData, TaskData, most_second, report_on, task_data}
+use Rattle.audit.specs.Report.{IsMadeAfter, after_capture, after_claim, after_second, report_of_bytes, run_report}
+use Rattle.audit.specs.Settle.{Finding, no_finding}
 
 -- ---- the fault of an answer
 
@@ -151,9 +153,9 @@ published_text None made h p = tt
 published_text (Some r) made h p = p.text r h
 
 -- what is known of a run once its text is made
-pub record HasMade {T F : Type 0} (asked : AskedData) (before after : RunState)
+pub record HasMade {T F : Type 0} (asked : AskedData) (finding : Finding) (before after : RunState)
     (second second' : T) (capture capture' : F) (made : Result Made RunFault) : Type 0 where
-  pub is_made : IfSome (run_report asked before) (λ r. IsMadeFor r made)
+  pub is_made : IfSome (run_report asked finding before) (λ r. IsMadeFor r made)
   pub unwritten : IsUnwritten made
   pub claim_faults : CountsFault (is_device is_claim made) before.claim.faults after.claim.faults
   pub second_faults : CountsFault (is_device is_second made) before.second.faults after.second.faults
@@ -168,13 +170,13 @@ pub record HasMade {T F : Type 0} (asked : AskedData) (before after : RunState)
   pub second_memory : made ≡ Err faults.Memory → (capture' ≡ capture) ⊎ HasSecond asked.question before.second.remaining
   pub capture_memory : made ≡ Err faults.Memory → (capture' ≡ capture) ⊎ HasLawfulHeader before.capture.remaining
 
-module _ {T F : Type 0} (asked : AskedData) (before after : RunState)
+module _ {T F : Type 0} (asked : AskedData) (finding : Finding) (before after : RunState)
     (second second' : T) (capture capture' : F) (made : Result Made RunFault)
     (answer : Result Outcome RunFault) where
-  pub run_reports : HasMade asked before after second second' capture capture' made →
-      Publishes before.sink after.sink made answer → Reports (run_report asked before) before after answer
+  pub run_reports : HasMade asked finding before after second second' capture capture' made →
+      Publishes before.sink after.sink made answer → Reports (run_report asked finding before) before after answer
   run_reports h p = record {
-    text = published_text (run_report asked before) made h.is_made p;
+    text = published_text (run_report asked finding before) made h.is_made p;
     closed = p.closed;
     sink = p.sink;
     claim = rw (p.device is_claim) h.claim_faults;
@@ -183,9 +185,10 @@ module _ {T F : Type 0} (asked : AskedData) (before after : RunState)
   }
 
   -- what was made is published, and the promise is kept
-  pub made_runs : HasMade asked before after second second' capture capture' made →
+  pub made_runs : HasMade asked finding before after second second' capture capture' made →
       Publishes before.sink after.sink made answer →
-      RunsFor asked before after second second' capture capture' answer
+      Runs (run_report asked finding before) (most_second asked.question answer) (HasSecond asked.question)
+      before after second second' capture capture' answer
   made_runs h p = record {
     reports = run_reports h p;
     unwritten = of_fault (λ fault. IsUnwrittenAt fault before.sink.contents after.sink.contents)
@@ -204,43 +207,129 @@ module _ {T F : Type 0} (asked : AskedData) (before after : RunState)
     capture_memory = λ is. h.capture_memory (was_memory made answer p.stays is);
   }
 
--- ---- a capture that is refused
+-- ---- an input that is refused
 
 made_outside : (report : Report) (fault : RunFault) → IsFromOutside fault → IsMadeFor report (Err fault)
 made_outside report faults.Memory h = tt
 made_outside report (faults.Device input) h = tt
 made_outside report fault h = absurd h
 
-not_written : (fault : RunFault) → IsOfCapture fault → IsUnwritten (Err fault)
-not_written (faults.Write sent) h = absurd h
-not_written fault h = tt
+-- it says nothing about a report, if there is one
+any_outside : (report : Option Report) (fault : RunFault) → IsFromOutside fault →
+    IfSome report (λ r. IsMadeFor r (Err fault))
+any_outside None fault h = tt
+any_outside (Some r) fault h = made_outside r fault h
 
-module _ (style : Style) (claim : ClaimData) (fault : RunFault) (of : IsOfCapture fault) where
+of_capture_isnt_written : (fault : RunFault) → IsOfCapture fault → IsUnwritten (Err fault)
+of_capture_isnt_written (faults.Write sent) h = absurd h
+of_capture_isnt_written fault h = tt
+
+of_second_isnt_written : (fault : RunFault) → IsOfSecond fault → IsUnwritten (Err fault)
+of_second_isnt_written (faults.Write sent) h = absurd h
+of_second_isnt_written fault h = tt
+
+of_claim_isnt_written : (fault : RunFault) → IsOfClaim fault → IsUnwritten (Err fault)
+of_claim_isnt_written (faults.Write sent) h = absurd h
+of_claim_isnt_written fault h = tt
+
+-- the refusal is what reading gave
+same_refusal : {A : Type 0} (other : Result A RunFault) (fault : RunFault) → IsUnwritten (Err fault) →
+    IsFromOutside fault ⊎ (other ≡ Err fault) → MatchResult other (λ value. Unit {0})
+    (λ f. IsMadeFor (refused f) (Err fault))
+same_refusal (Ok value) fault unwritten h = tt
+same_refusal (Err other) fault unwritten (inl outside) = made_outside (refused other) fault outside
+same_refusal (Err other) fault unwritten (inr same) =
+    subst (λ (f : RunFault). IsMadeFor (refused f) (Err fault)) (let is : fault ≡ other = cc in is)
+    (refusal_for fault unwritten)
+
+module _ (style : Style) (finding : Finding) (claim : ClaimData) (fault : RunFault) where
+  -- the second input's refusal is what the bytes of the inputs call for
+  pub second_refusal : IsOfSecond fault → (second : Option (Result TaskData RunFault)) (capture : Option (List ℕ)) →
+      IfSome second (λ expected. Reads task_data expected (Err fault)) →
+      IfSome (after_second style finding claim second capture) (λ report. IsMadeFor report (Err fault))
+  second_refusal of None capture reads = tt
+  second_refusal of (Some (Err other)) capture reads =
+      same_refusal (let read : Result TaskData RunFault = Err other in read) fault (of_second_isnt_written fault of) reads
+  second_refusal of (Some (Ok known)) capture (inl outside) =
+      any_outside (after_second style finding claim (Some (Ok known)) capture) fault outside
+  second_refusal of (Some (Ok known)) capture (inr is) = absurd cc
+
+module _ (asked : AskedData) (finding : Finding) (fault : RunFault) (of : IsOfClaim fault)
+    (second capture : Option (List ℕ)) where
+  -- the claim's refusal is
+  pub claim_refusal : (expected : Result ClaimData RunFault) → Reads claim_data expected (Err fault) →
+      IfSome (after_claim asked finding expected second capture) (λ report. IsMadeFor report (Err fault))
+  claim_refusal (Err other) reads =
+      same_refusal (let read : Result ClaimData RunFault = Err other in read) fault (of_claim_isnt_written fault of) reads
+  claim_refusal (Ok known) (inl outside) =
+      any_outside (after_claim asked finding (Ok known) second capture) fault outside
+  claim_refusal (Ok known) (inr is) = absurd cc
+
+module _ (style : Style) (finding : Finding) (claim : ClaimData) (fault : RunFault) (of : IsOfCapture fault) where
   refused_after : (task : TaskData) (read : Result Collection RunFault) → Reads held_data read (Err fault) →
-      IsMadeFor (after_capture style task claim read) (Err fault)
-  refused_after task read (inl outside) = made_outside (after_capture style task claim read) fault outside
+      IsMadeFor (after_capture style finding task claim read) (Err fault)
+  refused_after task read (inl outside) = made_outside (after_capture style finding task claim read) fault outside
   refused_after task read (inr is) =
-      subst (λ (r : Result Collection RunFault). IsMadeFor (after_capture style task claim r) (Err fault)) (sym is)
-      (refusal_for fault (not_written fault of))
+      subst (λ (r : Result Collection RunFault). IsMadeFor (after_capture style finding task claim r) (Err fault))
+      (sym is) (refusal_for fault (of_capture_isnt_written fault of))
 
   -- its refusal is what the bytes of the inputs call for
   pub capture_refusal : (task : Task) (second : Option (Result TaskData RunFault)) (capture : Option (List ℕ)) →
       IfSome second (λ expected. Reads task_data expected (Ok task)) →
       IfSome capture (λ bytes. Reads held_data (capture_read claim bytes) (Err fault)) →
-      IfSome (after_second style claim second capture) (λ report. IsMadeFor report (Err fault))
+      IfSome (after_second style finding claim second capture) (λ report. IsMadeFor report (Err fault))
   capture_refusal task None capture read refused = tt
   capture_refusal task (Some (Err other)) capture read refused = absurd cc
   capture_refusal task (Some (Ok known)) None read refused = tt
   capture_refusal task (Some (Ok known)) (Some bytes) read refused =
       refused_after known (capture_read claim bytes) refused
 
+-- ---- no input is refused
+
+module _ (style : Style) (finding : Finding) (claim : ClaimData) (task : Task) (held : Held)
+    (made : Result Made RunFault) where
+  -- what was made of the evidence is what the bytes of the inputs call for
+  pub evidence_made : (second : Option (Result TaskData RunFault)) (capture : Option (List ℕ)) →
+      IfSome second (λ expected. Reads task_data expected (Ok task)) →
+      IfSome capture (λ bytes. Reads held_data (capture_read claim bytes) (Ok held)) →
+      IsMadeFor (report_on style finding (task_data task) (evidence_of claim (held_data held))) made →
+      IfSome (after_second style finding claim second capture) (λ report. IsMadeFor report made)
+  evidence_made None capture read collected is = tt
+  evidence_made (Some (Err other)) capture read collected is = absurd cc
+  evidence_made (Some (Ok known)) None read collected is = tt
+  evidence_made (Some (Ok known)) (Some bytes) read collected is =
+      subst (λ (r : Result Collection RunFault). IsMadeFor (after_capture style finding known claim r) made)
+      (sym collected)
+      (subst (λ (t : TaskData). IsMadeFor (report_on style finding t (evidence_of claim (held_data held))) made)
+      (let same : task_data task ≡ known = cc in same) is)
+
+-- a finding on the evidence is one on the bytes of the capture
+pub finding_after : (question : QuestionData) (task : TaskData) (finding : Finding) (claim : ClaimData)
+    (collection : Collection) (capture : Option (List ℕ)) → IsTaskOf question task →
+    IfSome capture (λ bytes. capture_read claim bytes ≡ Ok collection) →
+    IsFindingFor task (evidence_of claim collection) finding → IfSome capture (IsFindingAfter question finding claim)
+finding_after question task finding claim collection None is collected found = tt
+finding_after questions.settle task finding claim collection (Some bytes) is collected found =
+    inr (
+      collection,
+      collected,
+      subst (λ (t : TaskData). IsFindingFor t (evidence_of claim collection) finding) is found,
+    )
+finding_after question task finding claim collection (Some bytes) is collected found = tt
+
+-- nothing was looked for
+pub none_after : (question : QuestionData) (claim : ClaimData) (capture : Option (List ℕ)) →
+    IfSome capture (IsFindingAfter question no_finding claim)
+none_after question claim None = tt
+none_after questions.settle claim (Some bytes) = inl refl
+none_after question claim (Some bytes) = tt
+
 -- ---- from the claim's bytes
 
 -- what was made of a claim that was read, or refused, is what its bytes call for
 pub made_of_bytes : (asked : AskedData) (claim second capture : Option (List ℕ)) (read : Result Claim RunFault)
     (made : Result Made RunFault) → IfSome claim (λ bytes. Reads claim_data (claim_read bytes) read) →
-    ((expected : Result ClaimData RunFault) → Reads claim_data expected read →
-    IfSome (after_claim asked expected second capture) (λ report. IsMadeFor report made)) →
-    IfSome (report_of_bytes asked claim second capture) (λ report. IsMadeFor report made)
-made_of_bytes asked None second capture read made reads is = tt
-made_of_bytes asked (Some bytes) second capture read made reads is = is (claim_read bytes) reads
+    (after : IsMadeAfter asked read second capture made) →
+    IfSome (report_of_bytes asked after.finding claim second capture) (λ report. IsMadeFor report made)
+made_of_bytes asked None second capture read made reads after = tt
+made_of_bytes asked (Some bytes) second capture read made reads after = after.is_made (claim_read bytes) reads

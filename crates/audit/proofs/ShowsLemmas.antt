@@ -1,12 +1,14 @@
 -- What an outcome shows, from the bytes of the inputs.
-use Rattle.std.proofs.Common.{◌≡◌, ◌∙◌, ℕ, Bool, false, List, Option, Some, None, Result, Ok, Err, refl, sym, ap, subst, inl, inr}
-use Rattle.std.specs.Prelude.{IfSome, IfOk, IfErr}
+use Rattle.std.proofs.Common.{◌≡◌, ◌∙◌, ℕ, Bool, true, false, List, Option, Some, None, Result, Ok, Err, refl, sym, ap, subst, inl, inr}
+use Rattle.std.specs.Prelude.{IfSome, IfOk, IfErr, MatchResult}
 use Rattle.byte_stream.specs.Bytes.{IsBytes}
 use Rattle.byte_stream.specs.State.{FeedState}
 use Rattle.certificate.specs.Certificate.{CertificateData}
 use Rattle.certificate.specs.Refutation.{RefutationData}
 use Rattle.claim_file.specs.declared.claim.Claim.{Claim}
 use Rattle.claim_file.specs.Claim.{ClaimData, data_of as claim_data}
+use Rattle.finder.specs.Settlement as settles
+use Rattle.finder.specs.Settlement.{SettledData}
 use Rattle.pairing.specs.Pairing.{Collection}
 use Rattle.report.specs.declared.fault.Outcome.{Outcome}
 use Rattle.report.specs.declared.fault.Outcome.TheVariants as outcomes
@@ -18,17 +20,18 @@ use Rattle.report.specs.Reading.{Reads}
 use Rattle.report.specs.RefutationInput.{refutation_read}
 use Rattle.audit.specs.At.{IsHeldOf}
 use Rattle.audit.specs.CaptureInput.{capture_read}
-use Rattle.audit.specs.Check.{IsDenied, IsTracedByPieces, IsTracedTo}
+use Rattle.audit.specs.Check.{ArePiecesTraced, HasVerdictYes, IsDenied, IsTracedByPieces, IsTracedTo}
 use Rattle.audit.specs.Envelope.{IsEnvelopeOf}
 use Rattle.audit.specs.Evidence.{EvidenceData, GiveEvidence, OfClaimAndCapture, evidence_of}
 use Rattle.audit.specs.Find.{IsFoundOf, IsNothingOf}
 use Rattle.audit.specs.Contested.{CourseContests, ShowsContested}
 use Rattle.audit.specs.Headline.{IsShown, ShowsHeadline}
 use Rattle.audit.specs.Nanoseconds.{GivesNanoseconds}
-use Rattle.audit.specs.Question.{QuestionData, TaskData, samples, at, find, check, refute, envelope, seek, check_of, refute_by, check_read, refute_read, task_read, Shows, ShowsOf}
+use Rattle.audit.specs.Question.{QuestionData, TaskData, samples, at, find, check, refute, envelope, seek, settle, IsFindingAfter, ShowsFinding, check_of, refute_by, check_read, refute_read, task_read, Shows, ShowsOf}
 use Rattle.audit.specs.Refute.{GiveRefutation, IsFallen, IsStanding}
 use Rattle.audit.specs.Report.{ShowsAfter}
 use Rattle.audit.specs.Seek.{IsSoughtInVain, IsSoughtOf}
+use Rattle.audit.specs.Settle.{Finding, IsFindingFrom, IsFindingIn, IsFindingOf, IsSettledBy, IsSettledFrom, IsSettledOf, IsShownOf, no_finding}
 use Rattle.audit.proofs.Excess.{standing_beyond}
 
 -- the laws on bytes that a yes needs
@@ -59,6 +62,10 @@ refutation_of drift (Some bytes) task r is read = refutation_in (refutation_read
   refutation_in (Ok other) same = cc
   refutation_in (Err fault) same = cc
 
+-- nothing was found, and so nothing is said
+nothing_from : (finding : Finding) (b f : List ℕ) → finding ≡ no_finding → IsFindingFrom finding b f
+nothing_from finding b f is = subst (λ (found : Finding). IsFindingFrom found b f) (sym is) (inl refl)
+
 module _ (c : ClaimData) where
   abbrev Is : Option (List ℕ) → Type 0
   Is claim = IfSome claim (λ bytes. claim_read bytes ≡ Ok c)
@@ -85,21 +92,86 @@ module _ (c : ClaimData) where
     held = of_task (evidence_of c after.collection) outcome after.task _ after.is_task after.shows;
   }
 
+  -- the bytes of claim and capture give a claim and exchanges
+  record Give (b f : List ℕ) (collection : Collection) : Type 0 where
+    pub claim : claim_read b ≡ Ok c
+    pub capture : capture_read c f ≡ Ok collection
+
+  module _ (laws : BytesLaws) (b f : List ℕ) (collection : Collection) (give : Give b f collection) where
+    abbrev e : EvidenceData
+    e = evidence_of c collection
+
+    -- at a verdict of yes the clock is traced to UTC, whole and piece by piece
+    traced_to : (certificate : CertificateData) → HasVerdictYes certificate e → IsTracedTo b f
+    traced_to certificate h = record {
+      claim = c;
+      collection = collection;
+      claim_is = give.claim;
+      collection_is = give.capture;
+      within = λ course. h.whole collection.exchanges course refl;
+      in_nanoseconds = λ course fits observed.
+          laws.nanoseconds b c course give.claim (h.whole collection.exchanges course refl fits observed);
+    }
+
+    pieces_traced : (certificate : CertificateData) → HasVerdictYes certificate e → ArePiecesTraced certificate e
+    pieces_traced certificate h = λ k piece course stands fits observed.
+        laws.nanoseconds b c course give.claim (h.by_pieces collection.exchanges k piece course refl stands fits observed)
+
+    give_of : (P : EvidenceData → Type 0) → P e → GiveEvidence P b f
+    give_of P holds = record {
+      evidence = e;
+      evidence_is = record { claim_is = give.claim; collection_is = give.capture };
+      holds = holds;
+    }
+
+    -- what settles the claim by this evidence settles it by these bytes
+    settled_from : (settled : SettledData) → IsSettledOf e settled → IsSettledFrom settled b f
+    settled_from (settles.shown certificate) h = record {
+      evidence = give_of (IsShownOf certificate) h;
+      whole = traced_to certificate h.yes;
+      in_relations = λ bytes. laws.headline b f c collection certificate bytes give.claim give.capture h.yes.verdict_is;
+      by_pieces = give_of (ArePiecesTraced certificate) (pieces_traced certificate h.yes);
+    }
+    settled_from (settles.refuted refutation) h = record {
+      evidence = give_of (IsStanding true refutation) h;
+      in_relations = λ bytes. laws.contested b f c collection bytes give.claim give.capture
+          (standing_beyond true refutation e h);
+    }
+    settled_from (settles.fitted_by_none conflicts) h =
+        give_of (λ evidence. IsSettledOf evidence (settles.fitted_by_none conflicts)) h
+    settled_from (settles.left_open begin end hull) h =
+        give_of (λ evidence. IsSettledOf evidence (settles.left_open begin end hull)) h
+
+    finding_of : (finding : Finding) → IsFindingOf e finding → IsFindingFrom finding b f
+    finding_of (Ok settled) h = settled_from settled h
+    finding_of (Err fault) h = inr (give_of (λ evidence. IsFindingOf evidence (Err fault)) h)
+
+  finding_from : (laws : BytesLaws) (b f : List ℕ) (finding : Finding) → claim_read b ≡ Ok c → IsFindingIn finding c f
+      → IsFindingFrom finding b f
+  finding_from laws b f finding is (inl none) = nothing_from finding b f none
+  finding_from laws b f finding is (inr (collection, collected, h)) =
+      finding_of laws b f collection (record { claim = is; capture = collected }) finding h
+
+  settled_by : (laws : BytesLaws) (claim second capture : Option (List ℕ)) (outcome : Outcome) → Is claim →
+      ShowsAfter settle c second capture outcome → IfSome claim (λ b. IfSome capture (IsSettledBy outcome b))
+  settled_by laws None second capture outcome is after = tt
+  settled_by laws (Some b) second None outcome is after = tt
+  settled_by laws (Some b) second (Some f) outcome is after =
+      let with = of_task (evidence_of c after.collection) outcome after.task _ after.is_task after.shows in
+      record {
+        settled = with.settled;
+        outcome_is = with.outcome_is;
+        holds = settled_from laws b f after.collection (record { claim = is; capture = after.collection_is })
+            with.settled with.holds;
+      }
+
   traced : (laws : BytesLaws) (claim second capture : Option (List ℕ)) → Is claim →
       ShowsAfter check c second capture outcomes.Yes → IfSome claim (λ b. IfSome capture (IsTracedTo b))
   traced laws None second capture is after = tt
   traced laws (Some b) second None is after = tt
   traced laws (Some b) second (Some f) is after =
-      let yes = of_task (evidence_of c after.collection) outcomes.Yes after.task _ after.is_task.1 after.shows in
-      record {
-        claim = c;
-        collection = after.collection;
-        claim_is = is;
-        collection_is = after.collection_is;
-        within = λ course. yes.whole after.collection.exchanges course refl;
-        in_nanoseconds = λ course fits observed.
-            laws.nanoseconds b c course is (yes.whole after.collection.exchanges course refl fits observed);
-      }
+      traced_to laws b f after.collection (record { claim = is; capture = after.collection_is }) after.is_task.0
+      (of_task (evidence_of c after.collection) outcomes.Yes after.task _ after.is_task.1 after.shows)
 
   shown_of : (laws : BytesLaws) (claim second capture : Option (List ℕ)) → Is claim →
       ShowsAfter check c second capture outcomes.Yes →
@@ -124,9 +196,8 @@ module _ (c : ClaimData) where
         certificate_is = certificate_of _ after.is_task.0 (after.task_is ∙ ap Ok after.is_task.1);
         evidence_is = record { claim_is = is; collection_is = after.collection_is };
         accepted = yes.verdict_is;
-        within = λ k piece course stands fits observed.
-            laws.nanoseconds b c course is
-            (yes.by_pieces after.collection.exchanges k piece course refl stands fits observed);
+        within = pieces_traced laws b f after.collection (record { claim = is; capture = after.collection_is })
+            after.is_task.0 yes;
       }
 
   denied : (claim second capture : Option (List ℕ)) → Is claim → ShowsAfter check c second capture outcomes.No →
@@ -225,12 +296,35 @@ module _ (laws : BytesLaws) (claim second capture : FeedState) (c : ClaimData) (
   }
   from_bytes seek outcomes.No after =
       alone IsSoughtInVain seek outcomes.No after (of_task _ outcomes.No after.task _ after.is_task after.shows)
+  from_bytes settle outcome after =
+      settled_by c laws claim.remaining second.remaining capture.remaining outcome is after
 
 -- a claim that was read is what its bytes give
 known_claim : (claim : Option (List ℕ)) (c : Claim) →
     IfSome claim (λ bytes. Reads claim_data (claim_read bytes) (Ok c)) → Is (claim_data c) claim
 known_claim None c reads = tt
 known_claim (Some bytes) c reads = reads
+
+-- what a run found is shown of the bytes of its inputs
+module _ (laws : BytesLaws) (finding : Finding) (read : Result Claim RunFault) where
+  of_bytes : (claim capture : Option (List ℕ)) → IfSome claim (λ bytes. Reads claim_data (claim_read bytes) read) →
+      MatchResult read (λ c. IfSome capture (IsFindingIn finding (claim_data c))) (λ fault. finding ≡ no_finding) →
+      IfSome claim (λ b. IfSome capture (IsFindingFrom finding b))
+  of_bytes None capture reads found = tt
+  of_bytes (Some b) None reads found = tt
+  of_bytes (Some b) (Some f) reads found = at read reads found where
+    at : (r : Result Claim RunFault) → Reads claim_data (claim_read b) r →
+        MatchResult r (λ c. IsFindingIn finding (claim_data c) f) (λ fault. finding ≡ no_finding) →
+        IsFindingFrom finding b f
+    at (Ok c) is h = finding_from (claim_data c) laws b f finding is h
+    at (Err fault) is h = nothing_from finding b f h
+
+  pub run_finds : (question : QuestionData) (claim capture : FeedState) →
+      IfSome claim.remaining (λ bytes. Reads claim_data (claim_read bytes) read) →
+      MatchResult read (λ c. IfSome capture.remaining (IsFindingAfter question finding (claim_data c)))
+      (λ fault. finding ≡ no_finding) → ShowsFinding question finding claim capture
+  run_finds settle claim capture reads found = of_bytes claim.remaining capture.remaining reads found
+  run_finds question claim capture reads found = tt
 
 module _ (laws : BytesLaws) (question : QuestionData) (claim second capture : FeedState) where
   -- what the outcome of a run shows

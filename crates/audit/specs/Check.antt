@@ -87,21 +87,24 @@ pub record IsTracedTo (claim_bytes capture_bytes : List ℕ) : Type 0 where
   pub in_nanoseconds : (course : Course) → Fits claim collection.exchanges course
       → IsObservedIn course claim.first claim.last → IsWithinNanoseconds course claim.bound_ns
 
--- The certificate of a certificate's bytes is accepted, and the same holds of each of its pieces:
--- in every course that fits what the piece names of these exchanges, the error is within the bound
--- at every moment whose reading lies in the piece.
+-- The same piece by piece: in every course that fits what a piece names of these exchanges, the
+-- error is within the bound at every moment whose reading lies in the piece.
+abbrev pub ArePiecesTraced : CertificateData → EvidenceData → Type 0
+ArePiecesTraced certificate e = (k : ℕ) (piece : PieceData) (course : Course)
+    → slice_get certificate.pieces k ≡ Some piece
+    → FitsPiece e.claim e.collection.exchanges piece.entries course
+    → let stretch = stretch_of e.claim certificate k piece in
+    IsObservedIn course stretch.begin stretch.end
+    → IsWithinNanoseconds course e.claim.bound_ns
+
+-- The certificate of a certificate's bytes is accepted, and this holds of each of its pieces.
 pub record IsTracedByPieces (claim_bytes certificate_bytes capture_bytes : List ℕ) : Type 0 where
   pub certificate : CertificateData
   pub evidence : EvidenceData
   pub certificate_is : certificate_read certificate_bytes ≡ Ok certificate
   pub evidence_is : IsEvidenceOf claim_bytes capture_bytes evidence
   pub accepted : verdict_on certificate evidence ≡ verdicts.Yes
-  pub within : (k : ℕ) (piece : PieceData) (course : Course)
-      → slice_get certificate.pieces k ≡ Some piece
-      → FitsPiece evidence.claim evidence.collection.exchanges piece.entries course
-      → let stretch = stretch_of evidence.claim certificate k piece in
-      IsObservedIn course stretch.begin stretch.end
-      → IsWithinNanoseconds course evidence.claim.bound_ns
+  pub within : ArePiecesTraced certificate evidence
 
 -- The bytes of claim, certificate and capture give a verdict of no.
 pub record IsDenied (claim_bytes certificate_bytes capture_bytes : List ℕ) : Type 0 where

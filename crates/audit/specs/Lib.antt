@@ -8,6 +8,7 @@ pub mod Least
 pub mod Envelope
 pub mod Refute
 pub mod Seek
+pub mod Settle
 pub mod Question
 pub mod Report
 pub mod Nanoseconds

@@ -5,6 +5,7 @@ use Rattle.std.specs.Option.{option_map}
 use Rattle.byte_stream.specs.State.{FeedState}
 use Rattle.certificate.specs.Certificate.{CertificateData, data_of as certificate_data, max_pieces}
 use Rattle.certificate.specs.Refutation.{RefutationData, data_of as refutation_data}
+use Rattle.claim_file.specs.Claim.{ClaimData}
 use Rattle.report.specs.CertificateInput.{certificate_read, max_certificate}
 use Rattle.report.specs.Input.{most_read}
 use Rattle.report.specs.RefutationInput.{max_refutation, refutation_read}
@@ -19,11 +20,12 @@ use Rattle.line_writer.specs.declared.field.Style.TheVariants.{Plain}
 use Rattle.audit.specs.At.{IsHeld, IsHeldAt, at_report}
 use Rattle.audit.specs.Check.{HasVerdictNo, HasVerdictYes, IsNotTraced, IsTraced, check_report}
 use Rattle.audit.specs.Envelope.{IsEnveloped, IsEnvelopeOf, envelope_report}
-use Rattle.audit.specs.Evidence.{EvidenceData}
+use Rattle.audit.specs.Evidence.{EvidenceData, OfClaimAndCapture}
 use Rattle.audit.specs.Find.{IsAccepted, IsFoundOf, IsNotFound, IsNothingOf, find_report}
 use Rattle.audit.specs.Refute.{IsContested, IsFallen, IsStanding, IsUncontested, refute_report}
 use Rattle.audit.specs.Samples.{samples_report}
 use Rattle.audit.specs.Seek.{IsIrrefutable, IsRefutable, IsSoughtInVain, IsSoughtOf, seek_report}
+use Rattle.audit.specs.Settle.{Finding, IsFindingFrom, IsFindingIn, IsFindingOf, IsSettled, IsSettledWith, settle_report}
 use Rattle.audit.specs.declared.question.Asked.{Asked}
 use Rattle.audit.specs.declared.question.Question.{Question}
 use Rattle.audit.specs.declared.question.Question.TheVariants as questions
@@ -41,6 +43,7 @@ pub data QuestionData : Type 0 where
   refute : Bool → QuestionData
   envelope : ℕ → Bool → Bool → QuestionData
   seek : QuestionData
+  settle : QuestionData
 
 -- a question, and for whom the answer is written
 pub record AskedData : Type 0 where
@@ -56,6 +59,7 @@ pub data TaskData : Type 0 where
   refute_by : Bool → RefutationData → TaskData
   show_envelope : ℕ → Bool → Bool → TaskData
   seek_refutation : TaskData
+  settle_claim : TaskData
 
 -- ---- what values of the program say
 
@@ -67,6 +71,7 @@ data_of questions.Check = check
 data_of (questions.Refute drift) = refute drift
 data_of (questions.Envelope step servers least) = envelope step.seconds servers least
 data_of questions.Seek = seek
+data_of questions.Settle = settle
 
 abbrev pub asked_of : Asked → AskedData
 asked_of asked = record { question = data_of asked.question; style = asked.style }
@@ -79,6 +84,7 @@ task_data (tasks.Check certificate) = check_of (certificate_data certificate)
 task_data (tasks.Refute drift refutation) = refute_by drift (refutation_data refutation)
 task_data (tasks.Envelope step servers least) = show_envelope step.seconds servers least
 task_data tasks.Seek = seek_refutation
+task_data tasks.Settle = settle_claim
 
 -- a question whose answer is for a program
 abbrev pub plainly : QuestionData → AskedData
@@ -112,6 +118,7 @@ task_read (refute drift) second =
     option_map (λ bytes. refute_read drift (refutation_read bytes)) second
 task_read (envelope step servers least) second = Some (Ok (show_envelope step servers least))
 task_read seek second = Some (Ok seek_refutation)
+task_read settle second = Some (Ok settle_claim)
 
 -- this is what a question became
 abbrev pub IsTaskOf : QuestionData → TaskData → Type 0
@@ -123,6 +130,7 @@ IsTaskOf (refute drift) task =
     (refutation : RefutationData) × (task ≡ refute_by drift refutation)
 IsTaskOf (envelope step servers least) task = task ≡ show_envelope step servers least
 IsTaskOf seek task = task ≡ seek_refutation
+IsTaskOf settle task = task ≡ settle_claim
 
 -- The bytes of the second input, if they are known, say what the question asks for.
 abbrev pub HasSecond : QuestionData → Option (List ℕ) → Type 0
@@ -155,15 +163,34 @@ AsksNoSecond _ = Unit {0}
 -- ---- the report, and what its outcome shows
 
 -- the report of each task on a claim and the exchanges of a capture, in this style: a certificate,
--- a refutation and the line of a refutation are for programs in any
-abbrev pub report_on : Style → TaskData → EvidenceData → Report
-report_on style show_samples e = samples_report style e
-report_on style (show_at second) e = at_report style second e
-report_on style (find_with step) e = find_report style step e
-report_on style (check_of certificate) e = check_report style certificate e
-report_on style (refute_by drift refutation) e = refute_report drift refutation e
-report_on style (show_envelope step servers least) e = envelope_report style step servers least e
-report_on style seek_refutation e = seek_report e
+-- a refutation and the line of a refutation are for programs in any. Only `settle` reports a
+-- finding.
+abbrev pub report_on : Style → Finding → TaskData → EvidenceData → Report
+report_on style finding show_samples e = samples_report style e
+report_on style finding (show_at second) e = at_report style second e
+report_on style finding (find_with step) e = find_report style step e
+report_on style finding (check_of certificate) e = check_report style certificate e
+report_on style finding (refute_by drift refutation) e = refute_report drift refutation e
+report_on style finding (show_envelope step servers least) e =
+    envelope_report style step servers least e
+report_on style finding seek_refutation e = seek_report e
+report_on style finding settle_claim e = settle_report style finding e
+
+-- what the finding shows of this evidence
+abbrev pub IsFindingFor : TaskData → EvidenceData → Finding → Type 0
+IsFindingFor settle_claim e finding = IsFindingOf e finding
+IsFindingFor _ e finding = Unit {0}
+
+-- of a claim and the bytes of a capture
+abbrev pub IsFindingAfter : QuestionData → Finding → ClaimData → List ℕ → Type 0
+IsFindingAfter settle finding claim capture = IsFindingIn finding claim capture
+IsFindingAfter _ finding claim capture = Unit {0}
+
+-- and of the inputs that a run begins with, if their bytes are known
+abbrev pub ShowsFinding : QuestionData → Finding → FeedState → FeedState → Type 0
+ShowsFinding settle finding claim capture =
+    OfClaimAndCapture claim capture (IsFindingFrom finding)
+ShowsFinding _ finding claim capture = Unit {0}
 
 -- what its outcome shows of them
 abbrev pub ShowsOf : TaskData → EvidenceData → Outcome → Type 0
@@ -177,6 +204,7 @@ ShowsOf (refute_by drift refutation) e No = IsFallen drift refutation e
 ShowsOf (show_envelope step servers least) e outcome = IsEnvelopeOf step least outcome e
 ShowsOf seek_refutation e Yes = IsSoughtOf e
 ShowsOf seek_refutation e No = IsSoughtInVain e
+ShowsOf settle_claim e outcome = IsSettledWith e outcome
 ShowsOf _ e outcome = Unit {0}
 
 -- what the outcome of a run shows whose claim, second input and capture begin so
@@ -192,4 +220,5 @@ Shows (envelope step servers least) claim second capture outcome =
     IsEnveloped step least outcome claim capture
 Shows seek claim second capture Yes = IsRefutable claim capture
 Shows seek claim second capture No = IsIrrefutable claim capture
+Shows settle claim second capture outcome = IsSettled outcome claim capture
 Shows _ claim second capture outcome = Unit {0}

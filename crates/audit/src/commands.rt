@@ -7,10 +7,11 @@ ghost use Rattle.audit.specs.At.{IsHeld};
 ghost use Rattle.audit.specs.Check.{IsNotTraced, IsTraced};
 ghost use Rattle.audit.specs.Envelope.{IsEnveloped};
 ghost use Rattle.audit.specs.Find.{IsAccepted, IsNotFound};
-ghost use Rattle.audit.specs.Question.{samples, at, find, check, refute, envelope, seek, plainly};
+ghost use Rattle.audit.specs.Question.{samples, at, find, check, refute, envelope, seek, settle, plainly};
 ghost use Rattle.audit.specs.Refute.{IsContested, IsUncontested};
 ghost use Rattle.audit.specs.Run.{MayRun, RunsAlone, RunsFor};
 ghost use Rattle.audit.specs.Seek.{IsIrrefutable, IsRefutable};
+ghost use Rattle.audit.specs.Settle.{IsSettled};
 
 use crate::engine::run;
 use crate::question::{Asked, Question};
@@ -163,6 +164,35 @@ pub fn run_refute_with_drift<C: Feed, F: Feed, T: Feed, S: Sink>(
         style: Style::Plain,
     };
     run(alloc, asked, claim, refutation, capture, out, hasher)
+}
+
+/// Settles the claim: the answer is `Yes` with a certificate, which `check` accepts, as it accepts
+/// none of fewer pieces, or `No` with a refutation, which `refute --drift` accepts; with
+/// all conflicts, if no course of events fits the exchanges; or with a tick that stays open.
+///
+/// `Pieces` comes if a course fits and 100,000 pieces don't reach the span's end, after every other
+/// refusal.
+pub fn run_settle<C: Feed, F: Feed, S: Sink>(
+    alloc: Global,
+    claim: &mut C,
+    capture: F,
+    out: &mut S,
+) -> (F, Result<Outcome, RunFault>)
+    requires { MayRun (run_state (C.state claim.old) no_feed (F.state capture) (S.state out.old)) }
+    ensures runs { RunsAlone settle
+        (run_state (C.state claim.old) no_feed (F.state capture) (S.state out.old))
+        (run_state (C.state claim.new) no_feed (F.state result.0) (S.state out.new))
+        capture result.0 result.1 }
+    ensures settled { IfOk result.1 (λ outcome.
+        IsSettled outcome (C.state claim.old) (F.state capture)) }
+{
+    let hasher = BuildHasherDefault::<FoldHasher>::new();
+    let mut none = ReadFeed::new(io::empty());
+    let asked = Asked {
+        question: Question::Settle,
+        style: Style::Plain,
+    };
+    run(alloc, asked, claim, &mut none, capture, out, hasher)
 }
 
 /// Looks for a certificate of the claim in pieces of `step_s` seconds, from 1 to 86,400: the answer

@@ -5,24 +5,22 @@
 //! of each function here is one promise, `RunsFor`: the text and the answer are those that the
 //! bytes of the inputs call for; with it stands what an outcome shows.
 
-ghost use Rattle.std.specs.Prelude.{◌≡◌, ◌⊎◌, Result, Ok, Err, IfOk, IfErr, IfSome};
+ghost use Rattle.std.specs.Prelude.{◌≡◌, ◌⊎◌, Ok, Err, IfOk, IfErr};
 ghost use Rattle.byte_stream.specs.Fault.{CountsFault};
 ghost use Rattle.byte_stream.specs.Intake.{TakesAtMost};
 ghost use Rattle.byte_stream.specs.State.{IsReadable, IsWritable};
 ghost use Rattle.pcap_reader.specs.Limit.{most_taken};
-ghost use Rattle.claim_file.specs.Claim.{ClaimData, IsLawful, data_of as claim_data};
+ghost use Rattle.claim_file.specs.Claim.{IsLawful, data_of as claim_data};
 ghost use Rattle.report.specs.ClaimInput.{IsOfClaim};
-ghost use Rattle.report.specs.Publication.{IsMadeFor, IsUnwritten};
-ghost use Rattle.report.specs.Reading.{Reads};
+ghost use Rattle.report.specs.Publication.{IsUnwritten};
 ghost use Rattle.report.specs.Reports.{is_claim, is_second, is_capture, is_device};
 ghost use Rattle.report.specs.Run.{run_state};
 ghost use Rattle.report.specs.Runs.{HasLawfulHeader, IsBeforeCapture, IsBeforeSecond};
-ghost use Rattle.report.specs.declared.fault.RunFault.{RunFault as TheFault};
 ghost use Rattle.audit.specs.Check.{IsTraced};
 ghost use Rattle.audit.specs.Question.{AsksNoSecond, HasSecond, Shows};
 ghost use Rattle.audit.specs.Question.{asked_of, data_of, most_second};
 ghost use Rattle.audit.specs.declared.question.Question.{Question};
-ghost use Rattle.audit.specs.Report.{ShowsAfter, after_claim};
+ghost use Rattle.audit.specs.Report.{IsMadeAfter, ShowsAfter};
 ghost use Rattle.audit.specs.Run.{AnswersFor, MayRun, RunsFor, ShowsAt};
 
 use crate::capture_input::read_capture_from;
@@ -61,10 +59,8 @@ fn make_report<T: Feed, F: Feed, H: BuildHasher + Drop>(
     requires claim_fault { IfErr claim IsOfClaim }
     requires second { IsReadable (T.state second.old) }
     requires capture { IsReadable (F.state capture) }
-    ensures made { (expected : Result ClaimData TheFault) → Reads claim_data expected claim →
-        IfSome (after_claim (asked_of asked) expected
-        (T.state second.old).remaining (F.state capture).remaining)
-        (λ report. IsMadeFor report result.1) }
+    ensures made { IsMadeAfter (asked_of asked) claim
+        (T.state second.old).remaining (F.state capture).remaining result.1 }
     ensures unwritten { IsUnwritten result.1 }
     ensures shows { IfOk result.1 (λ made. IfOk claim (λ c.
         ShowsAfter (data_of asked.question) (claim_data c)

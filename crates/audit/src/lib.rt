@@ -6,7 +6,7 @@
 //! style of the text, for a program or for a person; how a text is shown is said by audit_text.
 //! `specs/Run` says what a run needs and promises, `specs/Report` what it writes, and
 //! `specs/Question` what an outcome means. [`run_samples`], [`run_at`], [`run_check`],
-//! [`run_find`], [`run_refute`], [`run_seek`] and [`run_envelope`] are the engines of the commands,
+//! [`run_settle`], [`run_find`], [`run_refute`], [`run_seek`] and [`run_envelope`] are the engines of the commands,
 //! for a program, with a hasher of a fixed key.
 #![tactic(auto)]
 
@@ -22,7 +22,7 @@ mod step;
 
 pub use commands::{
     run_at, run_check, run_envelope, run_find, run_refute, run_refute_with_drift, run_samples,
-    run_seek,
+    run_seek, run_settle,
 };
 pub use engine::{Outputs, answer, run};
 pub use line_writer::Style;

@@ -9,13 +9,12 @@ ghost use Rattle.std.specs.Prelude.{◌≡◌, IfOk, IfErr, IfSome};
 ghost use Rattle.byte_stream.specs.Fault.{CountsFault};
 ghost use Rattle.byte_stream.specs.Intake.{TakesAtMost};
 ghost use Rattle.byte_stream.specs.State.{IsReadable};
-ghost use Rattle.report.specs.Publication.{IsMadeFor};
 ghost use Rattle.report.specs.Reading.{Reads};
 ghost use Rattle.report.specs.Reports.{is_device, is_second};
 ghost use Rattle.audit.specs.Evidence.{IsLawfulEvidence, evidence_data};
 ghost use Rattle.audit.specs.Question.{AsksNoSecond, IsOfSecond, IsTaskOf, most_second, task_read};
-ghost use Rattle.audit.specs.Question.{IsLawfulTask, ShowsOf, data_of, report_on, task_data};
-ghost use Rattle.audit.specs.Report.{IsOfMaking};
+ghost use Rattle.audit.specs.Question.{IsLawfulTask, ShowsOf, data_of, task_data};
+ghost use Rattle.audit.specs.Report.{IsMadeOf, IsOfMaking};
 
 mod at;
 mod check;
@@ -24,6 +23,7 @@ mod find;
 mod refute;
 mod samples;
 mod seek;
+mod settle;
 
 use crate::evidence::Evidence;
 use crate::question::at::make_at;
@@ -33,6 +33,7 @@ use crate::question::find::make_find;
 use crate::question::refute::make_refute;
 use crate::question::samples::make_samples;
 use crate::question::seek::make_seek;
+use crate::question::settle::make_settle;
 use crate::step::Step;
 use byte_stream::Feed;
 use certificate::{Certificate, Refutation};
@@ -67,6 +68,8 @@ pub enum Question {
     },
     /// Is there a refutation of the claim?
     Seek,
+    /// Is the claim shown, refuted, fitted by no course of events, or does it stay open?
+    Settle,
 }
 
 /// A question, and for whom the answer is written.
@@ -108,6 +111,8 @@ pub(crate) enum Task {
     },
     /// Look for a refutation.
     Seek,
+    /// Settle the claim.
+    Settle,
 }
 
 /// Reads the second input of a question, if it has one.
@@ -152,6 +157,7 @@ pub(crate) fn read_task<T: Feed>(
             least,
         }),
         Question::Seek => Ok(Task::Seek),
+        Question::Settle => Ok(Task::Settle),
     }
 }
 
@@ -165,8 +171,7 @@ pub(crate) fn make(
 ) -> Result<Made, RunFault>
     requires task { IsLawfulTask task.now }
     requires evidence { IsLawfulEvidence evidence.now }
-    ensures made { IsMadeFor
-        (report_on style (task_data task.now) (evidence_data evidence.now)) result }
+    ensures made { IsMadeOf style (task_data task.now) (evidence_data evidence.now) result }
     ensures fault { IfErr result IsOfMaking }
     ensures shows { IfOk result (λ made.
         ShowsOf (task_data task.now) (evidence_data evidence.now) made.outcome) }
@@ -183,5 +188,6 @@ pub(crate) fn make(
             least,
         } => make_envelope(alloc, style, *step, *servers, *least, evidence),
         Task::Seek => make_seek(alloc, evidence),
+        Task::Settle => make_settle(alloc, style, evidence),
     }
 }

@@ -6,12 +6,11 @@ ghost use Rattle.finder.specs.Samples.{AreSamplesOf};
 ghost use Rattle.audit.specs.Evidence.{IsLawfulEvidence, evidence_data, samples_in};
 
 use crate::evidence::Evidence;
-use finder::laws::samples_of_exchanges_keep_limits;
+use finder::exchange_samples;
 use pairing::HeldExchange;
 use sample_interval::{ExchangeSamples, SampleSource};
 
-/// The samples of the exchanges, in their order, with the claimed allowance. Each is made when it
-/// is asked for.
+/// The samples of the exchanges, in their order, with the claimed allowance.
 pub(crate) fn samples_of<'a>(evidence: &'a Evidence) -> ExchangeSamples<'a, HeldExchange>
     requires { IsLawfulEvidence evidence.now }
     ensures samples { ⟦<ExchangeSamples<'a, HeldExchange> as SampleSource>⟧.samples result
@@ -20,9 +19,5 @@ pub(crate) fn samples_of<'a>(evidence: &'a Evidence) -> ExchangeSamples<'a, Held
         (samples_in (evidence_data evidence.now)) }
     ensures few { length (samples_in (evidence_data evidence.now)) ≤ 1_000_000 }
 {
-    samples_of_exchanges_keep_limits();
-    ExchangeSamples {
-        exchanges: &evidence.held.exchanges,
-        reading: evidence.claim.reading,
-    }
+    exchange_samples(&evidence.held.exchanges, &evidence.claim)
 }

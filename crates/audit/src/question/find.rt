@@ -42,7 +42,10 @@ fn outcome_of(found: &Found) -> Outcome
 }
 
 /// The text of a certificate, with a line feed.
-fn certificate_line(alloc: Global, certificate: &Certificate) -> Result<Vec<u8>, AllocError>
+pub(crate) fn certificate_line(
+    alloc: Global,
+    certificate: &Certificate,
+) -> Result<Vec<u8>, AllocError>
     ensures { IfOk result (λ text.
         text.items ≡ certificate_text (certificate_data certificate.now) ++ codes "\n") }
 {

@@ -29,7 +29,7 @@ fn outcome_of(found: &Option<Refutation>) -> Outcome
 }
 
 /// The text of a refutation, with a line feed.
-fn refutation_line(alloc: Global, refutation: &Refutation) -> Result<Vec<u8>, AllocError>
+pub(crate) fn refutation_line(alloc: Global, refutation: &Refutation) -> Result<Vec<u8>, AllocError>
     ensures { IfOk result (λ text.
         text.items ≡ refutation_text (refutation_data refutation.now) ++ codes "\n") }
 {

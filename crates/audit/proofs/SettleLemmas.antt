@@ -1,0 +1,75 @@
+-- What a settled claim shows.
+use Rattle.std.proofs.Common.{◌≡◌, ℕ, ◌<◌, ◌⊎◌, ⊎_elim, List, length, map, get_or, Err, refl, sym, subst}
+use Rattle.std.specs.Prelude.{AllPairs}
+use Rattle.std.proofs.lemmas.List.{get_or-map, length-map}
+use Rattle.std.proofs.lemmas.Option.{slice_get_within}
+use Rattle.certificate.specs.Certificate.{CertificateData}
+use Rattle.pairing.specs.Exchange.{SameRequest}
+use Rattle.pairing.specs.declared.exchange.Exchange.{Exchange}
+use Rattle.checker.specs.Traceability.{IsVerdictOn}
+use Rattle.claim_file.specs.Claim.{ClaimData}
+use Rattle.courses.specs.Contradiction.{AreAllConflicts, IsFirstContradiction, ShownConflict}
+use Rattle.courses.specs.PairMarks.{conflict_data}
+use Rattle.courses.specs.declared.told.Conflict.{Conflict}
+use Rattle.finder.specs.declared.fault.FindFault.{FindFault}
+use Rattle.finder.specs.declared.fault.FindFault.TheVariants as finds
+use Rattle.finder.specs.Settlement as settles
+use Rattle.finder.specs.Settlement.{SettledData, HasTooManyPieces, IsSettledAs}
+use Rattle.report.specs.declared.fault.RunFault.{RunFault}
+use Rattle.report.specs.Publication.{IsMadeFor}
+use Rattle.report.specs.Reports.{refused}
+use Rattle.audit.specs.Check.{verdict_on}
+use Rattle.audit.specs.Evidence.{EvidenceData, samples_in}
+use Rattle.audit.specs.Find.{find_run_fault_of}
+use Rattle.audit.specs.Settle.{IsFindingOf, IsSettledOf}
+
+module _ (e : EvidenceData) (agree : AllPairs SameRequest e.collection.exchanges)
+    (traced : (certificate : CertificateData) → IsVerdictOn e.claim (samples_in e) certificate (verdict_on certificate e)) where
+  pub settled_of : (settled : SettledData) → IsSettledAs e.claim e.collection.exchanges settled → IsSettledOf e settled
+  settled_of (settles.shown certificate) h = record {
+    yes = record {
+      verdict_is = h.accepted;
+      whole = (traced certificate).yes h.accepted;
+      by_pieces = (traced certificate).by_pieces h.accepted;
+    };
+    shown_by = h;
+  }
+  settled_of (settles.refuted refutation) h = record {
+    accepted = h.accepted;
+    course = h.course agree;
+    no_yes = h.none_accepted;
+  }
+  settled_of (settles.fitted_by_none conflicts) h = h
+  settled_of (settles.left_open begin end hull) h = h
+
+-- why nothing is known shows what it says
+pub fault_found : (e : EvidenceData) (fault : FindFault)
+    → (fault ≡ finds.Memory) ⊎ ((fault ≡ finds.TooManyPieces) × HasTooManyPieces e.claim e.collection.exchanges)
+    → IsFindingOf e (Err fault)
+fault_found e finds.Memory h = tt
+fault_found e finds.TooManyPieces h = ⊎_elim (λ memory. absurd cc) (λ too_many. too_many.1) h
+
+pub refused_made : (fault : FindFault) (told : RunFault) → told ≡ find_run_fault_of fault
+    → IsMadeFor (refused (find_run_fault_of fault)) (Err told)
+refused_made finds.Memory told is = subst (λ (r : RunFault). IsMadeFor (refused (find_run_fault_of finds.Memory)) (Err r)) (sym is) tt
+refused_made finds.TooManyPieces told is =
+    subst (λ (r : RunFault). IsMadeFor (refused (find_run_fault_of finds.TooManyPieces)) (Err r)) (sym is) (refl, refl)
+
+-- conflicts name exchanges of the list
+module _ (claim : ClaimData) (xs : List Exchange) (conflicts : List Conflict)
+    (all : AreAllConflicts claim xs (map conflict_data conflicts)) where
+  shown_within : (c : ShownConflict) → IsFirstContradiction claim xs c.a c.b c.pair
+      → (c.pair.low < length xs) × (c.pair.high < length xs)
+  shown_within c first = (
+    slice_get_within xs c.pair.low first.is.low first.is.low_stands,
+    slice_get_within xs c.pair.high first.is.high first.is.high_stands,
+  )
+
+  pub numbers_within : (n : ℕ) → length xs ≡ n → (k : ℕ) (d : Conflict) → k < length conflicts
+      → ((get_or conflicts k d).pair.low < n) × ((get_or conflicts k d).pair.high < n)
+  numbers_within n same k d below =
+      subst (λ (m : ℕ). ((get_or conflicts k d).pair.low < m) × ((get_or conflicts k d).pair.high < m)) same
+      (subst (λ (c : ShownConflict). (c.pair.low < length xs) × (c.pair.high < length xs))
+      (get_or-map conflict_data conflicts k d (conflict_data d) below)
+      (shown_within (get_or (map conflict_data conflicts) k (conflict_data d))
+      (all.first k (conflict_data d) (subst (λ (m : ℕ). k < m) (sym (length-map conflicts conflict_data)) below))))

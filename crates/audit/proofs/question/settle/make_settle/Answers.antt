@@ -1,0 +1,41 @@
+use Rattle.std.proofs.Common.{Ok, Err, sym, ap}
+use Rattle.finder.specs.Settlement.{settled_data}
+use Rattle.audit.specs.Evidence.{evidence_data, samples_in}
+use Rattle.audit.specs.Settle.{IsSettledOf, no_finding}
+use Rattle.audit.proofs.SettleLemmas.{fault_found, refused_made, settled_of}
+use Rattle.audit.proofs.question.settle.make_settle.Goals as goal
+
+holds : (c : goal.Joined-settled) → IsSettledOf (evidence_data c.args.evidence.now) (settled_data c.in-Ok.settled)
+holds c =
+    let e = evidence_data c.args.evidence.now in
+    let settles = rw c.deref.ensures.value at c.in-Ok.ensures in
+    settled_of e c.requires.exchanges.agree
+    (λ certificate. c.verdicts_are_traceable.ensures e.claim (samples_in e) certificate c.requires.claim
+    (c.samples_of_exchanges_keep_limits.ensures.listed e.claim e.collection.exchanges c.requires.exchanges.each))
+    (settled_data c.in-Ok.settled) settles.settled
+
+pub returns-in-Ok-settled_text-clause-made : goal.returns-in-Ok-settled_text-clause-made
+returns-in-Ok-settled_text-clause-made c = record {
+  finding = Ok (settled_data c.in-Ok.settled);
+  found = holds c;
+  is_made = (sym c.in-Ok-settled_text.ensures, ap Ok (sym c.outcome_of.ensures));
+}
+
+pub returns-in-Ok-settled_text-clause-shows : goal.returns-in-Ok-settled_text-clause-shows
+returns-in-Ok-settled_text-clause-shows c = record {
+  settled = settled_data c.in-Ok.settled;
+  outcome_is = c.outcome_of.ensures;
+  holds = holds c;
+}
+
+pub returns-in-Ok-clause-made : goal.returns-in-Ok-clause-made
+returns-in-Ok-clause-made c = record { finding = no_finding; found = tt; is_made = tt }
+
+pub returns-clause-made : goal.returns-clause-made
+returns-clause-made c =
+    let settles = rw c.deref.ensures.value at c.in-Err.ensures in
+    record {
+      finding = Err c.in-Err.fault;
+      found = fault_found (evidence_data c.args.evidence.now) c.in-Err.fault settles.refused;
+      is_made = refused_made c.in-Err.fault c.run_fault_of.result c.run_fault_of.ensures;
+    }
