@@ -4,15 +4,15 @@ _ntpaudit() {
     local word=${COMP_WORDS[COMP_CWORD]} command=${COMP_WORDS[1]} options files
     COMPREPLY=()
     if ((COMP_CWORD == 1)); then
-        mapfile -t COMPREPLY < <(compgen -W 'list samples at envelope find check refute help --help --version' -- "$word")
+        mapfile -t COMPREPLY < <(compgen -W 'list samples at envelope settle find check refute help --help --version' -- "$word")
         return
     fi
     case $command in
     find) options='--step --refutation --human --help' ;;
     envelope) options='--step --servers --least --human --help' ;;
     refute) options='--drift --human --help' ;;
-    samples | at | check) options='--human --help' ;;
-    help) options='list samples at envelope find check refute' ;;
+    samples | at | settle | check) options='--human --help' ;;
+    help) options='list samples at envelope settle find check refute' ;;
     *) options='--help' ;;
     esac
     if [[ ${COMP_WORDS[COMP_CWORD - 1]} == --step ]]; then

@@ -1,12 +1,13 @@
 # Completion of ntpaudit's command line for fish.
 
-set -l commands list samples at envelope find check refute help
+set -l commands list samples at envelope settle find check refute help
 complete -c ntpaudit -n "not __fish_seen_subcommand_from $commands" -f -l version -s V -d 'Print the version'
 complete -c ntpaudit -l help -s h -d 'Print help'
 complete -c ntpaudit -n "not __fish_seen_subcommand_from $commands" -f -a list -d 'Print one line for each NTP packet'
 complete -c ntpaudit -n "not __fish_seen_subcommand_from $commands" -f -a samples -d 'Print what each exchange says'
 complete -c ntpaudit -n "not __fish_seen_subcommand_from $commands" -f -a at -d 'Print what is known of one moment'
 complete -c ntpaudit -n "not __fish_seen_subcommand_from $commands" -f -a envelope -d 'Print how far off the clock may have been'
+complete -c ntpaudit -n "not __fish_seen_subcommand_from $commands" -f -a settle -d 'Settle a claim: show it, or refute it'
 complete -c ntpaudit -n "not __fish_seen_subcommand_from $commands" -f -a find -d 'Find a certificate or a refutation'
 complete -c ntpaudit -n "not __fish_seen_subcommand_from $commands" -f -a check -d 'Settle a claim by a certificate'
 complete -c ntpaudit -n "not __fish_seen_subcommand_from $commands" -f -a refute -d 'Contest a claim by a refutation'
@@ -16,4 +17,4 @@ complete -c ntpaudit -n "__fish_seen_subcommand_from find" -l refutation -d 'Fin
 complete -c ntpaudit -n "__fish_seen_subcommand_from envelope" -l servers -d 'Show each server'
 complete -c ntpaudit -n "__fish_seen_subcommand_from refute" -l drift -d 'Let the error drift as the claim grants'
 complete -c ntpaudit -n "__fish_seen_subcommand_from envelope" -l least -d 'Add the least bound of any certificate'
-complete -c ntpaudit -n "__fish_seen_subcommand_from samples at envelope find check refute" -l human -s H -d 'Show milliseconds and times of the day'
+complete -c ntpaudit -n "__fish_seen_subcommand_from samples at envelope settle find check refute" -l human -s H -d 'Show milliseconds and times of the day'

@@ -49,6 +49,17 @@ Status:   0 yes; 1 no; 2 an input is refused; 3 out of memory; 4 a file or the o
 Example:  ntpaudit check claim.json recording.pcap certificate.json
 More:     man ntpaudit, which says what a yes means";
 
+const SETTLE_HELP: &str = "\
+Prints:   one of four answers. A certificate, which `check` accepts: the claim is shown. A refutation,
+          which `refute --drift` accepts. Lines `conflict SERVER REQUEST SERVER REPLY`, and then
+          `nothing fits`: what the claim grants isn't true in this capture. Or `open P Q hull LO HI`:
+          neither is found, and no certificate is accepted. With --human the lines of the last two
+          have milliseconds and times as 2026-11-22T06:46:09Z
+Status:   0 shown; 1 any other answer; 2 an input is refused, or there would be over 100000 pieces;
+          3 out of memory; 4 a file or the output failed; 5 the command line is refused
+Example:  ntpaudit settle claim.json recording.pcap > certificate.json
+More:     man ntpaudit, which says what each answer means";
+
 const FIND_HELP: &str = "\
 Prints:   a certificate, or `nothing piece K` and the hull of the first piece that shows too little.
           Only `check` settles the claim. With --refutation: a refutation, or `nothing refutation`.
@@ -135,6 +146,12 @@ fn at_command<'a>(alloc: Global) -> Result<Command<'a>, AllocError> {
     evidence_command(alloc, "at", about, AT_HELP)?.arg(time.required(true))
 }
 
+/// The command `settle`.
+fn settle_command<'a>(alloc: Global) -> Result<Command<'a>, AllocError> {
+    let about = "Settle a claim by a capture: show it, or refute it";
+    evidence_command(alloc, "settle", about, SETTLE_HELP)
+}
+
 /// The command `check`.
 fn check_command<'a>(alloc: Global) -> Result<Command<'a>, AllocError> {
     let certificate = Arg::new(alloc, "CERTIFICATE").help("The certificate, a JSON file");
@@ -200,9 +217,10 @@ fn with_readings<'a>(alloc: Global, program: Command<'a>) -> Result<Command<'a>,
         .subcommand(at_command(alloc)?)
 }
 
-/// Adds the commands that judge a claim: `check`, `find`, `refute` and `envelope`.
+/// Adds the commands that judge a claim: `settle`, `check`, `find`, `refute` and `envelope`.
 fn with_judgements<'a>(alloc: Global, program: Command<'a>) -> Result<Command<'a>, AllocError> {
     program
+        .subcommand(settle_command(alloc)?)?
         .subcommand(check_command(alloc)?)?
         .subcommand(find_command(alloc)?)?
         .subcommand(refute_command(alloc)?)?
@@ -212,7 +230,7 @@ fn with_judgements<'a>(alloc: Global, program: Command<'a>) -> Result<Command<'a
 /// The program with its commands.
 pub(crate) fn program<'a>(alloc: Global) -> Result<Command<'a>, AllocError> {
     let program = Command::new(alloc, "ntpaudit")
-        .version("0.4.0 (logic dac8208d650f15bf)")
+        .version("0.5.0 (logic dac8208d650f15bf)")
         .about("What a packet capture of NTP shows about a clock")
         .after_help(PROGRAM_HELP)
         .subcommand_required(true);
@@ -333,6 +351,7 @@ pub(crate) fn invocation_of(alloc: Global, matches: &ArgMatches) -> Result<Invoc
         Some(("list", words)) => list(alloc, words),
         Some(("samples", words)) => ask(alloc, words, Question::Samples),
         Some(("at", words)) => at(alloc, words),
+        Some(("settle", words)) => ask(alloc, words, Question::Settle),
         Some(("check", words)) => check(alloc, words),
         Some(("find", words)) => find(alloc, words),
         Some(("refute", words)) => refute(alloc, words),

@@ -1,6 +1,6 @@
 //! The files that a command line names, opened.
 
-ghost use Rattle.std.specs.Prelude.{◌≡◌, None, Some, IfOk, IfErr, IfSome};
+ghost use Rattle.std.specs.Prelude.{◌≡◌, ◌⊎◌, None, Some, IfOk, IfErr, IfSome, IsSomeAnd};
 ghost use Rattle.report.specs.declared.fault.RunFault.TheVariants.{Device};
 
 use crate::invocation::{Paths, SecondPath};
@@ -32,13 +32,15 @@ pub(crate) fn open(rt: &HostRuntime, path: &str, which: Input) -> Result<ReadFee
     }
 }
 
-/// Opens the second input, if there is one.
+/// Opens the second input, if there is one. A fault is that of its device.
 fn open_second(
     rt: &HostRuntime,
     second: &Option<SecondPath>,
 ) -> Result<Option<ReadFeed<File>>, RunFault>
-    ensures { IfOk result (λ opened. IfSome opened (λ feed.
+    ensures unfailed { IfOk result (λ opened. IfSome opened (λ feed.
         (⟦<ReadFeed<File> as Feed>⟧.state feed).faults ≡ 0)) }
+    ensures fault { IfErr result (λ fault.
+        IsSomeAnd second.now (λ named. fault ≡ Device named.input)) }
 {
     match second {
         Some(second) => Ok(Some(open(rt, second.path.as_str(), second.input)?)),
@@ -46,7 +48,8 @@ fn open_second(
     }
 }
 
-/// Opens the inputs of a question, in the order claim, second input, capture.
+/// Opens the inputs of a question, in the order claim, second input, capture. A fault is that of
+/// the device of one that is named.
 pub(crate) fn open_inputs(rt: &HostRuntime, paths: &Paths) -> Result<Inputs, RunFault>
     ensures claim { IfOk result (λ inputs.
         (⟦<ReadFeed<File> as Feed>⟧.state inputs.claim).faults ≡ 0) }
@@ -54,6 +57,9 @@ pub(crate) fn open_inputs(rt: &HostRuntime, paths: &Paths) -> Result<Inputs, Run
         (⟦<ReadFeed<File> as Feed>⟧.state feed).faults ≡ 0)) }
     ensures capture { IfOk result (λ inputs.
         (⟦<ReadFeed<File> as Feed>⟧.state inputs.capture).faults ≡ 0) }
+    ensures fault { IfErr result (λ fault. (fault ≡ Device Input.Claim)
+        ⊎ IsSomeAnd paths.now.second (λ named. fault ≡ Device named.input)
+        ⊎ (fault ≡ Device Input.Capture)) }
 {
     let claim = open(rt, paths.claim.as_str(), Input::Claim)?;
     let second = open_second(rt, &paths.second)?;

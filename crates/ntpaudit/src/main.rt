@@ -5,6 +5,7 @@
 //! the contracts of `audit::answer`, `listing::answer_list` and the crate report.
 #![tactic(auto)]
 
+ghost use Rattle.std.specs.Prelude.{◌≡◌, false};
 ghost use Rattle.byte_stream.specs.State.{IsWritable};
 
 mod command_line;
@@ -28,6 +29,7 @@ use std::process::ExitCode;
 fn list<S: Sink, E: Sink>(rt: &HostRuntime, path: &Option<String>, to: &mut Outputs<S, E>) -> u8
     requires out { IsWritable (S.state to.old.out) }
     requires err { IsWritable (E.state to.old.err) }
+    ensures closed { (E.state to.new.err).is_open ≡ false }
 {
     let alloc = rt.alloc();
     let out = &mut to.out;
@@ -51,6 +53,7 @@ fn respond<S: Sink, E: Sink, H: BuildHasher + Drop>(
 ) -> u8
     requires out { IsWritable (S.state to.old.out) }
     requires err { IsWritable (E.state to.old.err) }
+    ensures closed { (E.state to.new.err).is_open ≡ false }
 {
     let alloc = rt.alloc();
     match invocation {
