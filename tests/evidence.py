@@ -148,7 +148,7 @@ def test_signing_again(place):
               verified=(dossier("verify", held, "--signers", place / "signers")[0], 0))
     check("signed already", status=(dossier("sign", folder, "--key", key)[0], 4))
     kept = {path.name: path.read_bytes() for path in folder.iterdir()}
-    check("a signed folder that is unchanged", run=(dossier("audit", folder)[:2], (0, f"yes     {folder}: least bound 0.657 ms, claimed 5 ms (unchanged)\n".encode())))
+    check("a signed folder that is unchanged", run=(dossier("audit", folder)[:2], (0, f"yes           {folder}: least bound 0.619 ms, claimed 5 ms (unchanged)\n".encode())))
     for words in (["--step", "4"], ["--days"]):
         status, out, _ = dossier("audit", *words, folder)
         check(f"a signed folder, audited with {words[0]}", status=(status, 5), told=(b"only with --again" in out, True),
@@ -202,20 +202,15 @@ def test_elsewhere(place):
 
 
 def test_older_records(place):
-    """A record of form 3 is verified and shown as it was, and audited again in the new form."""
+    """A folder of an older form isn't verified, shown or signed, and is audited again."""
     folder = folder_of(place, "older")
     dossier("audit", folder)
     record = json.loads((folder / "audit.json").read_text())
-    (folder / "evidence.json").write_text("{}")
-    older = {name: value for name, value in record.items() if name not in ("signed", "leap_seconds")}
-    entries = [{name: value for name, value in entry.items() if name != "leap"} for entry in record["entries"]]
-    (folder / "audit.json").write_text(json.dumps({**older, "dossier": 3, "entries": entries}))
-    check("verify of an older record", run=(dossier("verify", folder)[:2], (0, f"{folder}: verified\n".encode())))
-    check("an older record in the table", verdict=(table(folder)[0]["verdict"], "yes"))
-    check("an older record isn't signed", line=(b"audited by an older dossier" in dossier("sign", folder, "--key", "any")[1], True))
-    (folder / "evidence.json").unlink()
+    (folder / "audit.json").write_text(json.dumps({**record, "dossier": record["dossier"] - 1}))
+    check("an older record", verify=(dossier("verify", folder)[:2], (4, f"{folder}: ntpaudit-dossier: not audited\n".encode())),
+          sign=(dossier("sign", folder, "--key", "any")[0], 4), row=((table(folder)[0]["verdict"], "audit FOLDER" in table(folder)[0]["to_do"]), ("refused", True)))
     check("an older record is audited again", unchanged=(b"(unchanged)" in dossier("audit", folder)[1], False),
-          form=(json.loads((folder / "audit.json").read_text())["dossier"], 4))
+          form=(json.loads((folder / "audit.json").read_text())["dossier"], record["dossier"]))
 
 
 # ---- leap seconds

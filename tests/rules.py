@@ -253,21 +253,28 @@ def need_of(found):
     return max(0, -found[0], found[1]) if found else None
 
 
-def greatest_need(claim, samples, begin, end, above=-1):
-    """The greatest need of the pieces of one tick from begin to end, of those with a hull, if it is above this much: else
-    None. A piece within a piece needs no more, so the one that needs most is halved until it has one tick."""
+def neediest(claim, samples, begin, end, above=-1):
+    """The piece of one tick from begin to end that needs most, of those with a hull, if that is above this much: what it
+    needs, and its ends; else None. A piece within a piece needs no more, so the one that needs most is halved until it
+    has one tick."""
     def need(piece):
         return need_of(best_hull(claim, samples, *piece))
     waiting = [(-most, piece) for piece in [(begin, end)] if (most := need(piece)) is not None]
     while waiting and -waiting[0][0] > above:
         most, (begin, end) = heapq.heappop(waiting)
         if end - begin <= 1:
-            return -most
+            return -most, begin, end
         middle = (begin + end) // 2
         for piece in (begin, middle), (middle, end):
             if (most := need(piece)) is not None:
                 heapq.heappush(waiting, (-most, piece))
     return None
+
+
+def greatest_need(claim, samples, begin, end, above=-1):
+    """The greatest need of the pieces of one tick from begin to end, of those with a hull, if it is above this much."""
+    found = neediest(claim, samples, begin, end, above)
+    return found and found[0]
 
 
 def least(claim, samples, step):

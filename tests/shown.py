@@ -3,6 +3,7 @@
 - an end of a range, in ticks of 2^-32 s, is in milliseconds with six decimals: a low end rounded down, a high end up
 - a Unix second is a time of UTC, nanoseconds are milliseconds, parts of 10^9 are parts of 10^6
 - a reference identifier is its four letters, or else an address
+- a record's time and the ends of a tick have nanoseconds, unless it is a whole second
 - `samples`, `at` and `envelope` have columns under one line of headings
 
 Nothing here is shared with the program.
@@ -108,6 +109,28 @@ def bounded(row):
     """A line whose hull stands at its end, in no columns."""
     words, hull = row.split(" hull ")
     return " ".join([words, "hull", *range_of(hull.split(" "))])
+
+
+def moment(nanoseconds):
+    """A time in Unix nanoseconds, with nine decimals, or none at a whole second."""
+    second, part = divmod(nanoseconds, 10**9)
+    return time(second).replace("Z", f".{part:09}Z" if part else "Z")
+
+
+def settle(lines, times):
+    """Conflicts and what stays open are shown, with the times of the records by their numbers in Unix nanoseconds, and
+    what is found stays as it is."""
+    shown = []
+    for row in lines:
+        f = row.split(" ")
+        if f[0] == "conflict":
+            ends = zip(("request", "reply"), f[1::2], f[2::2])
+            row = " ".join(["conflict", *(f"{server} {what} {record} at {moment(times[int(record)])}" for what, server, record in ends)])
+        elif f[0] == "open":
+            begin, end = int(f[1]) * 10**9 // TICKS, -(-int(f[2]) * 10**9 // TICKS)
+            row = bounded(" ".join(["open", moment(begin), moment(end), *f[3:]]))
+        shown.append(row)
+    return shown
 
 
 def check(lines):
