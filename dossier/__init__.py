@@ -5,8 +5,5 @@ printed, at most converted from ticks of 2^-32 s to milliseconds and from Unix s
 measured or read for a premise stands beside it, as what it is, and plays no part in a verdict.
 """
 
-VERSION = 4
+VERSION = 5
 """The form of audit.json. An audit.json of another form is of another dossier, and its folder is audited again."""
-
-FORMS = {3, VERSION}
-"""The forms that are read, verified and shown. What form 3 doesn't say is left out."""

@@ -15,12 +15,6 @@ Alert = dict[str, Any]
 ON_DRIFT = "There it rests on the drift that the claim grants, and on nothing recorded."
 
 
-def empty(found: Alert) -> str:
-    pieces = f"{count(found['count'], 'piece')} of the envelope {is_or_are(found['count'])} empty"
-    return (f"{pieces}, the first {between(found)}: no course of events has a reading of the clock there, "
-            "so an assumption of the claim fails in this capture.")
-
-
 def outside(found: Alert) -> str:
     parts = []
     if found["before"]:
@@ -70,8 +64,7 @@ def reference(found: Alert) -> str:
 
 
 WORDS: dict[str, Callable[[Alert], str]] = {
-    "empty": empty, "outside": outside, "no-drift": no_drift, "falls": falls, "far": far, "leap": leap,
-    "leap-second": leap_second,
+    "outside": outside, "no-drift": no_drift, "falls": falls, "far": far, "leap": leap, "leap-second": leap_second,
     "sources": sources, "reference": reference,
 }
 

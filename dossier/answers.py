@@ -1,7 +1,10 @@
 """What the program prints, taken apart word by word. A number stays the number that was printed."""
 from __future__ import annotations
 
-from typing import NamedTuple
+import json
+from typing import Any, NamedTuple
+
+from .entry import NOTHING_FITS, OPEN, REFUTED, YES
 
 Hull = tuple[int, int] | str
 """Two ends in ticks, or one of the words `unbounded` and `empty`."""
@@ -17,34 +20,31 @@ def read_counts(line: str) -> dict[str, int]:
     return {name: int(number) for name, number in zip(words[::2], words[1::2])}
 
 
-class Nothing(NamedTuple):
-    """What `find` says if it finds nothing: the first piece that fails, and its hull."""
+class Settled(NamedTuple):
+    """What `settle` says: its verdict; and a refutation; or the conflicts, each with the server and the record of a request
+    and the server and the record of a reply; or the ends of a tick, in Unix ticks, and its hull."""
 
-    piece: int
-    hull: Hull
-
-
-def read_nothing(text: bytes) -> Nothing:
-    words = text.decode("ascii").split()
-    return Nothing(int(words[2]), read_hull(words[4:]))
+    verdict: str
+    refutation: dict[str, Any] = {}
+    conflicts: list[tuple[str, int, str, int]] = []
+    left_open: tuple[int, int, Hull] = (0, 0, "")
 
 
-class Report(NamedTuple):
-    """The report of `check`: its advice, and at a no the piece and the reason."""
+def read_settled(text: bytes) -> Settled:
+    if text.startswith(b'{"pieces"'):
+        return Settled(YES)
+    if text.startswith(b"{"):
+        return Settled(REFUTED, refutation=json.loads(text))
+    *lines, last = [line.split() for line in text.decode("ascii").splitlines()]
+    if last[0] == "open":
+        return Settled(OPEN, left_open=(int(last[1]), int(last[2]), read_hull(last[4:])))
+    return Settled(NOTHING_FITS, conflicts=[(low, int(request), high, int(reply)) for _, low, request, high, reply in lines])
 
-    sources: int | None
-    reference: str | None
-    piece: int | None
-    why: str | None
 
-
-def read_report(text: bytes) -> Report:
-    lines = [line.split() for line in text.decode("ascii").splitlines()]
-    advice = {words[1]: words[2] for words in lines if words[0] == "advice"}
-    sources, verdict = advice.get("sources"), lines[-1]
-    is_yes = verdict == ["verdict", "yes"]
-    return Report(int(sources) if sources else None, advice.get("reference"), None if is_yes else int(verdict[3]),
-                  None if is_yes else verdict[4])
+def read_advice(report: bytes) -> dict[str, str]:
+    """The advice in a report of `check`: the number of sources, or the one reference, if there are too few."""
+    lines = [line.split() for line in report.decode("ascii").splitlines()]
+    return {words[1]: words[2] for words in lines if words[0] == "advice"}
 
 
 class Envelope(NamedTuple):
@@ -56,16 +56,14 @@ class Envelope(NamedTuple):
     hulls: list[Hull]
     servers: dict[str, tuple[list[int], list[int]]]
     least_ns: int | None
+    """The least bound that any certificate carries, if it was asked for; None if a piece has no hull with two ends."""
     worst: int
-
-    def first(self, word: str) -> int | None:
-        """The first piece with this word for its hull."""
-        return next((k for k, hull in enumerate(self.hulls) if hull == word), None)
+    """The piece that needs the least bound, or the first that is unbounded or empty."""
 
 
 def read_envelope(text: bytes) -> Envelope:
     """Takes the text of `envelope --servers` apart."""
-    lines = text.decode("ascii").splitlines()[:-1]
+    lines, _ = lines_of(text)
     width, servers = width_of(lines), {}
     for place in range(width):
         words = " ".join(lines[place :: width + 1]).split(" ")
@@ -75,12 +73,21 @@ def read_envelope(text: bytes) -> Envelope:
 
 def read_hulls(text: bytes) -> Envelope:
     """The envelope with its servers left out."""
-    *lines, closing = text.decode("ascii").splitlines()
+    lines, closing = lines_of(text)
     width = width_of(lines)
     hulls = [line.split() for line in lines[width :: width + 1]]
-    _, least, _, worst = closing.split()
+    _, bound, _, worst = closing[0].split()
+    least = closing[1].split() if bound != "none" and len(closing) > 1 else []
     return Envelope([int(words[1]) for words in hulls], [int(words[2]) for words in hulls],
-                    [read_hull(words[3:]) for words in hulls], {}, None if least == "none" else int(least), int(worst))
+                    [read_hull(words[3:]) for words in hulls], {}, int(least[1]) if least else None,
+                    int(least[3] if least else worst))
+
+
+def lines_of(text: bytes) -> tuple[list[str], list[str]]:
+    """The lines of pieces; and the closing ones, of which the last is there only if the least bound was asked for."""
+    lines = text.decode("ascii").splitlines()
+    end = len(lines) - (2 if lines[-1].startswith("least_ns ") else 1)
+    return lines[:end], lines[end:]
 
 
 def width_of(lines: list[str]) -> int:

@@ -7,10 +7,10 @@ from collections.abc import Iterator
 from . import folder as files
 from .alerts import warning_words
 from .answers import Envelope, read_envelope
-from .entry import REFUSED, Entry, Record
+from .entry import NOTHING_FITS, REFUSED, REFUTED, YES, Entry, Record
 from .evidence import evidence
-from .figure import MARKS, legend, picture, stroke
-from .folder import ENVELOPE
+from .figure import fails_of, legend, picture, stroke
+from .folder import ENVELOPE, REPORT
 from .markup import html, minus, with_code
 from .premises import premises
 from .program import sum_of
@@ -20,6 +20,8 @@ from .support import support
 from .text import count
 from .units import range_ms
 from .words import capital, fit, sentence, span, to_do
+
+MOST_CONFLICTS = 20
 
 COUNTS = {
     "records": "records in the capture",
@@ -69,11 +71,25 @@ def body(name: str, folder: str, record: Record, entry: Entry) -> Iterator[str]:
         items = "".join(f"<li>{html(warning_words(warning))}</li>" for warning in entry.warnings)
         yield f'<ul class="warnings">{items}</ul>'
     envelope = kept_envelope(folder, entry)
+    if entry.verdict == NOTHING_FITS:
+        yield conflicts(entry)
     yield figure(name, entry, envelope) if envelope else NO_PICTURE
     yield servers(entry, envelope)
     yield granted(folder, record, entry)
     yield counts(entry)
     yield again(record, entry)
+
+
+def conflicts(entry: Entry) -> str:
+    """The first conflicts: of each two servers the exchanges that no course of events allows for together."""
+    found = entry.reason["conflicts"]
+    lines = [list(map(html, conflict)) for conflict in found[:MOST_CONFLICTS]]
+    rest = f'<p class="soft">And {len(found) - len(lines):,} more, in {REPORT}.</p>' if len(found) > len(lines) else ""
+    columns = {"Ahead by": "", "Record of its request": "number", "Not so far by": "", "Record of its reply": "number"}
+    return f"<h3>Conflicts</h3>\n{NO_COURSE}\n" + rows(columns, lines) + rest
+
+
+NO_COURSE = '<p class="soft">No course of events allows for both exchanges of a line, with either server right.</p>'
 
 
 NO_PICTURE = f"<p><b>No picture:</b> {ENVELOPE} isn't there, or was changed since the audit.</p>"
@@ -92,12 +108,11 @@ def kept_envelope(folder: str, entry: Entry) -> Envelope | None:
 def figure(name: str, entry: Entry, envelope: Envelope) -> str:
     label = (f"The clock's error in ms, {span(entry.claim)}, in pieces of {entry.envelope_step} s. Above 0 the clock is "
              "ahead of UTC. The band is the hull: what is left if no more were wrong than granted.")
-    fails = {kind for kind in MARKS if entry.failing.get(kind)}
     return "\n".join([
         "<figure>",
         f"<figcaption>{html(label)}</figcaption>",
         picture(envelope, entry.claim["bound_ns"], name, label),
-        legend(list(envelope.servers), fails),
+        legend(list(envelope.servers), fails_of(envelope, entry.claim["bound_ns"])),
         "</figure>",
     ])
 
@@ -171,12 +186,14 @@ def again(record: Record, entry: Entry) -> str:
     """The calls that settle it, for whoever wants to make them by hand in the folder."""
     capture = quoted(record.capture if entry.part == "." else f"../{record.capture}")
     of_claim = f"{files.CLAIM} {capture}"
-    is_checked = entry.decided_by == "check"
-    settled = f"check {of_claim} {files.CERTIFICATE}" if is_checked else f"find {of_claim} --step {entry.step}"
-    calls = [settled, f"envelope {of_claim} --servers --step {entry.envelope_step}"]
-    if entry.refutation["found"]:
-        claim = files.CLAIM_OF_0 if entry.refutation["of"] == "bound 0" else files.CLAIM
-        calls.append(f"refute {claim} {capture} {files.REFUTATION}")
+    calls = [f"settle {of_claim}", f"envelope {of_claim} --servers --least --step {entry.envelope_step}"]
+    if entry.verdict == YES:
+        calls.insert(1, f"check {of_claim} {files.CERTIFICATE}")
+    if entry.verdict == NOTHING_FITS:
+        calls.append(f"settle {files.CLAIM_OF_DRIFT} {capture}")
+    if entry.refutation:
+        claim = files.CLAIM if entry.verdict == REFUTED else files.CLAIM_OF_0
+        calls.append(f"refute {claim} {capture} {files.REFUTATION} --drift")
     lines = "\n".join(f"ntpaudit {html(call)}" for call in calls)
     return f'<h3>To see it again</h3>\n<p class="soft">What each line shows: {see("The verdict")}.</p>\n<pre>{lines}</pre>'
 

@@ -136,7 +136,7 @@ def audit_parts(capture: str, options: Options, program: Program) -> list[Entry]
     recording = read_recording(program, files.CLAIM, operand, wants_request=True)
     claim = json.loads(read(files.CLAIM))
     parts = parts_of(claim, options.days)
-    entries = [Settling(part, operand, program, options.leaps).settle(recording, options.step) for part in parts]
+    entries = [Settling(part, operand, program, options.step).settle(recording, options.leaps) for part in parts]
     if capture != files.JOINED:
         return entries
     joined = {capture: sum_of_file(capture)}

@@ -23,7 +23,7 @@ ABOUT = """Puts many audits by ntpaudit together: folders with a claim and captu
   ntpaudit-dossier sign web-1 --key ~/.ssh/id_ed25519                         who answers for it (if you like)
   ntpaudit-dossier verify web-1                                               a year later
 
-docs/DOSSIER.md has more. Statuses are those of ntpaudit: 0 yes, 1 no, 2 an input is refused, 3 out of memory, 4 a
+docs/DOSSIER.md has more. Statuses are those of ntpaudit: 0 yes, 1 no yes, 2 an input is refused, 3 out of memory, 4 a
 device, 5 the command line; the status of several folders is the worst of theirs."""
 
 
@@ -52,7 +52,7 @@ def parser() -> Parser:
     audit = commands.add_parser("audit", help="audit folders")
     audit.add_argument("folders", nargs="+", metavar="FOLDER")
     audit.add_argument("--step", type=in_range(1, 86_400), metavar="N",
-                       help="seconds of a piece; else the coarsest of 64, 16, 4, 1 that carries the claim")
+                       help="seconds of the envelope's pieces; else as few of 1, 4, 16, .. as make no more than 10,000")
     audit.add_argument("--days", action="store_true", help="a verdict for each day (UTC) of the span")
     audit.add_argument("--jobs", type=in_range(1, 4096), default=0, metavar="N",
                        help="folders side by side; as many as processors if it is left out")

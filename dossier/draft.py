@@ -12,18 +12,18 @@ from typing import Any
 from . import folder as files
 from .answers import read_hulls
 from .joining import join
+from .judgement import GREATEST_BOUND
 from .program import Fault, Operand, Program
 from .recording import SECOND, Recording, read_recording
-from .settling import envelope_step_of
 from .text import count, plain
 from .text import reference as letters
 from .units import DAY, civil, ns_up_ms
 
 MOST_SERVERS = 32
-COARSEST = 64
+LONGEST = "86400"
+"""Seconds of an envelope's pieces at the most."""
 NO_BOUND = 1_000_000_000
 """Nanoseconds that stand in a draft for which no bound is known."""
-GREATEST_BOUND = 10**15
 DRIFT = 100_000
 """Parts in 10^9 that stand in a draft if nothing is known of the client: an oscillator alone."""
 UNKNOWN = "00000000"
@@ -144,7 +144,7 @@ class Draft:
             first, last = span_of(recording.first_request, recording.times[-1], wanted.whole_days)
             claim |= {"from": civil(first), "to": civil(last)}
             Path(own.name).write_bytes(files.compact(claim))
-            self.take_bound(claim, own, last - first)
+            self.take_bound(claim, own)
         self.leave_to_a_person(claim)
         return claim
 
@@ -189,10 +189,9 @@ class Draft:
                 self.remark(f"{names} name one kind of reference clock ({letters(reference)}):",
                             "if it is one and the same clock, put them into one group.")
 
-    def take_bound(self, claim: dict[str, Any], own: Operand, span: int) -> None:
-        """The least bound that the envelope carries, rounded up to two digits."""
-        step = envelope_step_of(claim, COARSEST)
-        envelope = read_hulls(self.program.run("envelope", own, self.capture, "--servers", "--step", str(step)).text)
+    def take_bound(self, claim: dict[str, Any], own: Operand) -> None:
+        """The least bound that any certificate carries, rounded up to two digits."""
+        envelope = read_hulls(self.program.run("envelope", own, self.capture, "--least", "--step", LONGEST).text)
         claim["bound_ns"] = NO_BOUND
         if envelope.least_ns is None:
             begin, word = envelope.begins[envelope.worst], envelope.hulls[envelope.worst]
@@ -203,7 +202,7 @@ class Draft:
         else:
             claim["bound_ns"] = round_up(envelope.least_ns)
             least = ns_up_ms(envelope.least_ns)
-            self.remark(f"bound_ns: the least bound that pieces of {step} s carry is {least} ms; rounded up.")
+            self.remark(f"bound_ns: the least bound that any certificate carries is {least} ms; rounded up.")
 
     def leave_to_a_person(self, claim: dict[str, Any]) -> None:
         """What only a person can answer for."""

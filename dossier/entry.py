@@ -6,15 +6,15 @@ import re
 from collections.abc import Sequence
 from typing import Any, NamedTuple
 
-from . import FORMS, VERSION
-from .folder import AUDIT, CERTIFICATE, CLAIM, CLAIM_OF_0, ENVELOPE, JOINED, REFUTATION, REPORT, read_json
+from . import VERSION
+from .folder import (AUDIT, CERTIFICATE, CLAIM, CLAIM_OF_0, CLAIM_OF_DRIFT, ENVELOPE, JOINED, REFUTATION, REPORT,
+                     read_json)
 
-YES, NO, NEITHER, REFUSED = "yes", "no", "neither", "refused"
-STATUS = {YES: 0, NO: 1, NEITHER: 1}
+VERDICTS = YES, REFUTED, NOTHING_FITS, OPEN, REFUSED = "yes", "refuted", "nothing fits", "open", "refused"
 
 DAY = re.compile(r"\d{4}-\d\d-\d\d")
 PART = re.compile(rf"\.|{DAY.pattern}")
-LEFT = {CERTIFICATE, REPORT, ENVELOPE, REFUTATION, CLAIM_OF_0}
+LEFT = {CERTIFICATE, REPORT, ENVELOPE, REFUTATION, CLAIM_OF_0, CLAIM_OF_DRIFT}
 
 MANGLED = (KeyError, TypeError, ValueError, AttributeError, IndexError, StopIteration, OverflowError)
 """What an audit.json brings about that no audit wrote."""
@@ -29,34 +29,27 @@ class Entry(NamedTuple):
     fault: dict[str, Any] = {}
     """Of a refusal, its line and its status. What follows is there if there is none."""
     claim: dict[str, Any] = {}
-    decided_by: str = ""
-    """The command whose text is report.txt: `check`, or `find` if it found nothing."""
-    step: int = 0
-    """Seconds of the certificate's pieces, or of those in which `find` found nothing last."""
     envelope_step: int = 0
     """Seconds of the envelope's pieces."""
-    pieces: int = 0
-    """How many pieces the envelope has."""
     least_ns: int | None = None
-    """The least bound that the envelope carries; None if a piece is unbounded or empty."""
+    """The least bound that any certificate carries; None if no course of events fits, or too few groups have a sample."""
     worst: dict[str, Any] = {}
     """The piece that needs the least bound, or the first that is unbounded or empty."""
     reason: dict[str, Any] = {}
-    """Of a no: the piece that fails, and how."""
-    failing: dict[str, int] = {}
-    """How many pieces of the envelope are unbounded, are empty, or lie beyond the bound."""
+    """Why it isn't a yes, and what shows it: a piece of the envelope, conflicts, or a tick."""
     counts: dict[str, int] = {}
     servers: Sequence[dict[str, Any]] = ()
     refutation: dict[str, Any] = {}
+    """That of the claim; or, at a yes, of the same claim with the bound 0."""
     warnings: Sequence[dict[str, Any]] = ()
     outputs: dict[str, str] = {}
     """The SHA-256 of each file that the audit left, by its name seen from the record's folder."""
     leap: dict[str, Any] = {}
-    """What the list of leap seconds says of the span and all exchanges; nothing in a record of form 3."""
+    """What the list of leap seconds says of the span and all exchanges."""
 
     @property
     def status(self) -> int:
-        return int(self.fault["status"]) if self.fault else STATUS[self.verdict]
+        return int(self.fault["status"]) if self.fault else int(self.verdict != YES)
 
 
 class Record(NamedTuple):
@@ -75,7 +68,7 @@ class Record(NamedTuple):
     signed: str = ""
     """When this was signed, as the signer says; nothing if it wasn't."""
     leap_seconds: dict[str, Any] = {}
-    """What the list of leap seconds says that was looked up; nothing in a record of form 3."""
+    """What the list of leap seconds says that was looked up."""
 
     @property
     def status(self) -> int:
@@ -94,9 +87,9 @@ def record_text(record: Record) -> bytes:
 
 
 def read_record(folder: str) -> Record | None:
-    """The record of a folder; None if there is none, or one of a form that isn't read."""
+    """The record of a folder; None if there is none, or one of another form."""
     found: Any = read_json(f"{folder}/{AUDIT}")
-    if not isinstance(found, dict) or found.get("dossier") not in FORMS:
+    if not isinstance(found, dict) or found.get("dossier") != VERSION:
         return None
     try:
         said: dict[str, Any] = {**found, "entries": [Entry(**entry) for entry in found["entries"]]}

@@ -204,24 +204,30 @@ def swatch(drawn: str) -> str:
     return f'<svg width="26" height="14" aria-hidden="true">{drawn}</svg>'
 
 
-def items(names: list[str], fails: Collection[str | None]) -> list[tuple[str, str]]:
+def items(names: list[str], fails: Collection[str]) -> list[tuple[str, str]]:
     """What stands for what: something drawn, and its name."""
     servers = [(f'<path class="server {server_class(place)}" d="M0 7H26"/>', name) for place, name in enumerate(names)]
     marks = [(f'<path class="mark {kind}" d="M0 7H26"/>', text) for kind, text in MARKS.items() if kind in fails]
     return [(HULL, "hull"), *servers, ('<path class="bound" d="M0 7H26"/>', "claimed bound"), *marks]
 
 
-def legend(names: list[str], fails: Collection[str | None]) -> str:
+def legend(names: list[str], fails: Collection[str]) -> str:
     """The legend beside a picture in a page."""
     lines = "".join(f"<li>{swatch(drawn)} {html(text)}</li>" for drawn, text in items(names, fails))
     return f'<ul class="legend">{lines}</ul>'
 
 
+def fails_of(envelope: Envelope, bound_ns: int) -> set[str]:
+    """How pieces of an envelope fail."""
+    bound = bound_ticks(bound_ns)
+    return {hull if isinstance(hull, str) else "beyond" for hull in envelope.hulls
+            if isinstance(hull, str) or is_beyond(hull, bound)}
+
+
 def standing_alone(envelope: Envelope, bound_ns: int, label: str, wide: int = 900) -> str:
     """The picture as a file of its own, with its legend in it."""
-    fails = {cell.mark for cell in cells_of(envelope, bound_ticks(bound_ns))}
     top, across, written = 36, 10, []
-    for drawn, text in items(list(envelope.servers), fails):
+    for drawn, text in items(list(envelope.servers), fails_of(envelope, bound_ns)):
         if across + 52 + 7 * len(text) > wide:
             top, across = top + 20, 10
         words = f'<text x="32" y="12">{html(text)}</text>'

@@ -1,17 +1,15 @@
-"""What an audit's answers come to: the verdict, the reason of a no, and what a reader has to be warned of.
+"""What an audit's answers come to: the verdict, why it isn't a yes, and what a reader has to be warned of.
 
 This is a function of texts that the program printed; `verify` calls it again on texts of its own.
 """
 from __future__ import annotations
 
-import json
 from collections.abc import Iterator
 from operator import sub
 from typing import Any, NamedTuple
 
-from .answers import Envelope, Hull, Report, read_hulls, read_nothing, read_report
-from .entry import NEITHER, NO, YES, Entry
-from .folder import compact
+from .answers import Envelope, Hull, Settled, read_advice, read_hulls, read_settled
+from .entry import NOTHING_FITS, OPEN, REFUTED, YES, Entry
 from .leap import WITHIN, look_up
 from .recording import SECOND, Recording
 from .units import bound_ticks, seconds_of
@@ -19,60 +17,51 @@ from .units import bound_ticks, seconds_of
 FAR = 10
 """A piece is far from the samples if the nearest is farther than this part of the span."""
 
+GREATEST_BOUND, GREATEST_DRIFT = 10**15, 500_000_000
+"""What a claim can grant, in nanoseconds and in parts of 10^9."""
+MORE, LEAST_DRIFT = 10, 100_000
+"""So many times the claim's drift is tried where nothing fits, or that of an oscillator alone."""
+
 
 class Texts(NamedTuple):
     """What the program printed of one audit."""
 
-    decided_by: str
-    step: int
+    settled: bytes
+    """The answer of `settle`."""
     report: bytes
-    envelope_step: int = 0
+    """What `check` says of its certificate, or `refute` of its refutation; else the answer itself."""
+    other: bytes = b""
+    """The answer of `settle` to another claim: at a yes with the bound 0, where nothing fits with more drift and
+    the greatest bound."""
     envelope: bytes = b""
-    refutation: bytes | None = None
-    """The text of `find --refutation`, of the claim at a no and of the claim with the bound 0 at a yes; None if
-    nothing was found."""
-    refute: bytes | None = None
-    """What `refute` says about it."""
-
-    @property
-    def is_yes(self) -> bool:
-        """Whether `check` decided, and says yes."""
-        return self.decided_by == "check" and self.report.endswith(b"\nverdict yes\n")
 
 
-def at_bound_0(claim: dict[str, Any]) -> bytes:
-    """The claim with the bound 0: what refutes it is a course of events that fits the capture."""
-    return compact({**claim, "bound_ns": 0})
+def more_drift(claim: dict[str, Any]) -> int:
+    """The drift that is tried where nothing fits, in parts of 10^9."""
+    return min(max(MORE * claim["drift_ppb"], LEAST_DRIFT), GREATEST_DRIFT)
 
 
 def groups_of(claim: dict[str, Any]) -> list[list[int]]:
     return claim.get("groups") or [[k] for k in range(len(claim["servers"]))]
 
 
-def judge(
-        part: str, claim: dict[str, Any], recording: Recording, texts: Texts, leaps: dict[str, Any]) -> Entry:
+def judge(part: str, claim: dict[str, Any], recording: Recording, texts: Texts, step: int, leaps: dict[str, Any]) -> Entry:
     """The entry that the program's texts come to, with what a list of leap seconds says."""
-    envelope = read_hulls(texts.envelope)
-    report = read_report(texts.report) if texts.decided_by == "check" else None
-    failing = count_failing(envelope, bound_ticks(claim["bound_ns"]))
-    leap = look_up(leaps, claim, recording)
-    verdict = NO if not texts.is_yes else NEITHER if failing["empty"] else YES
+    settled, envelope, leap = read_settled(texts.settled), read_hulls(texts.envelope), look_up(leaps, claim, recording)
+    advice = read_advice(texts.report) if settled.verdict == YES else {}
+    servers = servers_of(claim, recording)
     return Entry(
         part=part,
-        verdict=verdict,
+        verdict=settled.verdict,
         claim=claim,
-        decided_by=texts.decided_by,
-        step=texts.step,
-        envelope_step=texts.envelope_step,
-        pieces=len(envelope.hulls),
-        least_ns=envelope.least_ns,
+        envelope_step=step,
+        least_ns=None if settled.verdict == NOTHING_FITS else envelope.least_ns,
         worst=piece_of(envelope, envelope.worst),
-        reason={} if texts.is_yes else reason_of(claim, report, texts),
-        failing=failing,
+        reason=reason_of(claim, servers, settled, envelope, texts.other),
         counts=recording.counts,
-        servers=servers_of(claim, recording),
-        refutation=refutation_of(texts),
-        warnings=[*warnings(claim, recording, envelope, report), *leap_warnings(leap)],
+        servers=servers,
+        refutation=read_settled(texts.other).refutation if settled.verdict == YES else settled.refutation,
+        warnings=[*warnings(claim, recording, envelope, advice), *leap_warnings(leap)],
         leap=leap,
     )
 
@@ -89,27 +78,47 @@ def is_beyond(hull: Hull, bound: int) -> bool:
     return not isinstance(hull, str) and (hull[0] < -bound or hull[1] > bound)
 
 
-def count_failing(envelope: Envelope, bound: int) -> dict[str, int]:
-    return {"unbounded": envelope.hulls.count("unbounded"), "empty": envelope.hulls.count("empty"),
-            "beyond": sum(is_beyond(hull, bound) for hull in envelope.hulls)}
+def is_off(hull: Hull, bound: int) -> bool:
+    """Whether a hull lies beyond the bound as a whole."""
+    return not isinstance(hull, str) and (hull[0] > bound or hull[1] < -bound)
 
 
-def reason_of(claim: dict[str, Any], report: Report | None, texts: Texts) -> dict[str, Any]:
-    """Of a no: the words of `check`, or the piece that `find` names with its hull and its times."""
-    if report is not None:
-        return {"why": report.why, "piece": report.piece}
-    nothing = read_nothing(texts.report)
-    first, last = seconds_of(claim["from"]), seconds_of(claim["to"])
-    begin = first + nothing.piece * texts.step
-    return {"why": why_of(nothing.hull, bound_ticks(claim["bound_ns"])), "piece": nothing.piece, "from": begin,
-            "to": min(begin + texts.step, last), "hull": in_json(nothing.hull)}
+def reason_of(
+        claim: dict[str, Any], servers: list[dict[str, Any]], settled: Settled, envelope: Envelope,
+        other: bytes) -> dict[str, Any]:
+    """Of what isn't a yes: why, and what shows it."""
+    if settled.verdict == REFUTED:
+        return why_refuted(bound_ticks(claim["bound_ns"]), envelope)
+    if settled.verdict == OPEN:
+        begin, end, hull = settled.left_open
+        return {"from": begin, "to": end, "hull": in_json(hull)}
+    if settled.verdict == NOTHING_FITS:
+        why = why_nothing_fits(servers, settled, read_settled(other).verdict != NOTHING_FITS)
+        return {**why, "drift_ppb": more_drift(claim), "conflicts": [list(conflict) for conflict in settled.conflicts]}
+    return {}
 
 
-def why_of(hull: Hull, bound: int) -> str:
-    """`unbounded` and `empty` as they stand; `off` if the hull lies beyond the bound as a whole; else `exceeds`."""
-    if isinstance(hull, str):
-        return hull
-    return "off" if hull[0] > bound or hull[1] < -bound else "exceeds"
+def why_refuted(bound: int, envelope: Envelope) -> dict[str, Any]:
+    """`unbounded`; `off` with the first piece whose hull lies beyond the bound as a whole; else `exceeds`."""
+    if "unbounded" in envelope.hulls:
+        return {"why": "unbounded"}
+    off = next((k for k, hull in enumerate(envelope.hulls) if is_off(hull, bound)), None)
+    return {"why": "exceeds"} if off is None else {"why": "off", **piece_of(envelope, off)}
+
+
+def why_nothing_fits(servers: list[dict[str, Any]], settled: Settled, fits_with_more: bool) -> dict[str, Any]:
+    """`apart` with the servers of groups that are in conflict with themselves or with most others, if these are the
+    minority and in each conflict; else `drift` if a course fits with more drift; `step` if each group is in conflict with
+    itself; else `many`."""
+    group = {server["address"]: server["group"] for server in servers}
+    heard = {server["group"] for server in servers if server["samples"]}
+    pairs = {(group[low], group[high]) for low, _, high, _ in settled.conflicts}
+    broken = {a for a, b in pairs if a == b}
+    met = {one: {a + b - one for a, b in pairs if one in (a, b)} - {one} for one in heard}
+    apart = broken | {one for one in heard if 2 * len(met[one]) >= len(heard)}
+    if 2 * len(apart) < len(heard) and all(a in apart or b in apart for a, b in pairs):
+        return {"why": "apart", "apart": [server["address"] for server in servers if server["group"] in apart]}
+    return {"why": "drift" if fits_with_more else "step" if broken == heard else "many"}
 
 
 def servers_of(claim: dict[str, Any], recording: Recording) -> list[dict[str, Any]]:
@@ -119,24 +128,12 @@ def servers_of(claim: dict[str, Any], recording: Recording) -> list[dict[str, An
             for number, address in enumerate(claim["servers"])]
 
 
-def refutation_of(texts: Texts) -> dict[str, Any]:
-    """Which claim was to be refuted, whether anything was found, and what `refute` says about it."""
-    found: dict[str, Any] = {"of": "bound 0" if texts.is_yes else "claim", "found": texts.refutation is not None}
-    if texts.refutation is not None:
-        said = json.loads(texts.refutation)
-        found["stands"] = texts.refute == b"refuted yes\n"
-        found |= {name: said[name] for name in ("error", "false", "reading")}
-    return found
-
-
 Alert = dict[str, Any]
 
 
 def warnings(
-        claim: dict[str, Any], recording: Recording, envelope: Envelope, report: Report | None) -> Iterator[Alert]:
+        claim: dict[str, Any], recording: Recording, envelope: Envelope, advice: dict[str, str]) -> Iterator[Alert]:
     """What stands beside a verdict, whatever it is."""
-    if (k := envelope.first("empty")) is not None:
-        yield {"kind": "empty", "count": envelope.hulls.count("empty"), **piece_of(envelope, k)}
     first, last = seconds_of(claim["from"]), seconds_of(claim["to"])
     if recording.first is not None and recording.last is not None:
         before, after = recording.first - first * SECOND, last * SECOND - recording.last
@@ -150,10 +147,10 @@ def warnings(
     yield from far_pieces(claim, recording, envelope)
     if recording.counts.get("warnings"):
         yield {"kind": "leap", "count": recording.counts["warnings"]}
-    if report is not None and report.sources is not None:
-        yield {"kind": "sources", "count": report.sources}
-    if report is not None and report.reference is not None:
-        yield {"kind": "reference", "reference": report.reference}
+    if "sources" in advice:
+        yield {"kind": "sources", "count": int(advice["sources"])}
+    if "reference" in advice:
+        yield {"kind": "reference", "reference": advice["reference"]}
 
 
 def leap_warnings(leap: dict[str, Any]) -> Iterator[Alert]:

@@ -8,7 +8,7 @@ from .units import ns_ms, ns_up_ms
 
 def refusal_of(folder: str, line: str) -> str:
     """One line for a terminal, of a folder without a verdict."""
-    return f"{REFUSED:8}{plain(folder)}: {plain(line)}"
+    return f"{REFUSED:14}{plain(folder)}: {plain(line)}"
 
 
 def line_of(folder: str, entry: Entry) -> str:
@@ -16,7 +16,7 @@ def line_of(folder: str, entry: Entry) -> str:
     if entry.fault:
         return refusal_of(folder, entry.fault["line"])
     name = plain(folder) + ("" if entry.part == "." else f" {entry.part}")
-    return f"{entry.verdict:8}{name}: {figures(entry)}"
+    return f"{entry.verdict:14}{name}: {figures(entry)}"
 
 
 def figures(entry: Entry) -> str:

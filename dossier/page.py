@@ -7,7 +7,7 @@ from collections import Counter
 from dataclasses import dataclass
 
 from .article import article
-from .entry import MANGLED, NEITHER, NO, REFUSED, YES, Record
+from .entry import MANGLED, NOTHING_FITS, OPEN, REFUSED, REFUTED, YES, Record
 from .folder import write_beside
 from .markup import html, minus, with_code
 from .program import now
@@ -17,11 +17,12 @@ from .table import Row, as_csv, as_json, not_audited, records_of, row_of, rows_o
 from .text import count
 from .units import ns_ms, ns_up_ms
 
-SYMBOLS = {YES: "\u2713", NO: "\u2717", NEITHER: "?", REFUSED: "!"}
+SYMBOLS = {YES: "\u2713", REFUTED: "\u2717", NOTHING_FITS: "\u2205", OPEN: "?", REFUSED: "!"}
 MEANINGS = {
     YES: "shown: in every course of events that fits the capture",
-    NO: "not shown",
-    NEITHER: "something that the claim grants isn't so",
+    REFUTED: "not shown, and by nothing in the capture: a course of events fits it that breaks the claim",
+    NOTHING_FITS: "no course of events fits: something that the claim grants isn't true",
+    OPEN: "neither shown nor refuted",
     REFUSED: "no verdict: the audit couldn't be made",
 }
 POLICY = "default-src 'none'; style-src 'unsafe-inline'"
@@ -110,7 +111,7 @@ def made_by(records: list[tuple[str, Record]]) -> str:
 
 
 def badge(verdict: str) -> str:
-    return f'<span class="verdict {verdict}">{SYMBOLS[verdict]} {verdict}</span>'
+    return f'<span class="verdict {verdict.replace(" ", "-")}">{SYMBOLS[verdict]} {verdict}</span>'
 
 
 def tally(rows: list[Row]) -> str:

@@ -5,21 +5,18 @@ import os
 from typing import Any, NamedTuple
 
 from . import folder as files
-from .answers import read_nothing
-from .entry import Entry
+from .answers import read_settled
+from .entry import NOTHING_FITS, REFUTED, YES, Entry
 from .folder import compact, write_beside
-from .judgement import Texts, at_bound_0, judge
-from .program import Fault, Operand, Program, Ran, sum_of
+from .judgement import GREATEST_BOUND, Texts, judge, more_drift
+from .program import Fault, Operand, Program, sum_of
 from .recording import Recording
 from .units import seconds_of
 
-STEPS = [64, 16, 4, 1]
-"""Seconds of a certificate's pieces that are tried, the coarsest first. Each divides those before it."""
-
 MANY_PIECES = 10_000
-"""The envelope is cut finer than the certificate as long as it has no more pieces than this."""
+"""The envelope has pieces of 1, 4, 16, .. s, the least with which it has no more than these."""
 
-TOO_MANY_PIECES = "ntpaudit: pieces over 100000"
+UNCONFIRMED = 70
 
 
 class Part(NamedTuple):
@@ -34,81 +31,90 @@ class Part(NamedTuple):
 
 
 class Settling:
-    """A claim that is being settled, and the files that were left so far."""
+    """A claim that is being settled, and the files that were left so far. The envelope has pieces of the step that is
+    asked for, if one is."""
 
-    def __init__(self, part: Part, capture: Operand, program: Program, leaps: dict[str, Any]):
-        self.part, self.capture, self.program, self.leaps = part, capture, program, leaps
+    def __init__(self, part: Part, capture: Operand, program: Program, step: int | None):
+        self.part, self.capture, self.program = part, capture, program
         self.claim = part.within(files.CLAIM)
+        self.step = step or envelope_step_of(part.claim)
         self.left: dict[str, bytes] = {}
 
-    def settle(self, recording: Recording, step: int | None) -> Entry:
-        """Makes all calls and leaves all files, with pieces of this length or of the one that is found."""
-        try:
-            if self.part.name != ".":
-                os.makedirs(self.part.name, exist_ok=True)
-                self.leave(files.CLAIM, compact(self.part.claim))
-        except OSError as error:
-            raise Fault(f"ntpaudit-dossier: the folder can't be written ({error.strerror})", files.DEVICE) from None
-        texts = self.seek(self.measure(self.decide(step), step))
-        entry = judge(self.part.name, self.part.claim, recording, texts, self.leaps)
+    def settle(self, recording: Recording, leaps: dict[str, Any]) -> Entry:
+        """Makes all calls and leaves all files."""
+        if self.part.name != ".":
+            self.keep(files.CLAIM, compact(self.part.claim))
+        texts = self.decide()
+        words = ("envelope", self.claim, self.capture, "--servers", "--least", "--step", str(self.step))
+        texts = texts._replace(envelope=self.keep(files.ENVELOPE, self.call(*words)))
+        entry = judge(self.part.name, self.part.claim, recording, texts, self.step, leaps)
         return entry._replace(outputs={path: sum_of(data) for path, data in self.left.items()})
 
-    def leave(self, name: str, data: bytes) -> str:
-        """Leaves a file of this part, and gives its path."""
+    def keep(self, name: str, data: bytes) -> bytes:
+        """Leaves a file of this part."""
         path = self.part.within(name)
+        if self.part.name != ".":
+            make_folder(self.part.name)
         write_beside(path, data)
         self.left[path] = data
-        return path
+        return data
 
-    def decide(self, step: int | None) -> Texts:
-        """The certificate and what `check` says about it; or what `find` says if it finds nothing."""
-        step, found = self.find([step] if step else STEPS)
-        decided_by, report = "find", found.text
-        if found.status == 0:
-            certificate = self.leave(files.CERTIFICATE, found.text)
-            decided_by, report = "check", self.program.run("check", self.claim, self.capture, certificate).text
-        self.leave(files.REPORT, report)
-        return Texts(decided_by, step, report)
+    def differs(self, words: str) -> None:
+        """The program contradicts itself, and so there is no verdict."""
+        raise Fault(f"ntpaudit-dossier: {words}", UNCONFIRMED)
 
-    def find(self, steps: list[int]) -> tuple[int, Ran]:
-        """The certificate with the first step that carries the claim, or what `find` says with the last that it takes.
-        A piece that is unbounded or empty stays so however fine it is cut."""
-        coarsest, *finer = steps
-        last, ran = coarsest, self.find_with(coarsest)
-        for step in finer:
-            if ran.status == 0 or isinstance(read_nothing(ran.text).hull, str):
-                break
-            try:
-                last, ran = step, self.find_with(step)
-            except Fault as fault:
-                if fault.line == TOO_MANY_PIECES:
-                    break
-                raise
-        return last, ran
+    def call(self, *words: str) -> bytes:
+        return self.program.run(*words).text
 
-    def find_with(self, step: int) -> Ran:
-        return self.program.run("find", self.claim, self.capture, "--step", str(step))
+    def confirmed(self, ending: bytes, *words: str) -> bytes:
+        """What a checker says of an answer of `settle`, which it has to accept."""
+        said = self.call(*words)
+        if not said.endswith(ending):
+            self.differs(f"{words[0]} doesn't accept what settle gave")
+        return said
 
-    def measure(self, texts: Texts, step: int | None) -> Texts:
-        """The envelope, in pieces of the step that was asked for or of a finer one than the certificate's."""
-        step = step or envelope_step_of(self.part.claim, texts.step)
-        text = self.program.run("envelope", self.claim, self.capture, "--servers", "--step", str(step)).text
-        self.leave(files.ENVELOPE, text)
-        return texts._replace(envelope_step=step, envelope=text)
+    def decide(self) -> Texts:
+        """What `settle` says, and what the checkers say about it. At a yes the same claim with the bound 0 is settled too,
+        and where nothing fits the same claim with more drift: with any bound, since that plays no part in it."""
+        text = self.call("settle", self.claim, self.capture)
+        verdict = read_settled(text).verdict
+        if verdict == YES:
+            self.keep(files.CERTIFICATE, text)
+            words = ("check", self.claim, self.capture, self.part.within(files.CERTIFICATE))
+            said = self.confirmed(b"\nverdict yes\n", *words)
+            other = self.settled(files.CLAIM_OF_0, bound_ns=0)
+            if read_settled(other).verdict == REFUTED:
+                other, _ = self.contest(files.CLAIM_OF_0, other)
+            return Texts(text, self.keep(files.REPORT, said), other)
+        if verdict == REFUTED:
+            text, said = self.contest(files.CLAIM, text)
+            return Texts(text, self.keep(files.REPORT, said))
+        texts = Texts(text, self.keep(files.REPORT, text))
+        if verdict == NOTHING_FITS:
+            granted = {"drift_ppb": more_drift(self.part.claim), "bound_ns": GREATEST_BOUND}
+            return texts._replace(other=self.settled(files.CLAIM_OF_DRIFT, **granted))
+        return texts
 
-    def seek(self, texts: Texts) -> Texts:
-        """Looks for a refutation: at a no of the claim, and at a yes of the same claim with the bound 0, which shows
-        that a course of events fits the capture at all."""
-        claim = self.leave(files.CLAIM_OF_0, at_bound_0(self.part.claim)) if texts.is_yes else self.claim
-        found = self.program.run("find", claim, self.capture, "--refutation")
-        if found.status:
-            return texts
-        refutation = self.leave(files.REFUTATION, found.text)
-        refute = self.program.run("refute", claim, self.capture, refutation).text
-        return texts._replace(refutation=found.text, refute=refute)
+    def settled(self, name: str, **changes: int) -> bytes:
+        """What `settle` says of the claim with some numbers changed, which is left under this name."""
+        self.keep(name, compact({**self.part.claim, **changes}))
+        return self.call("settle", self.part.within(name), self.capture)
+
+    def contest(self, name: str, text: bytes) -> tuple[bytes, bytes]:
+        """Leaves a refutation of the claim of this name: it, and what `refute` says about it."""
+        text, refutation = self.keep(files.REFUTATION, text), self.part.within(files.REFUTATION)
+        words = ("refute", self.part.within(name), self.capture, refutation, "--drift")
+        return text, self.confirmed(b"refuted yes\n", *words)
 
 
-def envelope_step_of(claim: dict[str, Any], step: int) -> int:
-    """The finest step that divides the certificate's and gives no more than so many pieces; else the certificate's."""
+def make_folder(name: str) -> None:
+    try:
+        os.makedirs(name, exist_ok=True)
+    except OSError as error:
+        raise Fault(f"ntpaudit-dossier: the folder can't be written ({error.strerror})", files.DEVICE) from None
+
+
+def envelope_step_of(claim: dict[str, Any]) -> int:
+    """The seconds of the envelope's pieces, if none are asked for."""
     span = seconds_of(claim["to"]) - seconds_of(claim["from"])
-    return next((fine for fine in reversed(STEPS) if step % fine == 0 and span <= fine * MANY_PIECES), step)
+    return next((4**k for k in range(8) if span <= 4**k * MANY_PIECES), 4**8)

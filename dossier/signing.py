@@ -6,7 +6,6 @@ import subprocess
 import sys
 from typing import IO
 
-from . import VERSION
 from . import folder as files
 from .entry import REFUSED, read_record, record_text
 from .folder import part_of, read, remove, write, write_beside
@@ -37,8 +36,6 @@ def sign(key: str) -> list[str]:
     record = read_record(".")
     if record is None:
         raise Fault("ntpaudit-dossier: not audited", files.DEVICE)
-    if record.dossier != VERSION:
-        raise Fault("ntpaudit-dossier: audited by an older dossier; audit it again, and then sign it", files.DEVICE)
     if os.path.lexists(files.SIGNATURE):
         raise Fault(f"ntpaudit-dossier: signed already; who wants another signature takes {files.SIGNATURE} away",
                     files.DEVICE)

@@ -62,8 +62,9 @@ th{font-weight:600;color:var(--soft)}
 .why td{padding:0 0 10px 18px}
 .verdict{display:inline-block;padding:0 9px;border:2px solid;border-radius:5px;font-weight:700;white-space:nowrap}
 .yes{color:var(--good)}
-.no{color:var(--paper);background:var(--bad);border-color:var(--bad)}
-.neither{color:var(--bad);border-style:dashed}
+.refuted{color:var(--paper);background:var(--bad);border-color:var(--bad)}
+.nothing-fits{color:var(--bad);border-style:double}
+.open{color:var(--bad);border-style:dashed}
 .refused{color:var(--soft);border-style:dotted}
 h2 .verdict{font-size:16px;vertical-align:3px;margin-left:6px}
 .tally{display:flex;flex-wrap:wrap;gap:8px 18px;list-style:none;padding:0;margin:14px 0}

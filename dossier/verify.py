@@ -4,15 +4,13 @@ from __future__ import annotations
 import json
 from typing import Any
 
-from . import VERSION
 from . import folder as files
 from .audit import parts_of
 from .entry import MANGLED, REFUSED, Entry, Record, differing, read_record
 from .evidence import evidence_files
-from .judgement import Texts, at_bound_0, judge
 from .program import Fault, Operand, Program, sum_of_file
 from .recording import Recording, read_recording
-from .settling import Part
+from .settling import Part, Settling
 from .signature import GOOD, NONE, UNSEEN, in_words, signature_of
 from .text import plain
 
@@ -76,8 +74,8 @@ def verify(program: Program, findings: list[str], notes: list[str]) -> None:
         findings.append("audit.json: other days than those of the claim's span")
         return
     for entry in record.entries:
-        again = Again(Part(entry.part, claims[entry.part]), entry, capture, program)
-        findings += again.findings(recording, record.leap_seconds)
+        again = Again(Part(entry.part, claims[entry.part]), capture, program, record.options["step"])
+        findings += again.findings(entry, recording, record.leap_seconds)
 
 
 def changed(record: Record) -> list[str]:
@@ -92,60 +90,44 @@ def changed(record: Record) -> list[str]:
         except OSError as error:
             found.append(f"{name} can't be read ({error.strerror})")
     try:
-        there = {*files.inputs(), *(evidence_files() if record.dossier == VERSION else ())}
+        there = {*files.inputs(), *evidence_files()}
         found += [f"{name} is new" for name in sorted(there - set(record.inputs))]
     except Fault as fault:
         found += [] if found else [fault.line]
     return found
 
 
-class Again:
-    """An audit whose calls are made again, with the certificate and the refutation that it left."""
+class Again(Settling):
+    """A claim that is settled again, whose files are held to those that are kept."""
 
-    def __init__(self, part: Part, entry: Entry, capture: Operand, program: Program):
-        self.part, self.entry, self.capture, self.program = part, entry, capture, program
-        self.claim = part.within(files.CLAIM)
+    def __init__(self, part: Part, capture: Operand, program: Program, step: int | None):
+        super().__init__(part, capture, program, step)
         self.found: list[str] = []
 
-    def kept(self, name: str) -> bytes:
-        return files.read(self.part.within(name))
+    def keep(self, name: str, data: bytes) -> bytes:
+        """The file that is kept. Of refutations any that `refute` accepts will do."""
+        path = self.part.within(name)
+        try:
+            kept = files.read(path)
+        except OSError as error:
+            raise Fault(f"ntpaudit-dossier: {path} can't be read ({error.strerror})", files.DEVICE) from None
+        if name != files.REFUTATION and kept != data:
+            self.differs(f"{path}: {first_difference(kept, data)}")
+        return kept
 
-    def call(self, name: str, *words: str) -> bytes:
-        """A call, whose answer is held to the file that is kept of it."""
-        text, kept = self.program.run(*words).text, self.kept(name)
-        if text != kept:
-            self.found.append(f"{self.part.within(name)}: {first_difference(kept, text)}")
-        return text
+    def differs(self, words: str) -> None:
+        self.found.append(words)
 
-    def texts(self) -> Texts:
-        entry = self.entry
-        if entry.decided_by == "check":
-            certificate = self.part.within(files.CERTIFICATE)
-            report = self.call(files.REPORT, "check", self.claim, self.capture, certificate)
-        else:
-            report = self.call(files.REPORT, "find", self.claim, self.capture, "--step", str(entry.step))
-        step = str(entry.envelope_step)
-        envelope = self.call(files.ENVELOPE, "envelope", self.claim, self.capture, "--servers", "--step", step)
-        texts = Texts(entry.decided_by, entry.step, report, entry.envelope_step, envelope)
-        if not entry.refutation["found"]:
-            return texts
-        claim = self.part.within(files.CLAIM_OF_0) if texts.is_yes else self.claim
-        refute = self.program.run("refute", claim, self.capture, self.part.within(files.REFUTATION)).text
-        return texts._replace(refutation=self.kept(files.REFUTATION), refute=refute)
-
-    def findings(self, recording: Recording, leaps: dict[str, Any]) -> list[str]:
+    def findings(self, entry: Entry, recording: Recording, leaps: dict[str, Any]) -> list[str]:
         """What differs: an answer from its file, or audit.json from what the answers come to."""
-        texts = self.texts()
-        if texts.is_yes and self.kept(files.CLAIM_OF_0) != at_bound_0(self.part.claim):
-            self.found.append(f"{files.CLAIM_OF_0} isn't the claim with the bound 0")
+        seen = self.settle(recording, leaps)
         if not self.found:
             of = "" if self.part.name == "." else f" of {self.part.name}"
-            names = differing(self.entry, judge(self.part.name, self.part.claim, recording, texts, leaps))
-            self.found += [f"audit.json says another {name} than the answers{of}" for name in names]
+            self.found += [f"audit.json says another {name} than the answers{of}" for name in differing(entry, seen)]
         return self.found
 
 
 def first_difference(kept: bytes, seen: bytes) -> str:
     """Where two texts begin to differ."""
     at = next((k for k, (a, b) in enumerate(zip(kept, seen)) if a != b), min(len(kept), len(seen)))
-    return f"the program says something else, from byte {at} on (line {kept[:at].count(10) + 1})"
+    return f"something else comes of it now, from byte {at} on (line {kept[:at].count(10) + 1})"

@@ -1,18 +1,18 @@
 """What an audit comes to, in sentences: for a manager, for an auditor, and for whoever has to do something about it.
 
 No sentence says more than the program did. A yes is: in every course of events that fits the capture the error is
-within the bound. A no is: this isn't shown.
+within the bound. Refuted is: in one of them it isn't, so nothing in the capture shows it.
 """
 from __future__ import annotations
 
 from typing import Any
 
-from .entry import NEITHER, REFUSED, YES, Entry
+from .entry import NOTHING_FITS, OPEN, REFUSED, REFUTED, YES, Entry
 from .folder import REFUTATION
 from .judgement import groups_of
 from .remedies import remedy
 from .text import count
-from .units import high_ms, low_ms, ns_ms, ns_up_ms, range_ms, seconds_of, shown_time
+from .units import TICKS, high_ms, low_ms, ns_ms, ns_up_ms, range_ms, seconds_of, shown_time
 
 
 def between(piece: dict[str, Any]) -> str:
@@ -54,23 +54,15 @@ def sentence(entry: Entry) -> str:
         said = f"{capital(span(claim))} {within}, {granted(claim)} and what else the claim grants is true."
         if entry.least_ns is None:
             return said
-        return f"{said} Then the widest it may have been off was {ns_up_ms(entry.least_ns)} ms, {between(entry.worst)}."
-    if entry.verdict == NEITHER:
-        empty = next(warning for warning in entry.warnings if warning["kind"] == "empty")
-        return (f"Whether {span(claim)} {within} is answered by neither yes nor no. A certificate carries it, but "
-                f"{between(empty)} no course of events fits the capture: something that the claim grants isn't so.")
-    return f"It isn't shown that {span(claim)} {within}. {reason(entry)}"
-
-
-CHECKED = {
-    "cut": "the certificate's pieces don't fit the span",
-    "uncovered": "the certificate's pieces don't cover the span",
-    "bad-sample": "the certificate is of another capture or claim",
-    "mixed-servers": "the certificate is of another capture or claim",
-    "repeated-server": "the certificate is of another capture or claim",
-    "unbounded": "too few groups have an entry", "contradiction": "the samples contradict each other",
-    "exceeds": "the samples leave errors open beyond the bound",
-}
+        return (f"{said} Then the widest it may have been off was {ns_up_ms(entry.least_ns)} ms, {between(entry.worst)}: "
+                "no certificate carries a lesser bound.")
+    if entry.verdict == REFUTED:
+        return f"The capture doesn't show that {span(claim)} {within}, and no certificate can. {reason(entry)}"
+    if entry.verdict == NOTHING_FITS:
+        return (f"Whether {span(claim)} {within} can't be said: no course of events fits the capture, so something that "
+                f"the claim grants isn't true. {reason(entry)}")
+    return (f"Whether {span(claim)} {within} stays open: no certificate shows it, and no course of events was found that "
+            f"fits the capture and breaks it. {reason(entry)}")
 
 
 def reason(entry: Entry) -> str:
@@ -79,23 +71,38 @@ def reason(entry: Entry) -> str:
         return ""
     if entry.verdict == REFUSED:
         return f"{entry.fault['line']}. {remedy(entry.fault['line'])[0]}"
-    if entry.verdict == NEITHER:
-        empty = entry.failing["empty"]
-        pieces = f"{count(empty, 'piece')} of the envelope {is_or_are(empty)} empty"
-        return (f"A certificate carries the bound, but {pieces}: "
-                "something that the claim grants isn't so.")
+    return {REFUTED: why_refuted, NOTHING_FITS: why_nothing_fits, OPEN: why_open}[entry.verdict](entry)
+
+
+def why_refuted(entry: Entry) -> str:
     found = entry.reason
-    if "hull" not in found:
-        return f"The check refuses piece {found['piece']} of the certificate: {CHECKED[found['why']]}."
-    when = capital(between(found))
     if found["why"] == "unbounded":
-        return f"{when} no more groups have a sample than the claim takes for wrong, so nothing follows."
-    if found["why"] == "empty":
-        return f"{when} the servers contradict each other, whichever of them are taken for wrong."
-    ends = range_ms(*found["hull"])
-    if found["why"] == "off":
-        return f"{when} the clock's error lay from {ends}, outside the bound, if what the claim grants is true."
-    return f"{when} the exchanges leave errors open from {ends}, beyond the bound."
+        return "No more groups have a sample than the claim takes for wrong, so nothing follows."
+    said = f"A course of events fits the exchanges {course_of(entry)}."
+    if found["why"] != "off":
+        return said
+    return (f"{said} {capital(between(found))} the error lay from {range_ms(*found['hull'])}, outside the bound, if what the "
+            "claim grants is true.")
+
+
+def why_nothing_fits(entry: Entry) -> str:
+    found, number = entry.reason, len(entry.reason["conflicts"])
+    conflicts, drift = count(number, "conflict"), f"a drift of {found['drift_ppb']:,} parts in 10^9"
+    if found["why"] == "apart":
+        names = found["apart"]
+        own = "itself" if len(names) == 1 else "themselves"
+        return f"{' and '.join(names)} {is_or_are(len(names))} in each of {conflicts}, with {own} or with most others."
+    if found["why"] == "drift":
+        return f"With {drift} a course of events would fit: the claim grants too little drift."
+    if found["why"] == "step":
+        return f"Every server is in conflict with itself, and would be with {drift}: so it is if the clock was stepped."
+    return f"More servers are in conflict than the claim takes for wrong: there {is_or_are(number)} {conflicts}."
+
+
+def why_open(entry: Entry) -> str:
+    when, hull = shown_time(entry.reason["from"] // TICKS), entry.reason["hull"]
+    left = f"the hull is {hull}" if isinstance(hull, str) else f"errors from {range_ms(*hull)} are left open"
+    return f"At {when} {left}."
 
 
 def to_do(entry: Entry) -> str:
@@ -104,20 +111,26 @@ def to_do(entry: Entry) -> str:
         return ""
     if entry.verdict == REFUSED:
         return remedy(entry.fault["line"])[1]
-    if entry.verdict == NEITHER:
-        return "See in the picture which server stands apart there, and whether the clock was stepped; mend the claim."
-    why = entry.reason["why"]
-    if why == "unbounded":
-        return ("Name more servers, put fewer of them together, or grant fewer wrong ones. "
-                "The counts tell what became of their replies.")
-    if why in ("empty", "contradiction"):
-        return ("See in the picture which server stands apart: grant that it was wrong (false_max), and name more. Or "
-                "the claim grants too little (reading_ns, drift_ppb), or the clock was stepped.")
-    least = f"A bound of {ns_up_ms(entry.least_ns)} ms is carried. " if entry.least_ns is not None else ""
-    if why == "off":
-        return f"{least}See in the picture how it went; claim a wider bound, or another span."
-    return (f"{least}For a tighter one ask nearer servers, more of them, or more often; "
-            "or grant less drift, if that is true.")
+    why = entry.reason.get("why", "exceeds")
+    least = f"A bound of {ns_up_ms(entry.least_ns)} ms is the least that a certificate carries. " \
+        if entry.least_ns is not None else ""
+    return least + TO_DO[why]
+
+
+TO_DO = {
+    "unbounded": "Name more servers, put fewer of them together, or grant fewer wrong ones. The counts tell what became of "
+                 "their replies.",
+    "off": "See in the picture how it went; claim a wider bound, or another span.",
+    "exceeds": "For a tighter one ask nearer servers, more of them, or more often; or grant less drift, if that is true.",
+    "apart": "See by the servers how far off they are. Name them no more, or grant that they were wrong (`false_max`) and "
+             "name more servers. Those that follow one another belong into one group.",
+    "drift": "Grant as much as the oscillator and the client's corrections can make: `ntpaudit-dossier draft --chrony` or "
+             "`--ntpd` reads them of the client's configuration.",
+    "step": "Look for the step in the client's messages (`System clock was stepped`), cut the capture there with `editcap "
+            "-A` and `-B`, and claim the time before and the time after by themselves.",
+    "many": "See in the conflicts which servers are in most, and in the picture how far off. Grant that they were wrong "
+            "(`false_max`) and name more; or the claim grants too little of `reading_ns`.",
+}
 
 
 def is_or_are(number: int) -> str:
@@ -125,20 +138,19 @@ def is_or_are(number: int) -> str:
 
 
 def fit(entry: Entry) -> str:
-    """What the refutation says beside the verdict."""
-    found = entry.refutation
-    if not found or entry.verdict == NEITHER:
+    """What stands beside a yes: that it isn't empty."""
+    if entry.verdict != YES:
         return ""
-    is_witness = found["of"] == "bound 0"
-    if found.get("stands"):
-        course = f"with an error of {error_of(found)} throughout and {liars_of(entry)} ({REFUTATION}, checked by refute"
-        if is_witness:
-            return f"The yes isn't empty: a course of events fits the capture, {course} with the bound 0)."
-        return f"No certificate can show this claim by this capture: a course of events fits it {course})."
-    if is_witness:
-        return ("No course of events with an error that stays the same was found for this capture, "
-                "which doesn't show that there is none.")
-    return "No refutation of the claim was found, which shows nothing: other pieces might carry it."
+    if not entry.refutation:
+        return "The yes isn't empty: the program says it only if a course of events fits the capture."
+    return (f"The yes isn't empty: a course of events fits the capture, {course_of(entry)} ({REFUTATION}, checked by "
+            "`refute --drift` with the bound 0).")
+
+
+def course_of(entry: Entry) -> str:
+    """The course of events of a refutation."""
+    found = entry.refutation
+    return f"with an error of {error_of(found)} at {shown_time(found['reading'] // TICKS)} and {liars_of(entry)}"
 
 
 def error_of(found: dict[str, Any]) -> str:
