@@ -4,6 +4,7 @@ pub mod Agreement
 pub mod KeptMarks
 pub mod ServedExchange
 pub mod TrueExchanges
+pub mod Unanimity
 pub mod Converse
 pub mod Slope
 pub mod AllowedDrift

@@ -1,5 +1,5 @@
 -- Whether a refutation with drift is accepted, as a test.
-use Rattle.std.specs.Prelude.{ℕ, ◌+◌, ◌-◌, ℤ, pos, ◌+ℤ◌, ◌-ℤ◌, ◌*ℤ◌, int_le, Bool, ◌&&◌, List, ◌∷◌, if◌then◌else◌}
+use Rattle.std.specs.Prelude.{ℕ, ◌+◌, ◌-◌, ℤ, pos, ◌+ℤ◌, ◌-ℤ◌, ◌*ℤ◌, int_le, Bool, ◌&&◌, List, [], ◌∷◌, if◌then◌else◌}
 use Rattle.std.specs.List.{list_all}
 use Rattle.certificate.specs.Refutation.{RefutationData}
 use Rattle.checker.specs.Refutation.{is_liar}
@@ -40,6 +40,13 @@ do_agree claim xs refutation =
     && all_compatible claim.drift_ppb
     (mark_of refutation ∷ low_marks claim.reading is_false xs)
     (mark_of refutation ∷ high_marks claim.reading is_false xs)
+
+-- with no server false, no exchange is impossible, and no two marks contradict each other
+abbrev pub do_all_agree : ClaimData → List Exchange → Bool
+do_all_agree claim xs =
+    list_all (is_possible claim.reading) (true_exchanges (is_liar []) xs)
+    && all_compatible claim.drift_ppb (low_marks claim.reading (is_liar []) xs)
+    (high_marks claim.reading (is_liar []) xs)
 
 abbrev pub is_refuted_with_drift : ClaimData → List Exchange → RefutationData → Bool
 is_refuted_with_drift claim xs refutation =
