@@ -1,11 +1,13 @@
 -- The highest level over a stretch, and the interval that it gives.
-use Rattle.std.proofs.Common.{◌≡◌, ℕ, ◌+◌, ◌-◌, ◌<◌, ◌≤◌, ◌^◌, max, ℤ, pos, ◌+ℤ◌, ◌-ℤ◌, ◌≤ℤ◌, neg_ℤ, List, length, map}
+use Rattle.std.proofs.Common.{◌≡◌, ℕ, ◌+◌, ◌-◌, ◌/◌, ◌<◌, ◌≤◌, ◌^◌, max, ℤ, pos, ◌+ℤ◌, ◌-ℤ◌, ◌≤ℤ◌, neg_ℤ, List, length, map}
 use Rattle.std.proofs.Common.{Option, Some, None, MatchOption, refl, sym, ◌∙◌, ap, subst, arith, inl, inr, ⊎_elim}
 use Rattle.std.specs.List.{slice_get, All}
 use Rattle.std.specs.Option.{option_map}
 use Rattle.std.proofs.lemmas.Bool.{cases_lt}
 use Rattle.std.proofs.lemmas.Int.{ints}
+use Rattle.std.proofs.lemmas.Nat.{le-div}
 use Rattle.std.proofs.lemmas.Option.{same_Some}
+use Rattle.std.proofs.Math.Nat.{div-mul-le_self}
 use Rattle.intersection.specs.declared.kinds.Interval.{Interval}
 use Rattle.intersection.specs.declared.ends.Side.{Side}
 use Rattle.intersection.specs.declared.ends.Side.TheVariants.{Low, High}
@@ -25,6 +27,25 @@ use Rattle.sweep.specs.declared.stretch.Stretch.{Stretch}
 use Rattle.sweep.proofs.ExtremeLemmas.{some_sample}
 use Rattle.sweep.proofs.MeritLemmas.{merit_is}
 use Rattle.sweep.proofs.ReachLemmas.{reaches_either, either_reaches, some_reaches}
+
+-- ---- the higher of two quotients
+
+quotient_grows : (a b m : ℕ) → 0 < m → a ≤ b → a / m ≤ b / m
+quotient_grows a b m some le = let back = div-mul-le_self a m in le-div (a / m) b m some (omega arith)
+
+second : (x y z : ℕ) → z ≡ y → x ≤ y → z ≡ max x y
+second x y z same le = omega arith
+
+first : (x y z : ℕ) → z ≡ x → y ≤ x → z ≡ max x y
+first x y z same le = omega arith
+
+pub higher_quotient : (a b m : ℕ) → 0 < m → max a b / m ≡ max (a / m) (b / m)
+higher_quotient a b m some = ⊎_elim
+    (λ below. let is : max a b ≡ b = omega arith in
+    second (a / m) (b / m) (max a b / m) (ap (λ (n : ℕ). n / m) is) (quotient_grows a b m some (omega arith)))
+    (λ le. let is : max a b ≡ a = omega arith in
+    first (a / m) (b / m) (max a b / m) (ap (λ (n : ℕ). n / m) is) (quotient_grows b a m some le))
+    (cases_lt a b)
 
 -- ---- the higher of the levels of both ways
 

@@ -1,7 +1,7 @@
 //! The highest of the extremes that are early, for any stretch.
-ghost use Rattle.std.specs.Prelude.{◌≡◌, ℕ, ◌<◌, ◌≤◌, ◌-◌, ◌+◌, ◌^◌, IsTrue, List, length};
+ghost use Rattle.std.specs.Prelude.{◌≡◌, ℕ, ◌<◌, ◌≤◌, ◌-◌, ◌+◌, ◌/◌, IsTrue, List, length};
 ghost use Rattle.std.specs.Prelude.{All, IfOk, Some, slice_get};
-ghost use Rattle.sample_interval.specs.Widening.{IsRate};
+ghost use Rattle.sample_interval.specs.Widening.{IsRate, billion};
 ghost use Rattle.sweep.specs.Extreme.{IsLawfulExtreme};
 ghost use Rattle.sweep.specs.Peak.{ArePeaksOf, IsHeightUpto, IsEarlyLevel};
 ghost use Rattle.sweep.specs.Stretch.{IsLawfulStretch};
@@ -10,7 +10,6 @@ ghost use Rattle.sweep.specs.declared.extreme.Extreme.{Extreme as TheExtreme};
 use crate::extreme::Extreme;
 use crate::queue::queue_of;
 use crate::stretch::Stretch;
-use sample_interval::PARTS;
 use std::alloc::{AllocError, Global};
 
 /// An extreme that is higher than all that come before it.
@@ -89,15 +88,15 @@ fn height_upto(peaks: &[Peak], place: u128) -> u128
     peaks[count - 1].height
 }
 
-/// The highest level that an early extreme reaches over a stretch, 0 if none reaches any.
-pub fn early_level(peaks: &[Peak], stretch: Stretch, drift_ppb: u32) -> u128
+/// How far the highest early extreme stands above what it falls by a stretch's end, 0 if none does.
+/// The level that it reaches there is this over 10^9 less the rate.
+pub fn early_rise(peaks: &[Peak], stretch: Stretch, drift_ppb: u32) -> u128
     requires stretch { IsLawfulStretch stretch }
     requires rate { IsRate drift_ppb }
-    ensures small { result ≤ 2 ^ 100 }
-    ensures level { (extremes : List TheExtreme) → ArePeaksOf drift_ppb extremes peaks.now →
-        IsEarlyLevel drift_ppb extremes stretch result }
+    ensures { (extremes : List TheExtreme) → ArePeaksOf drift_ppb extremes peaks.now →
+        IsEarlyLevel drift_ppb extremes stretch (result / (billion - drift_ppb)) }
 {
     let rate = u128::from(drift_ppb);
     let height = height_upto(peaks, stretch.begin + stretch.end);
-    height.saturating_sub(rate * stretch.end) / (PARTS - rate)
+    height.saturating_sub(rate * stretch.end)
 }

@@ -13,12 +13,12 @@ ghost use Rattle.sweep.specs.Table.{IsTableOf, AreTablesOf};
 ghost use Rattle.sweep.specs.declared.extreme.Extreme.{Extreme as TheExtreme};
 
 use crate::extreme::{Extreme, extremes_of, mirrored_extremes, servers_of};
-use crate::peak::{Peak, early_level, peaks_of};
+use crate::peak::{Peak, early_rise, peaks_of};
 use crate::stretch::Stretch;
 use crate::tick::{from_origin, from_zero, mirrored_tick};
 use arrayvec::ArrayVec;
 use intersection::kinds::Interval;
-use sample_interval::SampleSource;
+use sample_interval::{PARTS, SampleSource};
 use sample_interval::laws::widening_is_one_number;
 use span_cover::Part;
 use span_cover::laws::{best_samples_are_the_first_best, first_best_of_both_ends_are_the_best};
@@ -121,13 +121,13 @@ fn level_over(peaks: &Peaks, stretch: Stretch, drift_ppb: u32) -> u128
 {
     // What the proof knows of widenings.
     widening_is_one_number();
-    let early = early_level(peaks.early.as_slice(), stretch, drift_ppb);
+    let early = early_rise(peaks.early.as_slice(), stretch, drift_ppb);
     let mirrored = Stretch {
         begin: mirrored_tick(stretch.end),
         end: mirrored_tick(stretch.begin),
     };
-    let late = early_level(peaks.late.as_slice(), mirrored, drift_ppb);
-    early.max(late)
+    let late = early_rise(peaks.late.as_slice(), mirrored, drift_ppb);
+    early.max(late) / (PARTS - u128::from(drift_ppb))
 }
 
 // What a server says over a piece.
