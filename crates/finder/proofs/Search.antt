@@ -258,11 +258,11 @@ module _ (samples : List Sample) (claim : ClaimData) (lawful : IsLawful claim) (
         (int_cases r (pos part.begin))
 
     module _ (last : ℕ) (last_is : pos last ≡ claim.last) where
-      pub moved_on : (double left next : ℕ) → (part.begin + part.reach ≡ last → ⊥)
-          → double ≡ min (part.reach * 2) (2 ^ 64 - 1) → left ≡ last - (part.begin + part.reach)
-          → next ≡ min double left
+      pub moved_on : (longer left next : ℕ) → (part.begin + part.reach ≡ last → ⊥)
+          → part.reach ≤ longer → left ≡ last - (part.begin + part.reach)
+          → next ≡ min longer left
           → IsAt samples claim (part.begin + part.reach) next (with_tick found part.begin part.need)
-      moved_on double left next other twice rest same =
+      moved_on longer left next other no_less rest same =
           let from = at.from_first in
           let within = at.within in
           record {

@@ -6,6 +6,7 @@ ghost use Rattle.claim_file.specs.Claim.{IsLawful, data_of as claim_data};
 ghost use Rattle.sweep.specs.Pieces.{ArePieces};
 ghost use Rattle.finder.specs.Fewest.{pieces_over};
 ghost use Rattle.finder.specs.FewestAnswer.{FindsFewest};
+ghost use Rattle.finder.specs.Reach.{AreTablesFor};
 ghost use Rattle.finder.specs.Samples.{AreSamplesOf};
 
 use crate::entry::entries_at;
@@ -13,6 +14,7 @@ use crate::fault::FindFault;
 use crate::laws::{
     best_entries_show_as_much, best_hulls_hold_the_error, pieces_within_have_no_wider_hulls,
 };
+use crate::longest::tables_for;
 use crate::reach::{Reach, longest_ends};
 use crate::table::tables_over;
 use certificate::{Certificate, Piece};
@@ -23,6 +25,7 @@ use sample_interval::SampleSource;
 use sample_interval::kinds::Sample;
 use span_cover::laws::best_samples_are_the_first_best;
 use std::alloc::{AllocError, Global};
+use sweep::BestTable;
 
 /// A certificate of fewest pieces, or why no certificate is accepted.
 #[derive(Debug, Drop)]
@@ -68,13 +71,30 @@ pub fn find_fewest_over<S: SampleSource>(
     requires few { length (S.samples samples) ≤ 1_000_000 }
     ensures { FindsFewest (S.samples samples) (claim_data claim.now) result }
 {
+    let tables = tables_for(alloc, samples, claim)?;
+    let found = fewest_by(alloc, samples, claim, &tables)?;
+    Ok(found)
+}
+
+/// `find_fewest_over` by the tables of the servers.
+pub(crate) fn fewest_by<S: SampleSource>(
+    alloc: Global,
+    samples: S,
+    claim: &Claim,
+    tables: &[BestTable],
+) -> Result<Fewest, FindFault>
+    requires claim { IsLawful (claim_data claim.now) }
+    requires samples { AreSamplesOf (claim_data claim.now) (S.samples samples) }
+    requires few { length (S.samples samples) ≤ 1_000_000 }
+    requires tables { AreTablesFor (S.samples samples) (claim_data claim.now) tables.now }
+    ensures { FindsFewest (S.samples samples) (claim_data claim.now) result }
+{
     best_samples_are_the_first_best();
     best_entries_show_as_much();
     pieces_within_have_no_wider_hulls();
     pieces_give_the_verdict();
     best_hulls_hold_the_error();
-    let reached = longest_ends(alloc, samples, claim)?;
-    match reached {
+    match longest_ends(alloc, tables, claim)? {
         Reach::End(ends) => {
             let found = certificate_over(alloc, samples, claim, ends.as_slice())?;
             Ok(Fewest::Certificate(found))

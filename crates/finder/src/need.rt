@@ -1,11 +1,13 @@
 //! The least bound that every piece of one tick allows.
 
-ghost use Rattle.std.specs.Prelude.{◌≡◌, ◌<◌, ◌≤◌, ◌^◌, pos, ◌≤ℤ◌, length};
+ghost use Rattle.std.specs.Prelude.{◌≡◌, ◌<◌, ◌≤◌, ◌^◌, pos, ◌≤ℤ◌, length, List, Ok};
 ghost use Rattle.claim_file.specs.Claim.{IsLawful, data_of as claim_data};
+ghost use Rattle.sample_interval.specs.declared.kinds.Sample.{Sample as TheSample};
 ghost use Rattle.finder.specs.Need as need;
 ghost use Rattle.finder.specs.NeedAnswer.{FindsLeastNeed};
 ghost use Rattle.finder.specs.NeedSearch as spec;
 ghost use Rattle.finder.specs.Piece.{IsStep};
+ghost use Rattle.finder.specs.Reach.{AreTablesFor, IsTabled};
 ghost use Rattle.finder.specs.Samples.{AreSamplesOf};
 
 use crate::laws::{
@@ -13,6 +15,7 @@ use crate::laws::{
     unbounded_hulls_are_so_everywhere,
 };
 use crate::least::nanoseconds_of;
+use crate::longest::tables_for;
 use crate::neediest::{TickNeed, neediest_tick};
 use checker::laws::pieces_give_the_verdict;
 use claim_file::Claim;
@@ -24,6 +27,7 @@ use sample_interval::SampleSource;
 use sample_interval::kinds::Sample;
 use span_cover::laws::best_samples_are_the_first_best;
 use std::alloc::{AllocError, Global};
+use sweep::BestTable;
 
 /// The tick of a span that needs the widest bound, and that bound.
 #[derive(Clone, Copy, Debug, PartialEq, Eq)]
@@ -70,6 +74,17 @@ pub fn least_bound_over<S: SampleSource>(
     requires few { length (S.samples samples) ≤ 1_000_000 }
     ensures { FindsLeastNeed (S.samples samples) (claim_data claim.now) result }
 {
+    let tables = tables_for(alloc, samples, claim)?;
+    Ok(least_bound_by(&tables, claim))
+}
+
+/// `least_bound_over` by the tables of the servers.
+pub(crate) fn least_bound_by(tables: &[BestTable], claim: &Claim) -> Option<LeastNeed>
+    requires claim { IsLawful (claim_data claim.now) }
+    requires tables { IsTabled (claim_data claim.now) tables.now }
+    ensures { (samples : List TheSample) → AreTablesFor samples (claim_data claim.now) tables.now →
+        FindsLeastNeed samples (claim_data claim.now) (Ok result) }
+{
     best_samples_are_the_first_best();
     best_entries_show_as_much();
     pieces_within_have_no_wider_hulls();
@@ -78,9 +93,9 @@ pub fn least_bound_over<S: SampleSource>(
     best_hulls_hold_the_error();
     ratios_are_rounded_as_little_as_can_be();
     nanoseconds_lie_between_their_ticks();
-    match neediest_tick(alloc, samples, claim)? {
-        Some(tick) => Ok(Some(least_need(claim, tick))),
-        None => Ok(None),
+    match neediest_tick(tables, claim) {
+        Some(tick) => Some(least_need(claim, tick)),
+        None => None,
     }
 }
 

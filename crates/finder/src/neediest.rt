@@ -1,21 +1,18 @@
 //! The tick that needs the widest bound.
 
-ghost use Rattle.std.specs.Prelude.{◌≡◌, ◌+◌, ◌<◌, ◌≤◌, pos, ◌≤ℤ◌, length, IfOk};
+ghost use Rattle.std.specs.Prelude.{◌≡◌, ◌+◌, ◌*◌, ◌<◌, ◌≤◌, pos, ◌≤ℤ◌};
 ghost use Rattle.claim_file.specs.Claim.{IsLawful, data_of};
 ghost use Rattle.finder.specs.Need as need;
 ghost use Rattle.finder.specs.NeedSearch as spec;
 ghost use Rattle.finder.specs.NeedSearch.{IsWithin127};
 ghost use Rattle.finder.specs.Neediest.{IsNeedAtIfAny, IsNeediestIfAny, IsNoWorse, IsOfSpan, NeedsThis, OfTables};
 ghost use Rattle.finder.specs.Reach.{IsTabled};
-ghost use Rattle.finder.specs.Samples.{AreSamplesOf};
 
 use crate::laws::{pieces_within_have_no_wider_hulls, unbounded_hulls_are_so_everywhere};
 use crate::least::reach_of;
-use crate::longest::{hull_over, tables_for};
+use crate::longest::hull_over;
 use claim_file::Claim;
 use intersection::kinds::Hull;
-use sample_interval::SampleSource;
-use std::alloc::{AllocError, Global};
 use sweep::BestTable;
 
 /// Where a piece of one tick begins, in Unix ticks, and how many ticks its bound has to have.
@@ -166,14 +163,24 @@ fn better_within(
     with_tick(found, part)
 }
 
+/// Half as long again, and a tick: a stretch that grows faster is cut more often, and each cut asks
+/// for two hulls.
+fn longer(reach: u64) -> u64
+    requires { 1 ≤ reach }
+    ensures no_less { reach ≤ result }
+    ensures at_most_twice { result ≤ reach * 2 }
+{
+    reach.saturating_add(reach / 2 + 1)
+}
+
 /// The first tick of those that need the widest bound, or none if no tick needs one, by the tables
 /// of the servers.
 ///
 /// It goes from left to right. A stretch whose hull needs too little has no tick that beats the one
-/// that was found, and the next stretch is twice as long. Any other is halved, down to one tick.
-/// But first the neediest tick in it is looked for, so that a rise isn't climbed tick by tick. So
-/// most of a span is passed in long stretches.
-fn neediest_by(tables: &[BestTable], claim: &Claim) -> Option<TickNeed>
+/// that was found, and the next stretch is longer. Any other is halved, down to one tick. But first
+/// the neediest tick in it is looked for, so that a rise isn't climbed tick by tick. So most of a
+/// span is passed in long stretches.
+pub(crate) fn neediest_tick(tables: &[BestTable], claim: &Claim) -> Option<TickNeed>
     requires claim { IsLawful (data_of claim.now) }
     requires tables { IsTabled (data_of claim.now) tables.now }
     ensures { OfTables (data_of claim.now) tables.now
@@ -197,23 +204,7 @@ fn neediest_by(tables: &[BestTable], claim: &Claim) -> Option<TickNeed>
                 return found;
             }
             begin = end;
-            reach = reach.saturating_mul(2).min(last - end);
+            reach = longer(reach).min(last - end);
         }
     }
-}
-
-/// The same of samples, whose tables are made first.
-pub(crate) fn neediest_tick<S: SampleSource>(
-    alloc: Global,
-    samples: S,
-    claim: &Claim,
-) -> Result<Option<TickNeed>, AllocError>
-    requires claim { IsLawful (data_of claim.now) }
-    requires samples { AreSamplesOf (data_of claim.now) (S.samples samples) }
-    requires few { length (S.samples samples) ≤ 1_000_000 }
-    ensures { IfOk result (IsNeediestIfAny (S.samples samples) (data_of claim.now)) }
-{
-    let tables = tables_for(alloc, samples, claim)?;
-    let found = neediest_by(tables.as_slice(), claim);
-    Ok(found)
 }

@@ -4,13 +4,11 @@ ghost use Rattle.std.specs.Prelude.{◌≤◌, length, IfOk, List};
 ghost use Rattle.claim_file.specs.Claim.{IsLawful, data_of};
 ghost use Rattle.sample_interval.specs.declared.kinds.Sample.{Sample};
 ghost use Rattle.finder.specs.Reach.{AreTablesFor, IsReach, IsTabled};
-ghost use Rattle.finder.specs.Samples.{AreSamplesOf};
 
-use crate::longest::{hull_over, longest_end, tables_for, tick_after};
+use crate::longest::{hull_over, longest_end, tick_after};
 use certificate::MAX_PIECES;
 use claim_file::Claim;
 use intersection::kinds::Hull;
-use sample_interval::SampleSource;
 use span_cover::is_inside;
 use std::alloc::{AllocError, Global};
 use sweep::BestTable;
@@ -27,23 +25,12 @@ pub(crate) enum Reach {
     TooLong,
 }
 
-/// Takes one longest piece after another.
-pub(crate) fn longest_ends<S: SampleSource>(
+/// Takes one longest piece after another, by the tables of the servers.
+pub(crate) fn longest_ends(
     alloc: Global,
-    samples: S,
+    tables: &[BestTable],
     claim: &Claim,
 ) -> Result<Reach, AllocError>
-    requires claim { IsLawful (data_of claim.now) }
-    requires samples { AreSamplesOf (data_of claim.now) (S.samples samples) }
-    requires few { length (S.samples samples) ≤ 1_000_000 }
-    ensures { IfOk result (IsReach (S.samples samples) (data_of claim.now)) }
-{
-    let tables = tables_for(alloc, samples, claim)?;
-    ends_over(alloc, tables.as_slice(), claim)
-}
-
-/// The same by the tables of the servers.
-fn ends_over(alloc: Global, tables: &[BestTable], claim: &Claim) -> Result<Reach, AllocError>
     requires claim { IsLawful (data_of claim.now) }
     requires tables { IsTabled (data_of claim.now) tables.now }
     ensures { IfOk result (λ reach. (samples : List Sample) →

@@ -1,19 +1,19 @@
 //! What settles a claim.
 
-ghost use Rattle.std.specs.Prelude.{◌≡◌, ◌≤◌, ◌≤ℤ◌, length, map, true, All, IfOk, IfSome};
-ghost use Rattle.certificate.specs.Refutation.{data_of as refutation_data};
+ghost use Rattle.std.specs.Prelude.{◌≡◌, ◌≤◌, ◌≤ℤ◌, length, map, All};
 ghost use Rattle.claim_file.specs.Claim.{IsLawful, data_of as claim_data};
 ghost use Rattle.checker.specs.Traceability.{samples_of};
-ghost use Rattle.courses.specs.DriftSettlement.{SettlesWithDrift};
+ghost use Rattle.finder.specs.Reach.{IsTabled};
 ghost use Rattle.finder.specs.Samples.{AreSamplesOf};
 ghost use Rattle.finder.specs.Settlement.{Settles};
 ghost use Rattle.pairing.specs.Exchange.{IsLawful as IsLawfulExchange};
 
 use crate::drift_refutation::find_refutation_with_drift;
 use crate::fault::FindFault;
-use crate::fewest::{Fewest, find_fewest_over};
+use crate::fewest::{Fewest, fewest_by};
 use crate::laws::samples_of_exchanges_keep_limits;
-use crate::need::least_bound_over;
+use crate::longest::tables_for;
+use crate::need::least_bound_by;
 use arrayvec::ArrayVec;
 use certificate::{Certificate, Refutation};
 use claim_file::Claim;
@@ -21,11 +21,12 @@ use courses::laws::{
     ends_of_all_conflicts_are_a_cover, some_course_fits_where_a_cover_is_small,
     some_course_is_observed_at_any_reading,
 };
-use courses::{Conflict, Conflicts, conflicts_of, first_contradictions};
+use courses::{Conflict, conflicts_of, first_contradictions};
 use intersection::kinds::Hull;
 use pairing::ToExchange;
 use sample_interval::{ExchangeSamples, SampleSource};
-use std::alloc::{AllocError, Global};
+use std::alloc::Global;
+use sweep::BestTable;
 
 /// One of four answers to a claim, with what proves it.
 #[derive(Drop)]
@@ -72,53 +73,21 @@ pub fn exchange_samples<'a, X: ToExchange>(
 
 /// The readings at which a refutation is looked for: the ends of the tick that needs most, and
 /// those of the tick where the certificate of fewest pieces stops.
-fn readings_of<X: ToExchange>(
-    alloc: Global,
-    exchanges: &[X],
-    claim: &Claim,
-    begin: i128,
-    end: i128,
-) -> Result<ArrayVec<u64, 4>, AllocError>
+fn readings_of(claim: &Claim, tables: &[BestTable], begin: i128, end: i128) -> ArrayVec<u64, 4>
     requires claim { IsLawful (claim_data claim.now) }
-    requires exchanges { All (IsLawfulExchange (length claim.now.servers.items))
-        (map X.shown exchanges.now) }
-    requires few { length exchanges.now ≤ 1_000_000 }
+    requires tables { IsTabled (claim_data claim.now) tables.now }
     requires from_first { claim.now.first ≤ℤ begin }
     requires in_order { begin ≤ℤ end }
     requires to_last { end ≤ℤ claim.now.last }
 {
     let mut readings = ArrayVec::new();
-    if let Some(need) = least_bound_over(alloc, exchange_samples(exchanges, claim), claim)? {
+    if let Some(need) = least_bound_by(tables, claim) {
         readings.push(need.begin as u64);
         readings.push(need.end as u64);
     }
     readings.push(begin as u64);
     readings.push(end as u64);
-    Ok(readings)
-}
-
-/// A refutation that stands, if one is found, where the certificate of fewest pieces stops.
-fn refutation_of<X: ToExchange>(
-    alloc: Global,
-    exchanges: &[X],
-    claim: &Claim,
-    conflicts: &Conflicts,
-    begin: i128,
-    end: i128,
-) -> Result<Option<Refutation>, AllocError>
-    requires claim { IsLawful (claim_data claim.now) }
-    requires exchanges { All (IsLawfulExchange (length claim.now.servers.items))
-        (map X.shown exchanges.now) }
-    requires few { length exchanges.now ≤ 1_000_000 }
-    requires from_first { claim.now.first ≤ℤ begin }
-    requires in_order { begin ≤ℤ end }
-    requires to_last { end ≤ℤ claim.now.last }
-    ensures { IfOk result (λ sought. IfSome sought (λ found. SettlesWithDrift
-        (claim_data claim.now) (map X.shown exchanges.now) (refutation_data found) true)) }
-{
-    let readings = readings_of(alloc, exchanges, claim, begin, end)?;
-    let covers = conflicts.covers(claim.false_max);
-    find_refutation_with_drift(alloc, exchanges, claim, &covers, &readings)
+    readings
 }
 
 /// Settles a claim: by a certificate if there is one, or else by a refutation with drift if one is
@@ -145,10 +114,14 @@ pub fn settle<X: ToExchange>(
         let told = first_contradictions(alloc, exchanges, claim, &conflicts)?;
         return Ok(Settled::NothingFits(told));
     }
-    match find_fewest_over(alloc, exchange_samples(exchanges, claim), claim)? {
+    let samples = exchange_samples(exchanges, claim);
+    let tables = tables_for(alloc, samples, claim)?;
+    match fewest_by(alloc, samples, claim, &tables)? {
         Fewest::Certificate(certificate) => Ok(Settled::Shown(certificate)),
         Fewest::Nothing { begin, end, hull } => {
-            match refutation_of(alloc, exchanges, claim, &conflicts, begin, end)? {
+            let readings = readings_of(claim, &tables, begin, end);
+            let covers = conflicts.covers(claim.false_max);
+            match find_refutation_with_drift(alloc, exchanges, claim, &covers, &readings)? {
                 Some(refutation) => Ok(Settled::Refuted(refutation)),
                 None => Ok(Settled::Open { begin, end, hull }),
             }

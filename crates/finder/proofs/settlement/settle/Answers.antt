@@ -20,22 +20,22 @@ returns-then-not-has_cover g c =
     }
 
 -- the tick where the longest pieces stop lies in the span
-pub refutation_of-requires-clause-from_first : goal.refutation_of-requires-clause-from_first
-refutation_of-requires-clause-from_first g c =
+pub readings_of-readings-requires-clause-from_first : goal.readings_of-readings-requires-clause-from_first
+readings_of-readings-requires-clause-from_first g c =
     let stuck = rw c.in-Nothing.is at c.in_ok-certificate.ensures.stuck in
     let tick = stuck_within (claim_data c.args.claim.now) c.requires.claim _ c.in-Nothing.begin c.in-Nothing.end
     c.in-Nothing.hull stuck in
     rw tick.begin_kept tick.from_first
 
-pub refutation_of-requires-clause-in_order : goal.refutation_of-requires-clause-in_order
-refutation_of-requires-clause-in_order g c =
+pub readings_of-readings-requires-clause-in_order : goal.readings_of-readings-requires-clause-in_order
+readings_of-readings-requires-clause-in_order g c =
     let stuck = rw c.in-Nothing.is at c.in_ok-certificate.ensures.stuck in
     let tick = stuck_within (claim_data c.args.claim.now) c.requires.claim _ c.in-Nothing.begin c.in-Nothing.end
     c.in-Nothing.hull stuck in
     rw (tick.begin_kept, tick.end_kept) tick.forward
 
-pub refutation_of-requires-clause-to_last : goal.refutation_of-requires-clause-to_last
-refutation_of-requires-clause-to_last g c =
+pub readings_of-readings-requires-clause-to_last : goal.readings_of-readings-requires-clause-to_last
+readings_of-readings-requires-clause-to_last g c =
     let stuck = rw c.in-Nothing.is at c.in_ok-certificate.ensures.stuck in
     let tick = stuck_within (claim_data c.args.claim.now) c.requires.claim _ c.in-Nothing.begin c.in-Nothing.end
     c.in-Nothing.hull stuck in
@@ -50,19 +50,19 @@ returns-in-Certificate g c =
       settled = shown_by claim xs c.in-Certificate.certificate
           (fits_if c.has_cover.result c.if-not-has_cover.false c.has_cover.ensures.exact c.in_ok-conflicts.ensures.covers)
           (subst (λ (samples : List Sample). FindsFewest samples claim (Ok (found.Certificate c.in-Certificate.certificate)))
-          c.exchange_samples.ensures.samples (rw c.in-Certificate.is at c.in_ok-certificate.ensures));
+          c.exchange_samples-samples.ensures.samples (rw c.in-Certificate.is at c.in_ok-certificate.ensures));
       refused = tt;
     }
 
 pub returns-in-Some : goal.returns-in-Some
 returns-in-Some g c = record {
   settled = contested_by (claim_data c.args.claim.now) (map g.X.ToExchange.shown c.args.exchanges.now) _
-      (rw c.in-Some.is at c.in_ok-refutation-in-Nothing.ensures);
+      (rw c.in-Some.is at c.in_ok-refutation-in-Nothing.ensures.settles);
   refused = tt;
 }
 
-pub returns-in-None : goal.returns-in-None
-returns-in-None g c =
+pub returns : goal.returns
+returns g c =
     let claim = claim_data c.args.claim.now in
     let xs = map g.X.ToExchange.shown c.args.exchanges.now in
     let begin = c.in-Nothing.begin in
@@ -70,7 +70,7 @@ returns-in-None g c =
     let course = fits_if c.has_cover.result c.if-not-has_cover.false c.has_cover.ensures.exact
     c.in_ok-conflicts.ensures.covers in
     let finds = subst (λ (samples : List Sample). FindsFewest samples claim (Ok (found.Nothing begin end c.in-Nothing.hull)))
-    c.exchange_samples.ensures.samples (rw c.in-Nothing.is at c.in_ok-certificate.ensures) in
+    c.exchange_samples-samples.ensures.samples (rw c.in-Nothing.is at c.in_ok-certificate.ensures) in
     let tick = stuck_within claim c.requires.claim _ begin end c.in-Nothing.hull finds.stuck in
     record {
       settled = rw (tick.begin_kept, tick.end_kept) (left_open claim xs begin end c.in-Nothing.hull tick.forward course

@@ -1,9 +1,9 @@
 use Rattle.claim_file.specs.Claim.{data_of as claim_data}
 use Rattle.finder.proofs.Undercut.{finds_need}
-use Rattle.finder.proofs.need.least_bound_over.Goals as goal
+use Rattle.finder.proofs.need.least_bound_by.Goals as goal
 
 pub returns-in-Some : goal.returns-in-Some
-returns-in-Some g c =
+returns-in-Some c samples are =
     finds_need (record {
       fewest = record {
         best = c.best_samples_are_the_first_best.ensures;
@@ -19,6 +19,6 @@ returns-in-Some g c =
         greatest = c.nanoseconds_lie_between_their_ticks.ensures.greatest;
         up = c.ratios_are_rounded_as_little_as_can_be.ensures.up;
       };
-    }) (g.S.SampleSource.samples c.args.samples) (claim_data c.args.claim.now) c.requires.claim c.requires.samples
-    c.in-Some.tick c.least_need.result (rw c.in-Some.is at c.in_ok-tick.ensures) c.least_need.ensures.value
+    }) samples (claim_data c.args.claim.now) c.requires.claim are.of_claim
+    c.in-Some.tick c.least_need.result (rw c.in-Some.is at c.neediest_tick.ensures samples are) c.least_need.ensures.value
     c.least_need.ensures.in_range

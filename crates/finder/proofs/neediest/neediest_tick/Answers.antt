@@ -4,7 +4,7 @@ use Rattle.sample_interval.specs.declared.kinds.Sample.{Sample}
 use Rattle.finder.specs.Reach.{AreTablesFor}
 use Rattle.finder.proofs.LongestLemmas.{last_is}
 use Rattle.finder.proofs.Search.{IsAt, all_seen, at_part, from_part, moved_on, over_from}
-use Rattle.finder.proofs.neediest.neediest_by.Goals as goal
+use Rattle.finder.proofs.neediest.neediest_tick.Goals as goal
 
 pub returns-then-end-last : goal.returns-then-end-last
 returns-then-end-last c samples tabled =
@@ -37,8 +37,8 @@ stretches-preserved c =
     (over_from samples claim part c.need_over-part.ensures.of_span (c.need_over-part.ensures.needs samples tabled))
     c.stretches.found at (sym c.is_cut.ensures ∙ c.if-is_cut.false) c.pieces_within_have_no_wider_hulls.ensures
     c.unbounded_hulls_are_so_everywhere.ensures tabled.of_claim _ (last_is claim c.requires.claim)
-    c.saturating_mul.result _ c.min-reach.result (rw (begins, reaches) c.if-end-last.false)
-    (rw reaches c.saturating_mul.ensures) (rw (begins, reaches) refl) c.min-reach.ensures) in
+    c.longer.result _ c.min-reach.result (rw (begins, reaches) c.if-end-last.false)
+    (rw reaches c.longer.ensures.no_less) (rw (begins, reaches) refl) c.min-reach.ensures) in
     let some = moved c.requires.tables.0 c.requires.tables.1 in
     record {
       at = moved;

@@ -4,7 +4,7 @@ use Rattle.claim_file.specs.Claim.{data_of}
 use Rattle.sample_interval.specs.declared.kinds.Sample.{Sample}
 use Rattle.finder.specs.Fewest.{AreLongest, end_after}
 use Rattle.finder.specs.Reach.{AreTablesFor}
-use Rattle.finder.proofs.reach.ends_over.Given as goal
+use Rattle.finder.proofs.reach.longest_ends.Given as goal
 
 abbrev pub invariant-loop-end : goal.invariant-loop-end
 invariant-loop-end l = record {

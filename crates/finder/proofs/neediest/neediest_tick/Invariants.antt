@@ -2,7 +2,7 @@ use Rattle.std.proofs.Common.{◌≡◌, ◌⊎◌, ◌+◌, ◌-◌, ◌*◌, �
 use Rattle.claim_file.specs.Claim.{data_of}
 use Rattle.finder.specs.Neediest.{OfTables}
 use Rattle.finder.proofs.Search.{IsAt}
-use Rattle.finder.proofs.neediest.neediest_by.Given as goal
+use Rattle.finder.proofs.neediest.neediest_tick.Given as goal
 
 abbrev pub invariant-stretches : goal.invariant-stretches
 invariant-stretches l = record {

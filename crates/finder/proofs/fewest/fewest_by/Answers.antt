@@ -2,11 +2,11 @@ use Rattle.claim_file.specs.Claim.{data_of as claim_data}
 use Rattle.finder.proofs.FewestAnswerLemmas.{finds_certificate, finds_nothing_kept, finds_too_long}
 use Rattle.finder.proofs.FewestLemmas.{Laws, first_in_span}
 use Rattle.finder.proofs.LongestLemmas.{are_pieces}
-use Rattle.finder.proofs.fewest.find_fewest_over.Goals as goal
+use Rattle.finder.proofs.fewest.fewest_by.Goals as goal
 
 pub returns-in_ok-found-in-End : goal.returns-in_ok-found-in-End
 returns-in_ok-found-in-End g c =
-    let is = rw c.in-End.is at c.in_ok-reached.ensures in
+    let is = rw c.in-End.is at c.in_ok-ends.ensures (g.S.SampleSource.samples c.args.samples) c.requires.tables in
     finds_certificate (record {
       best = c.best_samples_are_the_first_best.ensures;
       narrow = c.best_entries_show_as_much.ensures;
@@ -29,7 +29,7 @@ returns-in-Stuck g c =
       held = c.best_hulls_hold_the_error.ensures;
     }) (g.S.SampleSource.samples c.args.samples) (claim_data c.args.claim.now) c.requires.claim c.requires.samples
     c.in-Stuck.begin c.in-Stuck.end c.from.result c.from-in-Stuck.result c.in-Stuck.hull c.from.ensures
-    c.from-in-Stuck.ensures (rw c.in-Stuck.is at c.in_ok-reached.ensures)
+    c.from-in-Stuck.ensures (rw c.in-Stuck.is at c.in_ok-ends.ensures (g.S.SampleSource.samples c.args.samples) c.requires.tables)
 
 pub returns-in-TooLong : goal.returns-in-TooLong
 returns-in-TooLong g c =
@@ -41,7 +41,7 @@ returns-in-TooLong g c =
       covers = c.pieces_give_the_verdict.ensures.covers;
       held = c.best_hulls_hold_the_error.ensures;
     }) (g.S.SampleSource.samples c.args.samples) (claim_data c.args.claim.now) c.requires.claim c.requires.samples
-    (rw c.in-TooLong.is at c.in_ok-reached.ensures)
+    (rw c.in-TooLong.is at c.in_ok-ends.ensures (g.S.SampleSource.samples c.args.samples) c.requires.tables)
 
 pub certificate_over-requires-clause-pieces : goal.certificate_over-requires-clause-pieces
 certificate_over-requires-clause-pieces g c =
@@ -55,6 +55,6 @@ certificate_over-requires-clause-pieces g c =
       covers = c.pieces_give_the_verdict.ensures.covers;
       held = c.best_hulls_hold_the_error.ensures;
     } in
-    let is = rw c.in-End.is at c.in_ok-reached.ensures in
+    let is = rw c.in-End.is at c.in_ok-ends.ensures (g.S.SampleSource.samples c.args.samples) c.requires.tables in
     rw (c.as_slice.ensures.value, is.are) (are_pieces laws samples claim c.requires.claim c.requires.samples
     claim.first is.earlier (first_in_span laws samples claim c.requires.claim c.requires.samples) is.longest is.last)
