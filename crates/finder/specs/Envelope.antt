@@ -3,8 +3,8 @@
 -- The span is cut as for a certificate. Each piece has the best samples of its servers, and the
 -- hull over their groups holds every error that these samples allow there. A bound of n nanoseconds
 -- holds if every hull lies inside that many ticks to either side, rounded down. The least such n
--- says how good the clock is known to be: the claim's own bound plays no part in it. If a hull has
--- no ends, or nothing in it, then no bound holds.
+-- says how good the clock is known to be: the claim's own bound is ignored. If a hull has no ends,
+-- or nothing in it, then no bound holds.
 use Rattle.std.specs.Prelude.{◌≡◌, ◌⊎◌, ℕ, zero, suc, ◌*◌, ◌<◌, ◌≤◌, ◌^◌, max, nat_lt, ⊤, if◌then◌else◌}
 use Rattle.std.specs.Prelude.{ℤ, pos, unsigned_abs, true, List, map, All, Result, Ok, Err}
 use Rattle.std.specs.Int.{int_max, int_min}

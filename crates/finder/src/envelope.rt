@@ -30,11 +30,11 @@ pub struct Envelope {
 }
 
 /// The envelope of a claim, in pieces of `step_s` seconds, from 1 to 86,400. The claim's bound
-/// plays no part in it.
+/// is ignored.
 ///
 /// The samples are those of all exchanges, in their order, at most 1,000,000. Each piece has one
 /// entry for each server that has a sample, in the order of the servers: the samples that make its
-/// interval there narrowest, of several that agree the first.
+/// interval there narrowest, the first among ties.
 ///
 /// `TooManyPieces` comes exactly if the span has over 100,000 pieces, before any memory is taken,
 /// and `Memory` if none is left.

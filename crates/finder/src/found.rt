@@ -42,7 +42,7 @@ pub enum Found {
 ///
 /// The samples are those of all exchanges, in their order, at most 1,000,000. Each piece has one
 /// entry for each server that has a sample, in the order of the servers: the samples that make its
-/// interval there narrowest, of several that agree the first.
+/// interval there narrowest, the first among ties.
 ///
 /// `TooManyPieces` comes exactly if the span has over 100,000 pieces, before any memory is taken,
 /// and `Memory` if none is left.

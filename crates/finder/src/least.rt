@@ -80,7 +80,7 @@ pub(crate) fn reach_of(lo: i128, hi: i128) -> u128
     below.max(above)
 }
 
-/// The least number of nanoseconds that has no fewer ticks, also if they are rounded down.
+/// The least number of nanoseconds that has no fewer ticks, even if they are rounded down.
 ///
 /// Whole seconds are counted apart, so that no product is out of range.
 pub(crate) fn nanoseconds_of(ticks: u128) -> u128

@@ -44,8 +44,8 @@ pub struct LeastNeed {
 }
 
 /// The least bound that every piece of one tick allows, of those whose hull is bounded, and the
-/// first tick that needs it; none if the hull over no tick is bounded. The claim's bound plays no
-/// part in it.
+/// first tick that needs it; none if the hull over no tick is bounded. The claim's bound is
+/// ignored.
 ///
 /// The samples are those of all exchanges, in their order, at most 1,000,000.
 ///

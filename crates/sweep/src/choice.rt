@@ -12,8 +12,7 @@ use crate::top::{Top, higher};
 use sample_interval::laws::widening_is_one_number;
 use std::alloc::{AllocError, Global};
 
-/// For each stretch the number of the extreme that is highest over it, of several that agree the
-/// first.
+/// For each stretch the number of the extreme that is highest over it, the first among ties.
 pub fn top_numbers(
     alloc: Global,
     extremes: &[Extreme],
