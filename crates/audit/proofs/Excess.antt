@@ -24,7 +24,7 @@ use Rattle.audit.specs.Captured.{frame_of}
 use Rattle.audit.specs.Claimed.{IsClaimText}
 use Rattle.audit.specs.Contested.{HasCourseBeyond, IsBeyond, IsBeyondNanoseconds}
 use Rattle.audit.specs.Evidence.{EvidenceData}
-use Rattle.audit.specs.Refute.{IsStanding}
+use Rattle.audit.specs.Refute.{IsContestedOf}
 use Rattle.audit.proofs.CapturedLemmas.{captured, each_record}
 use Rattle.audit.proofs.ExchangedLemmas.{in_place}
 
@@ -124,7 +124,7 @@ drift_course_beyond claim xs r against of =
     }
 
 -- one that stands has a course beyond the bound
-pub standing_beyond : (drift : Bool) (r : RefutationData) (e : EvidenceData) → IsStanding drift r e
+pub standing_beyond : (drift : Bool) (r : RefutationData) (e : EvidenceData) → IsContestedOf drift r e
     → HasCourseBeyond e.claim e.collection.exchanges
 standing_beyond true r e stands =
     drift_course_beyond e.claim e.collection.exchanges r stands.accepted.against stands.course

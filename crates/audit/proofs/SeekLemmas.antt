@@ -15,7 +15,7 @@ use Rattle.finder.specs.Sought.{IsSought, NoneIsRefuted}
 use Rattle.report.specs.declared.fault.Outcome.{Outcome}
 use Rattle.audit.specs.Evidence.{EvidenceData}
 use Rattle.audit.specs.Question.{ShowsOf, seek_refutation}
-use Rattle.audit.specs.Refute.{IsStanding}
+use Rattle.audit.specs.Refute.{IsContestedOf}
 use Rattle.audit.specs.Seek.{sought_in, sought_outcome}
 
 -- the laws on what is accepted
@@ -41,7 +41,7 @@ pub record Sought (e : EvidenceData) (found : Option Refutation) : Type 0 where
 
 module _ (laws : Laws) (e : EvidenceData) (limits : Limits e) where
   standing : (refutation : RefutationData) → IsRefuted e.claim e.collection.exchanges refutation →
-      IsStanding false refutation e
+      IsContestedOf false refutation e
   standing refutation accepted = record {
     accepted = accepted;
     course = laws.course e.claim e.collection.exchanges refutation limits.lawful limits.each limits.agree accepted;

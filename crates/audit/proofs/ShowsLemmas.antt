@@ -23,14 +23,14 @@ use Rattle.audit.specs.CaptureInput.{capture_read}
 use Rattle.audit.specs.Check.{ArePiecesTraced, HasVerdictYes, IsDenied, IsTracedByPieces, IsTracedTo}
 use Rattle.audit.specs.Envelope.{IsEnvelopeOf}
 use Rattle.audit.specs.Evidence.{EvidenceData, GiveEvidence, OfClaimAndCapture, evidence_of}
-use Rattle.audit.specs.Find.{IsFoundOf, IsNothingOf}
+use Rattle.audit.specs.Find.{IsFoundOf, IsNotFoundOf}
 use Rattle.audit.specs.Contested.{CourseContests, ShowsContested}
 use Rattle.audit.specs.Headline.{IsShown, ShowsHeadline}
 use Rattle.audit.specs.Nanoseconds.{GivesNanoseconds}
 use Rattle.audit.specs.Question.{QuestionData, TaskData, samples, at, find, check, refute, envelope, seek, settle, IsFindingAfter, ShowsFinding, check_of, refute_by, check_read, refute_read, task_read, Shows, ShowsOf}
-use Rattle.audit.specs.Refute.{GiveRefutation, IsFallen, IsStanding}
+use Rattle.audit.specs.Refute.{GiveRefutation, IsUncontestedOf, IsContestedOf}
 use Rattle.audit.specs.Report.{ShowsAfter}
-use Rattle.audit.specs.Seek.{IsSoughtInVain, IsSoughtOf}
+use Rattle.audit.specs.Seek.{IsIrrefutableOf, IsRefutableOf}
 use Rattle.audit.specs.Settle.{Finding, IsFindingFrom, IsFindingIn, IsFindingOf, IsSettledBy, IsSettledFrom, IsSettledOf, IsShownOf, no_finding}
 use Rattle.audit.proofs.Excess.{standing_beyond}
 
@@ -133,7 +133,7 @@ module _ (c : ClaimData) where
       by_pieces = give_of (ArePiecesTraced certificate) (pieces_traced certificate h.yes);
     }
     settled_from (settles.refuted refutation) h = record {
-      evidence = give_of (IsStanding true refutation) h;
+      evidence = give_of (IsContestedOf true refutation) h;
       in_relations = λ bytes. laws.contested b f c collection bytes give.claim give.capture
           (standing_beyond true refutation e h);
     }
@@ -271,7 +271,7 @@ module _ (laws : BytesLaws) (claim second capture : FeedState) (c : ClaimData) (
       alone (IsFoundOf step) (find step) outcomes.Yes after
       (of_task _ outcomes.Yes after.task _ after.is_task after.shows)
   from_bytes (find step) outcomes.No after =
-      alone (IsNothingOf step) (find step) outcomes.No after
+      alone (IsNotFoundOf step) (find step) outcomes.No after
       (of_task _ outcomes.No after.task _ after.is_task after.shows)
   from_bytes check outcomes.Yes after = record {
     whole = traced c laws claim.remaining second.remaining capture.remaining is after;
@@ -280,22 +280,22 @@ module _ (laws : BytesLaws) (claim second capture : FeedState) (c : ClaimData) (
   }
   from_bytes check outcomes.No after = denied c claim.remaining second.remaining capture.remaining is after
   from_bytes (refute drift) outcomes.Yes after = record {
-    stands = refuted c drift (IsStanding drift) outcomes.Yes (λ r e shows. shows)
+    stands = refuted c drift (IsContestedOf drift) outcomes.Yes (λ r e shows. shows)
         claim.remaining second.remaining capture.remaining is after;
     shown = contested_shown c laws drift claim.remaining second.remaining capture.remaining is after;
   }
   from_bytes (refute drift) outcomes.No after =
-      refuted c drift (IsFallen drift) outcomes.No (λ r e shows. shows)
+      refuted c drift (IsUncontestedOf drift) outcomes.No (λ r e shows. shows)
       claim.remaining second.remaining capture.remaining is after
   from_bytes (envelope step servers least) outcome after =
       alone (IsEnvelopeOf step least outcome) (envelope step servers least) outcome after
       (of_task _ outcome after.task _ after.is_task after.shows)
   from_bytes seek outcomes.Yes after = record {
-    found = alone IsSoughtOf seek outcomes.Yes after (of_task _ outcomes.Yes after.task _ after.is_task after.shows);
+    found = alone IsRefutableOf seek outcomes.Yes after (of_task _ outcomes.Yes after.task _ after.is_task after.shows);
     shown = refutable_shown c laws claim.remaining second.remaining capture.remaining is after;
   }
   from_bytes seek outcomes.No after =
-      alone IsSoughtInVain seek outcomes.No after (of_task _ outcomes.No after.task _ after.is_task after.shows)
+      alone IsIrrefutableOf seek outcomes.No after (of_task _ outcomes.No after.task _ after.is_task after.shows)
   from_bytes settle outcome after =
       settled_by c laws claim.remaining second.remaining capture.remaining outcome is after
 

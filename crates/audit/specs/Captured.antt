@@ -8,7 +8,7 @@ use Rattle.pcap_reader.specs.Capture.{Record, magic_of}
 use Rattle.pcap_reader.specs.Field.{spelled}
 
 -- a captured frame: when, as a second from 1970-01-01T00:00:00Z on and the part of it in units; how
--- many bytes it had on the wire, which plays no part; and the bytes that were captured
+-- many bytes it had on the wire, which is ignored; and the bytes that were captured
 pub record CapturedFrame : Type 0 where
   pub second : ℕ
   pub part : ℕ

@@ -62,7 +62,7 @@ pub record IsFoundOf (step : ℕ) (e : EvidenceData) : Type 0 where
 -- hull is empty, no course of events that fits the exchanges has its reading in that piece,
 -- otherwise no certificate is accepted that has a piece over the whole of it. In every course that
 -- fits, the error lies in the hull at every moment whose reading lies in the piece.
-pub record IsNothingOf (step : ℕ) (e : EvidenceData) : Type 0 where
+pub record IsNotFoundOf (step : ℕ) (e : EvidenceData) : Type 0 where
   pub piece : ℕ
   pub hull : Hull
   pub found_is : found_in step e ≡ Ok (nothing piece hull)
@@ -74,9 +74,9 @@ pub record IsNothingOf (step : ℕ) (e : EvidenceData) : Type 0 where
 
 -- At a yes a certificate is found and accepted, if the bytes of claim and capture are known: a
 -- check of the three says yes.
-abbrev pub IsAccepted : ℕ → FeedState → FeedState → Type 0
-IsAccepted step claim capture = OfClaimAndCapture claim capture (GiveEvidence (IsFoundOf step))
+abbrev pub IsFound : ℕ → FeedState → FeedState → Type 0
+IsFound step claim capture = OfClaimAndCapture claim capture (GiveEvidence (IsFoundOf step))
 
 -- At a no nothing is found, if these bytes are known.
 abbrev pub IsNotFound : ℕ → FeedState → FeedState → Type 0
-IsNotFound step claim capture = OfClaimAndCapture claim capture (GiveEvidence (IsNothingOf step))
+IsNotFound step claim capture = OfClaimAndCapture claim capture (GiveEvidence (IsNotFoundOf step))

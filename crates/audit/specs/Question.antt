@@ -21,10 +21,10 @@ use Rattle.audit.specs.At.{IsHeld, IsHeldAt, at_report}
 use Rattle.audit.specs.Check.{HasVerdictNo, HasVerdictYes, IsNotTraced, IsTraced, check_report}
 use Rattle.audit.specs.Envelope.{IsEnveloped, IsEnvelopeOf, envelope_report}
 use Rattle.audit.specs.Evidence.{EvidenceData, OfClaimAndCapture}
-use Rattle.audit.specs.Find.{IsAccepted, IsFoundOf, IsNotFound, IsNothingOf, find_report}
-use Rattle.audit.specs.Refute.{IsContested, IsFallen, IsStanding, IsUncontested, refute_report}
+use Rattle.audit.specs.Find.{IsFound, IsFoundOf, IsNotFound, IsNotFoundOf, find_report}
+use Rattle.audit.specs.Refute.{IsContested, IsUncontestedOf, IsContestedOf, IsUncontested, refute_report}
 use Rattle.audit.specs.Samples.{samples_report}
-use Rattle.audit.specs.Seek.{IsIrrefutable, IsRefutable, IsSoughtInVain, IsSoughtOf, seek_report}
+use Rattle.audit.specs.Seek.{IsIrrefutable, IsRefutable, IsIrrefutableOf, IsRefutableOf, seek_report}
 use Rattle.audit.specs.Settle.{Finding, IsFindingFrom, IsFindingIn, IsFindingOf, IsSettled, IsSettledWith, settle_report}
 use Rattle.audit.specs.declared.question.Asked.{Asked}
 use Rattle.audit.specs.declared.question.Question.{Question}
@@ -196,21 +196,21 @@ ShowsFinding _ finding claim capture = Unit {0}
 abbrev pub ShowsOf : TaskData → EvidenceData → Outcome → Type 0
 ShowsOf (show_at second) e outcome = IsHeldAt second e
 ShowsOf (find_with step) e Yes = IsFoundOf step e
-ShowsOf (find_with step) e No = IsNothingOf step e
+ShowsOf (find_with step) e No = IsNotFoundOf step e
 ShowsOf (check_of certificate) e Yes = HasVerdictYes certificate e
 ShowsOf (check_of certificate) e No = HasVerdictNo certificate e
-ShowsOf (refute_by drift refutation) e Yes = IsStanding drift refutation e
-ShowsOf (refute_by drift refutation) e No = IsFallen drift refutation e
+ShowsOf (refute_by drift refutation) e Yes = IsContestedOf drift refutation e
+ShowsOf (refute_by drift refutation) e No = IsUncontestedOf drift refutation e
 ShowsOf (show_envelope step servers least) e outcome = IsEnvelopeOf step least outcome e
-ShowsOf seek_refutation e Yes = IsSoughtOf e
-ShowsOf seek_refutation e No = IsSoughtInVain e
+ShowsOf seek_refutation e Yes = IsRefutableOf e
+ShowsOf seek_refutation e No = IsIrrefutableOf e
 ShowsOf settle_claim e outcome = IsSettledWith e outcome
 ShowsOf _ e outcome = Unit {0}
 
 -- what the outcome of a run shows whose claim, second input and capture begin so
 abbrev pub Shows : QuestionData → FeedState → FeedState → FeedState → Outcome → Type 0
 Shows (at unix_second) claim second capture outcome = IsHeld unix_second claim capture
-Shows (find step) claim second capture Yes = IsAccepted step claim capture
+Shows (find step) claim second capture Yes = IsFound step claim capture
 Shows (find step) claim second capture No = IsNotFound step claim capture
 Shows check claim second capture Yes = IsTraced claim second capture
 Shows check claim second capture No = IsNotTraced claim second capture

@@ -48,7 +48,7 @@ HasCourseOf false refutation e = HasCourse e.claim e.collection.exchanges refuta
 
 -- The refutation is accepted. So a course of events fits the exchanges in which the clock is off by
 -- its error, beyond the bound, and no certificate has a verdict of yes.
-pub record IsStanding (drift : Bool) (refutation : RefutationData) (e : EvidenceData) : Type 0 where
+pub record IsContestedOf (drift : Bool) (refutation : RefutationData) (e : EvidenceData) : Type 0 where
   pub accepted : IsOfRefuted drift refutation e
   pub course : HasCourseOf drift refutation e
   pub no_yes : (certificate : CertificateData) → ¬ (verdict_on certificate e ≡ verdicts.Yes)
@@ -61,7 +61,7 @@ IsShownByNone false refutation e = Unit {0}
 
 -- It isn't accepted. So if its error may drift, and what it says by itself is against the claim, no
 -- course shows it.
-pub record IsFallen (drift : Bool) (refutation : RefutationData) (e : EvidenceData) : Type 0 where
+pub record IsUncontestedOf (drift : Bool) (refutation : RefutationData) (e : EvidenceData) : Type 0 where
   pub refused : ¬ (IsOfRefuted drift refutation e)
   pub shown_by_none : IsShownByNone drift refutation e
 
@@ -77,10 +77,10 @@ pub record GiveRefutation (P : RefutationData → EvidenceData → Type 0)
 -- if the bytes of claim and capture are known.
 pub record IsContested (drift : Bool) (claim second capture : FeedState) : Type 0 where
   pub stands : OfClaimAndCapture claim capture
-      (GiveRefutation (IsStanding drift) second.remaining)
+      (GiveRefutation (IsContestedOf drift) second.remaining)
   pub shown : OfClaimAndCapture claim capture ShowsContested
 
 -- At a no it falls, if these bytes are known.
 abbrev pub IsUncontested : Bool → FeedState → FeedState → FeedState → Type 0
 IsUncontested drift claim second capture =
-    OfClaimAndCapture claim capture (GiveRefutation (IsFallen drift) second.remaining)
+    OfClaimAndCapture claim capture (GiveRefutation (IsUncontestedOf drift) second.remaining)

@@ -11,7 +11,7 @@ use Rattle.report.specs.Reports.{Report, whole_text}
 use Rattle.audit_text.specs.Refutation.{no_refutation_text}
 use Rattle.audit.specs.Contested.{ShowsContested}
 use Rattle.audit.specs.Evidence.{EvidenceData, GiveEvidence, OfClaimAndCapture}
-use Rattle.audit.specs.Refute.{IsStanding}
+use Rattle.audit.specs.Refute.{IsContestedOf}
 
 -- what is found, in words: the refutation's compact text and a line feed, or that there is none
 unfoldable pub sought_text : Option RefutationData → List ℕ
@@ -33,23 +33,23 @@ seek_report e = whole_text (sought_text (sought_in e)) (sought_outcome (sought_i
 
 -- A refutation is found of this evidence, with the error nearest above the bound, or else nearest
 -- below it on the other side; and it stands.
-pub record IsSoughtOf (e : EvidenceData) : Type 0 where
+pub record IsRefutableOf (e : EvidenceData) : Type 0 where
   pub refutation : RefutationData
   pub found_is : sought_in e ≡ Some refutation
   pub nearest : IsSought e.claim e.collection.exchanges refutation
-  pub stands : IsStanding false refutation e
+  pub stands : IsContestedOf false refutation e
 
 -- None is found of it, and none is accepted.
-pub record IsSoughtInVain (e : EvidenceData) : Type 0 where
+pub record IsIrrefutableOf (e : EvidenceData) : Type 0 where
   pub found_is : sought_in e ≡ None
   pub none_accepted : NoneIsRefuted e.claim e.collection.exchanges
 
 -- At a yes a refutation is found, which stands, and that a course breaks the claim is shown in
 -- relations alone, if the bytes of claim and capture are known.
 pub record IsRefutable (claim capture : FeedState) : Type 0 where
-  pub found : OfClaimAndCapture claim capture (GiveEvidence IsSoughtOf)
+  pub found : OfClaimAndCapture claim capture (GiveEvidence IsRefutableOf)
   pub shown : OfClaimAndCapture claim capture ShowsContested
 
 -- At a no none is accepted, if these bytes are known.
 abbrev pub IsIrrefutable : FeedState → FeedState → Type 0
-IsIrrefutable claim capture = OfClaimAndCapture claim capture (GiveEvidence IsSoughtInVain)
+IsIrrefutable claim capture = OfClaimAndCapture claim capture (GiveEvidence IsIrrefutableOf)

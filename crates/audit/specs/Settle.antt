@@ -27,7 +27,7 @@ use Rattle.audit.specs.Contested.{ShowsContested}
 use Rattle.audit.specs.Evidence.{EvidenceData, GiveEvidence, OfClaimAndCapture, evidence_of}
 use Rattle.audit.specs.Find.{find_run_fault_of}
 use Rattle.audit.specs.Headline.{IsShown}
-use Rattle.audit.specs.Refute.{IsStanding}
+use Rattle.audit.specs.Refute.{IsContestedOf}
 
 -- what settles a claim, or why it isn't known
 abbrev pub Finding : Type 0
@@ -67,7 +67,7 @@ pub record IsShownOf (certificate : CertificateData) (e : EvidenceData) : Type 0
 -- one of four answers: a refutation is one for which `refute --drift` says yes
 abbrev pub IsSettledOf : EvidenceData → SettledData → Type 0
 IsSettledOf e (shown certificate) = IsShownOf certificate e
-IsSettledOf e (refuted refutation) = IsStanding true refutation e
+IsSettledOf e (refuted refutation) = IsContestedOf true refutation e
 IsSettledOf e (fitted_by_none conflicts) =
     IsFittedByNone e.claim e.collection.exchanges conflicts
 IsSettledOf e (left_open begin end hull) =
@@ -103,7 +103,7 @@ pub record IsShownFrom (certificate : CertificateData) (claim capture : List ℕ
 
 -- The refutation stands, and that a course breaks the claim is shown in relations alone.
 pub record IsRefutedFrom (refutation : RefutationData) (claim capture : List ℕ) : Type 0 where
-  pub evidence : GiveEvidence (IsStanding true refutation) claim capture
+  pub evidence : GiveEvidence (IsContestedOf true refutation) claim capture
   pub in_relations : ShowsContested claim capture
 
 abbrev pub IsSettledFrom : SettledData → List ℕ → List ℕ → Type 0

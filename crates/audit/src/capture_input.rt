@@ -37,7 +37,7 @@ fn run_fault_of(fault: PairFault) -> RunFault
 /// `Capture` comes if it isn't a capture or ends too early, `Exchanges` if it has over 1,000,000 of
 /// them, `Device` if the feed failed. `Memory` comes before the first byte is taken, or if the
 /// capture begins with a lawful header. The hash of the index of requests is keyed by two numbers
-/// of `hasher`: who doesn't trust the capture's writer passes one with a random key.
+/// of `hasher`: callers that don't trust the capture's writer should pass one with a random key.
 pub(crate) fn read_capture_from<F: Feed, H: BuildHasher + Drop>(
     alloc: Global,
     feed: F,

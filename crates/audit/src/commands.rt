@@ -6,7 +6,7 @@ ghost use Rattle.report.specs.Run.{no_feed, run_state};
 ghost use Rattle.audit.specs.At.{IsHeld};
 ghost use Rattle.audit.specs.Check.{IsNotTraced, IsTraced};
 ghost use Rattle.audit.specs.Envelope.{IsEnveloped};
-ghost use Rattle.audit.specs.Find.{IsAccepted, IsNotFound};
+ghost use Rattle.audit.specs.Find.{IsFound, IsNotFound};
 ghost use Rattle.audit.specs.Question.{samples, at, find, check, refute, envelope, seek, settle, plainly};
 ghost use Rattle.audit.specs.Refute.{IsContested, IsUncontested};
 ghost use Rattle.audit.specs.Run.{MayRun, RunsAlone, RunsFor};
@@ -215,7 +215,7 @@ pub fn run_find<C: Feed, F: Feed, S: Sink>(
         (run_state (C.state claim.new) no_feed (F.state result.0) (S.state out.new))
         capture result.0 result.1 }
     ensures accepted { result.1 ≡ Ok Outcome.Yes →
-        IsAccepted step_s (C.state claim.old) (F.state capture) }
+        IsFound step_s (C.state claim.old) (F.state capture) }
     ensures empty { result.1 ≡ Ok Outcome.No →
         IsNotFound step_s (C.state claim.old) (F.state capture) }
 {

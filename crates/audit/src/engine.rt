@@ -111,8 +111,8 @@ fn make_report<T: Feed, F: Feed, H: BuildHasher + Drop>(
 /// The claim is read first, then the second input, then the capture; what stands later isn't read
 /// after a refusal. Nothing is written before all of it is made. `Device` comes if a feed failed,
 /// and `Write(n)` if the sink failed after exactly n bytes of the text. The hash of the index of
-/// requests is keyed by two numbers of `hasher`: who doesn't trust the capture's writer passes one
-/// with a random key.
+/// requests is keyed by two numbers of `hasher`: callers that don't trust the capture's writer
+/// should pass one with a random key.
 pub fn run<C: Feed, T: Feed, F: Feed, S: Sink, H: BuildHasher + Drop>(
     alloc: Global,
     asked: Asked,

@@ -6,8 +6,8 @@
 //! style of the text, for a program or for a person; how a text is shown is said by audit_text.
 //! `specs/Run` says what a run needs and promises, `specs/Report` what it writes, and
 //! `specs/Question` what an outcome means. [`run_samples`], [`run_at`], [`run_check`],
-//! [`run_settle`], [`run_find`], [`run_refute`], [`run_seek`] and [`run_envelope`] are the engines of the commands,
-//! for a program, with a hasher of a fixed key.
+//! [`run_settle`], [`run_find`], [`run_refute`], [`run_seek`] and [`run_envelope`] are the engines
+//! of the commands, for a program, with a hasher of a fixed key.
 #![tactic(auto)]
 
 mod capture_input;

@@ -28,7 +28,7 @@ const ZERO: (&str, &str) = ("\"bound_ns\":10001001", "\"bound_ns\":0");
 const ONE: (&str, &str) = ("\"false_max\":0", "\"false_max\":1");
 
 /// Whether servers are shown, an edit of `C1`, and the outcome and the lines on a moment: with the
-/// server's line and without it; with a bound of nothing, which plays no part; and with the one
+/// server's line and without it; with a bound of nothing, which is ignored; and with the one
 /// server allowed to be wrong.
 const MOMENTS: [(bool, (&str, &str), Outcome, &[&str]); 4] = [
     (true, SAME, Outcome::Yes, &[SERVER, PIECE, LEAST]),
