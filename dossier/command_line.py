@@ -17,7 +17,7 @@ USAGE, OUTPUT_FAILED, INTERRUPTED = 5, 4, 130
 ABOUT = """Puts many audits by ntpaudit together: folders with a claim and captures, and one page for a person to read.
 
   tcpdump -i eth0 --time-stamp-precision=nano -w web-1/f.pcap udp port 123    record (Ctrl-C when it is enough)
-  ntpaudit-dossier draft web-1/f.pcap > web-1/claim.json                      a claim to start from: read it, mend it
+  ntpaudit-dossier draft web-1/f.pcap > web-1/claim.json                      a claim to start from: read it, fix it
   ntpaudit-dossier audit web-1                                                the audit
   ntpaudit-dossier page web-1 > dossier.html                                  the page
   ntpaudit-dossier sign web-1 --key ~/.ssh/id_ed25519                         who answers for it (if you like)

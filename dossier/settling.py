@@ -75,7 +75,7 @@ class Settling:
 
     def decide(self) -> Texts:
         """What `settle` says, and what the checkers say about it. At a yes the same claim with the bound 0 is settled too,
-        and where nothing fits the same claim with more drift: with any bound, since that plays no part in it."""
+        and where nothing fits the same claim with more drift: with any bound, since that is ignored."""
         text = self.call("settle", self.claim, self.capture)
         verdict = read_settled(text).verdict
         if verdict == YES:
