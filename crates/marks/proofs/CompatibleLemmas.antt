@@ -2,7 +2,7 @@
 use Rattle.std.proofs.Common.{◌≡◌, ℕ, zero, suc, ◌+◌, ◌-◌, ◌*◌, ◌<◌, ◌≤◌, ℤ, pos, negsuc, ◌-ℤ◌, ◌*ℤ◌, ◌≤ℤ◌, ◌<ℤ◌, neg_ℤ, ◌↔◌, Bool, true, false, IsTrue, List, IsPermutation, get_or, sym, ◌∙◌, arith}
 use Rattle.std.specs.List.{All}
 use Rattle.std.proofs.lemmas.Int.{ints, by_lt_z}
-use Rattle.std.proofs.lemmas.List.Sorted.{All-permutation, IsPermutation-sym, IsPermutation-trans}
+use Rattle.std.proofs.lemmas.List.Sorted.{All-permutation, IsPermutation-sym}
 use Rattle.std.proofs.Math.Nat.{mul-le-mul_left}
 use Rattle.sample_interval.specs.Widening.{billion, IsRate}
 use Rattle.marks.specs.Compatible.{AllCompatible}
@@ -10,7 +10,6 @@ use Rattle.marks.specs.Direction.{KeepsBelow, AllKeepBelow}
 use Rattle.marks.specs.Line.{rising_line}
 use Rattle.marks.specs.Mark.{AreCompatible}
 use Rattle.marks.specs.declared.mark.Mark.{Mark}
-use Rattle.marks.specs.declared.direction.Direction.{Direction}
 use Rattle.marks.specs.declared.direction.Direction.TheVariants.{Falling, Rising}
 use Rattle.marks.proofs.PairLemmas.{falls_line, rises_line, rising_lines}
 

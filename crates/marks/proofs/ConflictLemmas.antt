@@ -1,7 +1,8 @@
 -- The low marks in front that are compatible with each high mark.
-use Rattle.std.proofs.Common.{◌≡◌, ℕ, ◌+◌, ◌<◌, ◌≤◌, List, length, take, get_or, IsPermutation, ap, ◌∙◌, sym, subst, arith}
+use Rattle.std.proofs.Common.{◌≡◌, ℕ, ◌+◌, ◌-◌, ◌<◌, ◌≤◌, ⊎_elim, List, length, take, drop, get_or, IsPermutation, ap, ◌∙◌, sym, subst, arith}
 use Rattle.std.specs.List.{AllWithin}
-use Rattle.std.proofs.lemmas.List.{get_or-take, length-take-le}
+use Rattle.std.proofs.lemmas.Bool.{cases_lt}
+use Rattle.std.proofs.lemmas.List.{get_or-drop, get_or-take, length-drop, length-take-le}
 use Rattle.std.proofs.lemmas.List.Elements.{AllWithin-more}
 use Rattle.std.proofs.lemmas.List.Sorted.{All-permutation, IsPermutation-sym}
 use Rattle.marks.specs.Compatible.{AllCompatible}
@@ -10,27 +11,41 @@ use Rattle.marks.specs.Mark.{AreCompatible}
 use Rattle.marks.specs.declared.mark.Mark.{Mark}
 use Rattle.marks.proofs.PassageLemmas.{at_any}
 
--- what the sweeps say of a copy of the marks in front, with the high marks in any order
-module _ (ppb : ℕ) (lows highs moved front : List Mark) (middle : ℕ) (p : IsPermutation highs moved)
-    (le : middle ≤ length lows) (is : front ≡ take middle lows) where
-  front_length : length front ≡ middle
-  front_length = ap length is ∙ length-take-le middle lows le
+within_both : (X : Type 0) (P : X → Type 0) (xs : List X) (low middle high : ℕ) → AllWithin P xs low middle
+    → AllWithin P xs middle high → AllWithin P xs low high
+within_both X P xs low middle high front rest k d from lt =
+    ⊎_elim (λ below. front k d from below) (λ behind. rest k d behind lt) (cases_lt k middle)
 
-  front_reads : (k : ℕ) (d : Mark) → k < middle → get_or front k d ≡ get_or lows k d
-  front_reads k d lt = rw is (get_or-take middle lows k d lt)
+-- what the sweeps say of a copy of a part of the low marks, with the high marks in any order
+module _ (ppb : ℕ) (lows highs moved part : List Mark) (least middle : ℕ) (p : IsPermutation highs moved)
+    (forward : least ≤ middle) (le : middle ≤ length lows) (is : part ≡ take (middle - least) (drop least lows)) where
+  part_length : length part ≡ middle - least
+  part_length =
+      let rest : length (drop least lows) ≡ length lows - least = length-drop least lows in
+      ap length is ∙ length-take-le (middle - least) (drop least lows) (omega (arith, rest))
 
-  pub front_fits : AllCompatible ppb front moved → AllWithin (FitsAll ppb highs) lows 0 middle
-  front_fits all k d from lt =
-      let long = front_length in
+  part_reads : (k : ℕ) (d : Mark) → k < middle - least → get_or part k d ≡ get_or lows (least + k) d
+  part_reads k d lt = rw is (get_or-take (middle - least) (drop least lows) k d lt) ∙ get_or-drop least lows k d
+
+  part_fits : AllCompatible ppb part moved → AllWithin (FitsAll ppb highs) lows least middle
+  part_fits all k d from lt =
+      let long = part_length in
+      let at : least + (k - least) ≡ k = omega arith in
       All-permutation (λ high. AreCompatible ppb (get_or lows k d) high) moved highs (IsPermutation-sym highs moved p)
-      (subst (FitsAll ppb moved) (front_reads k d lt) (all k d (omega arith)))
+      (subst (FitsAll ppb moved) (part_reads (k - least) d (omega arith) ∙ ap (λ (n : ℕ). get_or lows n d) at)
+      (all (k - least) d (omega arith)))
 
-  pub front_compatible : AllWithin (FitsAll ppb highs) lows 0 middle → AllCompatible ppb front moved
-  front_compatible fit k d lt =
-      let long = front_length in
-      let below : k < middle = omega arith in
-      subst (FitsAll ppb moved) (sym (front_reads k d below))
-      (All-permutation (λ high. AreCompatible ppb (get_or lows k d) high) highs moved p (fit k d (omega arith) below))
+  pub more_fit : AllWithin (FitsAll ppb highs) lows 0 least → AllCompatible ppb part moved
+      → AllWithin (FitsAll ppb highs) lows 0 middle
+  more_fit front all = within_both Mark (FitsAll ppb highs) lows 0 least middle front (part_fits all)
+
+  pub part_compatible : AllWithin (FitsAll ppb highs) lows 0 middle → AllCompatible ppb part moved
+  part_compatible fit k d lt =
+      let long = part_length in
+      let below : k < middle - least = omega arith in
+      subst (FitsAll ppb moved) (sym (part_reads k d below))
+      (All-permutation (λ high. AreCompatible ppb (get_or lows (least + k) d) high) highs moved p
+      (fit (least + k) d (omega arith) (omega arith)))
 
 -- where nothing is left to halve
 pub in_front : (ppb : ℕ) (lows highs : List Mark) (least most : ℕ) → least ≤ most → most ≤ least →

@@ -1,5 +1,5 @@
 -- Marks in order.
-use Rattle.std.proofs.Common.{◌≡◌, ◌-◌, ℤ, ◌≤ℤ◌, neg_ℤ, false, List, length, reverse, get_or, arith}
+use Rattle.std.proofs.Common.{◌≡◌, ℤ, ◌≤ℤ◌, false, List, arith}
 use Rattle.std.specs.Prelude.{IsSortedByKey}
 use Rattle.std.specs.Ordering.{is_lt, int_cmp}
 use Rattle.std.proofs.lemmas.Cmp.{int_cmp_total}

@@ -30,7 +30,8 @@ pub fn first_against(drift_ppb: u32, low: Mark, highs: &[Mark]) -> Option<usize>
     None
 }
 
-/// How many low marks in front are compatible with each high mark, by halving.
+/// How many low marks in front are compatible with each high mark, by halving. Those that were found
+/// to be so aren't looked at again.
 fn marks_in_front(
     alloc: Global,
     drift_ppb: u32,
@@ -46,8 +47,8 @@ fn marks_in_front(
     let mut most = lows.len();
     while least < most {
         let middle = most - (most - least) / 2;
-        let mut front = Vec::from_slice(alloc, &lows[..middle])?;
-        if all_compatible(drift_ppb, front.as_mut_slice(), highs) {
+        let mut part = Vec::from_slice(alloc, &lows[least..middle])?;
+        if all_compatible(drift_ppb, part.as_mut_slice(), highs) {
             least = middle;
         } else {
             most = middle - 1;
@@ -59,8 +60,9 @@ fn marks_in_front(
 /// The numbers of the first low mark and high mark that aren't compatible, by the low mark's number
 /// and then by the high mark's. None if all are compatible.
 ///
-/// It takes memory for a copy of both lists, and sorts them some twenty times at most. The rate is
-/// up to 500,000,000 parts in 10^9 of true time, and each number of ticks lies from -2^73 to 2^73.
+/// It takes memory for a copy of both lists, and goes through the high marks some twenty times at
+/// most, and a few times through the low ones. The rate is up to 500,000,000 parts in 10^9 of true
+/// time, and each number of ticks lies from -2^73 to 2^73.
 pub fn first_conflict(
     alloc: Global,
     drift_ppb: u32,

@@ -4,7 +4,7 @@ use Rattle.std.proofs.lemmas.List.Sorted.{All-permutation, IsPermutation-trans}
 use Rattle.marks.specs.Conflict.{FitsAll}
 use Rattle.marks.specs.Range.{IsWithinRange}
 use Rattle.marks.proofs.CompatibleLemmas.{no_truth}
-use Rattle.marks.proofs.ConflictLemmas.{front_fits, front_compatible, in_front}
+use Rattle.marks.proofs.ConflictLemmas.{in_front, more_fit, part_compatible}
 use Rattle.marks.proofs.conflict.marks_in_front.Goals as goal
 use Rattle.marks.proofs.conflict.marks_in_front.Goals.{then-all_compatible, else-all_compatible}
 
@@ -21,7 +21,8 @@ loop-least-preserved c =
     let middle = c.loop-least.most - (c.loop-least.most - c.loop-least.least) / 2 in
     let test : c.loop-least.least < c.loop-least.most = c.loop-least-test.true in
     let le : middle ≤ length lows = omega (arith, before.within) in
-    let is = c.as_mut_slice.ensures.value ∙ c.in_ok-front.ensures.items in
+    let forward : c.loop-least.least ≤ middle = omega (arith, before.in_order) in
+    let is = c.as_mut_slice.ensures.value ∙ c.in_ok-part.ensures.items in
     let moved = IsPermutation-trans highs c.loop-least.highs c.all_compatible.new.highs before.moved
     c.all_compatible.ensures.highs_moved in
     elim c.if-all_compatible.branch [
@@ -30,8 +31,8 @@ loop-least-preserved c =
         within = omega (arith, w.most-is, before.within);
         moved = moved;
         fit = subst (λ (n : ℕ). AllWithin (FitsAll ppb highs) lows 0 n) (sym w.least-is)
-            (front_fits ppb lows highs c.loop-least.highs c.as_mut_slice.result.now middle before.moved le is
-            (fits.exact.0 refl));
+            (more_fit ppb lows highs c.loop-least.highs c.as_mut_slice.result.now c.loop-least.least middle before.moved
+            forward le is before.fit (fits.exact.0 refl));
         no_more = subst (λ (n : ℕ). n < length lows → ¬ (AllWithin (FitsAll ppb highs) lows 0 (n + 1)))
             (sym w.most-is) before.no_more;
       }
@@ -42,7 +43,8 @@ loop-least-preserved c =
         fit = subst (λ (n : ℕ). AllWithin (FitsAll ppb highs) lows 0 n) (sym w.least-is) before.fit;
         no_more = λ lt fit. let same : c.if-all_compatible.most + 1 ≡ middle = omega (arith, w.most-is) in
             no_truth (fits.exact.1
-            (front_compatible ppb lows highs c.loop-least.highs c.as_mut_slice.result.now middle before.moved le is
+            (part_compatible ppb lows highs c.loop-least.highs c.as_mut_slice.result.now c.loop-least.least middle
+            before.moved forward le is
             (subst (λ (n : ℕ). AllWithin (FitsAll ppb highs) lows 0 n) same fit)));
       }
     ]
