@@ -1,4 +1,5 @@
 pub mod BoundLemmas
+pub mod BoundingLemmas
 pub mod CompatibleLemmas
 pub mod ConflictLemmas
 pub mod LineLemmas

@@ -1,15 +1,19 @@
 //! The first low mark and high mark that no course keeps.
-ghost use Rattle.std.specs.Prelude.{All, IfOk, MatchOption, IsPermutation};
+ghost use Rattle.std.specs.Prelude.{◌↔◌, ℕ, All, IfOk, MatchOption, IsPermutation};
 ghost use Rattle.sample_interval.specs.Widening.{IsRate};
 ghost use Rattle.marks.specs.Compatible.{AllCompatible};
-ghost use Rattle.marks.specs.Conflict.{IsFirstAgainst, AreInFront, IsFirstConflict};
+ghost use Rattle.marks.specs.Conflict.{IsFirstAgainst, AreInFront, FitsAll, IsFirstConflict};
 ghost use Rattle.marks.specs.Mark.{AreCompatible};
+ghost use Rattle.marks.specs.declared.mark.Mark.{Mark};
 ghost use Rattle.marks.specs.Range.{IsWithinRange};
 
 use crate::compatible::all_compatible;
 use crate::mark::Mark;
 use crate::pair::are_compatible;
 use std::alloc::{AllocError, Global};
+
+/// The greatest error that a mark may have, in ticks.
+const GREATEST_ERROR: i128 = 1 << 73;
 
 /// The number of the first high mark that isn't compatible with a low mark, if there is one.
 ///
@@ -30,9 +34,42 @@ pub fn first_against(drift_ppb: u32, low: Mark, highs: &[Mark]) -> Option<usize>
     None
 }
 
-/// How many low marks in front are compatible with each high mark, by halving. Those that were found
-/// to be so aren't looked at again.
+/// The high marks but those with the greatest error, which no low mark is above.
+fn bounding_marks(alloc: Global, highs: &[Mark]) -> Result<Vec<Mark>, AllocError>
+    requires { All IsWithinRange highs.now }
+    ensures range { IfOk result (λ kept. All IsWithinRange kept.items) }
+    ensures fits { IfOk result (λ kept. (ppb : ℕ) (low : Mark) → IsWithinRange low →
+        FitsAll ppb highs.now low ↔ FitsAll ppb kept.items low) }
+{
+    let mut kept = Vec::new(alloc);
+    for high in highs {
+        if high.error < GREATEST_ERROR {
+            kept.push(*high)?;
+        }
+    }
+    Ok(kept)
+}
+
+/// How many low marks in front are compatible with each high mark.
 fn marks_in_front(
+    alloc: Global,
+    drift_ppb: u32,
+    lows: &[Mark],
+    highs: &[Mark],
+) -> Result<usize, AllocError>
+    requires rate { IsRate drift_ppb }
+    requires lows { All IsWithinRange lows.now }
+    requires highs { All IsWithinRange highs.now }
+    ensures { IfOk result (λ n. AreInFront drift_ppb lows.now highs.now n) }
+{
+    let mut kept = bounding_marks(alloc, highs)?;
+    let count = front_by_halving(alloc, drift_ppb, lows, kept.as_mut_slice())?;
+    Ok(count)
+}
+
+/// The same by halving, with the high marks in any order. Low marks that were found to be compatible
+/// aren't looked at again.
+fn front_by_halving(
     alloc: Global,
     drift_ppb: u32,
     lows: &[Mark],
@@ -75,8 +112,7 @@ pub fn first_conflict(
     ensures { IfOk result (λ found. MatchOption found (AllCompatible drift_ppb lows.now highs.now)
         (λ pair. IsFirstConflict drift_ppb lows.now highs.now pair.0 pair.1)) }
 {
-    let mut sorted = Vec::from_slice(alloc, highs)?;
-    let number = marks_in_front(alloc, drift_ppb, lows, sorted.as_mut_slice())?;
+    let number = marks_in_front(alloc, drift_ppb, lows, highs)?;
     if number == lows.len() {
         return Ok(None);
     }

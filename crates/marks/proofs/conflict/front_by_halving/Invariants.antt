@@ -1,7 +1,7 @@
 use Rattle.std.proofs.Common.{◌+◌, ◌-◌, ◌<◌, ◌≤◌, length, IsPermutation}
 use Rattle.std.specs.List.{AllWithin}
 use Rattle.marks.specs.Conflict.{FitsAll}
-use Rattle.marks.proofs.conflict.marks_in_front.Given as goal
+use Rattle.marks.proofs.conflict.front_by_halving.Given as goal
 
 abbrev pub invariant-loop-least : goal.invariant-loop-least
 invariant-loop-least l = record {
