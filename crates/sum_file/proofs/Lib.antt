@@ -1,0 +1,12 @@
+pub mod Agreement
+pub mod Cuts
+pub mod Escapes
+pub mod FirstBad
+pub mod Listed
+pub mod Lookups
+pub mod Pairs
+pub mod Refusals
+pub mod Spelling
+pub mod Texts
+pub mod Turns
+pub mod Written

@@ -1,0 +1,89 @@
+-- Sums of which no two disagree.
+use Rattle.std.proofs.Common.{Bool, ◌≡◌, zero, suc, inl, inr, true, false, not, List, [], ◌∷◌, get_or, refl, sym, ap, ◌∙◌, arith, true≢false}
+use Rattle.std.specs.List.{AllPairs, Any, list_all}
+use Rattle.std.specs.Str.{bytes_eq}
+use Rattle.std.proofs.lemmas.Bool.{and_cases, and_from, and_parts, cases_Bool, not_from_false, or_cases, or_left, or_parts, or_right, not-true, not-false}
+use Rattle.std.proofs.lemmas.List.Sums.{AllPass-from_list_all, list_all-from_AllPass}
+use Rattle.std.proofs.lemmas.Slice.Eq.{bytes_eq-Decides}
+use Rattle.sum_file.specs.Sum.{Agree, Disagree, SumData, agree, all_agree}
+
+-- the test of two sums
+agree-from : (a b : SumData) → Agree a b → agree a b ≡ true
+agree-from a b agrees =
+    elim (cases_Bool (bytes_eq a.name b.name)) [
+      | inl same ↦
+          or_right (not (bytes_eq a.name b.name)) (bytes_eq a.digest b.digest)
+          ((bytes_eq-Decides a.digest b.digest).1 (agrees ((bytes_eq-Decides a.name b.name).0 same)))
+      | inr other ↦
+          or_left (not (bytes_eq a.name b.name)) (bytes_eq a.digest b.digest)
+          (not_from_false (bytes_eq a.name b.name) other)
+    ]
+
+pub Agree-from : (a b : SumData) → agree a b ≡ true → Agree a b
+Agree-from a b passes name =
+    elim (or_cases (not (bytes_eq a.name b.name)) (bytes_eq a.digest b.digest) passes) [
+      | inl other ↦
+          let same = (bytes_eq-Decides a.name b.name).1 name in
+          absurd (true≢false (sym same ∙ not-true (bytes_eq a.name b.name) other))
+      | inr same ↦ (bytes_eq-Decides a.digest b.digest).0 same
+    ]
+
+Disagree-from : (a b : SumData) → agree a b ≡ false → Disagree a b
+Disagree-from a b fails =
+    let parts = or_parts (not (bytes_eq a.name b.name)) (bytes_eq a.digest b.digest) fails in (
+      (bytes_eq-Decides a.name b.name).0 (not-false (bytes_eq a.name b.name) parts.0),
+      λ same. true≢false (sym ((bytes_eq-Decides a.digest b.digest).1 same) ∙ parts.1),
+    )
+
+agree-Disagree : (a b : SumData) → Disagree a b → agree a b ≡ false
+agree-Disagree a b disagree =
+    elim (cases_Bool (agree a b)) [
+      | inl passes ↦ absurd (disagree.1 (Agree-from a b passes disagree.0))
+      | inr fails ↦ fails
+    ]
+
+-- the test of all pairs
+pub all_agree-from : (sums : List SumData) → AllPairs Agree sums → all_agree sums ≡ true
+all_agree-from [] pairs = refl
+all_agree-from (sum ∷ later) pairs =
+    and_from (list_all (agree sum) later) (all_agree later)
+    (list_all-from_AllPass (agree sum) later
+    (λ k d less. agree-from sum (get_or later k d) (pairs zero (suc k) d (omega arith) (omega arith))))
+    (all_agree-from later (λ i j d before within. pairs (suc i) (suc j) d (omega arith) (omega arith)))
+
+pub AllPairs-from : (sums : List SumData) → all_agree sums ≡ true → AllPairs Agree sums
+AllPairs-from [] passes i j d before within = absurd (omega arith)
+AllPairs-from (sum ∷ later) passes zero zero d before within = absurd (omega arith)
+AllPairs-from (sum ∷ later) passes zero (suc j) d before within =
+    let parts = and_parts (list_all (agree sum) later) (all_agree later) passes in
+    Agree-from sum (get_or later j d) (AllPass-from_list_all (agree sum) later parts.0 j d (omega arith))
+AllPairs-from (sum ∷ later) passes (suc i) zero d before within = absurd (omega arith)
+AllPairs-from (sum ∷ later) passes (suc i) (suc j) d before within =
+    let parts = and_parts (list_all (agree sum) later) (all_agree later) passes in
+    AllPairs-from later parts.1 i j d (omega arith) (omega arith)
+
+-- each of these sums agrees with another
+abbrev pub each_agrees : List SumData → SumData → Bool
+each_agrees sums sum = list_all (λ s. agree s sum) sums
+
+-- one that disagrees with a sum
+pub Any-disagrees : (sums : List SumData) (sum : SumData) → each_agrees sums sum ≡ false
+    → Any (λ s. Disagree s sum) sums
+Any-disagrees [] sum fails = cc
+Any-disagrees (first ∷ sums) sum fails =
+    elim (and_cases (agree first sum) (each_agrees sums sum) fails) [
+      | inl here ↦ (zero, first, omega arith, refl, Disagree-from first sum here)
+      | inr there ↦
+          let any = Any-disagrees sums sum there in (suc any.0, any.1, omega (arith, any.2), any.3, any.4)
+    ]
+
+pub fails-from_Any : (sums : List SumData) (sum : SumData) → Any (λ s. Disagree s sum) sums
+    → each_agrees sums sum ≡ false
+fails-from_Any sums sum any =
+    elim (cases_Bool (each_agrees sums sum)) [
+      | inl passes ↦
+          let at = AllPass-from_list_all (λ (s : SumData). agree s sum) sums passes any.0 any.1 any.2 in
+          let is : agree any.1 sum ≡ true = ap (λ (s : SumData). agree s sum) (sym any.3) ∙ at in
+          absurd (true≢false (sym is ∙ agree-Disagree any.1 sum any.4))
+      | inr fails ↦ fails
+    ]

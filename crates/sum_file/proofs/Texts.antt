@@ -1,0 +1,77 @@
+-- The text that `sha256sum` writes.
+use Rattle.std.proofs.Common.{◌≡◌, ℕ, zero, suc, ◌==◌, inl, inr, true, not, cond, List, [], ◌∷◌, ◌++◌, map, get_or, Some, None, option_map, option_and_then, Ok, ok_or, refl, sym, ap, ◌∙◌, true≢false, arith}
+use Rattle.std.specs.List.{All, AllPairs}
+use Rattle.std.proofs.lemmas.Bool.{and_parts, not-true, or_parts, eq-eqb}
+use Rattle.std.proofs.lemmas.List.Elements.{All-head, All-tail}
+use Rattle.std.proofs.lemmas.List.Folds.{list_all-append}
+use Rattle.std.proofs.lemmas.List.Sums.{AllPass-from_list_all}
+use Rattle.sum_file.specs.declared.fault.SumFault.TheVariants.{Form}
+use Rattle.sum_file.specs.Line.{IsMark, written}
+use Rattle.sum_file.specs.Name.{carriage_return, line_feed}
+use Rattle.sum_file.specs.Reading.{HasNoFeed, agreed, all_said, first_bad, lines_of, sums_of, text_of, without_last}
+use Rattle.sum_file.specs.Sum.{Agree, IsWritable, SumData}
+use Rattle.sum_file.proofs.Agreement.{if_agree}
+use Rattle.sum_file.proofs.Cuts.{lines_of-ended, snoc_view, without_last-other}
+use Rattle.sum_file.proofs.Pairs.{all_agree-from}
+use Rattle.sum_file.proofs.Spelling.{line_of-Says}
+use Rattle.sum_file.proofs.Written.{Says-written, clean_written, is_clean, is_ending}
+
+-- clean bytes have no line feed, and no carriage return at their end
+no_feed : (bytes : List ℕ) → is_clean bytes ≡ true → HasNoFeed bytes
+no_feed bytes clean k d less is =
+    let byte = get_or bytes k d in
+    let passes = AllPass-from_list_all (λ b. not (is_ending b)) bytes clean k d less in
+    let ends = or_parts (byte == line_feed) (byte == carriage_return) (not-true (is_ending byte) passes) in
+    true≢false (sym (eq-eqb byte line_feed is) ∙ ends.0)
+
+no_return : (bytes : List ℕ) → is_clean bytes ≡ true → without_last carriage_return bytes ≡ bytes
+no_return bytes clean =
+    elim (snoc_view bytes) [
+      | inl none ↦ ap (without_last carriage_return) none ∙ sym none
+      | inr view ↦
+          let whole : is_clean (view.0 ++ view.1 ∷ []) ≡ true = ap is_clean (sym view.2) ∙ clean in
+          let last = and_parts (is_clean view.0) (is_clean (view.1 ∷ []))
+          (sym (list_all-append (λ b. not (is_ending b)) view.0 (view.1 ∷ [])) ∙ whole) in
+          let passes = and_parts (not (is_ending view.1)) true last.1 in
+          let ends = or_parts (view.1 == line_feed) (view.1 == carriage_return)
+          (not-true (is_ending view.1) passes.0) in
+          ap (without_last carriage_return) view.2
+          ∙ without_last-other carriage_return view.1 view.0
+          (λ is. true≢false (sym (eq-eqb view.1 carriage_return is) ∙ ends.1))
+          ∙ sym view.2
+    ]
+
+module _ (mark : ℕ) (marked : IsMark mark) where
+  no_feeds : (sums : List SumData) → All IsWritable sums → All HasNoFeed (map (written mark) sums)
+  no_feeds [] writable k d less = absurd (omega arith)
+  no_feeds (sum ∷ sums) writable zero d less =
+      no_feed (written mark sum) (clean_written mark sum marked (All-head IsWritable sum sums writable))
+  no_feeds (sum ∷ sums) writable (suc k) d less =
+      no_feeds sums (All-tail IsWritable sum sums writable) k d (omega arith)
+
+  stripped : (sums : List SumData) → All IsWritable sums
+      → map (without_last carriage_return) (map (written mark) sums) ≡ map (written mark) sums
+  stripped [] writable = refl
+  stripped (sum ∷ sums) writable =
+      ap (λ l. l ∷ map (without_last carriage_return) (map (written mark) sums))
+      (no_return (written mark sum) (clean_written mark sum marked (All-head IsWritable sum sums writable)))
+      ∙ ap (λ l. written mark sum ∷ l) (stripped sums (All-tail IsWritable sum sums writable))
+
+  said : (sums : List SumData) → All IsWritable sums → all_said (map (written mark) sums) ≡ Some sums
+  said [] writable = refl
+  said (sum ∷ sums) writable =
+      ap (option_and_then (λ s. option_map (λ more. s ∷ more) (all_said (map (written mark) sums))))
+      (line_of-Says (written mark sum) sum
+      (Says-written mark sum marked (All-head IsWritable sum sums writable)))
+      ∙ ap (option_map (λ more. sum ∷ more)) (said sums (All-tail IsWritable sum sums writable))
+
+  pub sums_of-text_of : (sums : List SumData) → All IsWritable sums → AllPairs Agree sums
+      → sums_of (text_of mark sums) ≡ Ok sums
+  sums_of-text_of sums writable agreeing =
+      let lines : lines_of (text_of mark sums) ≡ map (written mark) sums =
+      lines_of-ended (map (written mark) sums) (no_feeds sums writable) ∙ stripped sums writable in
+      ap (λ l. ok_or (agreed l) (Form (first_bad (lines_of (text_of mark sums))))) lines
+      ∙ ap (λ s. ok_or (option_and_then if_agree s) (Form (first_bad (lines_of (text_of mark sums)))))
+      (said sums writable)
+      ∙ ap (λ b. ok_or (cond b (Some sums) None) (Form (first_bad (lines_of (text_of mark sums)))))
+      (all_agree-from sums agreeing)

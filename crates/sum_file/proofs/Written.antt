@@ -1,0 +1,144 @@
+-- The line that `sha256sum` writes.
+use Rattle.std.proofs.Common.{◌≡◌, ℕ, ◌==◌, inl, inr, Bool, true, false, not, ◌&&◌, ◌||◌, List, [], ◌∷◌, ◌++◌, get_or, Some, Ok, option_map, subst, refl, sym, ap, ◌∙◌, is_ok, true≢false}
+use Rattle.std.specs.List.{list_all}
+use Rattle.std.proofs.lemmas.Bool.{and_from, cases_Bool, cond_both, cond-true, cond-false, eqb-true, or_cases, or_from, or_parts, false_from_ne_true, not_from_false}
+use Rattle.std.proofs.lemmas.List.Folds.{list_all-append}
+use Rattle.std.proofs.lemmas.List.Sums.{list_all-from_AllPass}
+use Rattle.hex.specs.Hex.{decode_sized, encode_lower, is_hex_digit}
+use Rattle.hex.proofs.HexLemmas.{IsOk-decode_sized, decode_sized-encode_lower}
+use Rattle.sum_file.specs.Line.{IsMark, Says, space, written}
+use Rattle.sum_file.specs.Name.{backslash, carriage_return, escape, escaped, has_special, is_special, line_feed, unescape, unescaped}
+use Rattle.sum_file.specs.Sum.{IsWritable, SumData}
+use Rattle.sum_file.proofs.Escapes.{unescaped-pair, unescaped-plain}
+
+-- a byte that no line has within it or at its end
+abbrev pub is_ending : ℕ → Bool
+is_ending byte = byte == line_feed || byte == carriage_return
+
+-- bytes without such a one
+abbrev pub is_clean : List ℕ → Bool
+is_clean bytes = list_all (λ byte. not (is_ending byte)) bytes
+
+-- a byte is written with a backslash before it, or as it is
+record IsEscape (byte : ℕ) : Type 0 where
+  behind : ℕ
+  written_so : escape byte ≡ backslash ∷ behind ∷ []
+  meant : unescape behind ≡ Some byte
+  clean : is_ending behind ≡ false
+
+pair_of : (byte : ℕ) → is_special byte ≡ true → IsEscape byte
+pair_of byte special =
+    elim (or_cases (byte == backslash || byte == line_feed) (byte == carriage_return) special) [
+      | inl one ↦
+          elim (or_cases (byte == backslash) (byte == line_feed) one) [
+            | inl is ↦ subst IsEscape (sym (eqb-true byte backslash is))
+                (record { behind = 92; written_so = refl; meant = refl; clean = refl })
+            | inr is ↦ subst IsEscape (sym (eqb-true byte line_feed is))
+                (record { behind = 110; written_so = refl; meant = refl; clean = refl })
+          ]
+      | inr is ↦ subst IsEscape (sym (eqb-true byte carriage_return is))
+          (record { behind = 114; written_so = refl; meant = refl; clean = refl })
+    ]
+
+plain : (byte : ℕ) → is_special byte ≡ false → escape byte ≡ byte ∷ []
+plain byte is =
+    let parts = or_parts (byte == backslash || byte == line_feed) (byte == carriage_return) is in
+    let first = or_parts (byte == backslash) (byte == line_feed) parts.0 in
+    rw (first.0, first.1, parts.1)
+
+-- an escaped name is read back
+pub unescaped-escaped : (name : List ℕ) → unescaped (escaped name) ≡ Some name
+unescaped-escaped [] = refl
+unescaped-escaped (byte ∷ name) =
+    elim (cases_Bool (is_special byte)) [
+      | inl special ↦
+          let e = pair_of byte special in
+          ap (λ b. unescaped (b ++ escaped name)) e.written_so
+          ∙ unescaped-pair e.behind byte (escaped name) e.meant
+          ∙ ap (option_map (λ n. byte ∷ n)) (unescaped-escaped name)
+      | inr is ↦
+          let parts = or_parts (byte == backslash || byte == line_feed) (byte == carriage_return) is in
+          let first = or_parts (byte == backslash) (byte == line_feed) parts.0 in
+          ap (λ b. unescaped (b ++ escaped name)) (plain byte is)
+          ∙ unescaped-plain byte (escaped name) first.0
+          ∙ ap (option_map (λ n. byte ∷ n)) (unescaped-escaped name)
+    ]
+
+-- a name without a special byte stands as it is
+pub escaped-plain : (name : List ℕ) → has_special name ≡ false → escaped name ≡ name
+escaped-plain [] is = refl
+escaped-plain (byte ∷ name) is =
+    let parts = or_parts (is_special byte) (has_special name) is in
+    ap (λ b. b ++ escaped name) (plain byte parts.0) ∙ ap (λ n. byte ∷ n) (escaped-plain name parts.1)
+
+-- the written line says the sum
+pub Says-written : (mark : ℕ) (sum : SumData) → IsMark mark → IsWritable sum → Says (written mark sum) sum
+Says-written mark sum marked writable =
+    let spelled = encode_lower sum.digest ++ space ∷ mark ∷ escaped sum.name in
+    record {
+      digits = encode_lower sum.digest;
+      mark = mark;
+      shown = escaped sum.name;
+      digest_of_digits = decode_sized-encode_lower sum.digest 32 writable.digest_long writable.digest_bytes;
+      marked = marked;
+      named = writable.named;
+      spelled = elim (cases_Bool (has_special sum.name)) [
+        | inl special ↦
+            inr (cond-true (has_special sum.name) (backslash ∷ spelled) spelled special, unescaped-escaped sum.name)
+        | inr is ↦
+            inl (cond-false (has_special sum.name) (backslash ∷ spelled) spelled is, escaped-plain sum.name is)
+      ];
+    }
+
+-- an escaped name is clean
+clean_escape : (byte : ℕ) → is_clean (escape byte) ≡ true
+clean_escape byte =
+    elim (cases_Bool (is_special byte)) [
+      | inl special ↦
+          let e = pair_of byte special in
+          ap is_clean e.written_so ∙ ap (λ b. not b && true) e.clean
+      | inr is ↦
+          let parts = or_parts (byte == backslash || byte == line_feed) (byte == carriage_return) is in
+          let first = or_parts (byte == backslash) (byte == line_feed) parts.0 in
+          ap is_clean (plain byte is)
+          ∙ ap (λ b. not b && true) (or_from (byte == line_feed) (byte == carriage_return) first.1 parts.1)
+    ]
+
+clean_escaped : (name : List ℕ) → is_clean (escaped name) ≡ true
+clean_escaped [] = refl
+clean_escaped (byte ∷ name) =
+    list_all-append (λ b. not (is_ending b)) (escape byte) (escaped name)
+    ∙ and_from (is_clean (escape byte)) (is_clean (escaped name)) (clean_escape byte) (clean_escaped name)
+
+-- a digit ends no line
+digit_is_clean : (byte : ℕ) → is_hex_digit byte ≡ true → not (is_ending byte) ≡ true
+digit_is_clean byte digit =
+    not_from_false (is_ending byte) (false_from_ne_true (is_ending byte) λ ends.
+    elim (or_cases (byte == line_feed) (byte == carriage_return) ends) [
+      | inl is ↦ true≢false (sym digit ∙ ap is_hex_digit (eqb-true byte line_feed is))
+      | inr is ↦ true≢false (sym digit ∙ ap is_hex_digit (eqb-true byte carriage_return is))
+    ])
+
+clean_digits : (digits bytes : List ℕ) → decode_sized digits 32 ≡ Ok bytes → is_clean digits ≡ true
+clean_digits digits bytes decoded =
+    let are = (IsOk-decode_sized digits 32).0 (ap is_ok decoded) in
+    list_all-from_AllPass (λ b. not (is_ending b)) digits
+    (λ k d less. digit_is_clean (get_or digits k d) (are.1 k d less))
+
+clean_mark : (mark : ℕ) → IsMark mark → not (is_ending mark) ≡ true
+clean_mark mark (inl is) = ap (λ m. not (is_ending m)) is
+clean_mark mark (inr is) = ap (λ m. not (is_ending m)) is
+
+-- the written line is clean
+pub clean_written : (mark : ℕ) (sum : SumData) → IsMark mark → IsWritable sum → is_clean (written mark sum) ≡ true
+clean_written mark sum marked writable =
+    let digits = encode_lower sum.digest in
+    let rest = space ∷ mark ∷ escaped sum.name in
+    let spelled : is_clean (digits ++ rest) ≡ true =
+    list_all-append (λ b. not (is_ending b)) digits rest
+    ∙ and_from (is_clean digits) (is_clean rest)
+    (clean_digits digits sum.digest
+    (decode_sized-encode_lower sum.digest 32 writable.digest_long writable.digest_bytes))
+    (and_from (not (is_ending mark)) (is_clean (escaped sum.name)) (clean_mark mark marked) (clean_escaped sum.name)) in
+    cond_both (has_special sum.name) (backslash ∷ digits ++ rest) (digits ++ rest) (λ l. is_clean l ≡ true)
+    (λ special. spelled) (λ is. spelled)

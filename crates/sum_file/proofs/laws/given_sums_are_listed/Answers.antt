@@ -1,0 +1,5 @@
+use Rattle.sum_file.proofs.Listed.{sum_given-is}
+use Rattle.sum_file.proofs.laws.given_sums_are_listed.Goals as goal
+
+pub returns : goal.returns
+returns c = record { listed = sum_given-is }

@@ -1,0 +1,16 @@
+//! What a file of SHA-256 sums says, as `sha256sum` writes it: for each file its digest and name.
+//!
+//! `read_sums` gives the sums of a text, or its first bad line. `digest_of` finds the digest that
+//! they give to a name.
+#![tactic(auto)]
+
+mod fault;
+pub mod laws;
+mod line;
+mod name;
+mod reading;
+mod sum;
+
+pub use fault::SumFault;
+pub use reading::read_sums;
+pub use sum::{Sum, digest_of};
