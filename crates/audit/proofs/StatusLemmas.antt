@@ -4,7 +4,7 @@ use Rattle.std.specs.Prelude.{IfOk}
 use Rattle.report.specs.declared.fault.Outcome.{Outcome}
 use Rattle.report.specs.declared.fault.Outcome.TheVariants.{Yes, No}
 use Rattle.report.specs.declared.fault.RunFault.{RunFault}
-use Rattle.report.specs.declared.fault.RunFault.TheVariants.{Capture, Claim, Certificate, Refutation, Exchanges, Pieces, TooBig, Device, Write, Memory}
+use Rattle.report.specs.declared.fault.RunFault.TheVariants.{Capture, Claim, Certificate, Refutation, Exchanges, Pieces, TooBig, Device, Write, Memory, Sums}
 use Rattle.report.specs.ExitStatus.{status_of}
 
 fault_status : (fault : RunFault) → 2 ≤ status_of (Err fault)
@@ -18,6 +18,7 @@ fault_status (TooBig input) = omega arith
 fault_status Memory = omega arith
 fault_status (Device input) = omega arith
 fault_status (Write sent) = omega arith
+fault_status (Sums fault) = omega arith
 
 outcome_status : (outcome : Outcome) → status_of (Ok outcome) ≤ 1
 outcome_status Yes = omega arith

@@ -18,6 +18,8 @@ use Rattle.report.specs.declared.fault.Input.{Input}
 use Rattle.report.specs.declared.fault.Input.TheVariants.{Claim}
 use Rattle.report.specs.declared.fault.RunFault.{RunFault}
 use Rattle.report.specs.declared.fault.RunFault.TheVariants as faults
+use Rattle.report.specs.declared.fault.SumsFault.{SumsFault}
+use Rattle.report.specs.declared.fault.SumsFault.TheVariants as sums
 use Rattle.report.specs.FaultText.{fault_text, fault_fields, input_word}
 use Rattle.line_writer.specs.Field.{FieldData, fields_text, next_text, rest_text, text_of, Word, Number, Named, Nothing}
 use Rattle.line_writer.specs.declared.field.Style.TheVariants.{Plain}
@@ -113,6 +115,11 @@ input_is_low : (input : Input) → T (is_low (input_word input) && true)
 input_is_low Claim = tt
 input_is_low input = tt
 
+sums_are_plain : (fault : SumsFault) → T (are_plain (fault_fields (faults.Sums fault)))
+sums_are_plain (sums.Form line) = tt
+sums_are_plain (sums.Missing input) = input_is_low input
+sums_are_plain (sums.Differ input) = input_is_low input
+
 faults_are_plain : (fault : RunFault) → T (are_plain (fault_fields fault))
 faults_are_plain (faults.Capture fault) = captures_are_plain fault
 faults_are_plain (faults.Claim fault) = claims_are_plain fault
@@ -120,6 +127,7 @@ faults_are_plain (faults.Certificate fault) = certificates_are_plain fault
 faults_are_plain (faults.Refutation fault) = refutations_are_plain fault
 faults_are_plain (faults.TooBig input) = input_is_low input
 faults_are_plain (faults.Device input) = input_is_low input
+faults_are_plain (faults.Sums fault) = sums_are_plain fault
 faults_are_plain fault = tt
 
 pub fault_is_utf8 : (fault : RunFault) → IsUtf8 (fault_text fault)

@@ -13,6 +13,7 @@ own_byte inputs.Claim = refl
 own_byte inputs.Capture = refl
 own_byte inputs.Certificate = refl
 own_byte inputs.Refutation = refl
+own_byte inputs.Sums = refl
 
 module _ {X : Type 0} (which : Input) (limit : ℕ) where
   limit_is_within : (answer : Result X RunFault) → limit ≤ most_read which limit answer

@@ -3,7 +3,7 @@ use Rattle.std.specs.Prelude.{ℕ, Result, Ok, Err}
 use Rattle.report.specs.declared.fault.Outcome.{Outcome}
 use Rattle.report.specs.declared.fault.Outcome.TheVariants.{Yes, No}
 use Rattle.report.specs.declared.fault.RunFault.{RunFault}
-use Rattle.report.specs.declared.fault.RunFault.TheVariants.{Capture, Claim, Certificate, Refutation, Exchanges, Pieces, TooBig, Device, Write, Memory}
+use Rattle.report.specs.declared.fault.RunFault.TheVariants.{Capture, Claim, Certificate, Refutation, Exchanges, Pieces, TooBig, Device, Write, Memory, Sums}
 
 -- 0 yes, 1 no, 2 an input is refused, 3 out of memory, 4 a device failed
 abbrev pub status_of : Result Outcome RunFault → ℕ
@@ -16,6 +16,7 @@ status_of (Err (Refutation fault)) = 2
 status_of (Err Exchanges) = 2
 status_of (Err Pieces) = 2
 status_of (Err (TooBig input)) = 2
+status_of (Err (Sums fault)) = 2
 status_of (Err Memory) = 3
 status_of (Err (Device input)) = 4
 status_of (Err (Write sent)) = 4

@@ -10,7 +10,7 @@ use Rattle.certificate.specs.declared.refutation_fault.RefutationFault.{Refutati
 use Rattle.certificate.specs.declared.refutation_fault.RefutationFault.TheVariants as refutations
 use Rattle.report.specs.declared.fault.Input.TheVariants as inputs
 use Rattle.report.specs.declared.fault.RunFault.{RunFault}
-use Rattle.report.specs.declared.fault.RunFault.TheVariants.{Capture, Claim, Certificate, Refutation, Exchanges, Pieces, TooBig, Device, Write, Memory}
+use Rattle.report.specs.declared.fault.RunFault.TheVariants.{Capture, Claim, Certificate, Refutation, Exchanges, Pieces, TooBig, Device, Write, Memory, Sums}
 
 -- each fault's number
 abbrev pub number_of : RunFault → ℕ
@@ -24,6 +24,7 @@ number_of (TooBig input) = 7
 number_of (Device input) = 8
 number_of (Write sent) = 9
 number_of Memory = 10
+number_of (Sums fault) = 11
 
 -- what a run answers whose capture has this fault
 abbrev pub run_fault_of : CaptureFault → RunFault

@@ -18,6 +18,8 @@ use Rattle.report.specs.declared.fault.Input.TheVariants as inputs
 use Rattle.report.specs.declared.fault.Input.{Input}
 use Rattle.report.specs.declared.fault.RunFault.{RunFault}
 use Rattle.report.specs.declared.fault.RunFault.TheVariants as faults
+use Rattle.report.specs.declared.fault.SumsFault.{SumsFault}
+use Rattle.report.specs.declared.fault.SumsFault.TheVariants as sums
 
 -- the word for each fault of a capture
 abbrev pub capture_word : CaptureFault → List ℕ
@@ -83,11 +85,21 @@ input_word inputs.Claim = codes "claim"
 input_word inputs.Capture = codes "capture"
 input_word inputs.Certificate = codes "certificate"
 input_word inputs.Refutation = codes "refutation"
+input_word inputs.Sums = codes "sums"
 
 -- an input is refused: which one, its fault's number and word, and where in it
 abbrev pub refused : Input → ℕ → List ℕ → FieldData → List FieldData
 refused input number word place =
     Word (codes "ntpaudit:") ∷ Word (input_word input) ∷ Number number ∷ Word word ∷ place ∷ []
+
+-- what is said of inputs that can't be held to their sums, or differ from them
+abbrev pub sums_fields : SumsFault → List FieldData
+sums_fields (sums.Form line) =
+    Word (codes "ntpaudit: sums form") ∷ Named (codes "line") line ∷ []
+sums_fields (sums.Missing input) =
+    Word (codes "ntpaudit: sums missing") ∷ Word (input_word input) ∷ []
+sums_fields (sums.Differ input) =
+    Word (codes "ntpaudit: sums differ") ∷ Word (input_word input) ∷ []
 
 -- what is said of a fault that no reading of an input has
 abbrev pub run_fields : RunFault → List FieldData
@@ -97,6 +109,7 @@ run_fields (faults.TooBig input) =
     Word (codes "ntpaudit: too-big") ∷ Word (input_word input) ∷ []
 run_fields (faults.Device input) = Word (codes "ntpaudit: device") ∷ Word (input_word input) ∷ []
 run_fields (faults.Write sent) = Named (codes "ntpaudit: device output after") sent ∷ Nothing ∷ []
+run_fields (faults.Sums fault) = sums_fields fault
 run_fields _ = Word (codes "ntpaudit: memory") ∷ Nothing ∷ []
 
 -- what the line of each fault says

@@ -19,7 +19,7 @@ use certificate::{Certificate, CertificateFault, read_certificate};
 use std::alloc::Global;
 
 /// The greatest length of a certificate, in bytes.
-const MAX_CERTIFICATE: u64 = 134_217_728;
+pub const MAX_CERTIFICATE: u64 = 134_217_728;
 
 /// Reads a certificate whole: at most 134,217,728 bytes, and one more if there are more.
 ///

@@ -17,7 +17,7 @@ use claim_file::{Claim, read_claim};
 use std::alloc::Global;
 
 /// The greatest length of a claim, in bytes.
-const MAX_CLAIM: u64 = 65536;
+pub const MAX_CLAIM: u64 = 65536;
 
 /// Reads a claim whole: at most 65,536 bytes, and one more if there are more.
 ///

@@ -30,6 +30,23 @@ pub enum Input {
     Certificate,
     /// The refutation.
     Refutation,
+    /// The file of sums, to which the others are held.
+    Sums,
+}
+
+/// Why inputs can't be held to a file of sums.
+#[derive(Clone, Copy, Debug, PartialEq, Eq, Error)]
+pub enum SumsFault {
+    /// The line of this number, from 1, isn't one that `sha256sum` writes, or gives another sum
+    /// for a name than an earlier line.
+    #[error("line {0} has another form")]
+    Form(u64),
+    /// No line has the name of this input.
+    #[error("an input is missing")]
+    Missing(Input),
+    /// The bytes of this input have another sum.
+    #[error("the sum of an input differs")]
+    Differ(Input),
 }
 
 /// Why a run was given up.
@@ -65,10 +82,13 @@ pub enum RunFault {
     /// Out of memory.
     #[error("out of memory")]
     Memory,
+    /// The inputs can't be held to their sums, or differ from them.
+    #[error("the sums are refused: {0}")]
+    Sums(SumsFault),
 }
 
 impl RunFault {
-    /// The fault's number, from 1 to 10 in the order of the variants.
+    /// The fault's number, from 1 to 11 in the order of the variants.
     pub fn number(&self) -> u8
         ensures { result ≡ number_of self.now }
     {
@@ -83,6 +103,7 @@ impl RunFault {
             RunFault::Device(_) => 8,
             RunFault::Write(_) => 9,
             RunFault::Memory => 10,
+            RunFault::Sums(_) => 11,
         }
     }
 }

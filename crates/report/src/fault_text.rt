@@ -8,7 +8,7 @@ ghost use Rattle.report.specs.FaultText as spec;
 ghost use Rattle.report.specs.FaultText.{capture_word, place_of, claim_word, code_of, certificate_word, piece_of};
 ghost use Rattle.report.specs.FaultText.{fault_text, refutation_word, refused};
 
-use crate::fault::{Input, RunFault};
+use crate::fault::{Input, RunFault, SumsFault};
 use certificate::{CertificateFault, RefutationFault};
 use claim_file::ClaimFault;
 use line_writer::{Field, Line, Style, put_fields};
@@ -96,6 +96,7 @@ fn input_word(input: &Input) -> Field<'static>
         Input::Capture => Field::Word("capture"),
         Input::Certificate => Field::Word("certificate"),
         Input::Refutation => Field::Word("refutation"),
+        Input::Sums => Field::Word("sums"),
     }
 }
 
@@ -116,6 +117,21 @@ fn put_refused(line: &mut Line, input: Input, number: u8, words: (&'static str, 
     put_fields(line, Style::Plain, &fields);
 }
 
+/// What is said of inputs that can't be held to their sums, or differ from them.
+fn sums_fields(fault: &SumsFault) -> [Field<'static>; 2]
+    ensures words { map field_data result ≡ spec.sums_fields fault.now }
+    ensures room { room_of (map field_data result) ≤ 150 }
+{
+    match fault {
+        SumsFault::Form(line) => [
+            Field::Word("ntpaudit: sums form"),
+            Field::Named("line", *line),
+        ],
+        SumsFault::Missing(input) => [Field::Word("ntpaudit: sums missing"), input_word(input)],
+        SumsFault::Differ(input) => [Field::Word("ntpaudit: sums differ"), input_word(input)],
+    }
+}
+
 /// What is said of a fault that no reading of an input has.
 fn run_fields(fault: &RunFault) -> [Field<'static>; 2]
     ensures words { map field_data result ≡ spec.run_fields fault.now }
@@ -133,6 +149,7 @@ fn run_fields(fault: &RunFault) -> [Field<'static>; 2]
             Field::Named("ntpaudit: device output after", *n),
             Field::Nothing,
         ],
+        RunFault::Sums(fault) => sums_fields(fault),
         _ => [Field::Word("ntpaudit: memory"), Field::Nothing],
     }
 }

@@ -17,7 +17,7 @@ use certificate::{Refutation, read_refutation};
 use std::alloc::Global;
 
 /// The greatest length of a refutation, in bytes.
-const MAX_REFUTATION: u64 = 65536;
+pub const MAX_REFUTATION: u64 = 65536;
 
 /// Reads a refutation whole: at most 65,536 bytes, and one more if there are more.
 ///

@@ -1,6 +1,6 @@
 //! How an answer is reported.
 
-ghost use Rattle.std.specs.Prelude.{◌≡◌, ◌+◌, ◌≤◌, ◌++◌, length};
+ghost use Rattle.std.specs.Prelude.{◌≡◌, ◌+◌, ◌≤◌, ◌++◌, length, IfErr};
 ghost use Rattle.line_writer.specs.declared.line.TheConstants.{CAPACITY};
 ghost use Rattle.byte_stream.specs.State.{IsWritable};
 ghost use Rattle.report.specs.ExitStatus.{status_of};
@@ -32,6 +32,7 @@ pub fn tell<E: Sink>(answer: &Result<Outcome, RunFault>, err: &mut E) -> u8
     requires { IsWritable (E.state err.old) }
     ensures tells { Tells answer.now (E.state err.old) (E.state err.new) }
     ensures status { result ≡ status_of answer.now }
+    ensures fault { IfErr answer.now (λ fault. 2 ≤ result) }
 {
     let mut line = Line::new();
     put_answer(&mut line, answer);

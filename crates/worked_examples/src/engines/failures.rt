@@ -42,6 +42,7 @@ fn failing_pull(input: Input, number: u64) -> Failing {
         Input::Claim => failing.claim = Some(number),
         Input::Certificate | Input::Refutation => failing.second = Some(number),
         Input::Capture => failing.capture = Some(number),
+        Input::Sums => {}
     }
     failing
 }
@@ -54,7 +55,7 @@ fn are_later_untouched(ran: &mut Ran<'_>, inputs: Inputs<'_>, input: Input) -> b
                 && is_untouched(&mut ran.capture, inputs.capture)
         }
         Input::Certificate | Input::Refutation => is_untouched(&mut ran.capture, inputs.capture),
-        Input::Capture => true,
+        Input::Capture | Input::Sums => true,
     }
 }
 

@@ -2,15 +2,15 @@
 
 use crate::expectation::{assert_equal, assert_ok};
 use RunFault::{
-    Capture, Certificate, Claim, Device, Exchanges, Memory, Pieces, Refutation, TooBig, Write,
+    Capture, Certificate, Claim, Device, Exchanges, Memory, Pieces, Refutation, Sums, TooBig, Write,
 };
 use certificate::{CertificateFault, RefutationFault};
 use claim_file::ClaimFault;
 use pcap_reader::CaptureFault;
-use report::{Input, RunFault, fault_line};
+use report::{Input, RunFault, SumsFault, fault_line};
 
 /// Each fault, and what its line says after the program's name.
-const LINES: [(RunFault, &str); 41] = [
+const LINES: [(RunFault, &str); 46] = [
     (Capture(CaptureFault::TornHeader), "capture 1 torn-header"),
     (Capture(CaptureFault::Magic), "capture 2 magic"),
     (Capture(CaptureFault::Version), "capture 3 version"),
@@ -66,13 +66,21 @@ const LINES: [(RunFault, &str); 41] = [
     (TooBig(Input::Capture), "too-big capture"),
     (TooBig(Input::Certificate), "too-big certificate"),
     (TooBig(Input::Refutation), "too-big refutation"),
+    (TooBig(Input::Sums), "too-big sums"),
     (Device(Input::Claim), "device claim"),
     (Device(Input::Capture), "device capture"),
     (Device(Input::Certificate), "device certificate"),
     (Device(Input::Refutation), "device refutation"),
+    (Device(Input::Sums), "device sums"),
     (Write(0), "device output after 0"),
     (Write(u64::MAX), "device output after 18446744073709551615"),
     (Memory, "memory"),
+    (Sums(SumsFault::Form(1)), "sums form line 1"),
+    (Sums(SumsFault::Missing(Input::Claim)), "sums missing claim"),
+    (
+        Sums(SumsFault::Differ(Input::Capture)),
+        "sums differ capture",
+    ),
 ];
 
 #[test]

@@ -2,12 +2,12 @@
 
 use crate::expectation::{assert_equal, assert_ok};
 use byte_stream::TestSink;
-use report::{Input, Made, Outcome, RunFault, fault_line, publish, status};
+use report::{Input, Made, Outcome, RunFault, SumsFault, fault_line, publish, status};
 use std::alloc::Global;
 use std::process::Abort;
 
 /// Each fault's number, exit status and line.
-const FAULTS: [(RunFault, u8, u8, &str); 5] = [
+const FAULTS: [(RunFault, u8, u8, &str); 6] = [
     (
         RunFault::Exchanges,
         5,
@@ -33,6 +33,12 @@ const FAULTS: [(RunFault, u8, u8, &str); 5] = [
         "ntpaudit: device output after 459",
     ),
     (RunFault::Memory, 10, 3, "ntpaudit: memory"),
+    (
+        RunFault::Sums(SumsFault::Differ(Input::Certificate)),
+        11,
+        2,
+        "ntpaudit: sums differ certificate",
+    ),
 ];
 
 #[test]
