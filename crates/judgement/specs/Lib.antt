@@ -1,0 +1,4 @@
+pub mod Holding
+pub mod Judgement
+pub mod Question
+pub mod Sums

@@ -1,0 +1,66 @@
+//! One input, read whole and held to its sum.
+
+ghost use Rattle.std.specs.Prelude.{◌≡◌, ◌+◌, IfOk, IfErr};
+ghost use Rattle.byte_stream.specs.Bytes.{IsBytes};
+ghost use Rattle.byte_stream.specs.Fault.{CountsFault};
+ghost use Rattle.byte_stream.specs.Intake.{TakesAtMost};
+ghost use Rattle.byte_stream.specs.State.{IsReadable};
+ghost use Rattle.report.specs.Input.{read_failed};
+ghost use Rattle.sha2.specs.Sha256.{sha256};
+ghost use Rattle.judgement.specs.Holding.{IsHeld, IsUnheld, limit_of};
+
+use crate::sums::MAX_SUMS;
+use byte_stream::Feed;
+use report::{Input, MAX_CERTIFICATE, MAX_CLAIM, MAX_REFUTATION, RunFault, SumsFault, read_input};
+use sha2::{Digest, Sha256};
+use std::alloc::Global;
+
+/// The greatest length of a capture, in bytes: a header and 4,000,000 of the longest records.
+const MAX_CAPTURE: u64 = 24 + 4_000_000 * (16 + 262_144);
+
+/// The greatest length of an input, in bytes.
+fn limit(which: Input) -> u64
+    ensures { result ≡ limit_of which }
+{
+    match which {
+        Input::Claim => MAX_CLAIM,
+        Input::Capture => MAX_CAPTURE,
+        Input::Certificate => MAX_CERTIFICATE,
+        Input::Refutation => MAX_REFUTATION,
+        Input::Sums => MAX_SUMS,
+    }
+}
+
+/// The SHA-256 of bytes.
+fn digest(bytes: &[u8]) -> [u8; 32]
+    ensures digest { result ≡ sha256 bytes.now }
+    ensures bytes { IsBytes bytes.now }
+{
+    Sha256::digest(bytes)
+}
+
+/// Reads an input whole, and holds it to a digest, its SHA-256.
+///
+/// `Sums` comes if its bytes have another digest, `TooBig` if it has more than its limit, after one
+/// byte past it, and `Device` exactly if the feed failed.
+pub(crate) fn read_held<F: Feed>(
+    alloc: Global,
+    feed: &mut F,
+    which: Input,
+    sum: &[u8; 32],
+) -> Result<Vec<u8>, RunFault>
+    requires { IsReadable (F.state feed.old) }
+    ensures held { IfOk result (λ read. IsHeld sum.now (F.state feed.old).remaining read.items) }
+    ensures fault { IfErr result (IsUnheld which sum.now (F.state feed.old).remaining) }
+    ensures counts_fault { CountsFault (read_failed result)
+        (F.state feed.old).faults (F.state feed.new).faults }
+    ensures at_most { TakesAtMost (limit_of which + 1)
+        (F.state feed.old).remaining (F.state feed.new).remaining }
+{
+    let read = read_input(alloc, feed, which, limit(which))?;
+    if digest(read.as_slice()) == *sum {
+        Ok(read)
+    } else {
+        Err(RunFault::Sums(SumsFault::Differ(which)))
+    }
+}
