@@ -1,10 +1,10 @@
 //! The commands: operands and options, what help says about them, and what their words call for.
 
-use crate::invocation::{Invocation, Paths, SecondPath};
+use crate::invocation::{Invocation, Paths, SecondPath, SummedPaths};
 use audit::{Asked, Question, Step, Style};
 use claim_file::read_time;
 use clap::{Arg, ArgAction, ArgMatches, Command};
-use report::Input;
+use judgement::Judgement;
 use std::alloc::{AllocError, Global};
 
 const PROGRAM_HELP: &str = "\
@@ -156,7 +156,9 @@ fn settle_command<'a>(alloc: Global) -> Result<Command<'a>, AllocError> {
 fn check_command<'a>(alloc: Global) -> Result<Command<'a>, AllocError> {
     let certificate = Arg::new(alloc, "CERTIFICATE").help("The certificate, a JSON file");
     let about = "Settle a claim by a capture and a certificate";
-    evidence_command(alloc, "check", about, CHECK_HELP)?.arg(certificate.required(true))
+    evidence_command(alloc, "check", about, CHECK_HELP)?
+        .arg(certificate.required(true))?
+        .arg(sums_option(alloc))
 }
 
 /// The command `refute`.
@@ -166,7 +168,8 @@ fn refute_command<'a>(alloc: Global) -> Result<Command<'a>, AllocError> {
     let about = "Settle whether a refutation stands against a claim";
     evidence_command(alloc, "refute", about, REFUTE_HELP)?
         .arg(refutation.required(true))?
-        .arg(flag(alloc, "drift", drift))
+        .arg(flag(alloc, "drift", drift))?
+        .arg(sums_option(alloc))
 }
 
 /// The option `--step`, with these words about it.
@@ -177,6 +180,13 @@ fn step_option<'a>(alloc: Global, help: &'a str) -> Arg<'a> {
         .help(help)
         .value_parser(clap::value_parser!(u32).range(1..=86_400))
         .default_value("64")
+}
+
+/// The option `--sums`.
+fn sums_option<'a>(alloc: Global) -> Arg<'a> {
+    Arg::new(alloc, "sums").long("sums").value_name("SUMS").help(
+        "Hold each file to its line in SUMS, a file as sha256sum writes it",
+    )
 }
 
 /// An option without a value, with these words about it.
@@ -230,7 +240,7 @@ fn with_judgements<'a>(alloc: Global, program: Command<'a>) -> Result<Command<'a
 /// The program with its commands.
 pub(crate) fn program<'a>(alloc: Global) -> Result<Command<'a>, AllocError> {
     let program = Command::new(alloc, "ntpaudit")
-        .version("0.5.0 (logic dac8208d650f15bf)")
+        .version("0.6.0 (logic dac8208d650f15bf)")
         .about("What a packet capture of NTP shows about a clock")
         .after_help(PROGRAM_HELP)
         .subcommand_required(true);
@@ -280,37 +290,53 @@ fn at(alloc: Global, matches: &ArgMatches) -> Result<Invocation, AllocError> {
     }
 }
 
-/// A question on a second input beside the claim and the capture: the operand of this name.
-fn ask_with(
+/// What is judged on the claim, the capture and the operand of this name: with `--sums` by files
+/// that are held to their sums.
+fn judge(
     alloc: Global,
     matches: &ArgMatches,
-    question: Question,
-    input: Input,
+    judgement: Judgement,
     name: &str,
 ) -> Result<Invocation, AllocError> {
     let claim = operand(alloc, matches, "CLAIM")?;
-    let path = operand(alloc, matches, name)?;
-    let capture = operand(alloc, matches, "CAPTURE")?;
-    let paths = Paths {
-        claim,
-        second: Some(SecondPath { input, path }),
-        capture,
+    let second = SecondPath {
+        input: judgement.second(),
+        path: operand(alloc, matches, name)?,
     };
-    Ok(Invocation::Ask(asked(matches, question), paths))
+    let capture = operand(alloc, matches, "CAPTURE")?;
+    let asked = asked(matches, judgement.question());
+    match matches.get_str("sums") {
+        Some(sums) => {
+            let paths = SummedPaths {
+                claim,
+                second,
+                capture,
+                sums: String::from_str(alloc, sums)?,
+            };
+            Ok(Invocation::Judge(judgement, asked.style, paths))
+        }
+        None => {
+            let paths = Paths {
+                claim,
+                second: Some(second),
+                capture,
+            };
+            Ok(Invocation::Ask(asked, paths))
+        }
+    }
 }
 
 /// What `check` calls for.
 fn check(alloc: Global, matches: &ArgMatches) -> Result<Invocation, AllocError> {
-    let question = Question::Check;
-    ask_with(alloc, matches, question, Input::Certificate, "CERTIFICATE")
+    judge(alloc, matches, Judgement::Check, "CERTIFICATE")
 }
 
 /// What `refute` calls for.
 fn refute(alloc: Global, matches: &ArgMatches) -> Result<Invocation, AllocError> {
-    let question = Question::Refute {
+    let judgement = Judgement::Refute {
         drift: matches.get_flag("drift"),
     };
-    ask_with(alloc, matches, question, Input::Refutation, "REFUTATION")
+    judge(alloc, matches, judgement, "REFUTATION")
 }
 
 /// The length of a piece that is asked for.

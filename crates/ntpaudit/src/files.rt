@@ -3,7 +3,7 @@
 ghost use Rattle.std.specs.Prelude.{◌≡◌, ◌⊎◌, None, Some, IfOk, IfErr, IfSome, IsSomeAnd};
 ghost use Rattle.report.specs.declared.fault.RunFault.TheVariants.{Device};
 
-use crate::invocation::{Paths, SecondPath};
+use crate::invocation::{Paths, SecondPath, SummedPaths};
 use byte_stream::{Feed, ReadFeed};
 use report::{Input, RunFault};
 use std::fs;
@@ -68,5 +68,45 @@ pub(crate) fn open_inputs(rt: &HostRuntime, paths: &Paths) -> Result<Inputs, Run
         claim,
         second,
         capture,
+    })
+}
+
+/// The files of a judgement by sums, opened.
+#[derive(Drop)]
+pub(crate) struct SummedInputs {
+    /// The claim.
+    pub(crate) claim: ReadFeed<File>,
+    /// The certificate or refutation.
+    pub(crate) second: ReadFeed<File>,
+    /// The capture.
+    pub(crate) capture: ReadFeed<File>,
+    /// The file of sums.
+    pub(crate) sums: ReadFeed<File>,
+}
+
+/// Opens the files of a judgement by sums, in the order claim, second input, capture, sums. A fault
+/// is that of the device of one that is named.
+pub(crate) fn open_summed(rt: &HostRuntime, paths: &SummedPaths) -> Result<SummedInputs, RunFault>
+    ensures claim { IfOk result (λ inputs.
+        (⟦<ReadFeed<File> as Feed>⟧.state inputs.claim).faults ≡ 0) }
+    ensures second { IfOk result (λ inputs.
+        (⟦<ReadFeed<File> as Feed>⟧.state inputs.second).faults ≡ 0) }
+    ensures capture { IfOk result (λ inputs.
+        (⟦<ReadFeed<File> as Feed>⟧.state inputs.capture).faults ≡ 0) }
+    ensures sums { IfOk result (λ inputs.
+        (⟦<ReadFeed<File> as Feed>⟧.state inputs.sums).faults ≡ 0) }
+    ensures fault { IfErr result (λ fault. (fault ≡ Device Input.Claim)
+        ⊎ (fault ≡ Device paths.now.second.input)
+        ⊎ (fault ≡ Device Input.Capture) ⊎ (fault ≡ Device Input.Sums)) }
+{
+    let claim = open(rt, paths.claim.as_str(), Input::Claim)?;
+    let second = open(rt, paths.second.path.as_str(), paths.second.input)?;
+    let capture = open(rt, paths.capture.as_str(), Input::Capture)?;
+    let sums = open(rt, paths.sums.as_str(), Input::Sums)?;
+    Ok(SummedInputs {
+        claim,
+        second,
+        capture,
+        sums,
     })
 }

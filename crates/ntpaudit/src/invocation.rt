@@ -1,6 +1,7 @@
 //! What the words of a command line call for.
 
-use audit::Asked;
+use audit::{Asked, Style};
+use judgement::Judgement;
 use report::Input;
 
 /// The path of a second input.
@@ -23,6 +24,19 @@ pub(crate) struct Paths {
     pub(crate) capture: String,
 }
 
+/// The paths of files that are held to their sums.
+#[derive(Drop)]
+pub(crate) struct SummedPaths {
+    /// The claim's.
+    pub(crate) claim: String,
+    /// That of the certificate or refutation.
+    pub(crate) second: SecondPath,
+    /// The capture's.
+    pub(crate) capture: String,
+    /// That of the file of sums.
+    pub(crate) sums: String,
+}
+
 /// What the words of a command line call for.
 #[derive(Drop)]
 pub(crate) enum Invocation {
@@ -30,6 +44,8 @@ pub(crate) enum Invocation {
     List(Option<String>),
     /// Answer a question on a claim and a capture.
     Ask(Asked, Paths),
+    /// Judge a certificate or a refutation, in this style, by files that are held to their sums.
+    Judge(Judgement, Style, SummedPaths),
     /// Show this text: help, or the version.
     Show(String),
     /// The command line is refused, for the reason in this text.

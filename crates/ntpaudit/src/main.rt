@@ -2,7 +2,8 @@
 //!
 //! The program reads its command line, opens its files and calls the engine of its command. What an
 //! engine writes and answers is said by its contract in its own crate, and how that is reported by
-//! the contracts of `audit::answer`, `listing::answer_list` and the crate report.
+//! the contracts of `audit::answer`, `judgement::answer_by_sums`, `listing::answer_list` and the
+//! crate report.
 #![tactic(auto)]
 
 ghost use Rattle.std.specs.Prelude.{◌≡◌, false};
@@ -14,12 +15,13 @@ mod files;
 mod invocation;
 
 use crate::command_line::read_command_line;
-use crate::files::{Inputs, open, open_inputs};
-use crate::invocation::Invocation;
-use audit::{Outputs, answer};
+use crate::files::{Inputs, SummedInputs, open, open_inputs, open_summed};
+use crate::invocation::{Invocation, SummedPaths};
+use audit::{Outputs, Style, answer};
 use byte_stream::{ReadFeed, Sink, WriteSink};
+use judgement::{Judgement, MAX_SUMS, Sums, answer_by_sums};
 use listing::answer_list;
-use report::{Input, RunFault, refuse, refuse_time, show, tell};
+use report::{Input, RunFault, read_input, refuse, refuse_time, show, tell};
 use std::alloc::AllocError;
 use std::hash::{BuildHasher, BuildHasherDefault, FoldHasher, RandomState};
 use std::io;
@@ -41,6 +43,46 @@ fn list<S: Sink, E: Sink>(rt: &HostRuntime, path: &Option<String>, to: &mut Outp
             Err(fault) => tell(&Err(fault), err),
         },
     }
+}
+
+/// Judges by files that are held to their sums: the file of sums is read before any other. The
+/// result is the exit status.
+fn judge<S: Sink, E: Sink, H: BuildHasher + Drop>(
+    rt: &HostRuntime,
+    judgement: Judgement,
+    style: Style,
+    paths: &SummedPaths,
+    to: &mut Outputs<S, E>,
+    hasher: H,
+) -> u8
+    requires out { IsWritable (S.state to.old.out) }
+    requires err { IsWritable (E.state to.old.err) }
+    ensures closed { (E.state to.new.err).is_open ≡ false }
+{
+    let alloc = rt.alloc();
+    let SummedInputs {
+        mut claim,
+        mut second,
+        mut capture,
+        mut sums,
+    } = match open_summed(rt, paths) {
+        Ok(inputs) => inputs,
+        Err(fault) => return tell(&Err(fault), &mut to.err),
+    };
+    let text = match read_input(alloc, &mut sums, Input::Sums, MAX_SUMS) {
+        Ok(text) => text,
+        Err(fault) => return tell(&Err(fault), &mut to.err),
+    };
+    let sums = Sums {
+        text: text.as_slice(),
+        claim: paths.claim.as_str(),
+        second: paths.second.path.as_str(),
+        capture: paths.capture.as_str(),
+    };
+    let (claim, second, capture) = (&mut claim, &mut second, &mut capture);
+    answer_by_sums(
+        alloc, judgement, style, &sums, claim, second, capture, to, hasher,
+    )
 }
 
 /// Does what a command line calls for: all files are opened before anything is read. The result is
@@ -77,6 +119,9 @@ fn respond<S: Sink, E: Sink, H: BuildHasher + Drop>(
                     answer(alloc, asked, claim, &mut none, capture, to, hasher).1
                 }
             }
+        }
+        Invocation::Judge(judgement, style, paths) => {
+            judge(rt, judgement, style, &paths, to, hasher)
         }
         Invocation::Show(text) => show(text, &mut to.out, &mut to.err),
         Invocation::Refuse(text) => refuse(text, &mut to.err),
