@@ -1,9 +1,11 @@
 -- What a feed and a sink are to their callers: a state, which each call changes.
 use Rattle.std.specs.Prelude.{◌-◌, ◌^◌, ◌<◌, ℕ, List, Option, Bool, IsTrue}
 
--- a feed at one moment: the bytes still to come, if they are known, and how often it has failed
+-- A feed at one moment: the bytes still to come, if they are known; how many were pulled, or
+-- 2^64 - 1 once they are that many; and how often it has failed.
 pub record FeedState : Type 0 where
   pub remaining : Option (List ℕ)
+  pub taken : ℕ
   pub faults : ℕ
 
 -- a sink at one moment: the bytes that it holds, if they are known, whether it's open, and how

@@ -13,34 +13,48 @@ use std::io::{ErrorKind, Read};
 #[derive(Debug, Drop)]
 pub struct ReadFeed<R> {
     reader: R,
+    /// How many bytes it gave, or `u64::MAX` once they are that many.
+    taken: u64,
     faults: u64,
 }
 
 impl<R: Read> ReadFeed<R> {
-    /// The feed of what the reader still gives, with no fault.
+    /// The feed of what the reader still gives: no byte was pulled, and no pull has failed.
     pub fn new(reader: R) -> ReadFeed<R>
         ensures { ⟦<ReadFeed<R> as Feed>⟧.state result
-            ≡ record { remaining = R.remaining reader; faults = 0 } }
+            ≡ record { remaining = R.remaining reader; taken = 0; faults = 0 } }
     {
-        ReadFeed { reader, faults: 0 }
+        ReadFeed {
+            reader,
+            taken: 0,
+            faults: 0,
+        }
     }
 
     /// The reader, after the bytes that were pulled.
     pub fn into_reader(self) -> R
         ensures { R.remaining result ≡ (⟦<ReadFeed<R> as Feed>⟧.state self).remaining }
     {
-        let ReadFeed { reader, faults: _ } = self;
+        let ReadFeed {
+            reader,
+            taken: _,
+            faults: _,
+        } = self;
         reader
     }
 }
 
 impl<R: Read> Feed for ReadFeed<R> {
-    ghost state = { λ s. record { remaining = R.remaining s.reader; faults = s.faults } };
+    ghost state = { λ s.
+        record { remaining = R.remaining s.reader; taken = s.taken; faults = s.faults } };
 
     fn pull(&mut self, into: &mut [u8]) -> Result<usize, FeedFault> {
         for _try in 0..MOST_TRIES {
             match self.reader.read(into) {
-                Ok(count) => return Ok(count),
+                Ok(count) => {
+                    self.taken = self.taken.saturating_add(count as u64);
+                    return Ok(count);
+                }
                 Err(error) => {
                     if error.kind() != ErrorKind::Interrupted {
                         break;

@@ -4,6 +4,7 @@ ghost use Rattle.std.specs.Prelude.{◌≡◌, ◌≤◌, length, min, Some, IfO
 ghost use Rattle.std.specs.Io.KnownBytes.{ReadConsumes};
 ghost use Rattle.byte_stream.specs.Double.{feed_pace};
 ghost use Rattle.byte_stream.specs.Fault.{CountsFault};
+ghost use Rattle.byte_stream.specs.Intake.{CountsBytes};
 ghost use Rattle.byte_stream.specs.State.{IsReadable};
 ghost use Rattle.byte_stream.specs.Pace.{pace_of, most_of, is_failing, next_pace};
 
@@ -15,6 +16,8 @@ use crate::pace::{Cut, Pace};
 pub struct TestFeed<'a> {
     rest: &'a [u8],
     pace: Pace,
+    /// How many bytes it gave, or `u64::MAX` once they are that many.
+    taken: u64,
     faults: u64,
 }
 
@@ -24,25 +27,30 @@ impl<'a> TestFeed<'a> {
     /// other does.
     pub fn new(bytes: &'a [u8], cut: Cut, failing: Option<u64>) -> TestFeed<'a>
         ensures state { ⟦<TestFeed<'a> as Feed>⟧.state result
-            ≡ record { remaining = Some bytes.now; faults = 0 } }
+            ≡ record { remaining = Some bytes.now; taken = 0; faults = 0 } }
         ensures pace { feed_pace result ≡ pace_of cut failing }
     {
         TestFeed {
             rest: bytes,
             pace: Pace::new(cut, failing),
+            taken: 0,
             faults: 0,
         }
     }
 }
 
 impl<'a> Feed for TestFeed<'a> {
-    ghost state = { λ s. record { remaining = Some s.rest.now; faults = s.faults } };
+    ghost state = { λ s.
+        record { remaining = Some s.rest.now; taken = s.taken; faults = s.faults } };
 
     fn pull(&mut self, into: &mut [u8]) -> Result<usize, FeedFault>
         requires { IsReadable (⟦<TestFeed<'a> as Feed>⟧.state self.old) }
         ensures within { IfOk result (λ n. n ≤ length into.new) }
         ensures known { ReadConsumes (⟦<TestFeed<'a> as Feed>⟧.state self.old).remaining
             (⟦<TestFeed<'a> as Feed>⟧.state self.new).remaining result into.new }
+        ensures counts_bytes { CountsBytes result
+            (⟦<TestFeed<'a> as Feed>⟧.state self.old).taken
+            (⟦<TestFeed<'a> as Feed>⟧.state self.new).taken }
         ensures counts_fault { CountsFault (is_err result)
             (⟦<TestFeed<'a> as Feed>⟧.state self.old).faults
             (⟦<TestFeed<'a> as Feed>⟧.state self.new).faults }
@@ -62,6 +70,7 @@ impl<'a> Feed for TestFeed<'a> {
         let (given, rest) = self.rest.split_at(count);
         into[..count].copy_from_slice(given);
         self.rest = rest;
+        self.taken = self.taken.saturating_add(count as u64);
         Ok(count)
     }
 

@@ -6,6 +6,7 @@ pub loop-try-preserved : goal.loop-try-preserved
 loop-try-preserved g c = record {
   length_kept = search rules;
   bytes = search rules;
+  untaken = c.loop-try.invariant.untaken;
   unfailed = c.loop-try.invariant.unfailed;
 }
 

@@ -8,5 +8,6 @@ invariant-loop-try g l =
     record {
       length_kept : length l.into ≡ length l.initial.into;
       bytes : Keeps (g.R.Read.remaining l.fn.self.reader) (g.R.Read.remaining l.self.reader);
+      untaken : l.self.taken ≡ l.fn.self.taken;
       unfailed : l.self.faults ≡ l.fn.self.faults;
     }
