@@ -5,6 +5,7 @@ use Rattle.std.specs.Io.KnownBytes.{Keeps, IsAtEnd, prepend_known}
 use Rattle.std.proofs.lemmas.List.{drop-append-le}
 use Rattle.byte_stream.specs.Fault.{CountsFault}
 use Rattle.byte_stream.specs.Intake.{TakesAtMost}
+use Rattle.byte_stream.specs.State.{FeedState}
 use Rattle.pcap_reader.specs.declared.buffered.Buffered.{Buffered}
 use Rattle.pcap_reader.specs.declared.format.Format.{Format}
 use Rattle.pcap_reader.specs.declared.fault.CaptureFault.{CaptureFault}
@@ -83,7 +84,7 @@ not_memory Memory h same = h
 not_memory e h same = cc
 
 -- one buffer was taken for it at most
-pub header_fault_most : (e : CaptureFault) (a b : Option (List ℕ)) → IsHeaderFault e → TakesAtMost buffer_size a b →
+pub header_fault_most : (e : CaptureFault) (a b : FeedState) → IsHeaderFault e → TakesAtMost buffer_size a b →
     TakesAtMost (most_refused e) a b
 header_fault_most Read a b h takes = absurd h
 header_fault_most Memory a b h takes = absurd h

@@ -11,26 +11,34 @@ use Rattle.pcap_reader.specs.Source.{TakesFrom}
 
 pub Pulls-none : (a : FeedState) (held held' : List ℕ) → held' ≡ held → Pulls a a held held'
 Pulls-none a held held' same =
-    record { pulled = []; consumed = Consumes-nil a.remaining; joined = same ∙ sym (append-nil held) }
+    record {
+      pulled = [];
+      consumed = Consumes-nil a.remaining;
+      joined = same ∙ sym (append-nil held);
+      counted = omega arith;
+    }
 
 -- one pull more
 pub Pulls-more : (a b c : FeedState) (held held' held'' part : List ℕ) → Pulls a b held held' →
-    Consumes b.remaining c.remaining part → held'' ≡ held' ++ part → Pulls a c held held''
-Pulls-more a b c held held' held'' part p consumed joined =
+    Consumes b.remaining c.remaining part → c.taken ≤ b.taken + length part → held'' ≡ held' ++ part →
+    Pulls a c held held''
+Pulls-more a b c held held' held'' part p consumed counted joined =
     record {
       pulled = p.pulled ++ part;
       consumed = Consumes-trans a.remaining b.remaining c.remaining p.pulled part p.consumed consumed;
       joined = joined ∙ ap (λ l. l ++ part) p.joined ∙ append_assoc held p.pulled part;
+      counted = omega (arith, length-append p.pulled part, p.counted);
     }
 
 -- and then nothing
 pub Pulls-kept : (a b c : FeedState) (held held' held'' : List ℕ) → Pulls a b held held' →
-    Keeps b.remaining c.remaining → held'' ≡ held' → Pulls a c held held''
-Pulls-kept a b c held held' held'' p kept same =
+    Keeps b.remaining c.remaining → c.taken ≡ b.taken → held'' ≡ held' → Pulls a c held held''
+Pulls-kept a b c held held' held'' p kept counted same =
     record {
       pulled = p.pulled;
       consumed = Consumes-kept a.remaining b.remaining c.remaining p.pulled p.consumed kept;
       joined = same ∙ p.joined;
+      counted = omega (arith, p.counted);
     }
 
 keeps : (a b : Option (List ℕ)) (pulled held held' : List ℕ) → Consumes a b pulled → held' ≡ held ++ pulled →
@@ -70,7 +78,7 @@ Refills-takes state wanted old result new h =
     let after = length-held new in
     let place = h.place in
     let limit : new.place + (new.end - new.start) ≤ most_taken = new.in_limit in
-    record { taken = h.pulls.pulled; consumed = h.pulls.consumed; at_most = omega arith }
+    record { taken = h.pulls.pulled; consumed = h.pulls.consumed; at_most = omega arith; counted = h.pulls.counted }
 
 -- no bytes are the last 0 that were consumed
 pub last-none : {F : Type 0} (b : Buffered F) → last_bytes b 0 ≡ []

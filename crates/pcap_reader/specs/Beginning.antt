@@ -17,7 +17,7 @@ pub record BeginsOver (feed : FeedState) (source : SourceState) : Type 0 where
   -- the device hasn't failed
   pub unfailed : source.fault_count ≡ feed.faults
   -- bytes were taken from the front of the feed, and a whole capture may be taken in all
-  pub takes : TakesFrom (whole_supply feed.remaining) source.supply
+  pub takes : TakesFrom (whole_supply feed) source.supply
 
 -- A feed is refused with this fault, and handed back.
 pub record Refuses {F : Type 0} (state : F → FeedState) (before after : F) (fault : CaptureFault) :
@@ -27,6 +27,6 @@ pub record Refuses {F : Type 0} (state : F → FeedState) (before after : F) (fa
   -- it's the device's exactly if the feed failed
   pub counts_fault : CountsFault (is_read fault) (state before).faults (state after).faults
   -- nothing was taken after a header that is there
-  pub at_most : TakesAtMost (most_refused fault) (state before).remaining (state after).remaining
+  pub at_most : TakesAtMost (most_refused fault) (state before) (state after)
   -- the buffer is made before the first byte is taken
   pub memory : fault ≡ Memory → after ≡ before

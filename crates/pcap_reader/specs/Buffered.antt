@@ -1,5 +1,5 @@
 -- A feed with a buffer before it: the bytes that are held, and what both still have.
-use Rattle.std.specs.Prelude.{◌≡◌, ◌+◌, ◌-◌, ◌<◌, ℕ, List, ◌++◌, slice_range, Option, Result, OnOk, OnErr, is_err}
+use Rattle.std.specs.Prelude.{◌≡◌, ◌+◌, ◌-◌, ◌<◌, ◌≤◌, ℕ, List, ◌++◌, length, slice_range, Option, Result, OnOk, OnErr, is_err}
 use Rattle.std.specs.Io.KnownBytes.{Consumes, IsAtEnd, prepend_known}
 use Rattle.byte_stream.specs.Fault.{CountsFault}
 use Rattle.byte_stream.specs.State.{FeedState}
@@ -20,16 +20,22 @@ last_bytes b count = slice_range b.buffer.items (b.start - count) b.start
 abbrev pub still_has : {F : Type 0} → (F → FeedState) → Buffered F → Option (List ℕ)
 still_has state b = prepend_known (held_bytes b) (state b.feed).remaining
 
--- what its feed still has, and how many bytes of it may be pulled
+-- what its feed still has, how many bytes of it were pulled, and how many more may be
 abbrev pub supply_of : {F : Type 0} → (F → FeedState) → Buffered F → Supply
 supply_of state b =
-    record { unread = (state b.feed).remaining; most = most_taken - (b.place + (b.end - b.start)) }
+    record {
+      unread = (state b.feed).remaining;
+      count = (state b.feed).taken;
+      most = most_taken - (b.place + (b.end - b.start));
+    }
 
--- Bytes were pulled from a feed, and stand after those that were held.
+-- Bytes were pulled from a feed, which counts no more than these, and stand after those that were
+-- held.
 pub record Pulls (before after : FeedState) (held held' : List ℕ) : Type 0 where
   pub pulled : List ℕ
   pub consumed : Consumes before.remaining after.remaining pulled
   pub joined : held' ≡ held ++ pulled
+  pub counted : after.taken ≤ before.taken + length pulled
 
 -- Bytes were pulled until `wanted` are held or the feed is at its end. It failed only before that.
 pub record Refills {F : Type 0} (state : F → FeedState) (wanted : ℕ) (old : Buffered F)

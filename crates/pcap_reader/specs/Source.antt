@@ -1,10 +1,11 @@
 -- A source of records, as the crates above see it: its state, and what a call does to it.
 use Rattle.std.specs.Prelude.{◌≡◌, ◌+◌, ◌<◌, ◌≤◌, ◌↔◌, ◌⊎◌, ℕ, List, [], ◌∷◌, length, Option, Some, None, Result, Ok, Err, Bool, true, false, IsTrue, IfOk, IfErr, IfSome, IsErrOf, is_err}
 use Rattle.std.specs.Io.KnownBytes.{Consumes}
-use Rattle.std.proofs.Common.{◌++◌, arith, length-append}
+use Rattle.std.proofs.Common.{◌++◌, arith, length-append, subst, sym}
 use Rattle.std.proofs.KnownBytes.{Consumes-nil, Consumes-trans}
 use Rattle.byte_stream.specs.Fault.{CountsFault}
 use Rattle.byte_stream.specs.Intake.{TakesAtMost}
+use Rattle.byte_stream.specs.State.{FeedState}
 use Rattle.pcap_reader.specs.declared.fault.CaptureFault.{CaptureFault}
 use Rattle.pcap_reader.specs.declared.fault.CaptureFault.TheVariants.{TornRecord, TooMany, Read, Failed}
 use Rattle.pcap_reader.specs.declared.format.RecordHead.{RecordHead}
@@ -13,21 +14,29 @@ use Rattle.pcap_reader.specs.Fault.{MayAnswer}
 use Rattle.pcap_reader.specs.Limit.{most_taken}
 use Rattle.pcap_reader.specs.Remaining.{Coming, whole_end, broken_end, then_coming, capture_of}
 
--- The bytes of a feed that a source hasn't taken, if they are known, and how many of them it takes
--- at most from here on.
+-- The bytes of a feed that a source hasn't taken, if they are known; how many the feed has counted
+-- that were; and how many more it takes at most.
 pub record Supply : Type 0 where
   pub unread : Option (List ℕ)
+  pub count : ℕ
   pub most : ℕ
 
--- Bytes were taken from the front of what was unread, and no more than might be.
+-- Bytes were taken from the front of what was unread, and no more than might be: the feed, a device
+-- too, counts no more than these.
 pub record TakesFrom (before after : Supply) : Type 0 where
   pub taken : List ℕ
   pub consumed : Consumes before.unread after.unread taken
   pub at_most : length taken + after.most ≤ before.most
+  pub counted : after.count ≤ before.count + length taken
 
 -- nothing was taken
 pub TakesFrom-none : (s : Supply) → TakesFrom s s
-TakesFrom-none s = record { taken = []; consumed = Consumes-nil s.unread; at_most = omega arith }
+TakesFrom-none s = record {
+  taken = [];
+  consumed = Consumes-nil s.unread;
+  at_most = omega arith;
+  counted = omega arith;
+}
 
 -- what two calls take in a row
 pub TakesFrom-trans : (first second third : Supply) → TakesFrom first second →
@@ -37,21 +46,30 @@ TakesFrom-trans first second third p q = record {
   consumed = Consumes-trans first.unread second.unread third.unread p.taken q.taken
       p.consumed q.consumed;
   at_most = omega (arith, length-append p.taken q.taken, p.at_most, q.at_most);
+  counted = omega (arith, length-append p.taken q.taken, p.counted, q.counted);
 }
 
--- no more than might be
-pub TakesFrom-at_most : (before after : Supply) → TakesFrom before after →
-    TakesAtMost before.most before.unread after.unread
-TakesFrom-at_most before after p = (p.taken, p.consumed, omega (arith, p.at_most))
-
 -- a feed from which a whole capture may be taken
-abbrev pub whole_supply : Option (List ℕ) → Supply
-whole_supply unread = record { unread = unread; most = most_taken }
+abbrev pub whole_supply : FeedState → Supply
+whole_supply feed =
+    record { unread = feed.remaining; count = feed.taken; most = most_taken }
+
+-- no more than might be was taken of a feed that is handed back
+pub TakesFrom-at_most : (before after : FeedState) (end : Supply) →
+    TakesFrom (whole_supply before) end → after.remaining ≡ end.unread → after.taken ≡ end.count →
+    TakesAtMost most_taken before after
+TakesFrom-at_most before after end p left counted = record {
+  taken = p.taken;
+  consumed = subst (λ (known : Option (List ℕ)). Consumes before.remaining known p.taken) (sym left)
+      p.consumed;
+  at_most = omega (arith, p.at_most);
+  counted = omega (arith, p.counted, counted);
+}
 
 -- What a source shows: the records still to be given, and then an end, whole or a fault, if the
 -- bytes are known; how many records were given; whether a fault was answered; the bytes of the
--- record given last, none at other times; how often the device has failed; what its feed still has;
--- how many bytes were taken of it and are held for later calls.
+-- record given last, none at other times; how often the device has failed; what its feed still has,
+-- and how many bytes were taken of it; how many of these are held for later calls.
 pub record SourceState : Type 0 where
   pub remaining : Option Coming
   pub given : ℕ

@@ -74,6 +74,8 @@ impl<F: Feed> Capture<F> {
     pub fn into_feed(self) -> F
         ensures known { (F.state result).remaining
             ≡ (⟦<Capture<F> as RecordSource>⟧.state self).supply.unread }
+        ensures counted { (F.state result).taken
+            ≡ (⟦<Capture<F> as RecordSource>⟧.state self).supply.count }
         ensures unfailed { (F.state result).faults
             ≡ (⟦<Capture<F> as RecordSource>⟧.state self).fault_count }
     {
@@ -166,7 +168,7 @@ fn read_header<F: Feed>(input: &mut Buffered<F>) -> Result<Format, CaptureFault>
     ensures refusal { IfErr result (IsRefusal (F.state input.old.feed).remaining) }
     ensures not_memory { IfErr result (λ fault. fault ≢ CaptureFault.Memory) }
     ensures at_most { IfErr result (λ fault. TakesAtMost (most_refused fault)
-        (F.state input.old.feed).remaining (F.state input.new.feed).remaining) }
+        (F.state input.old.feed) (F.state input.new.feed)) }
 {
     let Ok(()) = input.hold(FILE_HEADER) else {
         return Err(CaptureFault::Read);

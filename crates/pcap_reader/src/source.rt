@@ -12,7 +12,7 @@ use crate::format::RecordHead;
 /// whole end or a fault. A call needs the source's count of faults below `u64::MAX`.
 pub trait RecordSource {
     /// What remains, how many records were given, whether a fault was answered, what is lent, how
-    /// often the device has failed, and how many more of its bytes may be taken.
+    /// often the device has failed, how many of its bytes were taken, and how many more may be.
     ghost state: { Self → SourceState };
 
     /// The header of the next record, or `None` at a whole end. It takes no memory.

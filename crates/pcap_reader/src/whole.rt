@@ -57,7 +57,7 @@ impl RecordSource for Whole<'_> {
           has_failed = s.failed;
           lent = s.lent.now;
           fault_count = 0;
-          supply = record { unread = Some []; most = 0 };
+          supply = record { unread = Some []; count = 0; most = 0 };
           held = 0;
         } };
 

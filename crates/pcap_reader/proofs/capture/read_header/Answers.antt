@@ -52,7 +52,12 @@ returns-in_err-format-clause-at_most g c =
     let size = ap length pulls.joined ∙ length-append (held_bytes s) pulls.pulled in
     let room : i.end ≤ buffer_size = omega (arith, i.in_bounds, i.roomy) in
     let most : length pulls.pulled ≤ buffer_size = omega (arith, length-held i) in
-    rw (p.1, p.2) (header_fault_most e _ _ fault (pulls.pulled, pulls.consumed, most))
+    rw (p.1, p.2) (header_fault_most e _ _ fault (record {
+      taken = pulls.pulled;
+      consumed = pulls.consumed;
+      at_most = most;
+      counted = pulls.counted;
+    }))
 
 pub returns-clause-known : goal.returns-clause-known
 returns-clause-known g c =

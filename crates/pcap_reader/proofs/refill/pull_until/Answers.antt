@@ -1,5 +1,6 @@
 use Rattle.std.proofs.Common.{◌≤◌, ◌∙◌, [], length, arith, append-nil, refl, sym}
 use Rattle.std.proofs.lemmas.Result.{err_from_is_err_and}
+use Rattle.byte_stream.specs.Intake.{CountsBytes-front}
 use Rattle.pcap_reader.proofs.Intake.{Pulls-none, Pulls-more, Pulls-kept}
 use Rattle.pcap_reader.proofs.Ranges.{front_pulled}
 use borrow.Rule.Slice.PartMut.{take_put}
@@ -16,6 +17,7 @@ loop-held-preserved g c =
       at_most = omega arith;
       unfailed = c.in_ok-count.ensures.counts_fault ∙ c.loop-held.invariant.unfailed;
       pulls = Pulls-more _ _ _ _ _ _ _ c.loop-held.invariant.pulls c.in_ok-count.ensures.known.0
+          (CountsBytes-front _ _ _ c.pull.new.into fits c.in_ok-count.ensures.counts_bytes)
           (front_pulled c.loop-held.held _ c.in_ok-count.count c.loop-held.buffer c.pull.new.into within fits);
     }
 
@@ -31,7 +33,7 @@ returns-in_err-count-clause-at_most g c = c.loop-held.invariant.at_most
 pub returns-in_err-count-clause-pulls : goal.returns-in_err-count-clause-pulls
 returns-in_err-count-clause-pulls g c =
     let within : c.loop-held.held ≤ length c.loop-held.buffer = omega arith in
-    Pulls-kept _ _ _ _ _ _ c.loop-held.invariant.pulls c.in_err-count.ensures.known
+    Pulls-kept _ _ _ _ _ _ c.loop-held.invariant.pulls c.in_err-count.ensures.known c.in_err-count.ensures.counts_bytes
     (take_put c.loop-held.held _ c.loop-held.buffer c.pull.new.into within)
 
 pub returns-in_err-count-clause-enough : goal.returns-in_err-count-clause-enough
@@ -54,7 +56,7 @@ pub returns-then-count-eq0-clause-pulls : goal.returns-then-count-eq0-clause-pul
 returns-then-count-eq0-clause-pulls g c =
     let within : c.loop-held.held ≤ length c.loop-held.buffer = omega arith in
     let none = rw c.if-count-eq0.true at c.in_ok-count.ensures.known.0 in
-    Pulls-more _ _ _ _ _ _ [] c.loop-held.invariant.pulls none
+    Pulls-more _ _ _ _ _ _ [] c.loop-held.invariant.pulls none (omega (arith, c.in_ok-count.ensures.counts_bytes))
     (take_put c.loop-held.held _ c.loop-held.buffer c.pull.new.into within ∙ sym (append-nil _))
 
 pub returns-then-count-eq0-clause-enough : goal.returns-then-count-eq0-clause-enough

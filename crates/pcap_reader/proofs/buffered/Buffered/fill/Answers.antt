@@ -10,7 +10,12 @@ use native.Mathlib.Numerals.{unary_clauses}
 pulls_same : (before after : FeedState) (xs xs' ys ys' : List ℕ) → xs ≡ xs' → ys ≡ ys' → Pulls before after xs ys →
     Pulls before after xs' ys'
 pulls_same before after xs xs' ys ys' front back p =
-    record { pulled = p.pulled; consumed = p.consumed; joined = sym back ∙ p.joined ∙ ap (λ l. l ++ p.pulled) front }
+    record {
+      pulled = p.pulled;
+      consumed = p.consumed;
+      joined = sym back ∙ p.joined ∙ ap (λ l. l ++ p.pulled) front;
+      counted = p.counted;
+    }
 
 pub invariant_of-self-clause-in_limit : goal.invariant_of-self-clause-in_limit
 invariant_of-self-clause-in_limit g c = omega arith

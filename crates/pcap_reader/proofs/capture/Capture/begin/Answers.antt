@@ -1,4 +1,5 @@
 use Rattle.std.proofs.Common.{refl, rules}
+use Rattle.byte_stream.specs.Intake.{TakesAtMost-none}
 use Rattle.pcap_reader.specs.Buffered.{still_has}
 use Rattle.pcap_reader.proofs.Beginning.{begun}
 use Rattle.pcap_reader.proofs.Intake.{last-none}
@@ -31,6 +32,6 @@ returns-in-Err-clause-refuses g c =
     rw c.in-Err.ensures.refused (record {
       refusal = tt;
       counts_fault = refl;
-      at_most = search rules;
+      at_most = TakesAtMost-none 0 _;
       memory = λ same. refl;
     })
