@@ -13,9 +13,9 @@ abbrev pub run_state : FeedState → FeedState → FeedState → SinkState → R
 run_state claim second capture sink =
     record { claim = claim; second = second; capture = capture; sink = sink }
 
--- an input that a command hasn't: it has no byte, has never failed, and stays so
+-- an input that a command hasn't: it has no byte, gave none, has never failed, and stays so
 abbrev pub no_feed : FeedState
-no_feed = record { remaining = Some []; faults = 0 }
+no_feed = record { remaining = Some []; taken = 0; faults = 0 }
 
 -- a run whose only input is a capture
 abbrev pub capture_state : FeedState → SinkState → RunState

@@ -48,10 +48,10 @@ HasLawfulHeader known = IfSome known (λ bytes. IsOk (capture_of bytes))
 -- are taken of the second input, which is lawful if `HasSecond` holds of its bytes: its text and
 -- answer, and each device's failures (`reports`); that nothing is written if it is given up
 -- (`unwritten`); that the feeds of later inputs are as they were after an earlier refusal; and that
--- no more than the limits is taken of each input, of the claim one byte past its limit only if the
--- answer is that it's too big. Nor is a refusal reported as out of memory once more was read: then
--- the claim was lawful (`claim_memory`), the second input too (`second_memory`), and so is the
--- capture's header (`capture_memory`).
+-- no more than the limits is taken of each input, a device too, of the claim one byte past its
+-- limit only if the answer is that it's too big. Nor is a refusal reported as out of memory once more
+-- was read: then the claim was lawful (`claim_memory`), the second input too (`second_memory`), and
+-- so is the capture's header (`capture_memory`).
 pub record Runs {T F : Type 0} (report : Option Report) (most : ℕ)
     (HasSecond : Option (List ℕ) → Type 0) (before after : RunState) (second second' : T)
     (capture capture' : F) (answer : Result Outcome RunFault) : Type 0 where
@@ -61,9 +61,9 @@ pub record Runs {T F : Type 0} (report : Option Report) (most : ℕ)
   pub second_untouched : IfErr answer (λ fault. IsBeforeSecond fault → second' ≡ second)
   pub capture_untouched : IfErr answer (λ fault. IsBeforeCapture fault → capture' ≡ capture)
   pub claim_at_most : TakesAtMost (most_read inputs.Claim max_claim answer)
-      before.claim.remaining after.claim.remaining
-  pub second_at_most : TakesAtMost most before.second.remaining after.second.remaining
-  pub capture_at_most : TakesAtMost most_taken before.capture.remaining after.capture.remaining
+      before.claim after.claim
+  pub second_at_most : TakesAtMost most before.second after.second
+  pub capture_at_most : TakesAtMost most_taken before.capture after.capture
   pub claim_memory : answer ≡ Err Memory →
       ((second' ≡ second) × (capture' ≡ capture)) ⊎ HasClaim before.claim.remaining
   pub second_memory : answer ≡ Err Memory →

@@ -34,7 +34,7 @@ pub fn read_certificate_from<T: Feed>(alloc: Global, feed: &mut T) -> Result<Cer
     ensures counts_fault { CountsFault (is_device is_second result)
         (T.state feed.old).faults (T.state feed.new).faults }
     ensures at_most { TakesAtMost (most_read Input.Certificate max_certificate result)
-        (T.state feed.old).remaining (T.state feed.new).remaining }
+        (T.state feed.old) (T.state feed.new) }
 {
     match read_input(alloc, feed, Input::Certificate, MAX_CERTIFICATE) {
         Ok(bytes) => match read_certificate_in(alloc, bytes) {

@@ -31,7 +31,7 @@ pub fn read_claim_from<C: Feed>(alloc: Global, feed: &mut C) -> Result<Claim, Ru
     ensures counts_fault { CountsFault (is_device is_claim result)
         (C.state feed.old).faults (C.state feed.new).faults }
     ensures at_most { TakesAtMost (most_read Input.Claim max_claim result)
-        (C.state feed.old).remaining (C.state feed.new).remaining }
+        (C.state feed.old) (C.state feed.new) }
 {
     match read_input(alloc, feed, Input::Claim, MAX_CLAIM) {
         Ok(bytes) => match read_claim(alloc, bytes.as_slice()) {

@@ -32,7 +32,7 @@ pub fn read_input<F: Feed>(
     ensures counts_fault { CountsFault (read_failed result)
         (F.state feed.old).faults (F.state feed.new).faults }
     ensures at_most { TakesAtMost (most_read which limit result)
-        (F.state feed.old).remaining (F.state feed.new).remaining }
+        (F.state feed.old) (F.state feed.new) }
 {
     let mut chunk = make_chunk(alloc)?;
     let mut read = Vec::new(alloc);

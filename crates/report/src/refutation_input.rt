@@ -31,7 +31,7 @@ pub fn read_refutation_from<T: Feed>(alloc: Global, feed: &mut T) -> Result<Refu
     ensures counts_fault { CountsFault (is_device is_second result)
         (T.state feed.old).faults (T.state feed.new).faults }
     ensures at_most { TakesAtMost (most_read Input.Refutation max_refutation result)
-        (T.state feed.old).remaining (T.state feed.new).remaining }
+        (T.state feed.old) (T.state feed.new) }
 {
     match read_input(alloc, feed, Input::Refutation, MAX_REFUTATION) {
         Ok(bytes) => match read_refutation(alloc, bytes.as_slice()) {
