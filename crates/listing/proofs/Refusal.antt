@@ -3,7 +3,7 @@ use Rattle.std.proofs.Common.{◌≡◌, ◌≤◌, ℕ, List, [], Option, Some,
 use Rattle.std.specs.Prelude.{IfSome}
 use Rattle.std.specs.Option.{option_map}
 use Rattle.byte_stream.specs.Fault.{CountsFault}
-use Rattle.byte_stream.specs.Intake.{TakesAtMost}
+use Rattle.byte_stream.specs.Intake.{TakesAtMost, TakesAtMost-weaker}
 use Rattle.byte_stream.specs.State.{FeedState, SinkState}
 use Rattle.pcap_reader.specs.declared.fault.CaptureFault.{CaptureFault}
 use Rattle.pcap_reader.specs.declared.fault.CaptureFault.TheVariants as captures
@@ -138,14 +138,14 @@ most_refused-few captures.Memory = omega arith
 most_refused-few fault = omega arith
 
 -- at most one buffer was taken, which is less than a whole capture
-pub refused_takes : (before after : Option (List ℕ)) (fault : CaptureFault) →
+pub refused_takes : (before after : FeedState) (fault : CaptureFault) →
     TakesAtMost (most_refused fault) before after → TakesAtMost buffer_size before after
-refused_takes before after fault (taken, consumed, few) =
-    (taken, consumed, omega (arith, few, most_refused-few fault))
+refused_takes before after fault =
+    TakesAtMost-weaker (most_refused fault) buffer_size before after (most_refused-few fault)
 
-pub buffer_takes : (before after : Option (List ℕ)) → TakesAtMost buffer_size before after →
+pub buffer_takes : (before after : FeedState) → TakesAtMost buffer_size before after →
     TakesAtMost most_taken before after
-buffer_takes before after (taken, consumed, few) = (taken, consumed, omega (arith, few))
+buffer_takes before after = TakesAtMost-weaker buffer_size most_taken before after (omega arith)
 
 -- the same whatever the bytes are
 pub whatever_bytes : (known : Option (List ℕ)) (Q : Type 0) → Q →

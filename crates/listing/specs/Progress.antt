@@ -23,7 +23,11 @@ pub record CanList (source : SourceState) (sink : SinkState) : Type 0 where
 
 -- the feed that a source reads, as far as a run speaks of it
 abbrev pub feed_of : SourceState → FeedState
-feed_of source = record { remaining = source.supply.unread; faults = source.fault_count }
+feed_of source = record {
+  remaining = source.supply.unread;
+  taken = source.supply.count;
+  faults = source.fault_count;
+}
 
 -- Of a capture some records were given, and these are the lines of those that hold an NTP packet.
 pub record HasGiven (whole rest : Coming) (done : List (List ℕ)) (records : ℕ) : Type 0 where

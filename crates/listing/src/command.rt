@@ -1,7 +1,9 @@
 //! The listing as a whole command, with its answer reported.
 
 ghost use Rattle.std.specs.Option.{option_map};
+ghost use Rattle.byte_stream.specs.Intake.{TakesAtMost};
 ghost use Rattle.byte_stream.specs.State.{IsReadable, IsWritable};
+ghost use Rattle.pcap_reader.specs.Limit.{most_taken};
 ghost use Rattle.report.specs.Run.{capture_state};
 ghost use Rattle.report.specs.Telling.{Answers};
 ghost use Rattle.listing.specs.Listing.{list_report};
@@ -22,10 +24,11 @@ pub fn answer_list<F: Feed, S: Sink, E: Sink>(
     requires feed { IsReadable (F.state capture) }
     requires out { IsWritable (S.state out.old) }
     requires err { IsWritable (E.state err.old) }
-    ensures { Answers (option_map list_report (F.state capture).remaining)
+    ensures answers { Answers (option_map list_report (F.state capture).remaining)
         (capture_state (F.state capture) (S.state out.old))
         (capture_state (F.state result.0) (S.state out.new))
         (E.state err.old) (E.state err.new) result.1 }
+    ensures at_most { TakesAtMost most_taken (F.state capture) (F.state result.0) }
 {
     let (capture, answer) = run_list(alloc, capture, out);
     (capture, tell(&answer, err))

@@ -26,8 +26,8 @@ use std::alloc::Global;
 /// failed, with some first lines gone out, whole; `Write(n)` if the sink failed, and exactly the
 /// first n bytes of the text have gone out then. The sink is closed with each answer.
 ///
-/// Of a feed whose bytes are known at most 1,048,640,000,025 are taken, and if they begin with no
-/// lawful header, at most one buffer.
+/// At most 1,048,640,000,025 bytes are taken of the feed, of a device too, and of known ones that
+/// begin with no lawful header at most one buffer.
 pub fn run_list<F: Feed, S: Sink>(
     alloc: Global,
     capture: F,
@@ -39,11 +39,10 @@ pub fn run_list<F: Feed, S: Sink>(
         (capture_state (F.state capture) (S.state out.old))
         (capture_state (F.state result.0) (S.state out.new)) result.1 }
     ensures memory { result.1 ≡ Err RunFault.Memory → result.0 ≡ capture }
-    ensures at_most { TakesAtMost most_taken
-        (F.state capture).remaining (F.state result.0).remaining }
+    ensures at_most { TakesAtMost most_taken (F.state capture) (F.state result.0) }
     ensures refused_header { IfSome (F.state capture).remaining (λ bytes.
         (fault : CaptureFault) → capture_of bytes ≡ Err fault → TakesAtMost buffer_size
-        (F.state capture).remaining (F.state result.0).remaining) }
+        (F.state capture) (F.state result.0)) }
 {
     let mut buffer = match output_buffer(alloc) {
         Ok(buffer) => buffer,

@@ -1,7 +1,7 @@
 use Rattle.listing.proofs.command.answer_list.Goals as goal
 
-pub returns : goal.returns
-returns g c = record {
+pub returns-clause-answers : goal.returns-clause-answers
+returns-clause-answers g c = record {
   answer = c.run_list-capture.result.1;
   promise = c.run_list-capture.ensures.reports;
   tells = c.tell.ensures.tells;

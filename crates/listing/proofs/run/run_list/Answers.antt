@@ -13,8 +13,9 @@ returns-in-Ok-begin-clause-reports g c =
 
 pub returns-in-Ok-begin-clause-at_most : goal.returns-in-Ok-begin-clause-at_most
 returns-in-Ok-begin-clause-at_most g c =
-    rw c.into_feed.ensures.known (
-    TakesFrom-at_most _ _ (TakesFrom-trans _ _ _ c.in-Ok-begin.ensures.begins.takes c.list_from-answer.ensures.takes))
+    TakesFrom-at_most _ _ _
+    (TakesFrom-trans _ _ _ c.in-Ok-begin.ensures.begins.takes c.list_from-answer.ensures.takes)
+    c.into_feed.ensures.known c.into_feed.ensures.counted
 
 pub returns-clause-reports : goal.returns-clause-reports
 returns-clause-reports g c =
