@@ -1,13 +1,11 @@
 -- What is read of a capture is what its bytes give.
-use Rattle.std.proofs.Common.{◌≡◌, ◌∙◌, ◌++◌, ℕ, List, Option, Some, None, Result, Ok, Err, refl, sym, ap, inl, inr, arith, length-append}
-use Rattle.std.proofs.KnownBytes.{Consumes-trans}
+use Rattle.std.proofs.Common.{◌≡◌, ◌∙◌, ℕ, List, Option, Some, None, Result, Ok, Err, refl, sym, ap, inl, inr}
 use Rattle.std.specs.Prelude.{IfSome, IsOk}
-use Rattle.byte_stream.specs.Intake.{TakesAtMost}
 use Rattle.pcap_reader.specs.declared.fault.CaptureFault.{CaptureFault}
 use Rattle.pcap_reader.specs.declared.fault.CaptureFault.TheVariants as captures
 use Rattle.pcap_reader.specs.Remaining.{Coming, capture_of}
 use Rattle.pcap_reader.specs.Refusal.{IsRefusal}
-use Rattle.pcap_reader.specs.Source.{AllRemains, Supply, TakesFrom}
+use Rattle.pcap_reader.specs.Source.{AllRemains}
 use Rattle.claim_file.specs.Claim.{ClaimData}
 use Rattle.pairing.specs.declared.held.Held.{Held}
 use Rattle.pairing.specs.declared.fault.PairFault.{PairFault}
@@ -19,14 +17,6 @@ use Rattle.report.specs.Fault.{run_fault_of}
 use Rattle.report.specs.Reading.{IsFromOutside, Reads}
 use Rattle.report.specs.Runs.{HasLawfulHeader}
 use Rattle.audit.specs.CaptureInput.{capture_read, collection_read, pair_run_fault_of}
-
--- what is taken as a capture is begun and then read is no more than may be taken of a capture
-pub taken_in_all : (a b c : Supply) → TakesFrom a b → TakesFrom b c → TakesAtMost a.most a.unread c.unread
-taken_in_all a b c begun read = (
-  begun.taken ++ read.taken,
-  Consumes-trans a.unread b.unread c.unread begun.taken read.taken begun.consumed read.consumed,
-  omega (arith, length-append begun.taken read.taken, begun.at_most, read.at_most),
-)
 
 module _ (claim : ClaimData) where
   of_capture : (bytes : List ℕ) (c : Result Coming CaptureFault) → capture_of bytes ≡ c →

@@ -5,7 +5,7 @@ use Rattle.std.specs.Prelude.{IfSome, IfErr, IsOk, MatchResult}
 use Rattle.std.specs.Io.KnownBytes.{Appends, Keeps}
 use Rattle.byte_stream.specs.Fault.{CountsFault}
 use Rattle.byte_stream.specs.Intake.{TakesAtMost}
-use Rattle.byte_stream.specs.State.{SinkState}
+use Rattle.byte_stream.specs.State.{FeedState, SinkState}
 use Rattle.pcap_reader.specs.Limit.{most_taken}
 use Rattle.report.specs.declared.fault.Input.{Input}
 use Rattle.report.specs.declared.fault.Input.TheVariants as inputs
@@ -92,7 +92,7 @@ unwritten before after (Err fault) answer h p =
 -- ---- how much is taken of the inputs
 
 -- what is taken of a claim
-pub claim_taken : (read : Result Claim RunFault) (made : Result Made RunFault) (before after : Option (List ℕ)) →
+pub claim_taken : (read : Result Claim RunFault) (made : Result Made RunFault) (before after : FeedState) →
     IfErr read (λ fault. made ≡ Err fault) → TakesAtMost (most_read inputs.Claim max_claim read) before after →
     TakesAtMost (most_read inputs.Claim max_claim made) before after
 claim_taken (Ok claim) made before after is h = takes_within inputs.Claim max_claim made before after h
@@ -101,7 +101,7 @@ claim_taken (Err fault) made before after is h =
 
 -- what is taken of a second input that was read is within its limit at any later answer
 pub second_taken : (question : QuestionData) (read : Task) (answer : Result Made RunFault)
-    (before after : Option (List ℕ)) → TakesAtMost (most_second question (Ok read)) before after →
+    (before after : FeedState) → TakesAtMost (most_second question (Ok read)) before after →
     TakesAtMost (most_second question answer) before after
 second_taken questions.check read answer before after h =
     takes_within inputs.Certificate max_certificate answer before after h
@@ -162,9 +162,9 @@ pub record HasMade {T F : Type 0} (asked : AskedData) (finding : Finding) (befor
   pub capture_faults : CountsFault (is_device is_capture made) before.capture.faults after.capture.faults
   pub second_untouched : IfErr made (λ fault. IsBeforeSecond fault → second' ≡ second)
   pub capture_untouched : IfErr made (λ fault. IsBeforeCapture fault → capture' ≡ capture)
-  pub claim_at_most : TakesAtMost (most_read inputs.Claim max_claim made) before.claim.remaining after.claim.remaining
-  pub second_at_most : TakesAtMost (most_second asked.question made) before.second.remaining after.second.remaining
-  pub capture_at_most : TakesAtMost most_taken before.capture.remaining after.capture.remaining
+  pub claim_at_most : TakesAtMost (most_read inputs.Claim max_claim made) before.claim after.claim
+  pub second_at_most : TakesAtMost (most_second asked.question made) before.second after.second
+  pub capture_at_most : TakesAtMost most_taken before.capture after.capture
   pub claim_memory : made ≡ Err faults.Memory →
       ((second' ≡ second) × (capture' ≡ capture)) ⊎ HasClaim before.claim.remaining
   pub second_memory : made ≡ Err faults.Memory → (capture' ≡ capture) ⊎ HasSecond asked.question before.second.remaining
@@ -197,9 +197,9 @@ module _ {T F : Type 0} (asked : AskedData) (finding : Finding) (before after : 
         made answer p.stays h.second_untouched;
     capture_untouched = of_fault (λ fault. IsBeforeCapture fault → capture' ≡ capture) (λ sent no. absurd no)
         made answer p.stays h.capture_untouched;
-    claim_at_most = subst (λ (n : ℕ). TakesAtMost n before.claim.remaining after.claim.remaining)
+    claim_at_most = subst (λ (n : ℕ). TakesAtMost n before.claim after.claim)
         (same_most inputs.Claim max_claim made answer p.stays) h.claim_at_most;
-    second_at_most = subst (λ (n : ℕ). TakesAtMost n before.second.remaining after.second.remaining)
+    second_at_most = subst (λ (n : ℕ). TakesAtMost n before.second after.second)
         (same_most_second asked.question made answer p.stays) h.second_at_most;
     capture_at_most = h.capture_at_most;
     claim_memory = λ is. h.claim_memory (was_memory made answer p.stays is);

@@ -54,7 +54,7 @@ pub(crate) fn read_capture_from<F: Feed, H: BuildHasher + Drop>(
     ensures counts_fault { CountsFault (is_device is_capture result.1)
         (F.state feed).faults (F.state result.0).faults }
     ensures at_most { TakesAtMost most_taken
-        (F.state feed).remaining (F.state result.0).remaining }
+        (F.state feed) (F.state result.0) }
     ensures memory { result.1 ≡ Err RunFault.Memory →
         (result.0 ≡ feed) ⊎ HasLawfulHeader (F.state feed).remaining }
 {

@@ -78,9 +78,9 @@ fn make_report<T: Feed, F: Feed, H: BuildHasher + Drop>(
         IsBeforeCapture fault → result.0 ≡ capture) }
     ensures unasked { AsksNoSecond (data_of asked.question) → second.new ≡ second.old }
     ensures second_at_most { TakesAtMost (most_second (data_of asked.question) result.1)
-        (T.state second.old).remaining (T.state second.new).remaining }
+        (T.state second.old) (T.state second.new) }
     ensures capture_at_most { TakesAtMost most_taken
-        (F.state capture).remaining (F.state result.0).remaining }
+        (F.state capture) (F.state result.0) }
     ensures second_memory { result.1 ≡ Err RunFault.Memory →
         (result.0 ≡ capture) ⊎ HasSecond (data_of asked.question) (T.state second.old).remaining }
     ensures capture_memory { result.1 ≡ Err RunFault.Memory →

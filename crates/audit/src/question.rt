@@ -132,7 +132,7 @@ pub(crate) fn read_task<T: Feed>(
     ensures counts_fault { CountsFault (is_device is_second result)
         (T.state second.old).faults (T.state second.new).faults }
     ensures at_most { TakesAtMost (most_second (data_of question) result)
-        (T.state second.old).remaining (T.state second.new).remaining }
+        (T.state second.old) (T.state second.new) }
     ensures unasked { AsksNoSecond (data_of question) → second.new ≡ second.old }
 {
     match question {

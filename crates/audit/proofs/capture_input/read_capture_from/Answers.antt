@@ -1,13 +1,12 @@
-use Rattle.std.proofs.Common.{Err, List, ℕ, Option, sym, subst}
+use Rattle.std.proofs.Common.{Err, List, ℕ, sym, subst}
 use Rattle.std.specs.Prelude.{IfSome}
-use Rattle.byte_stream.specs.Intake.{TakesAtMost}
-use Rattle.pcap_reader.specs.Limit.{most_taken}
+use Rattle.pcap_reader.specs.Source.{TakesFrom-at_most, TakesFrom-trans}
 use Rattle.claim_file.specs.Claim.{data_of}
 use Rattle.pairing.specs.Held.{held_data}
 use Rattle.report.specs.declared.fault.RunFault.{RunFault}
 use Rattle.report.specs.Reading.{Reads}
 use Rattle.audit.specs.CaptureInput.{capture_read}
-use Rattle.audit.proofs.CaptureLemmas.{capture_is_read, capture_unread, capture_refused, taken_in_all}
+use Rattle.audit.proofs.CaptureLemmas.{capture_is_read, capture_unread, capture_refused}
 use Rattle.audit.proofs.capture_input.read_capture_from.Goals as goal
 
 pub returns-in-Ok-collected-clause-known : goal.returns-in-Ok-collected-clause-known
@@ -17,9 +16,9 @@ returns-in-Ok-collected-clause-known g c =
 
 pub returns-in-Ok-collected-clause-at_most : goal.returns-in-Ok-collected-clause-at_most
 returns-in-Ok-collected-clause-at_most g c =
-    let before = (g.F.Feed.state c.args.feed).remaining in
-    subst (λ (after : Option (List ℕ)). TakesAtMost most_taken before after) (sym c.into_feed-feed.ensures.known)
-    (taken_in_all _ _ _ c.in-Ok.ensures.begins.takes c.collect_held-collected.ensures.leaves.takes)
+    TakesFrom-at_most _ _ _
+    (TakesFrom-trans _ _ _ c.in-Ok.ensures.begins.takes c.collect_held-collected.ensures.leaves.takes)
+    c.into_feed-feed.ensures.known c.into_feed-feed.ensures.counted
 
 pub returns-in-Err-collected-clause-known : goal.returns-in-Err-collected-clause-known
 returns-in-Err-collected-clause-known g c =
@@ -31,9 +30,9 @@ returns-in-Err-collected-clause-known g c =
 
 pub returns-in-Err-collected-clause-at_most : goal.returns-in-Err-collected-clause-at_most
 returns-in-Err-collected-clause-at_most g c =
-    let before = (g.F.Feed.state c.args.feed).remaining in
-    subst (λ (after : Option (List ℕ)). TakesAtMost most_taken before after) (sym c.into_feed-feed.ensures.known)
-    (taken_in_all _ _ _ c.in-Ok.ensures.begins.takes c.collect_held-collected.ensures.leaves.takes)
+    TakesFrom-at_most _ _ _
+    (TakesFrom-trans _ _ _ c.in-Ok.ensures.begins.takes c.collect_held-collected.ensures.leaves.takes)
+    c.into_feed-feed.ensures.known c.into_feed-feed.ensures.counted
 
 pub returns-in-Err-clause-known : goal.returns-in-Err-clause-known
 returns-in-Err-clause-known g c =
