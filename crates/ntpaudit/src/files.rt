@@ -24,6 +24,7 @@ pub(crate) struct Inputs {
 /// the input's device.
 pub(crate) fn open(rt: &HostRuntime, path: &str, which: Input) -> Result<ReadFeed<File>, RunFault>
     ensures unfailed { IfOk result (λ feed. (⟦<ReadFeed<File> as Feed>⟧.state feed).faults ≡ 0) }
+    ensures untaken { IfOk result (λ feed. (⟦<ReadFeed<File> as Feed>⟧.state feed).taken ≡ 0) }
     ensures fault { IfErr result (λ fault. fault ≡ Device which) }
 {
     match fs::open(rt, path) {
@@ -39,6 +40,8 @@ fn open_second(
 ) -> Result<Option<ReadFeed<File>>, RunFault>
     ensures unfailed { IfOk result (λ opened. IfSome opened (λ feed.
         (⟦<ReadFeed<File> as Feed>⟧.state feed).faults ≡ 0)) }
+    ensures untaken { IfOk result (λ opened. IfSome opened (λ feed.
+        (⟦<ReadFeed<File> as Feed>⟧.state feed).taken ≡ 0)) }
     ensures fault { IfErr result (λ fault.
         IsSomeAnd second.now (λ named. fault ≡ Device named.input)) }
 {
@@ -57,6 +60,10 @@ pub(crate) fn open_inputs(rt: &HostRuntime, paths: &Paths) -> Result<Inputs, Run
         (⟦<ReadFeed<File> as Feed>⟧.state feed).faults ≡ 0)) }
     ensures capture { IfOk result (λ inputs.
         (⟦<ReadFeed<File> as Feed>⟧.state inputs.capture).faults ≡ 0) }
+    ensures untaken { IfOk result (λ inputs.
+        ((⟦<ReadFeed<File> as Feed>⟧.state inputs.claim).taken ≡ 0)
+        × IfSome inputs.second (λ feed. (⟦<ReadFeed<File> as Feed>⟧.state feed).taken ≡ 0)
+        × ((⟦<ReadFeed<File> as Feed>⟧.state inputs.capture).taken ≡ 0)) }
     ensures fault { IfErr result (λ fault. (fault ≡ Device Input.Claim)
         ⊎ IsSomeAnd paths.now.second (λ named. fault ≡ Device named.input)
         ⊎ (fault ≡ Device Input.Capture)) }
