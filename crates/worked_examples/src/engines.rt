@@ -1,6 +1,7 @@
 //! The engines, with devices that fail.
 
 mod certificates;
+mod endless;
 mod envelopes;
 mod failures;
 mod fault_lines;

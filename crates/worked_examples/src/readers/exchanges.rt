@@ -286,10 +286,11 @@ fn leap_and_stratum(rt: HostRuntime) {
 struct Replies {
     at: usize,
     more: u32,
+    taken: u64,
 }
 
 impl Feed for Replies {
-    ghost state = { λ _. record { remaining = None; faults = 0 } };
+    ghost state = { λ s. record { remaining = None; taken = s.taken; faults = 0 } };
 
     fn pull(&mut self, into: &mut [u8]) -> Result<usize, FeedFault> {
         if self.at >= V1.len() && self.more > 0 {
@@ -300,6 +301,7 @@ impl Feed for Replies {
         let count = into.len().min(rest.len());
         into[..count].copy_from_slice(&rest[..count]);
         self.at = self.at.saturating_add(count);
+        self.taken = self.taken.saturating_add(count as u64);
         Ok(count)
     }
 
@@ -311,7 +313,12 @@ impl Feed for Replies {
 /// A request and so many more replies after the first are collected, or refused so.
 fn collects(rt: &impl Abort, alloc: Global, more: u32, fault: Option<PairFault>) {
     let claim = assert_ok(rt, read_claim(alloc, C1.as_bytes()));
-    let Ok(mut source) = Capture::begin(alloc, Replies { at: 0, more }) else {
+    let replies = Replies {
+        at: 0,
+        more,
+        taken: 0,
+    };
+    let Ok(mut source) = Capture::begin(alloc, replies) else {
         panic!(rt; "no capture");
     };
     match collect(alloc, &mut source, &claim) {
