@@ -97,10 +97,9 @@ pub record CountFaults {A : Type 0} (answer : Result A RunFault)
 
 -- at most its limit and one byte more is taken of each input
 pub record TakeAtMost (which : Input) (before after : Feeds) : Type 0 where
-  pub claim : TakesAtMost (limit_of inputs.Claim + 1) before.claim.remaining after.claim.remaining
-  pub second : TakesAtMost (limit_of which + 1) before.second.remaining after.second.remaining
-  pub capture : TakesAtMost (limit_of inputs.Capture + 1)
-      before.capture.remaining after.capture.remaining
+  pub claim : TakesAtMost (limit_of inputs.Claim + 1) before.claim after.claim
+  pub second : TakesAtMost (limit_of which + 1) before.second after.second
+  pub capture : TakesAtMost (limit_of inputs.Capture + 1) before.capture after.capture
 
 -- Why inputs aren't judged: the file of sums, after which no input is read, or the first input
 -- that can't be held to what the file gives.

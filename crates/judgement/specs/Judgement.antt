@@ -26,9 +26,9 @@ use Rattle.judgement.specs.declared.judgement.Judgement.TheVariants as judgement
 abbrev pub feeds_of : RunState → Feeds
 feeds_of run = feeds run.claim run.second run.capture
 
--- a feed of these bytes, which has never failed
+-- a feed of these bytes, of which none was taken and which has never failed
 abbrev pub in_memory : List ℕ → FeedState
-in_memory bytes = record { remaining = Some bytes; faults = 0 }
+in_memory bytes = record { remaining = Some bytes; taken = 0; faults = 0 }
 
 -- The theorem behind a yes of `check`, of the bytes of claim, certificate and capture: for all
 -- exchanges of the capture, for those that each piece names, and in relations alone.

@@ -54,8 +54,7 @@ pub(crate) fn read_held<F: Feed>(
     ensures fault { IfErr result (IsUnheld which sum.now (F.state feed.old).remaining) }
     ensures counts_fault { CountsFault (read_failed result)
         (F.state feed.old).faults (F.state feed.new).faults }
-    ensures at_most { TakesAtMost (limit_of which + 1)
-        (F.state feed.old).remaining (F.state feed.new).remaining }
+    ensures at_most { TakesAtMost (limit_of which + 1) (F.state feed.old) (F.state feed.new) }
 {
     let read = read_input(alloc, feed, which, limit(which))?;
     if digest(read.as_slice()) == *sum {

@@ -102,6 +102,11 @@ pub(crate) fn open_summed(rt: &HostRuntime, paths: &SummedPaths) -> Result<Summe
         (⟦<ReadFeed<File> as Feed>⟧.state inputs.capture).faults ≡ 0) }
     ensures sums { IfOk result (λ inputs.
         (⟦<ReadFeed<File> as Feed>⟧.state inputs.sums).faults ≡ 0) }
+    ensures untaken { IfOk result (λ inputs.
+        ((⟦<ReadFeed<File> as Feed>⟧.state inputs.claim).taken ≡ 0)
+        × ((⟦<ReadFeed<File> as Feed>⟧.state inputs.second).taken ≡ 0)
+        × ((⟦<ReadFeed<File> as Feed>⟧.state inputs.capture).taken ≡ 0)
+        × ((⟦<ReadFeed<File> as Feed>⟧.state inputs.sums).taken ≡ 0)) }
     ensures fault { IfErr result (λ fault. (fault ≡ Device Input.Claim)
         ⊎ (fault ≡ Device paths.now.second.input)
         ⊎ (fault ≡ Device Input.Capture) ⊎ (fault ≡ Device Input.Sums)) }
