@@ -1,5 +1,6 @@
 //! How far the error drifts.
-ghost use Rattle.std.specs.Prelude.{◌≡◌, ◌^◌, pos, ◌≤ℤ◌, unsigned_abs};
+ghost use Rattle.std.specs.Prelude.{◌≡◌, ◌<◌, ◌^◌, pos, ◌≤ℤ◌, unsigned_abs};
+ghost use Rattle.std.specs.Int.{div_ceil};
 ghost use Rattle.sample_interval.specs.Widening.{IsRate, IsWidening, widening};
 
 use crate::laws::widening_is_one_number;
@@ -21,5 +22,17 @@ pub fn widen(drift_ppb: u32, distance: i128) -> i128
 {
     widening_is_one_number();
     let rate = u128::from(drift_ppb);
-    (rate * distance.unsigned_abs()).div_ceil(PARTS - rate) as i128
+    rounded_up(rate * distance.unsigned_abs(), PARTS - rate) as i128
+}
+
+// The quotient, rounded up. Two numbers of 64 bits, as they mostly are, are divided in half the
+// time.
+fn rounded_up(dividend: u128, divisor: u128) -> u128
+    requires { 0 < divisor }
+    ensures { result ≡ div_ceil dividend divisor }
+{
+    match (u64::try_from(dividend), u64::try_from(divisor)) {
+        (Ok(dividend), Ok(divisor)) => u128::from(dividend.div_ceil(divisor)),
+        _ => dividend.div_ceil(divisor),
+    }
 }

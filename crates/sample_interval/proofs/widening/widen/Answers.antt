@@ -15,31 +15,31 @@ overflow_mul-rate c =
 pub overflow_sub-rate : goal.overflow_sub-rate
 overflow_sub-rate c = rate_below c.from-rate.result c.args.drift_ppb c.requires.rate c.from-rate.ensures
 
-pub div_ceil-requires : goal.div_ceil-requires
-div_ceil-requires c = parts_left c.from-rate.result c.args.drift_ppb c.requires.rate c.from-rate.ensures
+pub rounded_up-requires : goal.rounded_up-requires
+rounded_up-requires c = parts_left c.from-rate.result c.args.drift_ppb c.requires.rate c.from-rate.ensures
 
-widens : (c : goal.After-div_ceil) → IsWidening c.args.drift_ppb (unsigned_abs c.args.distance) c.div_ceil.result
+widens : (c : goal.After-rounded_up) → IsWidening c.args.drift_ppb (unsigned_abs c.args.distance) c.rounded_up.result
 widens c =
-    IsWidening-div_ceil c.from-rate.result c.unsigned_abs.result c.div_ceil.result c.args.drift_ppb
+    IsWidening-div_ceil c.from-rate.result c.unsigned_abs.result c.rounded_up.result c.args.drift_ppb
     (unsigned_abs c.args.distance) (omega arith) c.from-rate.ensures
     (c.unsigned_abs.ensures.value ∙ ap unsigned_abs (to_z-of_z w128 c.args.distance c.ranges.distance))
-    c.div_ceil.ensures
+    c.rounded_up.ensures
 
-value : (c : goal.After-div_ceil) → c.div_ceil.result ≡ widening c.args.drift_ppb (unsigned_abs c.args.distance)
+value : (c : goal.After-rounded_up) → c.rounded_up.result ≡ widening c.args.drift_ppb (unsigned_abs c.args.distance)
 value c =
-    c.widening_is_one_number.ensures.one c.args.drift_ppb (unsigned_abs c.args.distance) c.div_ceil.result
+    c.widening_is_one_number.ensures.one c.args.drift_ppb (unsigned_abs c.args.distance) c.rounded_up.result
     (omega arith) (widens c)
 
-within_distance : (c : goal.After-div_ceil) → c.div_ceil.result ≤ unsigned_abs c.args.distance
+within_distance : (c : goal.After-rounded_up) → c.rounded_up.result ≤ unsigned_abs c.args.distance
 within_distance c =
-    IsWidening-le_distance c.args.drift_ppb (unsigned_abs c.args.distance) c.div_ceil.result c.requires.rate
+    IsWidening-le_distance c.args.drift_ppb (unsigned_abs c.args.distance) c.rounded_up.result c.requires.rate
     (widens c)
 
-fits : (c : goal.After-div_ceil) → c.div_ceil.result < 2 ^ 127
-fits c = within_a_word c.div_ceil.result c.args.distance c.requires.from_zero c.requires.in_range (within_distance c)
+fits : (c : goal.After-rounded_up) → c.rounded_up.result < 2 ^ 127
+fits c = within_a_word c.rounded_up.result c.args.distance c.requires.from_zero c.requires.in_range (within_distance c)
 
 pub overflow_cast-result : goal.overflow_cast-result
-overflow_cast-result c = fits_signed_from_abs w128 (pos c.div_ceil.result) (fits c)
+overflow_cast-result c = fits_signed_from_abs w128 (pos c.rounded_up.result) (fits c)
 
 pub returns-clause-exact : goal.returns-clause-exact
 returns-clause-exact c = to_z_pos w128 _ (fits c) ∙ ap pos (value c)
@@ -52,4 +52,4 @@ returns-clause-least c =
 pub returns-clause-at_most_the_distance : goal.returns-clause-at_most_the_distance
 returns-clause-at_most_the_distance c =
     subst (λ z. z ≤ℤ c.args.distance) (sym (to_z_pos w128 _ (fits c)))
-    (at_most c.div_ceil.result c.args.distance c.requires.from_zero (within_distance c))
+    (at_most c.rounded_up.result c.args.distance c.requires.from_zero (within_distance c))
