@@ -7,6 +7,7 @@ use Rattle.std.proofs.lemmas.List.{length-append}
 use Rattle.std.proofs.lemmas.Option.{same_Some, slice_get-get_or, slice_get_read, slice_get_within}
 use Rattle.sample_interval.specs.Widening.{IsRate, IsWidening, widening, billion}
 use Rattle.sweep.specs.Extreme.{IsLawfulExtreme, mirrored_extreme}
+use Rattle.sweep.specs.Rise.{IsHighest, ReachesEitherWay}
 use Rattle.sweep.specs.Stretch.{IsLawfulStretch, mirrored_stretch}
 use Rattle.sweep.specs.Top.{IsTop, IsTopOf, IsAtLeast, IsEarlyAtLeast, AreEarlyTops, AreLateTops, higher_of}
 use Rattle.sweep.specs.Top.{IsTopNumber}
@@ -110,3 +111,33 @@ module _ (widens : (ppb distance : ℕ) → ppb < billion → IsWidening ppb dis
     number_more extreme stands numbers so_far =
         NumbersSoFar-more ppb extremes stretches k numbers so_far some_stretch extreme.number here
         (record { top = top; is_top = top_is; extreme = extreme; stands = stands; number = refl })
+
+-- ---- the same of the highest by the crests
+module _ (widens : (ppb distance : ℕ) → ppb < billion → IsWidening ppb distance (widening ppb distance)) (ppb : ℕ)
+    (slow : IsRate ppb) (extremes : List Extreme) (lawful : All IsLawfulExtreme extremes)
+    (stretches : List Stretch) (lawful_stretches : All IsLawfulStretch stretches) (k : ℕ)
+    (within : k < length stretches) (stretch : Stretch) (here : slice_get stretches k ≡ Some stretch) (index : ℕ)
+    (highest : IsHighest ppb extremes stretch index) where
+  highest_top : IsTop (IsAtLeast ppb extremes stretch) (record { level = highest.level; index = index })
+  highest_top =
+      let lawful_here = all_at IsLawfulStretch stretches k stretch lawful_stretches here in
+      same_top (ReachesEitherWay ppb extremes stretch) (IsAtLeast ppb extremes stretch)
+      (Some (record { level = highest.level; index = index }))
+      (either_reaches widens ppb slow extremes stretch lawful lawful_here)
+      (reaches_either widens ppb slow extremes stretch lawful lawful_here) highest.top
+
+  pub highest_within : index < length extremes
+  highest_within = slice_get_within extremes index highest_top.reached.extreme highest_top.reached.stands
+
+  pub highest_more : (extreme : Extreme) → slice_get extremes index ≡ Some extreme → (numbers : List ℕ) →
+      NumbersSoFar ppb extremes stretches k numbers →
+      NumbersSoFar ppb extremes stretches (k + 1) (numbers ++ extreme.number ∷ [])
+  highest_more extreme stands numbers so_far =
+      NumbersSoFar-more ppb extremes stretches k numbers so_far stretch extreme.number here
+      (record {
+        top = record { level = highest.level; index = index };
+        is_top = highest_top;
+        extreme = extreme;
+        stands = stands;
+        number = refl;
+      })

@@ -13,3 +13,5 @@ mod MeritLemmas
 mod PeakLemmas
 mod LevelLemmas
 mod TableLemmas
+mod CrestLemmas
+mod RiseLemmas

@@ -81,3 +81,9 @@ reverse_at xs k x is =
 pub all_at : {X : Type 0} (P : X → Type 0) (xs : List X) (k : ℕ) (x : X) → All P xs → slice_get xs k ≡ Some x → P x
 all_at P xs k x all is =
     subst P (get_or_from_slice_get xs k x x is) (all k x (slice_get_within xs k x is))
+
+-- a list has an element at each index below its length
+pub there : {X : Type 0} (xs : List X) (i : ℕ) → i < length xs → (x : X) × (slice_get xs i ≡ Some x)
+there [] i below = absurd (omega arith)
+there (x ∷ xs) zero below = (x, refl)
+there (x ∷ xs) (suc i) below = there xs i (omega arith)

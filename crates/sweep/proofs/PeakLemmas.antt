@@ -14,13 +14,7 @@ use Rattle.sweep.specs.declared.extreme.Extreme.{Extreme}
 use Rattle.sweep.specs.declared.peak.Peak.{Peak}
 use Rattle.sweep.specs.declared.queue.Arrival.{Arrival}
 use Rattle.sweep.specs.declared.stretch.Stretch.{Stretch}
-use Rattle.sweep.proofs.ListLemmas.{pushed_cases, slice_get-front, slice_get-last}
-
--- a list has an element at each index below its length
-there : {X : Type 0} (xs : List X) (i : ℕ) → i < length xs → (x : X) × (slice_get xs i ≡ Some x)
-there [] i below = absurd (omega arith)
-there (x ∷ xs) zero below = (x, refl)
-there (x ∷ xs) (suc i) below = there xs i (omega arith)
+use Rattle.sweep.proofs.ListLemmas.{pushed_cases, slice_get-front, slice_get-last, there}
 
 -- a peak has the place and the height of one of the first n arrivals
 pub record IsFromArrival (queue : List Arrival) (n : ℕ) (peak : Peak) : Type 0 where

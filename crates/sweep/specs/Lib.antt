@@ -5,3 +5,5 @@ pub mod Top
 pub mod Queue
 pub mod Peak
 pub mod Table
+pub mod Crest
+pub mod Rise

@@ -1,19 +1,96 @@
 //! The best samples for one end.
-ghost use Rattle.std.specs.Prelude.{◌≤◌, ◌<◌, length, All, IfOk};
+ghost use Rattle.std.specs.Prelude.{◌≤◌, ◌<◌, length, map, All, IfOk, IfSome};
 ghost use Rattle.sample_interval.specs.Widening.{IsRate};
-ghost use Rattle.sweep.specs.Extreme.{IsLawfulExtreme};
+ghost use Rattle.sweep.specs.Crest.{AreCrestsOf};
+ghost use Rattle.sweep.specs.Extreme.{IsLawfulExtreme, mirrored_extreme};
 ghost use Rattle.sweep.specs.Stretch.{IsLawfulStretch, MiddlesRise};
 ghost use Rattle.sweep.specs.Top.{AreLateTops, AreTopNumbers};
 
+use crate::crest::{Crest, count_upto, crests_of};
 use crate::extreme::{Extreme, mirrored_extremes};
 use crate::passage::early_tops;
-use crate::stretch::{Stretch, mirrored_stretches};
+use crate::rise::{highest_index, rise_over};
+use crate::stretch::{Stretch, mirrored_stretch, mirrored_stretches};
 use crate::top::{Top, higher};
 use sample_interval::laws::widening_is_one_number;
 use std::alloc::{AllocError, Global};
 
 /// For each stretch the number of the extreme that is highest over it, the first among ties.
 pub fn top_numbers(
+    alloc: Global,
+    extremes: &[Extreme],
+    stretches: &[Stretch],
+    drift_ppb: u32,
+) -> Result<Vec<u32>, AllocError>
+    requires extremes { All IsLawfulExtreme extremes.now }
+    requires some { 0 < length extremes.now }
+    requires few { length extremes.now ≤ 1_000_000 }
+    requires stretches { All IsLawfulStretch stretches.now }
+    requires in_order { MiddlesRise stretches.now }
+    requires rate { IsRate drift_ppb }
+    ensures { IfOk result (λ numbers.
+        AreTopNumbers drift_ppb extremes.now stretches.now numbers.items) }
+{
+    if let Some(numbers) = clear_numbers(alloc, extremes, stretches, drift_ppb)? {
+        return Ok(numbers);
+    }
+    ranked_numbers(alloc, extremes, stretches, drift_ppb)
+}
+
+// The same by the crests alone, if over each stretch these tell.
+fn clear_numbers(
+    alloc: Global,
+    extremes: &[Extreme],
+    stretches: &[Stretch],
+    drift_ppb: u32,
+) -> Result<Option<Vec<u32>>, AllocError>
+    requires extremes { All IsLawfulExtreme extremes.now }
+    requires few { length extremes.now ≤ 1_000_000 }
+    requires stretches { All IsLawfulStretch stretches.now }
+    requires rate { IsRate drift_ppb }
+    ensures { IfOk result (λ found. IfSome found (λ numbers.
+        AreTopNumbers drift_ppb extremes.now stretches.now numbers.items)) }
+{
+    // What the proof knows of widenings.
+    widening_is_one_number();
+    let early = crests_of(alloc, extremes, drift_ppb)?;
+    let late = late_crests(alloc, extremes, drift_ppb)?;
+    let mut numbers = Vec::with_capacity(alloc, stretches.len())?;
+    let mut early_count = 0;
+    let mut late_count = late.len();
+    for k in 0..stretches.len() {
+        let stretch = stretches[k];
+        let mirrored = mirrored_stretch(stretch);
+        early_count = count_upto(&early, stretch.begin + stretch.end, early_count);
+        late_count = count_upto(&late, mirrored.begin + mirrored.end, late_count);
+        let early_rise = rise_over(&early, early_count, stretch, drift_ppb);
+        let late_rise = rise_over(&late, late_count, mirrored, drift_ppb);
+        let Some(index) = highest_index(early_rise, late_rise, drift_ppb) else {
+            return Ok(None);
+        };
+        numbers.push(extremes[index as usize].number)?;
+    }
+    Ok(Some(numbers))
+}
+
+// The crests with time running backwards.
+fn late_crests(
+    alloc: Global,
+    extremes: &[Extreme],
+    drift_ppb: u32,
+) -> Result<Vec<Crest>, AllocError>
+    requires extremes { All IsLawfulExtreme extremes.now }
+    requires few { length extremes.now ≤ 1_000_000 }
+    requires rate { IsRate drift_ppb }
+    ensures { IfOk result (λ crests.
+        AreCrestsOf drift_ppb (map mirrored_extreme extremes.now) crests.items) }
+{
+    let mirrored = mirrored_extremes(alloc, extremes)?;
+    crests_of(alloc, mirrored.as_slice(), drift_ppb)
+}
+
+// The same by rankings.
+fn ranked_numbers(
     alloc: Global,
     extremes: &[Extreme],
     stretches: &[Stretch],

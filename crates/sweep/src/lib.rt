@@ -18,11 +18,13 @@
 #![tactic(auto)]
 
 mod choice;
+mod crest;
 mod extreme;
 mod passage;
 mod peak;
 mod pieces;
 mod queue;
+mod rise;
 mod stretch;
 mod table;
 mod tick;

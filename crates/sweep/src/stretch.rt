@@ -33,6 +33,17 @@ pub fn stretches_of(alloc: Global, first: i128, ends: &[i128]) -> Result<Vec<Str
     Ok(stretches)
 }
 
+/// The same piece with time running backwards.
+pub fn mirrored_stretch(stretch: Stretch) -> Stretch
+    requires { IsLawfulStretch stretch }
+    ensures { result ≡ mirrored_stretch stretch }
+{
+    Stretch {
+        begin: mirrored_tick(stretch.end),
+        end: mirrored_tick(stretch.begin),
+    }
+}
+
 /// The same pieces with time running backwards: the last comes first.
 pub fn mirrored_stretches(alloc: Global, stretches: &[Stretch]) -> Result<Vec<Stretch>, AllocError>
     requires { All IsLawfulStretch stretches.now }

@@ -1,0 +1,72 @@
+use Rattle.std.proofs.Common.{◌≡◌, ◌≤◌, ℕ, List, Option, Some, map, get_or, length, subst, sym}
+use Rattle.std.specs.List.{slice_get}
+use Rattle.std.proofs.lemmas.Option.{slice_get-get_or}
+use Rattle.sweep.specs.Crest.{AreCrestsOf}
+use Rattle.sweep.specs.Extreme.{mirrored_extreme}
+use Rattle.sweep.specs.Rise.{IsHighest, IsRiseOf, IsLateRiseOf}
+use Rattle.sweep.specs.Stretch.{mirrored_stretch}
+use Rattle.sweep.specs.declared.crest.Crest.{Crest}
+use Rattle.sweep.specs.declared.extreme.Extreme.{Extreme}
+use Rattle.sweep.specs.declared.rise.Rise.{Rise}
+use Rattle.sweep.specs.declared.stretch.Stretch.{Stretch}
+use Rattle.sweep.proofs.ChoiceLemmas.{NumbersSoFar, highest_within, highest_more}
+use Rattle.sweep.proofs.choice.clear_numbers.Goals as goal
+
+-- what the code hands on: the crests through a reference, and the stretch with time running backwards
+module _ (ppb : ℕ) (extremes : List Extreme) (stretch : Stretch) where
+  of_early : (crests read : List Crest) (rise : Option Rise) → AreCrestsOf ppb extremes crests → read ≡ crests →
+      ((xs : List Extreme) → AreCrestsOf ppb xs read → IsRiseOf ppb xs stretch rise) →
+      IsRiseOf ppb extremes stretch rise
+  of_early crests read rise are same rises = rises extremes (subst (AreCrestsOf ppb extremes) (sym same) are)
+
+  of_late : (mirrored : Stretch) (crests read : List Crest) (rise : Option Rise) → mirrored ≡ mirrored_stretch stretch →
+      AreCrestsOf ppb (map mirrored_extreme extremes) crests → read ≡ crests →
+      ((xs : List Extreme) → AreCrestsOf ppb xs read → IsRiseOf ppb xs mirrored rise) →
+      IsLateRiseOf ppb extremes stretch rise
+  of_late mirrored crests read rise turned are same rises =
+      subst (λ (s : Stretch). IsRiseOf ppb (map mirrored_extreme extremes) s rise) turned
+      (rises (map mirrored_extreme extremes) (subst (AreCrestsOf ppb (map mirrored_extreme extremes)) (sym same) are))
+
+pub bounds-extremes-index : goal.bounds-extremes-index
+bounds-extremes-index c =
+    let stretch : Stretch = get_or c.args.stretches.now c.loop-k.k (record { begin = 0; end = 0 }) in
+    let here : slice_get c.args.stretches.now c.loop-k.k ≡ Some stretch =
+    slice_get-get_or c.args.stretches.now c.loop-k.k (record { begin = 0; end = 0 }) c.loop-k-test.true in
+    highest_within c.widening_is_one_number.ensures.is c.args.drift_ppb c.requires.rate c.args.extremes.now
+    c.requires.extremes c.args.stretches.now c.requires.stretches c.loop-k.k c.loop-k-test.true stretch here
+    c.in-Some.index
+    (c.in-Some.ensures c.args.extremes.now stretch
+    (of_early c.args.drift_ppb c.args.extremes.now stretch c.in_ok-early.early.items _ _ c.in_ok-early.ensures
+    c.deref-in-loop-k-2.ensures.value c.rise_over-early_rise.ensures)
+    (of_late c.args.drift_ppb c.args.extremes.now stretch _ c.in_ok-late.late.items _ _
+    c.mirrored_stretch-mirrored.ensures c.in_ok-late.ensures c.deref-in-loop-k-3.ensures.value
+    c.rise_over-late_rise.ensures))
+
+pub loop-k-preserved : goal.loop-k-preserved
+loop-k-preserved c =
+    let stretch : Stretch = get_or c.args.stretches.now c.loop-k.k (record { begin = 0; end = 0 }) in
+    let here : slice_get c.args.stretches.now c.loop-k.k ≡ Some stretch =
+    slice_get-get_or c.args.stretches.now c.loop-k.k (record { begin = 0; end = 0 }) c.loop-k-test.true in
+    let highest : IsHighest c.args.drift_ppb c.args.extremes.now stretch c.in-Some.index =
+    c.in-Some.ensures c.args.extremes.now stretch
+    (of_early c.args.drift_ppb c.args.extremes.now stretch c.in_ok-early.early.items _ _ c.in_ok-early.ensures
+    c.deref-in-loop-k-2.ensures.value c.rise_over-early_rise.ensures)
+    (of_late c.args.drift_ppb c.args.extremes.now stretch _ c.in_ok-late.late.items _ _
+    c.mirrored_stretch-mirrored.ensures c.in_ok-late.ensures c.deref-in-loop-k-3.ensures.value
+    c.rise_over-late_rise.ensures) in
+    let within = highest_within c.widening_is_one_number.ensures.is c.args.drift_ppb c.requires.rate
+    c.args.extremes.now c.requires.extremes c.args.stretches.now c.requires.stretches c.loop-k.k c.loop-k-test.true
+    stretch here c.in-Some.index highest in
+    record {
+      so_far =
+          subst (NumbersSoFar c.args.drift_ppb c.args.extremes.now c.args.stretches.now _)
+          (sym c.in_ok-push.ensures.items)
+          (highest_more c.widening_is_one_number.ensures.is c.args.drift_ppb c.requires.rate c.args.extremes.now
+          c.requires.extremes c.args.stretches.now c.requires.stretches c.loop-k.k c.loop-k-test.true stretch here
+          c.in-Some.index highest _ (slice_get-get_or c.args.extremes.now c.in-Some.index _ within)
+          c.loop-k.numbers.items c.loop-k.invariant.so_far);
+      early = subst (λ (xs : List Crest). c.count_upto-early_count.result ≤ length xs) c.deref.ensures.value
+          c.count_upto-early_count.ensures.within;
+      late = subst (λ (xs : List Crest). c.count_upto-late_count.result ≤ length xs) c.deref-in-loop-k.ensures.value
+          c.count_upto-late_count.ensures.within;
+    }
