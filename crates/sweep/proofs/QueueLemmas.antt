@@ -1,5 +1,5 @@
 -- The arrivals of extremes, in order.
-use Rattle.std.proofs.Common.{◌≡◌, ℕ, zero, suc, ◌+◌, ◌-◌, ◌*◌, ◌<◌, ◌≤◌, Bool, false, nat_eq}
+use Rattle.std.proofs.Common.{◌≡◌, ℕ, zero, suc, ◌+◌, ◌-◌, ◌*◌, ◌<◌, ◌≤◌, Bool, true, false, nat_eq}
 use Rattle.std.proofs.Common.{List, [], ◌∷◌, ◌++◌, length, Some, refl}
 use Rattle.std.proofs.Common.{arith, subst, get_or, ⊎_elim, sym, ◌∙◌, ap}
 use Rattle.std.specs.List.{slice_get, Contains, IsDistinct, AllByRecursion}
@@ -11,11 +11,11 @@ use Rattle.std.proofs.lemmas.Map.Keys.{IsDistinct-IsPermutation, IsDistinct-head
 use Rattle.std.proofs.lemmas.Option.{slice_get-get_or, slice_get_within, same_Some, get_or_from_slice_get}
 use Rattle.std.proofs.Math.Nat.{mul-le-mul_right}
 use Rattle.sample_interval.specs.Widening.{IsRate, billion}
-use Rattle.sweep.specs.Extreme.{IsLawfulExtreme}
+use Rattle.sweep.specs.Extreme.{IsLawfulExtreme, mirrored_extreme, seen, seen_one}
 use Rattle.sweep.specs.Queue.{IsArrivalOf, IsArrivalAt, AreArrivalsOf, ArriveOnce, IsQueueOf}
 use Rattle.sweep.specs.declared.extreme.Extreme.{Extreme}
 use Rattle.sweep.specs.declared.queue.Arrival.{Arrival}
-use Rattle.sweep.proofs.ListLemmas.{pushed_cases}
+use Rattle.sweep.proofs.ListLemmas.{pushed_cases, map_at}
 
 abbrev same_index : Arrival → Arrival → Bool
 same_index a b = nat_eq a.index b.index
@@ -134,6 +134,13 @@ ArrivalsSoFar-more ppb extremes n arrivals a so_far here = record {
       (subst (λ (k : ℕ). IsArrivalAt ppb extremes k a) same here))
       (pushed_cases arrivals a x i is);
 }
+
+-- as time runs forwards or backwards
+pub seen_at : (backwards : Bool) (extremes : List Extreme) (index : ℕ) (extreme : Extreme) →
+    slice_get extremes index ≡ Some extreme →
+    slice_get (seen backwards extremes) index ≡ Some (seen_one backwards extreme)
+seen_at false extremes index extreme is = is
+seen_at true extremes index extreme is = map_at mirrored_extreme extremes index extreme is
 
 -- the arrival that the code makes
 pub arrival_here : (ppb rate index : ℕ) (extremes : List Extreme) (extreme : Extreme) → IsRate ppb → rate ≡ ppb →

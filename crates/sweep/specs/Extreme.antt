@@ -3,7 +3,7 @@
 -- A high end has its sign turned: the least high end becomes the greatest, and to move it up by the
 -- widening becomes to move it down.
 use Rattle.std.specs.Prelude.{◌≡◌, ℕ, ◌+◌, ◌-◌, ◌^◌, ◌<◌, ◌≤◌, ℤ, pos, ◌+ℤ◌, neg_ℤ}
-use Rattle.std.specs.Prelude.{List, Some, slice_get, length}
+use Rattle.std.specs.Prelude.{Bool, true, false, List, Some, slice_get, length, map}
 use Rattle.sample_interval.specs.declared.kinds.Sample.{Sample}
 use Rattle.intersection.specs.declared.ends.Side.{Side}
 use Rattle.intersection.specs.declared.ends.Side.TheVariants.{Low, High}
@@ -60,3 +60,12 @@ mirrored_extreme extreme = record extreme {
   from = 2 ^ 76 - extreme.to;
   to = 2 ^ 76 - extreme.from;
 }
+
+-- as time runs forwards, or as it runs backwards
+abbrev pub seen_one : Bool → Extreme → Extreme
+seen_one false extreme = extreme
+seen_one true extreme = mirrored_extreme extreme
+
+abbrev pub seen : Bool → List Extreme → List Extreme
+seen false extremes = extremes
+seen true extremes = map mirrored_extreme extremes

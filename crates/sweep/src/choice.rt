@@ -1,12 +1,11 @@
 //! The best samples for one end.
-ghost use Rattle.std.specs.Prelude.{◌≤◌, ◌<◌, length, map, All, IfOk, IfSome};
+ghost use Rattle.std.specs.Prelude.{◌≤◌, ◌<◌, length, All, IfOk, IfSome};
 ghost use Rattle.sample_interval.specs.Widening.{IsRate};
-ghost use Rattle.sweep.specs.Crest.{AreCrestsOf};
-ghost use Rattle.sweep.specs.Extreme.{IsLawfulExtreme, mirrored_extreme};
+ghost use Rattle.sweep.specs.Extreme.{IsLawfulExtreme};
 ghost use Rattle.sweep.specs.Stretch.{IsLawfulStretch, MiddlesRise};
 ghost use Rattle.sweep.specs.Top.{AreLateTops, AreTopNumbers};
 
-use crate::crest::{Crest, count_upto, crests_of};
+use crate::crest::{count_upto, crests_of};
 use crate::extreme::{Extreme, mirrored_extremes};
 use crate::passage::early_tops;
 use crate::rise::{highest_index, rise_over};
@@ -53,8 +52,8 @@ fn clear_numbers(
 {
     // What the proof knows of widenings.
     widening_is_one_number();
-    let early = crests_of(alloc, extremes, drift_ppb)?;
-    let late = late_crests(alloc, extremes, drift_ppb)?;
+    let early = crests_of(alloc, extremes, false, drift_ppb)?;
+    let late = crests_of(alloc, extremes, true, drift_ppb)?;
     let mut numbers = Vec::with_capacity(alloc, stretches.len())?;
     let mut early_count = 0;
     let mut late_count = late.len();
@@ -71,22 +70,6 @@ fn clear_numbers(
         numbers.push(extremes[index as usize].number)?;
     }
     Ok(Some(numbers))
-}
-
-// The crests with time running backwards.
-fn late_crests(
-    alloc: Global,
-    extremes: &[Extreme],
-    drift_ppb: u32,
-) -> Result<Vec<Crest>, AllocError>
-    requires extremes { All IsLawfulExtreme extremes.now }
-    requires few { length extremes.now ≤ 1_000_000 }
-    requires rate { IsRate drift_ppb }
-    ensures { IfOk result (λ crests.
-        AreCrestsOf drift_ppb (map mirrored_extreme extremes.now) crests.items) }
-{
-    let mirrored = mirrored_extremes(alloc, extremes)?;
-    crests_of(alloc, mirrored.as_slice(), drift_ppb)
 }
 
 // The same by rankings.

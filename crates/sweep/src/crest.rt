@@ -2,7 +2,7 @@
 ghost use Rattle.std.specs.Prelude.{◌≡◌, ◌-◌, ◌≤◌, length, All, IfOk, MatchOption, Some, slice_get};
 ghost use Rattle.sample_interval.specs.Widening.{IsRate};
 ghost use Rattle.sweep.specs.Crest.{AreCrestsOf, CountsUpto, Begins, Follows, Stays};
-ghost use Rattle.sweep.specs.Extreme.{IsLawfulExtreme};
+ghost use Rattle.sweep.specs.Extreme.{IsLawfulExtreme, seen};
 ghost use Rattle.sweep.specs.declared.crest.Crest.{Crest as TheCrest};
 
 use crate::extreme::Extreme;
@@ -22,19 +22,21 @@ pub struct Crest {
     pub index: u32,
 }
 
-/// The crests of the extremes.
+/// The crests of the extremes, with time running forwards or backwards.
 pub fn crests_of(
     alloc: Global,
     extremes: &[Extreme],
+    backwards: bool,
     drift_ppb: u32,
 ) -> Result<Vec<Crest>, AllocError>
     requires extremes { All IsLawfulExtreme extremes.now }
     requires few { length extremes.now ≤ 1_000_000 }
     requires rate { IsRate drift_ppb }
-    ensures { IfOk result (λ crests. AreCrestsOf drift_ppb extremes.now crests.items) }
+    ensures { IfOk result (λ crests.
+        AreCrestsOf drift_ppb (seen backwards extremes.now) crests.items) }
 {
-    let queue = queue_of(alloc, extremes, drift_ppb)?;
-    let mut crests: Vec<Crest> = Vec::new(alloc);
+    let queue = queue_of(alloc, extremes, backwards, drift_ppb)?;
+    let mut crests: Vec<Crest> = Vec::with_capacity(alloc, queue.len())?;
     for turn in 0..queue.len() {
         if let Some(crest) = crest_after(crests.as_slice(), queue[turn]) {
             crests.push(crest)?;

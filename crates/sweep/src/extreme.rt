@@ -1,7 +1,7 @@
 //! The ends of a server's samples, as numbers that aren't below zero.
 ghost use Rattle.std.specs.Prelude.{◌≡◌, ◌≤◌, length, All, IfOk, map};
 ghost use Rattle.sample_interval.specs.Sample.{IsLawfulSample};
-ghost use Rattle.sweep.specs.Extreme.{AreExtremesOf, IsExtremeOf, IsLawfulExtreme, mirrored_extreme};
+ghost use Rattle.sweep.specs.Extreme.{AreExtremesOf, IsExtremeOf, IsLawfulExtreme, mirrored_extreme, seen_one};
 
 use crate::tick::{from_origin, mirrored_tick};
 use intersection::Side;
@@ -97,6 +97,24 @@ fn extreme_of(number: u32, sample: &Sample, side: Side) -> Extreme
     }
 }
 
+/// The same end as time runs forwards, or as it runs backwards.
+pub fn seen(extreme: &Extreme, backwards: bool) -> Extreme
+    requires { IsLawfulExtreme extreme.now }
+    ensures is { result ≡ seen_one backwards extreme.now }
+    ensures lawful { IsLawfulExtreme result }
+{
+    if backwards {
+        Extreme {
+            number: extreme.number,
+            end: extreme.end,
+            from: mirrored_tick(extreme.to),
+            to: mirrored_tick(extreme.from),
+        }
+    } else {
+        *extreme
+    }
+}
+
 /// The same ends with time running backwards.
 pub fn mirrored_extremes(alloc: Global, extremes: &[Extreme]) -> Result<Vec<Extreme>, AllocError>
     requires { All IsLawfulExtreme extremes.now }
@@ -104,12 +122,7 @@ pub fn mirrored_extremes(alloc: Global, extremes: &[Extreme]) -> Result<Vec<Extr
 {
     let mut mirrored = Vec::with_capacity(alloc, extremes.len())?;
     for extreme in extremes {
-        mirrored.push(Extreme {
-            number: extreme.number,
-            end: extreme.end,
-            from: mirrored_tick(extreme.to),
-            to: mirrored_tick(extreme.from),
-        })?;
+        mirrored.push(seen(extreme, true))?;
     }
     Ok(mirrored)
 }

@@ -28,7 +28,7 @@ pub fn early_tops(
     requires rate { IsRate drift_ppb }
     ensures { IfOk result (λ tops. AreEarlyTops drift_ppb extremes.now stretches.now tops.items) }
 {
-    let queue = queue_of(alloc, extremes, drift_ppb)?;
+    let queue = queue_of(alloc, extremes, false, drift_ppb)?;
     let mut ranking = Ranking::new(alloc, extremes.len() as u32)?;
     let mut tops = Vec::with_capacity(alloc, stretches.len())?;
     let mut next = 0;

@@ -2,7 +2,7 @@
 ghost use Rattle.std.specs.Prelude.{◌≡◌, ℕ, ◌<◌, ◌≤◌, ◌-◌, ◌+◌, ◌/◌, IsTrue, List, length};
 ghost use Rattle.std.specs.Prelude.{All, IfOk, Some, slice_get};
 ghost use Rattle.sample_interval.specs.Widening.{IsRate, billion};
-ghost use Rattle.sweep.specs.Extreme.{IsLawfulExtreme};
+ghost use Rattle.sweep.specs.Extreme.{IsLawfulExtreme, seen};
 ghost use Rattle.sweep.specs.Peak.{ArePeaksOf, IsHeightUpto, IsEarlyLevel};
 ghost use Rattle.sweep.specs.Stretch.{IsLawfulStretch};
 ghost use Rattle.sweep.specs.declared.extreme.Extreme.{Extreme as TheExtreme};
@@ -21,18 +21,20 @@ pub struct Peak {
     pub height: u128,
 }
 
-/// The peaks of the extremes.
+/// The peaks of the extremes, with time running forwards or backwards.
 pub fn peaks_of(
     alloc: Global,
     extremes: &[Extreme],
+    backwards: bool,
     drift_ppb: u32,
 ) -> Result<Vec<Peak>, AllocError>
     requires extremes { All IsLawfulExtreme extremes.now }
     requires few { length extremes.now ≤ 1_000_000 }
     requires rate { IsRate drift_ppb }
-    ensures { IfOk result (λ peaks. ArePeaksOf drift_ppb extremes.now peaks.items) }
+    ensures { IfOk result (λ peaks.
+        ArePeaksOf drift_ppb (seen backwards extremes.now) peaks.items) }
 {
-    let queue = queue_of(alloc, extremes, drift_ppb)?;
+    let queue = queue_of(alloc, extremes, backwards, drift_ppb)?;
     let mut peaks: Vec<Peak> = Vec::new(alloc);
     for turn in 0..queue.len() {
         let arrival = queue[turn];

@@ -1,10 +1,10 @@
 //! The extremes in the order in which they become early.
 ghost use Rattle.std.specs.Prelude.{◌≤◌, length, All, IfOk};
 ghost use Rattle.sample_interval.specs.Widening.{IsRate};
-ghost use Rattle.sweep.specs.Extreme.{IsLawfulExtreme};
+ghost use Rattle.sweep.specs.Extreme.{IsLawfulExtreme, seen};
 ghost use Rattle.sweep.specs.Queue.{AreArrivalsOf, IsQueueOf};
 
-use crate::extreme::Extreme;
+use crate::extreme::{Extreme, seen};
 use sample_interval::PARTS;
 use std::alloc::{AllocError, Global};
 
@@ -19,18 +19,20 @@ pub struct Arrival {
     pub index: u32,
 }
 
-/// The arrivals of the extremes, in order.
+/// The arrivals of the extremes, in order, with time running forwards or backwards.
 pub fn queue_of(
     alloc: Global,
     extremes: &[Extreme],
+    backwards: bool,
     drift_ppb: u32,
 ) -> Result<Vec<Arrival>, AllocError>
     requires extremes { All IsLawfulExtreme extremes.now }
     requires few { length extremes.now ≤ 1_000_000 }
     requires rate { IsRate drift_ppb }
-    ensures { IfOk result (λ queue. IsQueueOf drift_ppb extremes.now queue.items) }
+    ensures { IfOk result (λ queue.
+        IsQueueOf drift_ppb (seen backwards extremes.now) queue.items) }
 {
-    let mut queue = arrivals_of(alloc, extremes, drift_ppb)?;
+    let mut queue = arrivals_of(alloc, extremes, backwards, drift_ppb)?;
     queue.sort_by_key(|arrival| arrival.at)?;
     Ok(queue)
 }
@@ -39,16 +41,19 @@ pub fn queue_of(
 fn arrivals_of(
     alloc: Global,
     extremes: &[Extreme],
+    backwards: bool,
     drift_ppb: u32,
 ) -> Result<Vec<Arrival>, AllocError>
     requires extremes { All IsLawfulExtreme extremes.now }
     requires few { length extremes.now ≤ 1_000_000 }
     requires rate { IsRate drift_ppb }
-    ensures { IfOk result (λ arrivals. AreArrivalsOf drift_ppb extremes.now arrivals.items) }
+    ensures { IfOk result (λ arrivals.
+        AreArrivalsOf drift_ppb (seen backwards extremes.now) arrivals.items) }
 {
     let rate = u128::from(drift_ppb);
     let mut arrivals = Vec::with_capacity(alloc, extremes.len())?;
     for (index, extreme) in extremes.iter().enumerate() {
+        let extreme = seen(extreme, backwards);
         arrivals.push(Arrival {
             at: extreme.from + extreme.to,
             height: (PARTS - rate) * extreme.end + rate * extreme.from,

@@ -12,7 +12,7 @@ ghost use Rattle.sweep.specs.Table.{best_part, best_parts, ArePeaksBothWays, IsL
 ghost use Rattle.sweep.specs.Table.{IsTableOf, AreTablesOf};
 ghost use Rattle.sweep.specs.declared.extreme.Extreme.{Extreme as TheExtreme};
 
-use crate::extreme::{Extreme, extremes_of, mirrored_extremes, servers_of};
+use crate::extreme::{Extreme, extremes_of, servers_of};
 use crate::peak::{Peak, early_rise, peaks_of};
 use crate::stretch::Stretch;
 use crate::tick::{from_origin, from_zero, mirrored_tick};
@@ -104,9 +104,8 @@ fn both_ways(alloc: Global, extremes: &[Extreme], drift_ppb: u32) -> Result<Peak
     requires rate { IsRate drift_ppb }
     ensures { IfOk result (λ peaks. ArePeaksBothWays drift_ppb extremes.now peaks) }
 {
-    let early = peaks_of(alloc, extremes, drift_ppb)?;
-    let mirrored = mirrored_extremes(alloc, extremes)?;
-    let late = peaks_of(alloc, mirrored.as_slice(), drift_ppb)?;
+    let early = peaks_of(alloc, extremes, false, drift_ppb)?;
+    let late = peaks_of(alloc, extremes, true, drift_ppb)?;
     Ok(Peaks { early, late })
 }
 
