@@ -3,3 +3,4 @@ pub mod BestLemmas
 pub mod GatheringLemmas
 pub mod GroupLemmas
 pub mod PassedOn
+mod OwnGroupLemmas

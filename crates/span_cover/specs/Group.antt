@@ -4,7 +4,7 @@
 -- group: the greatest of their low ends and the least of their high ends, since all of them hold
 -- the error if no server of the group is false. The hull is taken over the groups with a server
 -- that says something.
-use Rattle.std.specs.Prelude.{ℕ, zero, suc, ◌==◌, ℤ, neg_ℤ, int_le, ◌&&◌, Bool, false}
+use Rattle.std.specs.Prelude.{◌≡◌, slice_get, ℕ, zero, suc, ◌==◌, ℤ, neg_ℤ, int_le, ◌&&◌, Bool, false}
 use Rattle.std.specs.Prelude.{List, [], ◌∷◌, ◌++◌, length, slice_index, fold, filter, filter_map}
 use Rattle.std.specs.Prelude.{Option, Some, None}
 use Rattle.std.specs.Int.{int_max, int_min}
@@ -27,6 +27,15 @@ meet_of a b = record { lo = int_max a.lo b.lo; hi = int_min a.hi b.hi }
 abbrev pub narrowed : Option Interval → Part → Option Interval
 narrowed None part = Some part.interval
 narrowed (Some common) part = Some (meet_of common part.interval)
+
+-- the number of a part's group
+abbrev pub group_of : List ℕ → Part → ℕ
+group_of groups part = slice_index groups part.server
+
+-- each part is of the group that has its place's number
+abbrev pub AreTheirOwn : List ℕ → List Part → Type 0
+AreTheirOwn groups parts = (place : ℕ) (part : Part) → slice_get parts place ≡ Some part →
+    group_of groups part ≡ place
 
 -- the interval of a group, if one of its servers says something
 abbrev pub group_interval : List ℕ → List Part → ℕ → Option Interval
