@@ -1,14 +1,13 @@
 -- Rises over a stretch, and the higher of two.
-use Rattle.std.proofs.Common.{◌≡◌, ℕ, ◌+◌, ◌-◌, ◌*◌, ◌/◌, ◌<◌, ◌≤◌, List, length, map, Option, None, Some, refl}
+use Rattle.std.proofs.Common.{◌≡◌, ℕ, ◌+◌, ◌-◌, ◌*◌, ◌/◌, ◌<◌, ◌≤◌, List, map, None, Some}
 use Rattle.std.proofs.Common.{arith, subst, sym, ◌∙◌, ap, inl, inr, ⊎_elim, IsTrue}
 use Rattle.std.specs.List.{slice_get}
-use Rattle.std.proofs.lemmas.Bool.{cases_lt}
 use Rattle.std.proofs.lemmas.Nat.{le-div}
 use Rattle.std.proofs.Math.Nat.{div-mul-le_self}
 use Rattle.sample_interval.specs.Widening.{IsRate, billion}
 use Rattle.sweep.specs.Crest.{LeadsUpto, AreCrestsOf, CountsUpto}
 use Rattle.sweep.specs.Extreme.{mirrored_extreme}
-use Rattle.sweep.specs.Rise.{IsRise, IsRiseOf, IsLateRiseOf, IsHighest, ReachesEitherWay, level_of}
+use Rattle.sweep.specs.Rise.{IsRise, IsRiseOf, IsLateRiseOf, IsHighest, level_of}
 use Rattle.sweep.specs.Stretch.{mirrored_stretch}
 use Rattle.sweep.specs.Top.{IsTop, IsTopOf, IsEarlyAtLeast, higher_of}
 use Rattle.sweep.specs.declared.crest.Crest.{Crest}

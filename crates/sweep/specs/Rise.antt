@@ -1,6 +1,6 @@
 -- How far the highest of the early extremes rises over a stretch, and which of those of both
 -- directions is highest.
-use Rattle.std.specs.Prelude.{◌≡◌, ℕ, ◌-◌, ◌*◌, ◌/◌, ◌≤◌, ◌⊎◌, IsTrue, List, map}
+use Rattle.std.specs.Prelude.{ℕ, ◌-◌, ◌*◌, ◌/◌, ◌≤◌, ◌⊎◌, IsTrue, List, map}
 use Rattle.std.specs.Prelude.{Option, Some, None}
 use Rattle.sample_interval.specs.Widening.{billion}
 use Rattle.sweep.specs.Extreme.{mirrored_extreme}
@@ -9,7 +9,6 @@ use Rattle.sweep.specs.Top.{IsTop, IsEarlyAtLeast}
 use Rattle.sweep.specs.declared.extreme.Extreme.{Extreme}
 use Rattle.sweep.specs.declared.rise.Rise.{Rise}
 use Rattle.sweep.specs.declared.stretch.Stretch.{Stretch}
-use Rattle.sweep.specs.declared.top.Top.{Top}
 
 -- the level that a rise reaches
 abbrev pub level_of : ℕ → Rise → ℕ

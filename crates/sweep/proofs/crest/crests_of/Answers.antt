@@ -1,4 +1,4 @@
-use Rattle.std.proofs.Common.{◌≡◌, ◌<◌, ◌≤◌, ◌-◌, ◌+◌, refl, ℕ, List, ◌++◌, ◌∷◌, [], Some, length, arith, subst, sym, ap, ◌∙◌, ⊎_elim, Vec, Global}
+use Rattle.std.proofs.Common.{◌≡◌, ◌<◌, ◌-◌, ◌+◌, List, Some, length, arith, subst, sym, ap, ◌∙◌, ⊎_elim, Vec, Global}
 use Rattle.std.specs.List.{slice_get}
 use Rattle.std.proofs.lemmas.Bool.{cases_lt}
 use Rattle.std.proofs.lemmas.Option.{slice_get-get_or}

@@ -1,5 +1,4 @@
-use Rattle.std.proofs.Common.{◌≡◌, Some, subst, sym, ◌∙◌, ap}
-use Rattle.std.specs.List.{slice_get}
+use Rattle.std.proofs.Common.{Some, subst, sym, ◌∙◌, ap}
 use Rattle.std.proofs.lemmas.Option.{slice_get-get_or}
 use Rattle.sweep.specs.Extreme.{seen}
 use Rattle.sweep.proofs.QueueLemmas.{ArrivalsSoFar, ArrivalsSoFar-more, arrival_here, seen_at}

@@ -1,8 +1,6 @@
-use Rattle.std.proofs.Common.{◌≡◌, ◌<◌, ◌≤◌, ◌-◌, ◌*◌, ◌+◌, ℕ, Some, arith, subst, sym, ap, ◌∙◌, refl, IsTrue}
-use Rattle.std.specs.List.{slice_get}
+use Rattle.std.proofs.Common.{◌-◌, ◌*◌, ℕ, arith, subst, sym, ap, refl}
 use Rattle.std.proofs.lemmas.Bool.{leb-true}
 use Rattle.std.proofs.lemmas.Option.{slice_get-get_or}
-use Rattle.sample_interval.specs.Widening.{billion}
 use Rattle.sweep.specs.Rise.{IsRiseOf}
 use Rattle.sweep.proofs.RiseLemmas.{no_crest, no_room, rises}
 use Rattle.sweep.proofs.rise.rise_over.Goals as goal
