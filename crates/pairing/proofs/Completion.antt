@@ -1,6 +1,6 @@
 -- From what was gathered to the answer.
-use Rattle.std.proofs.Common.{◌≡◌, ℕ, ◌≤◌, List, Option, Some, None, Result, Ok, Err, refl, sym, ap, subst, inr, length, arith}
-use Rattle.std.specs.Prelude.{IfOk, IfSome, MatchResult, filter, nat_lt, Bool, true, false, if◌then◌else◌}
+use Rattle.std.proofs.Common.{◌≡◌, ℕ, ◌^◌, ◌≤◌, ◌<◌, List, Option, Some, None, Result, Ok, Err, refl, sym, ap, subst, inl, inr, length, arith}
+use Rattle.std.specs.Prelude.{IfOk, IfSome, MatchResult, filter, nat_lt, Bool, true, false, ◌⊎◌, if◌then◌else◌}
 use Rattle.std.proofs.lemmas.Bool.Decides.{nat_tests}
 use Rattle.std.proofs.lemmas.List.{length-map}
 use Rattle.std.proofs.lemmas.List.Sums.{count_by-le-length, length-filter}
@@ -11,29 +11,29 @@ use Rattle.claim_file.specs.Claim.{ClaimData}
 use Rattle.pairing.specs.declared.counts.Counts.{Counts}
 use Rattle.pairing.specs.declared.exchange.Exchange.{Exchange}
 use Rattle.pairing.specs.declared.fault.PairFault.{PairFault}
-use Rattle.pairing.specs.declared.fault.PairFault.TheVariants.{TooManyExchanges}
+use Rattle.pairing.specs.declared.fault.PairFault.TheVariants.{Memory, TooManyExchanges}
 use Rattle.pairing.specs.declared.held.HeldExchange.{HeldExchange}
 use Rattle.pairing.specs.declared.held.Held.{Held}
-use Rattle.pairing.specs.declared.index.Key.{Key}
-use Rattle.pairing.specs.declared.index.Place.{Place}
-use Rattle.pairing.specs.Answer.{IsAnswerTo, LeavesSource, MayAnswer, answer_of, capture_failed, device_failed}
+use Rattle.pairing.specs.declared.index.Kept.{Kept}
+use Rattle.pairing.specs.Answer.{IsAnswerTo, IsFromOutside, LeavesSource, MayAnswer, answer_of, capture_failed, device_failed}
 use Rattle.pairing.specs.Exchange.{AreLawful, most_exchanges}
 use Rattle.pairing.specs.Gathering.{IsGatheredFrom, is_accepted}
 use Rattle.pairing.specs.Counts.{HasRoom}
 use Rattle.pairing.specs.Held.{held_data, held_of}
-use Rattle.pairing.specs.Message.{reply_of}
-use Rattle.pairing.specs.Pairing.{Collection, collection_of, counts_of, exchanges_of, replies_of}
+use Rattle.pairing.specs.Index.{kept_of}
+use Rattle.pairing.specs.Message.{reply_of, request_of}
+use Rattle.pairing.specs.Pairing.{Collection, collection_of, counts_of, exchanges_of, replies_of, requests_of}
 use Rattle.pairing.specs.Reading.{IsWhole}
 use Rattle.pairing.proofs.JoinSteps.{length-filter_map}
 use Rattle.pairing.proofs.ReadingSteps.{HasRoom-weaker, gathered-room}
 
 -- what is gathered leaves room to count what becomes of each reply
-pub joining-room : (claim : ClaimData) (records : List Record) (look_up : Key →
-    Option Place) (held : List HeldExchange) (counts : Counts) →
-    length records ≤ most_records → IsGatheredFrom claim records look_up held counts →
+pub joining-room : (claim : ClaimData) (records : List Record) (kept : List Kept)
+    (held : List HeldExchange) (counts : Counts) →
+    length records ≤ most_records → IsGatheredFrom claim records kept held counts →
     HasRoom counts (length held)
 unfolding replies_of
-joining-room claim records look_up held counts few g =
+joining-room claim records kept held counts few g =
     let replies = replies_of claim records in
     let fewer : length held ≤ length records =
     omega (
@@ -45,13 +45,27 @@ joining-room claim records look_up held counts few g =
       length-filter_map (reply_of claim) records,
     ) in
     HasRoom-weaker counts most_records (length held) (omega (arith, fewer, few))
-    (gathered-room claim records look_up held counts g few)
+    (gathered-room claim records kept held counts g few)
+
+-- there are no more requests than records
+pub few_kept : (claim : ClaimData) (records : List Record) (kept : List Kept) (held : List HeldExchange)
+    (counts : Counts) → length records ≤ most_records → IsGatheredFrom claim records kept held counts →
+    length kept < 2 ^ 31
+unfolding requests_of
+few_kept claim records kept held counts few g =
+    omega (
+      arith,
+      ap length g.keeps,
+      length-map (requests_of claim records) kept_of,
+      length-filter_map (request_of claim) records,
+      few,
+    )
 
 -- what is joined of the records of a whole capture is what is collected of them
 abbrev IsCollected : ClaimData → List Record → Result Held PairFault → Type 0
 IsCollected claim records r =
-    MatchResult r (λ held. collection_of claim records ≡ Ok (held_data held)) (λ fault. collection_of claim records
-    ≡ Err fault)
+    MatchResult r (λ held. collection_of claim records ≡ Ok (held_data held)) (λ fault.
+    (fault ≡ Memory) ⊎ (collection_of claim records ≡ Err fault))
 
 -- the answer to a whole source is what is collected of its records
 pub answer-whole : (claim : ClaimData) (remaining : Option Coming) (records : List Record)
@@ -60,7 +74,9 @@ pub answer-whole : (claim : ClaimData) (remaining : Option Coming) (records : Li
 unfolding answer_of
 answer-whole claim None records r whole exact = tt
 answer-whole claim (Some coming) records (Ok held) (are, ends) exact = rw (ends, are) exact
-answer-whole claim (Some coming) records (Err fault) (are, ends) refused = inr (rw (ends, are) refused)
+answer-whole claim (Some coming) records (Err fault) (are, ends) (inl no_memory) =
+    inl (subst IsFromOutside (sym no_memory) tt)
+answer-whole claim (Some coming) records (Err fault) (are, ends) (inr refused) = inr (rw (ends, are) refused)
 
 -- a collection is refused only for its size
 limited-fault : (many : Bool) (c : Collection) (fault : PairFault) →
@@ -99,7 +115,9 @@ leaves-whole claim records old new (Ok held) leaves exact = record {
   failed_iff = leaves.failed_iff;
   takes = leaves.takes;
 }
-leaves-whole claim records old new (Err fault) leaves refused =
+leaves-whole claim records old new (Err fault) leaves (inl no_memory) =
+    rw no_memory (left_as_it_was old new Memory leaves tt refl refl)
+leaves-whole claim records old new (Err fault) leaves (inr refused) =
     rw (collection-fault claim records fault refused)
     (left_as_it_was old new TooManyExchanges leaves tt refl refl)
 

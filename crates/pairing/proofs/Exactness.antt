@@ -13,6 +13,7 @@ use Rattle.pairing.specs.declared.exchange.Exchange.{Exchange}
 use Rattle.pairing.specs.declared.fault.PairFault.{PairFault}
 use Rattle.pairing.specs.declared.fault.PairFault.TheVariants.{TooManyExchanges}
 use Rattle.pairing.specs.declared.held.HeldExchange.{HeldExchange}
+use Rattle.pairing.specs.declared.index.Kept.{Kept}
 use Rattle.pairing.specs.declared.index.Key.{Key}
 use Rattle.pairing.specs.declared.index.Place.{Place}
 use Rattle.pairing.specs.declared.refusal.Refusal.{Refusal}
@@ -21,11 +22,12 @@ use Rattle.pairing.specs.Counts.{count_for, IsJoined}
 use Rattle.pairing.specs.Exchange.{most_exchanges}
 use Rattle.pairing.specs.Gathering.{IsGatheredFrom, is_accepted, is_early, is_for}
 use Rattle.pairing.specs.Held.{held_of}
-use Rattle.pairing.specs.Index.{Indexes, place_of}
+use Rattle.pairing.specs.Index.{Indexes, found_in, place_of}
 use Rattle.pairing.specs.Join.{exchange_by, outcome_by, outcomes_by, request_at}
 use Rattle.pairing.specs.Message.{Request, Reply}
 use Rattle.pairing.specs.Pairing.{Collection, collection_of, requests_of, replies_of, requests_for, outcome_of, outcomes_of, paired, unless_refused, distance_of, exchange_of, is_refused, refused_for, is_warning, exchanges_of, counts_of}
 use Rattle.pairing.specs.Refusal.{refusal_of}
+use Rattle.pairing.proofs.TwinSteps.{kept_indexes}
 use Rattle.pairing.proofs.Windows.{last_tick}
 
 -- the first counts apart
@@ -160,34 +162,36 @@ count_for-counts_of claim records ZeroStamp = refl
 count_for-counts_of claim records NoRequest = refl
 count_for-counts_of claim records Ambiguous = refl
 
-pub held-exchanges : (claim : ClaimData) (records : List Record) {look_up : Key →
-    Option Place} {held : List HeldExchange} {counts : Counts} →
-    IsGatheredFrom claim records look_up held counts →
-    filter_map result_ok (outcomes_by look_up held) ≡ exchanges_of claim records
+pub held-exchanges : (claim : ClaimData) (records : List Record) {kept : List Kept} {held : List HeldExchange}
+    {counts : Counts} →
+    IsGatheredFrom claim records kept held counts →
+    filter_map result_ok (outcomes_by (found_in kept) held) ≡ exchanges_of claim records
 unfolding exchanges_of
-held-exchanges claim records {look_up} {held} {counts} g =
-    ap (λ (hs : List HeldExchange). filter_map result_ok (outcomes_by look_up hs)) g.holds
-    ∙ sym (exchanges-held (requests_of claim records) look_up g.indexed (replies_of claim records))
+held-exchanges claim records {kept} {held} {counts} g =
+    ap (λ (hs : List HeldExchange). filter_map result_ok (outcomes_by (found_in kept) hs)) g.holds
+    ∙ sym (exchanges-held (requests_of claim records) (found_in kept)
+    (kept_indexes (requests_of claim records) kept g.keeps) (replies_of claim records))
 
-module _ (claim : ClaimData) (records : List Record) {look_up : Key →
-    Option Place} {held : List HeldExchange} {counts joined : Counts} {exchanges : List Exchange}
-    (g : IsGatheredFrom claim records look_up held counts) (j : IsJoined counts
-    (outcomes_by look_up held) exchanges joined) where
+module _ (claim : ClaimData) (records : List Record) {kept : List Kept} {held : List HeldExchange}
+    {counts joined : Counts} {exchanges : List Exchange}
+    (g : IsGatheredFrom claim records kept held counts) (j : IsJoined counts
+    (outcomes_by (found_in kept) held) exchanges joined) where
   pub collected-exchanges : exchanges ≡ exchanges_of claim records
   collected-exchanges = j.exchanges_are ∙ held-exchanges claim records g
 
   collected-refused : (reason : Refusal) → count_for reason joined ≡ refused_for reason (outcomes_of claim records)
   collected-refused reason =
-      let waits : refused_for reason (outcomes_by look_up held)
-      ≡ refused_for reason (outcomes_by look_up (map held_of (filter is_accepted
+      let waits : refused_for reason (outcomes_by (found_in kept) held)
+      ≡ refused_for reason (outcomes_by (found_in kept) (map held_of (filter is_accepted
       (replies_of claim records)))) =
-      ap (λ (hs : List HeldExchange). refused_for reason (outcomes_by look_up hs)) g.holds in
+      ap (λ (hs : List HeldExchange). refused_for reason (outcomes_by (found_in kept) hs)) g.holds in
       omega (
         arith,
         j.refused reason,
         g.refused reason,
         waits,
-        refused-held (requests_of claim records) look_up g.indexed reason (replies_of claim records),
+        refused-held (requests_of claim records) (found_in kept)
+            (kept_indexes (requests_of claim records) kept g.keeps) reason (replies_of claim records),
       )
 
   collected-warnings : joined.warnings ≡ count_by is_warning (exchanges_of claim records)
@@ -241,20 +245,20 @@ too_large xs counts more =
     })) (below most_exchanges (length xs) more)
 
 -- what is joined of all that was gathered
-module _ (claim : ClaimData) (records : List Record) {look_up : Key → Option Place} {held : List HeldExchange}
-    {counts : Counts} (g : IsGatheredFrom claim records look_up held counts) where
+module _ (claim : ClaimData) (records : List Record) {kept : List Kept} {held : List HeldExchange}
+    {counts : Counts} (g : IsGatheredFrom claim records kept held counts) where
   pub collection-few : {joined : Counts} {exchanges : List Exchange} →
-      IsJoined counts (outcomes_by look_up held) exchanges joined → length exchanges ≤ most_exchanges →
+      IsJoined counts (outcomes_by (found_in kept) held) exchanges joined → length exchanges ≤ most_exchanges →
       collection_of claim records ≡ Ok (record { exchanges = exchanges; counts = joined })
   unfolding collection_of
   collection-few {joined} {exchanges} j few =
       rw (← collected-exchanges claim records g j, ← collected-counts claim records g j)
       (few_enough exchanges joined few)
 
-  pub collection-many : most_exchanges < length (filter_map result_ok (outcomes_by look_up held)) →
+  pub collection-many : most_exchanges < length (filter_map result_ok (outcomes_by (found_in kept) held)) →
       collection_of claim records ≡ Err TooManyExchanges
   unfolding collection_of
   collection-many more =
-      let held : filter_map result_ok (outcomes_by look_up held) ≡ exchanges_of claim records =
+      let held : filter_map result_ok (outcomes_by (found_in kept) held) ≡ exchanges_of claim records =
       held-exchanges claim records g in
       too_large (exchanges_of claim records) (counts_of claim records) (rw held at more)

@@ -14,16 +14,16 @@ use Rattle.ntp_packet.specs.Packet.{Packet, packet_of, ntp_port}
 use Rattle.claim_file.specs.Claim.{ClaimData}
 use Rattle.pairing.specs.declared.counts.Counts.{Counts}
 use Rattle.pairing.specs.declared.held.HeldExchange.{HeldExchange}
+use Rattle.pairing.specs.declared.index.Kept.{Kept}
 use Rattle.pairing.specs.declared.index.Key.{Key}
-use Rattle.pairing.specs.declared.index.Place.{Place}
 use Rattle.pairing.specs.declared.message.Message.{Message}
 use Rattle.pairing.specs.declared.message.Message.TheVariants.{Request as Asks, Refused, Reply as Waits}
 use Rattle.pairing.specs.declared.refusal.Refusal.{Refusal}
 use Rattle.pairing.specs.declared.refusal.Refusal.TheVariants.{Version, Leap, Stratum, Precision, ZeroStamp, NoRequest, Ambiguous}
 use Rattle.pairing.specs.Counts.{zero_counts, count_for}
-use Rattle.pairing.specs.Gathering.{IsGathered, IsGatheredFrom, counts_with, is_accepted, is_early, is_for, requests_in, held_in}
+use Rattle.pairing.specs.Gathering.{IsGathered, IsGatheredFrom, counts_with, is_accepted, is_early, is_for, kept_in, held_in}
 use Rattle.pairing.specs.Held.{held_of}
-use Rattle.pairing.specs.Index.{Indexes, key_of, request_at}
+use Rattle.pairing.specs.Index.{key_of, kept_of, request_at}
 use Rattle.pairing.specs.Message.{Request, Reply, is_request, is_reply, server_at, requested_server, replying_server, request_to, reply_from, request_in, reply_in, request_of, reply_of}
 use Rattle.pairing.specs.Pairing.{requests_of, replies_of}
 use Rattle.pairing.specs.Refusal.{refusal_of}
@@ -40,11 +40,10 @@ none_counted ZeroStamp = refl
 none_counted NoRequest = refl
 none_counted Ambiguous = refl
 
-pub gathered_start : (claim : ClaimData) (look_up : Key → Option Place) → Indexes look_up [] →
-    IsGatheredFrom claim [] look_up [] zero_counts
+pub gathered_start : (claim : ClaimData) → IsGatheredFrom claim [] [] [] zero_counts
 unfolding requests_of replies_of
-gathered_start claim look_up indexed = record {
-  indexed = indexed;
+gathered_start claim = record {
+  keeps = refl;
   holds = refl;
   all_records = refl;
   all_requests = refl;
@@ -156,16 +155,15 @@ early-push reason replies reply o is =
     count_by-push (is_early reason) replies reply
     ∙ ap (λ (o : Option Refusal). count_by (is_early reason) replies + (if is_for reason o then 1 else 0)) is
 
-module _ {n : ℕ} {requests : List Request} {replies : List Reply} {old : Key →
-    Option Place} {held : List HeldExchange} {counts : Counts}
-    (g : IsGathered n requests replies old held counts) (new : Key → Option Place) where
+module _ {n : ℕ} {requests : List Request} {replies : List Reply} {kept : List Kept}
+    {held : List HeldExchange} {counts : Counts}
+    (g : IsGathered n requests replies kept held counts) where
   pub step : (head : RecordHead) (m : Option Message) (asked : List Request) (answered : List Reply) →
       Says head m asked answered →
-      Indexes new (requests ++ requests_in m head) →
-      IsGathered (n + 1) (requests ++ asked) (replies ++ answered) new (held ++ held_in m)
+      IsGathered (n + 1) (requests ++ asked) (replies ++ answered) (kept ++ kept_in m head) (held ++ held_in m)
       (counts_with m counts)
-  step head m asked answered silent indexed = record {
-    indexed = indexed;
+  step head m asked answered silent = record {
+    keeps = rw (append-nil kept, append-nil requests) g.keeps;
     holds = rw (append-nil held, append-nil replies) g.holds;
     all_records = ap (λ k. k + 1) g.all_records;
     all_requests = rw (append-nil requests) g.all_requests;
@@ -174,8 +172,9 @@ module _ {n : ℕ} {requests : List Request} {replies : List Reply} {old : Key �
         (counts.records + 1) counts.requests counts.replies counts ∙ g.refused reason);
     warned = g.warned;
   }
-  step head m asked answered (asks key) indexed = record {
-    indexed = indexed;
+  step head m asked answered (asks key) = record {
+    keeps = ap (λ ks. ks ++ kept_of (request_at key head) ∷ []) g.keeps
+        ∙ sym (map-append kept_of requests (request_at key head ∷ []));
     holds = rw (append-nil held, append-nil replies) g.holds;
     all_records = ap (λ k. k + 1) g.all_records;
     all_requests = omega (arith, g.all_requests, length-append requests (request_at key head ∷ []));
@@ -184,11 +183,11 @@ module _ {n : ℕ} {requests : List Request} {replies : List Reply} {old : Key �
         (counts.requests + 1) counts.replies counts ∙ g.refused reason);
     warned = g.warned;
   }
-  step head m asked answered (refused reply refusal is) indexed =
+  step head m asked answered (refused reply refusal is) =
       let counted = renumbered (counts.records + 1) counts.requests (counts.replies + 1) counts in
       let others = keeps_others refusal counted in
       record {
-        indexed = indexed;
+        keeps = rw (append-nil kept, append-nil requests) g.keeps;
         holds = rw (append-nil held) (g.holds ∙ sym (holds-refused replies reply refusal is));
         all_records = others.same_records ∙ ap (λ k. k + 1) g.all_records;
         all_requests = rw (append-nil requests) (others.same_requests ∙ g.all_requests);
@@ -202,8 +201,8 @@ module _ {n : ℕ} {requests : List Request} {replies : List Reply} {old : Key �
         );
         warned = others.same_warnings ∙ g.warned;
       }
-  step head m asked answered (accepted reply is) indexed = record {
-    indexed = indexed;
+  step head m asked answered (accepted reply is) = record {
+    keeps = rw (append-nil kept, append-nil requests) g.keeps;
     holds = ap (λ hs. hs ++ held_of reply ∷ []) g.holds ∙ sym (holds-accepted replies reply is);
     all_records = ap (λ k. k + 1) g.all_records;
     all_requests = rw (append-nil requests) g.all_requests;
@@ -218,20 +217,17 @@ module _ {n : ℕ} {requests : List Request} {replies : List Reply} {old : Key �
   }
 
 -- one more record
-pub gathered-push : (claim : ClaimData) (done : List Record) (r : Record) (old new : Key →
-    Option Place) (held : List HeldExchange) (counts : Counts) →
-    IsGatheredFrom claim done old held counts →
-    ((requests : List Request) → Indexes old requests →
-    Indexes new (requests ++ requests_in (message_of claim r) r.head)) →
-    IsGatheredFrom claim (done ++ r ∷ []) new (held ++ held_in (message_of claim r)) (counts_with
-    (message_of claim r) counts)
+pub gathered-push : (claim : ClaimData) (done : List Record) (r : Record) (kept : List Kept)
+    (held : List HeldExchange) (counts : Counts) →
+    IsGatheredFrom claim done kept held counts →
+    IsGatheredFrom claim (done ++ r ∷ []) (kept ++ kept_in (message_of claim r) r.head)
+    (held ++ held_in (message_of claim r)) (counts_with (message_of claim r) counts)
 unfolding requests_of replies_of
-gathered-push claim done r old new held counts g indexed =
+gathered-push claim done r kept held counts g =
     rw (
       length-append done (r ∷ []),
       filter_map-append (request_of claim) done (r ∷ []),
       filter_map-append (reply_of claim) done (r ∷ []),
     )
-    (step g new r.head (message_of claim r) (cons_option (request_of claim r) []) (cons_option (reply_of claim r) [])
-    (says claim r)
-    (indexed (requests_of claim done) g.indexed))
+    (step g r.head (message_of claim r) (cons_option (request_of claim r) []) (cons_option (reply_of claim r) [])
+    (says claim r))

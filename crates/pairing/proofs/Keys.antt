@@ -1,7 +1,7 @@
 -- Keys of requests that are found to be the same.
 use Rattle.std.proofs.Common.{◌≡◌, ◌∙◌, ap, Bool, true, false, refl}
 use Rattle.std.specs.Prelude.{◌&&◌}
-use Rattle.std.proofs.lemmas.Bool.{eqb-true}
+use Rattle.std.proofs.lemmas.Bool.{eq-eqb, eqb-true}
 use Rattle.pairing.specs.declared.index.Key.{Key}
 use Rattle.pairing.specs.Index.{same_key}
 
@@ -16,3 +16,7 @@ key_is a b h =
     ap (λ n. record { server = n; port = a.port; stamp = a.stamp }) (eqb-true _ _ first.0)
     ∙ ap (λ n. record { server = b.server; port = n; stamp = a.stamp }) (eqb-true _ _ rest.0)
     ∙ ap (λ n. record { server = b.server; port = b.port; stamp = n }) (eqb-true _ _ rest.1)
+
+pub same_self : (k : Key) → same_key k k ≡ true
+same_self k =
+    rw (eq-eqb k.server k.server refl, eq-eqb k.port k.port refl, eq-eqb k.stamp k.stamp refl) refl

@@ -12,5 +12,7 @@ pub mod Servers
 pub mod Windows
 pub mod Words
 pub mod Keys
+pub mod ChainSteps
+pub mod TwinSteps
 pub mod Parts
 pub mod SourceSteps

@@ -17,8 +17,7 @@ use Rattle.pairing.specs.declared.counts.Counts.{Counts}
 use Rattle.pairing.specs.declared.fault.PairFault.{PairFault}
 use Rattle.pairing.specs.declared.fault.PairFault.TheVariants.{Capture}
 use Rattle.pairing.specs.declared.held.HeldExchange.{HeldExchange}
-use Rattle.pairing.specs.declared.index.Key.{Key}
-use Rattle.pairing.specs.declared.index.Place.{Place}
+use Rattle.pairing.specs.declared.index.Kept.{Kept}
 use Rattle.pairing.specs.Answer.{AreGiven, IsFromOutside, IsGiven, LeavesSource, MayAnswer, answer_of, capture_failed, device_failed}
 use Rattle.pairing.specs.Counts.{HasRoom}
 use Rattle.pairing.specs.Gathering.{IsGatheredFrom, is_early}
@@ -173,11 +172,11 @@ refused-exact claim start before now done fault read step =
     (not_failed start before now done fault read step)
 
 -- the counts of up to `most_records` records leave room
-pub gathered-room : (claim : ClaimData) (done : List Record) (look_up : Key →
-    Option Place) (held : List HeldExchange) (counts : Counts) →
-    IsGatheredFrom claim done look_up held counts → length done ≤ most_records → HasRoom counts most_records
+pub gathered-room : (claim : ClaimData) (done : List Record) (kept : List Kept)
+    (held : List HeldExchange) (counts : Counts) →
+    IsGatheredFrom claim done kept held counts → length done ≤ most_records → HasRoom counts most_records
 unfolding requests_of replies_of
-gathered-room claim done look_up held counts g few =
+gathered-room claim done kept held counts g few =
     let asked = length-filter_map (request_of claim) done in
     let answered = length-filter_map (reply_of claim) done in
     record {

@@ -5,14 +5,13 @@ use Rattle.pcap_reader.specs.Capture.{Record}
 use Rattle.claim_file.specs.Claim.{ClaimData}
 use Rattle.pairing.specs.declared.counts.Counts.{Counts}
 use Rattle.pairing.specs.declared.held.HeldExchange.{HeldExchange}
-use Rattle.pairing.specs.declared.index.Key.{Key}
-use Rattle.pairing.specs.declared.index.Place.{Place}
+use Rattle.pairing.specs.declared.index.Kept.{Kept}
 use Rattle.pairing.specs.declared.message.Message.{Message}
 use Rattle.pairing.specs.declared.message.Message.TheVariants.{Request as Asks, Refused, Reply as Waits}
 use Rattle.pairing.specs.declared.refusal.Refusal.{Refusal}
 use Rattle.pairing.specs.Counts.{count_for, with_refusal}
 use Rattle.pairing.specs.Held.{held_of}
-use Rattle.pairing.specs.Index.{Indexes, request_at}
+use Rattle.pairing.specs.Index.{kept_of, request_at}
 use Rattle.pairing.specs.Message.{Request, Reply}
 use Rattle.pairing.specs.Pairing.{requests_of, replies_of}
 use Rattle.pairing.specs.Refusal.{refusal_of, same_refusal}
@@ -28,10 +27,10 @@ counts_with (Some (Refused refusal)) counts =
 counts_with (Some (Waits reply)) counts =
     record counts { records = counts.records + 1; replies = counts.replies + 1 }
 
--- the request of a record that says this
-abbrev pub requests_in : Option Message → RecordHead → List Request
-requests_in (Some (Asks key)) head = request_at key head ∷ []
-requests_in _ head = []
+-- the request of a record that says this, as it is kept
+abbrev pub kept_in : Option Message → RecordHead → List Kept
+kept_in (Some (Asks key)) head = kept_of (request_at key head) ∷ []
+kept_in _ head = []
 
 -- the reply of a record that says this, if it is held
 abbrev pub held_in : Option Message → List HeldExchange
@@ -50,11 +49,11 @@ is_early reason reply = is_for reason (refusal_of reply.header)
 abbrev pub is_accepted : Reply → Bool
 is_accepted reply = is_none (refusal_of reply.header)
 
--- An index, a list of replies that are held, and counts are those of this many records with these
--- requests and replies.
+-- Lists of requests that are kept and of replies that are held, and counts, are those of this many
+-- records with these requests and replies.
 pub record IsGathered (records : ℕ) (requests : List Request) (replies : List Reply)
-    (look_up : Key → Option Place) (held : List HeldExchange) (counts : Counts) : Type 0 where
-  pub indexed : Indexes look_up requests
+    (kept : List Kept) (held : List HeldExchange) (counts : Counts) : Type 0 where
+  pub keeps : kept ≡ map kept_of requests
   pub holds : held ≡ map held_of (filter is_accepted replies)
   pub all_records : counts.records ≡ records
   pub all_requests : counts.requests ≡ length requests
@@ -63,8 +62,8 @@ pub record IsGathered (records : ℕ) (requests : List Request) (replies : List 
   pub warned : counts.warnings ≡ 0
 
 -- They are those of these records.
-abbrev pub IsGatheredFrom : ClaimData → List Record → (Key → Option Place) → List HeldExchange →
+abbrev pub IsGatheredFrom : ClaimData → List Record → List Kept → List HeldExchange →
     Counts → Type 0
-IsGatheredFrom claim records look_up held counts =
+IsGatheredFrom claim records kept held counts =
     IsGathered (length records) (requests_of claim records) (replies_of claim records)
-    look_up held counts
+    kept held counts

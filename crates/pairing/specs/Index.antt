@@ -1,7 +1,8 @@
--- What the index of requests says at each key.
+-- What the requests of a capture are at each key, and as they are kept.
 use Rattle.std.specs.Prelude.{◌≡◌, ◌==◌, ◌&&◌, List, [], ◌∷◌, filter, Bool, Option, Some, None}
 use Rattle.pcap_reader.specs.declared.format.RecordHead.{RecordHead}
 use Rattle.pairing.specs.declared.index.Key.{Key}
+use Rattle.pairing.specs.declared.index.Kept.{Kept}
 use Rattle.pairing.specs.declared.index.Place.{Place}
 use Rattle.pairing.specs.declared.index.Place.TheVariants.{One, Several}
 use Rattle.pairing.specs.Message.{Request}
@@ -19,6 +20,15 @@ key_of q = record { server = q.server; port = q.port; stamp = q.stamp }
 abbrev pub request_at : Key → RecordHead → Request
 request_at k head = record { server = k.server; port = k.port; stamp = k.stamp; head = head }
 
+-- what is kept of a request
+abbrev pub kept_of : Request → Kept
+kept_of q = record {
+  key = key_of q;
+  width = width_of q.head;
+  number = q.head.number;
+  low = tick_of q.head;
+}
+
 -- none, one or several
 abbrev pub place_of : List Request → Option Place
 place_of [] = None
@@ -32,3 +42,17 @@ having k requests = filter (λ q. same_key k (key_of q)) requests
 -- A look-up at any key is none, one or several as these requests have it.
 abbrev pub Indexes : (Key → Option Place) → List Request → Type 0
 Indexes look_up requests = (k : Key) → look_up k ≡ place_of (having k requests)
+
+-- the requests with this key, as they are kept
+abbrev pub kept_with : Key → List Kept → List Kept
+kept_with k items = filter (λ x. same_key k x.key) items
+
+-- none, one or several of them
+abbrev pub place_at : List Kept → Option Place
+place_at [] = None
+place_at (x ∷ []) = Some (One x.width x.number x.low)
+place_at (x ∷ other ∷ others) = Some Several
+
+-- the look-up among these
+abbrev pub found_in : List Kept → Key → Option Place
+found_in items k = place_at (kept_with k items)

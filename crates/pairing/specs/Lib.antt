@@ -1,4 +1,5 @@
 pub mod Answer
+pub mod Chains
 pub mod Counts
 pub mod Exchange
 pub mod Fault

@@ -6,8 +6,7 @@ use Rattle.pcap_reader.specs.Source.{SourceState, TakesFrom}
 use Rattle.claim_file.specs.Claim.{ClaimData}
 use Rattle.pairing.specs.declared.counts.Counts.{Counts}
 use Rattle.pairing.specs.declared.held.HeldExchange.{HeldExchange}
-use Rattle.pairing.specs.declared.index.Key.{Key}
-use Rattle.pairing.specs.declared.index.Place.{Place}
+use Rattle.pairing.specs.declared.index.Kept.{Kept}
 use Rattle.pairing.specs.Answer.{AreGiven}
 use Rattle.pairing.specs.Gathering.{IsGatheredFrom}
 
@@ -32,15 +31,15 @@ IsWhole records coming = (coming.records ≡ records) × (coming.fault ≡ None)
 
 -- So far some records were read, and are gathered.
 pub record Gathers (claim : ClaimData) (start now : SourceState)
-    (look_up : Key → Option Place) (held : List HeldExchange) (counts : Counts) : Type 0 where
+    (kept : List Kept) (held : List HeldExchange) (counts : Counts) : Type 0 where
   pub records : List Record
   pub read : IsRead start now records
-  pub gathered : IsGatheredFrom claim records look_up held counts
+  pub gathered : IsGatheredFrom claim records kept held counts
 
 -- A whole source was read, and is gathered.
 pub record GathersAll (claim : ClaimData) (remaining : Option Coming)
-    (look_up : Key → Option Place) (held : List HeldExchange) (counts : Counts) : Type 0 where
+    (kept : List Kept) (held : List HeldExchange) (counts : Counts) : Type 0 where
   pub records : List Record
   pub given : AreGiven records
   pub known : IfSome remaining (IsWhole records)
-  pub gathered : IsGatheredFrom claim records look_up held counts
+  pub gathered : IsGatheredFrom claim records kept held counts

@@ -1,13 +1,11 @@
 //! The exchanges of a whole capture.
 
 ghost use Rattle.std.specs.Prelude.{◌≡◌, ◌-◌, ◌^◌, ◌<◌, ◌⊎◌, [], Err, OnOk, IfErr, IfSome};
-ghost use Rattle.indexmap.specs.IndexMap.{get};
 ghost use Rattle.pcap_reader.specs.Source.{IsFresh};
 ghost use Rattle.claim_file.specs.Claim.{IsLawful, data_of};
 ghost use Rattle.pairing.specs.Answer.{Collects, IsFromOutside, LeavesSource, answer_of};
 ghost use Rattle.pairing.specs.Gathering.{IsGatheredFrom};
 ghost use Rattle.pairing.specs.Held.{held_data};
-ghost use Rattle.pairing.specs.Index.{same_key};
 ghost use Rattle.pairing.specs.Pairing.{data_of as collection_data};
 ghost use Rattle.pairing.specs.Reading.{GathersAll};
 
@@ -33,10 +31,10 @@ fn gather<S: RecordSource>(
     requires fresh { IsFresh (S.state source.old) }
     requires room { (S.state source.old).fault_count < 2 ^ 64 - 1 }
     requires empty { IsGatheredFrom (data_of claim.now) []
-        (get same_key gathering.old.index.places) gathering.old.exchanges.items
+        gathering.old.requests.items gathering.old.exchanges.items
         gathering.old.counts }
     ensures whole { OnOk result (GathersAll (data_of claim.now) (S.state source.old).remaining
-        (get same_key gathering.new.index.places) gathering.new.exchanges.items
+        gathering.new.requests.items gathering.new.exchanges.items
         gathering.new.counts) }
     ensures fault { IfErr result (λ fault. IfSome (S.state source.old).remaining (λ coming.
         IsFromOutside fault ⊎ (answer_of (data_of claim.now) coming ≡ Err fault))) }
@@ -76,9 +74,9 @@ pub fn collect_held<S: RecordSource, H: BuildHasher + Drop>(
         (S.state source.new) }
 {
     exchanges_keep_their_limits();
-    let mut gathering = Gathering::new(alloc, KeyHasher::keyed_by(&hasher));
+    let mut gathering = Gathering::new(alloc);
     match gather(source, claim, &mut gathering) {
-        Ok(()) => gathering.finish(),
+        Ok(()) => gathering.finish(alloc, KeyHasher::keyed_by(&hasher)),
         Err(fault) => Err(fault),
     }
 }

@@ -16,6 +16,7 @@
 //! ```
 #![tactic(auto)]
 
+mod chains;
 mod collected;
 mod collection;
 mod counts;

@@ -1,15 +1,18 @@
-use Rattle.indexmap.specs.IndexMap.{get}
 use Rattle.claim_file.specs.Claim.{data_of}
-use Rattle.pairing.specs.Index.{same_key}
-use Rattle.pairing.proofs.Completion.{answer-whole, joining-room, lawful-whole, leaves-whole}
+use Rattle.pairing.proofs.Completion.{answer-whole, few_kept, joining-room, lawful-whole, leaves-whole}
 use Rattle.pairing.proofs.collection.collect_held.Goals as goal
 
 pub finish-requires : goal.finish-requires
 finish-requires g c =
     let whole = c.in-Ok.ensures.whole in
     let gathering = c.gather.new.gathering in
-    rw gathering.exchanges.ok.0 (joining-room (data_of c.args.claim.now) whole.records
-    (get same_key gathering.index.places) gathering.exchanges.items gathering.counts whole.given.few whole.gathered)
+    let claim = data_of c.args.claim.now in
+    record {
+      room = rw gathering.exchanges.ok.0 (joining-room claim whole.records gathering.requests.items
+          gathering.exchanges.items gathering.counts whole.given.few whole.gathered);
+      few = few_kept claim whole.records gathering.requests.items gathering.exchanges.items gathering.counts
+          whole.given.few whole.gathered;
+    }
 
 pub returns-in-Ok : goal.returns-in-Ok
 returns-in-Ok g c =

@@ -4,11 +4,6 @@ use Rattle.pcap_reader.specs.Capture.{most_records}
 use Rattle.pcap_reader.specs.Source.{IsStep}
 use Rattle.byte_stream.specs.Bytes.{IsBytes}
 use Rattle.claim_file.specs.Claim.{data_of}
-use Rattle.indexmap.specs.IndexMap.{get}
-use Rattle.pairing.specs.declared.message.Message.{Message}
-use Rattle.pairing.specs.Gathering.{requests_in}
-use Rattle.pairing.specs.Index.{Indexes, same_key}
-use Rattle.pairing.specs.Message.{Request}
 use Rattle.pairing.specs.Statement.{message_of}
 use Rattle.pairing.proofs.ReadingSteps.{read-push, leaves-unfailed, leaves-failed, refused-exact, gathered-room, HasRoom-weaker}
 use Rattle.pairing.proofs.GatheringSteps.{gathered-push}
@@ -19,7 +14,7 @@ take-requires-clause-room g c =
     let few = c.records.invariant.read.given.few in
     HasRoom-weaker c.records.gathering.counts most_records 1 (omega arith)
     (gathered-room (data_of c.args.claim.now) c.records.invariant.records
-    (get same_key c.records.gathering.index.places)
+    c.records.gathering.requests.items
     c.records.gathering.exchanges.items c.records.gathering.counts c.records.invariant.gathered few)
 
 pub records-preserved : goal.records-preserved
@@ -38,21 +33,17 @@ records-preserved g c =
       bytes =
           bs;
     })) c.bytes.ensures in
-    let new = get same_key c.take.new.self.index.places in
-    let indexed = λ (requests : List Request) (i : Indexes (get same_key c.records.gathering.index.places) requests).
-    subst (λ (m : Option Message). Indexes new (requests ++ requests_in m head)) said
-    (c.in-Ok.ensures.indexed requests i) in
     record {
       records = done ++ record { head = head; bytes = now.lent } ∷ [];
       read = read-push (g.S.RecordSource.state c.args.source.now) before now done head c.records.invariant.read step
           bytes;
-      gathered = rw (c.in-Ok.ensures.holds, c.in-Ok.ensures.counted, said)
+      gathered = rw (c.in-Ok.ensures.keeps, c.in-Ok.ensures.holds, c.in-Ok.ensures.counted, said)
           (gathered-push claim done (record {
             head = head;
             bytes =
                 now.lent;
-          }) (get same_key c.records.gathering.index.places) new
-          c.records.gathering.exchanges.items c.records.gathering.counts c.records.invariant.gathered indexed);
+          }) c.records.gathering.requests.items
+          c.records.gathering.exchanges.items c.records.gathering.counts c.records.invariant.gathered);
     }
 
 pub returns-in_default-clause-leaves : goal.returns-in_default-clause-leaves

@@ -1,15 +1,13 @@
 use Rattle.std.proofs.Common.{◌-◌}
-use Rattle.indexmap.specs.IndexMap.{get}
 use Rattle.pcap_reader.specs.Capture.{most_records}
 use Rattle.claim_file.specs.Claim.{data_of}
-use Rattle.pairing.specs.Index.{same_key}
 use Rattle.pairing.specs.Reading.{Gathers}
 use Rattle.pairing.proofs.collection.gather.Given as goal
 
 abbrev pub invariant-records : goal.invariant-records
 invariant-records g l =
     Gathers (data_of l.claim) (g.S.RecordSource.state l.initial.source) (g.S.RecordSource.state l.source)
-    (get same_key l.gathering.index.places) l.gathering.exchanges.items l.gathering.counts
+    l.gathering.requests.items l.gathering.exchanges.items l.gathering.counts
 
 abbrev pub decreases-records : goal.decreases-records
 decreases-records g l = most_records - (g.S.RecordSource.state l.source).given
