@@ -12,9 +12,9 @@ from . import folder as files
 from .entry import REFUSED, Entry, Record, read_record, record_text
 from .evidence import evidence_files
 from .folder import is_capture, read, remove, write_beside
-from .program import Fault, Operand, Program, now, sum_of_file
+from .program import Fault, Operand, Program, now, sum_of, sum_of_file
 from .recording import read_recording
-from .settling import Part, Settling
+from .settling import Part, Settling, changed_during
 from .units import DAY, civil, day_of, seconds_of
 
 
@@ -70,7 +70,7 @@ def audit_folder(options: Options, program: Program) -> Audited:
             raise refusal
         files.sweep_parts()
         capture = take_capture(inputs)
-        entries = audit_parts(capture, options, program)
+        entries = audit_parts(capture, inputs, options, program)
     except Fault as fault:
         entries, leaps = [Entry(part=".", verdict=REFUSED, fault={"line": fault.line, "status": fault.status})], {}
     record = Record(by, kept, inputs, capture, entries, made, round(time.monotonic() - begun, 3),
@@ -128,18 +128,21 @@ def take_capture(inputs: dict[str, str]) -> str:
         return names[0]
     from .joining import join
     join(names)
+    for name in names:
+        if sum_of_file(name) != inputs[name]:
+            raise changed_during(name)
     return files.JOINED
 
 
-def audit_parts(capture: str, options: Options, program: Program) -> list[Entry]:
-    operand = Operand(capture)
+def audit_parts(capture: str, inputs: dict[str, str], options: Options, program: Program) -> list[Entry]:
+    joined = {capture: sum_of_file(capture)} if capture == files.JOINED else {}
+    operand, sums = Operand(capture), inputs | joined
     recording = read_recording(program, files.CLAIM, operand, wants_request=True)
-    claim = json.loads(read(files.CLAIM))
-    parts = parts_of(claim, options.days)
-    entries = [Settling(part, operand, program, options.step).settle(recording, options.leaps) for part in parts]
-    if capture != files.JOINED:
-        return entries
-    joined = {capture: sum_of_file(capture)}
+    data = read(files.CLAIM)
+    if sum_of(data) != inputs[files.CLAIM]:
+        raise changed_during(files.CLAIM)
+    parts = parts_of(json.loads(data), options.days)
+    entries = [Settling(part, operand, program, options.step, sums).settle(recording, options.leaps) for part in parts]
     return [entry._replace(outputs=entry.outputs | joined) for entry in entries]
 
 

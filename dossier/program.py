@@ -7,7 +7,8 @@ import time
 from collections.abc import Callable
 from typing import NamedTuple
 
-from .call import Caller
+from .call import SUMS, Caller
+from .sums import sums_text
 
 BLOCK = 1 << 20
 """Bytes of a file that are read at once."""
@@ -66,9 +67,13 @@ class Program(NamedTuple):
     sha256: str
     caller: Caller
 
-    def run(self, *words: str) -> Ran:
-        """Calls the program. At most one operand may have a name that isn't UTF-8."""
-        status, text, error = self.caller.run([self.path, *words], given_to(words))
+    def run(self, *words: str, sums: dict[str, str] | None = None) -> Ran:
+        """Calls the program, and has it hold its operands to their sums, if these are given by the operands' texts. At
+        most one operand may have a name that isn't UTF-8."""
+        called, text_of_sums = [self.path, *words], b""
+        if sums:
+            called, text_of_sums = [*called, "--sums", f"/dev/fd/{SUMS}"], sums_text(sums)
+        status, text, error = self.caller.run(called, given_to(words), text_of_sums)
         if status not in (0, 1):
             raise fault_of(status, error)
         return Ran(status, text)

@@ -2,6 +2,7 @@
 from __future__ import annotations
 
 import os
+import re
 from typing import Any, NamedTuple
 
 from . import folder as files
@@ -16,7 +17,13 @@ from .units import seconds_of
 MANY_PIECES = 10_000
 """The envelope has pieces of 1, 4, 16, .. s, the least with which it has no more than these."""
 
-UNCONFIRMED = 70
+CHANGED, UNCONFIRMED = 2, 70
+
+INPUTS = {"claim": 1, "capture": 2, "certificate": 3, "refutation": 3}
+"""Where the words of a checker have its inputs."""
+
+SUM_DIFFERS = re.compile(f"ntpaudit: sums differ ({'|'.join(INPUTS)})")
+"""The fault line of an input that hasn't the sum that was handed over."""
 
 
 class Part(NamedTuple):
@@ -31,14 +38,15 @@ class Part(NamedTuple):
 
 
 class Settling:
-    """A claim that is being settled, and the files that were left so far. The envelope has pieces of the step that is
-    asked for, if one is."""
+    """A claim that is being settled, the sums of the files that its verdict is about, and of those that were left so far.
+    The envelope has pieces of the step that is asked for, if one is."""
 
-    def __init__(self, part: Part, capture: Operand, program: Program, step: int | None):
+    def __init__(self, part: Part, capture: Operand, program: Program, step: int | None, sums: dict[str, str]):
         self.part, self.capture, self.program = part, capture, program
         self.claim = part.within(files.CLAIM)
         self.step = step or envelope_step_of(part.claim)
-        self.left: dict[str, bytes] = {}
+        self.sums = dict(sums)
+        self.left: dict[str, str] = {}
 
     def settle(self, recording: Recording, leaps: dict[str, Any]) -> Entry:
         """Makes all calls and leaves all files."""
@@ -48,7 +56,7 @@ class Settling:
         words = ("envelope", self.claim, self.capture, "--servers", "--least", "--step", str(self.step))
         texts = texts._replace(envelope=self.keep(files.ENVELOPE, self.call(*words)))
         entry = judge(self.part.name, self.part.claim, recording, texts, self.step, leaps)
-        return entry._replace(outputs={path: sum_of(data) for path, data in self.left.items()})
+        return entry._replace(outputs=self.left)
 
     def keep(self, name: str, data: bytes) -> bytes:
         """Leaves a file of this part."""
@@ -56,19 +64,30 @@ class Settling:
         if self.part.name != ".":
             make_folder(self.part.name)
         write_beside(path, data)
-        self.left[path] = data
+        self.sums[path] = self.left[path] = sum_of(data)
         return data
 
     def differs(self, words: str) -> None:
         """The program contradicts itself, and so there is no verdict."""
         raise Fault(f"ntpaudit-dossier: {words}", UNCONFIRMED)
 
+    def has_changed(self, name: str) -> Fault:
+        """What is said of a file that isn't the one any more whose sum was taken."""
+        return changed_during(name)
+
     def call(self, *words: str) -> bytes:
         return self.program.run(*words).text
 
     def confirmed(self, ending: bytes, *words: str) -> bytes:
-        """What a checker says of an answer of `settle`, which it has to accept."""
-        said = self.call(*words)
+        """What a checker says of an answer of `settle`, which it has to accept. Its operands are held to their sums."""
+        names = {word: word.name if isinstance(word, Operand) else word for word in words[1:4]}
+        try:
+            said = self.program.run(*words, sums={word: self.sums[name] for word, name in names.items()}).text
+        except Fault as fault:
+            differing = SUM_DIFFERS.fullmatch(fault.line)
+            if not differing:
+                raise
+            raise self.has_changed(names[words[INPUTS[differing[1]]]]) from None
         if not said.endswith(ending):
             self.differs(f"{words[0]} doesn't accept what settle gave")
         return said
@@ -105,6 +124,10 @@ class Settling:
         text, refutation = self.keep(files.REFUTATION, text), self.part.within(files.REFUTATION)
         words = ("refute", self.part.within(name), self.capture, refutation, "--drift")
         return text, self.confirmed(b"refuted yes\n", *words)
+
+
+def changed_during(name: str) -> Fault:
+    return Fault(f"ntpaudit-dossier: {name} has changed during the audit", CHANGED)
 
 
 def make_folder(name: str) -> None:

@@ -8,7 +8,7 @@ from . import folder as files
 from .audit import parts_of
 from .entry import MANGLED, REFUSED, Entry, Record, differing, read_record
 from .evidence import evidence_files
-from .program import Fault, Operand, Program, sum_of_file
+from .program import Fault, Operand, Program, sum_of, sum_of_file
 from .recording import Recording, read_recording
 from .settling import Part, Settling
 from .signature import GOOD, NONE, UNSEEN, in_words, signature_of
@@ -68,13 +68,16 @@ def verify(program: Program, findings: list[str], notes: list[str]) -> None:
         notes.append("by another build of the program than the audit's")
     capture = Operand(record.capture)
     recording = read_recording(program, files.CLAIM, capture, wants_request=True)
-    claim = json.loads(files.read(files.CLAIM))
+    data = files.read(files.CLAIM)
+    if sum_of(data) != record.inputs[files.CLAIM]:
+        raise Fault(differs_in_words(record, files.CLAIM), DIFFERS)
+    claim = json.loads(data)
     claims = {part.name: part.claim for part in parts_of(claim, record.options["days"])}
     if list(claims) != [entry.part for entry in record.entries]:
         findings.append("audit.json: other days than those of the claim's span")
         return
     for entry in record.entries:
-        again = Again(Part(entry.part, claims[entry.part]), capture, program, record.options["step"])
+        again = Again(Part(entry.part, claims[entry.part]), capture, program, record)
         findings += again.findings(entry, recording, record.leap_seconds)
 
 
@@ -84,9 +87,7 @@ def changed(record: Record) -> list[str]:
     for name, wanted in {**record.inputs, **record.outputs}.items():
         try:
             if sum_of_file(name) != wanted:
-                is_input = name in record.inputs
-                what = "isn't the file that was audited" if is_input else "was changed since the audit"
-                found.append(f"{name} {what}")
+                found.append(differs_in_words(record, name))
         except OSError as error:
             found.append(f"{name} can't be read ({error.strerror})")
     try:
@@ -97,11 +98,17 @@ def changed(record: Record) -> list[str]:
     return found
 
 
-class Again(Settling):
-    """A claim that is settled again, whose files are held to those that are kept."""
+def differs_in_words(record: Record, name: str) -> str:
+    """That a file isn't what it was, as an input or as what the audit left."""
+    return f"{name} isn't the file that was audited" if name in record.inputs else f"{name} was changed since the audit"
 
-    def __init__(self, part: Part, capture: Operand, program: Program, step: int | None):
-        super().__init__(part, capture, program, step)
+
+class Again(Settling):
+    """A claim that is settled again, whose files are held to those that are kept, and to the sums of a record."""
+
+    def __init__(self, part: Part, capture: Operand, program: Program, record: Record):
+        super().__init__(part, capture, program, record.options["step"], {**record.inputs, **record.outputs})
+        self.record = record
         self.found: list[str] = []
 
     def keep(self, name: str, data: bytes) -> bytes:
@@ -117,6 +124,9 @@ class Again(Settling):
 
     def differs(self, words: str) -> None:
         self.found.append(words)
+
+    def has_changed(self, name: str) -> Fault:
+        return Fault(differs_in_words(self.record, name), DIFFERS)
 
     def findings(self, entry: Entry, recording: Recording, leaps: dict[str, Any]) -> list[str]:
         """What differs: an answer from its file, or audit.json from what the answers come to."""
