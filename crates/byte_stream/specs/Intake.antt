@@ -17,8 +17,8 @@ pub CountsBytes-front : (n before after : ℕ) (into : List ℕ) → n ≤ lengt
 CountsBytes-front n before after into fits counts = omega (arith, length-take n into, counts)
 
 -- At most this many bytes were taken: those at the front, if the bytes are known, and no more by
--- the feed's count, which a device keeps too. (Of a feed that has counted to 2^64 - 1 the count says
--- nothing.)
+-- the feed's count, which a device keeps too. (Of a feed that has counted to 2^64 - 1 the count
+-- says nothing.)
 pub record TakesAtMost (most : ℕ) (before after : FeedState) : Type 0 where
   pub taken : List ℕ
   pub consumed : Consumes before.remaining after.remaining taken

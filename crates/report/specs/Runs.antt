@@ -49,9 +49,9 @@ HasLawfulHeader known = IfSome known (λ bytes. IsOk (capture_of bytes))
 -- answer, and each device's failures (`reports`); that nothing is written if it is given up
 -- (`unwritten`); that the feeds of later inputs are as they were after an earlier refusal; and that
 -- no more than the limits is taken of each input, a device too, of the claim one byte past its
--- limit only if the answer is that it's too big. Nor is a refusal reported as out of memory once more
--- was read: then the claim was lawful (`claim_memory`), the second input too (`second_memory`), and
--- so is the capture's header (`capture_memory`).
+-- limit only if the answer is that it's too big. Nor is a refusal reported as out of memory once
+-- more was read: then the claim was lawful (`claim_memory`), the second input too
+-- (`second_memory`), and so is the capture's header (`capture_memory`).
 pub record Runs {T F : Type 0} (report : Option Report) (most : ℕ)
     (HasSecond : Option (List ℕ) → Type 0) (before after : RunState) (second second' : T)
     (capture capture' : F) (answer : Result Outcome RunFault) : Type 0 where

@@ -7,9 +7,9 @@
 //! the piece. If the middle of the window isn't after the middle of the piece, that distance runs
 //! from the window's begin to the piece's end, and so the moved end is decided by one number of the
 //! sample and one of the piece. From piece to piece more samples become early in this sense, and
-//! none ceases to be. So a pass over the samples, in the order in which they become early, says which
-//! is the highest at each time, and a second one does the same with time running backwards, for the
-//! samples that are late. The better of the two is the best of all.
+//! none ceases to be. So a pass over the samples, in the order in which they become early, says
+//! which is the highest at each time, and a second one does the same with time running backwards,
+//! for the samples that are late. The better of the two is the best of all.
 //!
 //! Of several samples that agree the first is wanted, and rounding makes more of them agree. So a
 //! pass also keeps how high any sample before the highest is. Mostly that is lower by a tick or
