@@ -52,5 +52,6 @@ of_one (Some part) = refl
 pub group_interval-own : (groups : List ℕ) (parts : List Part) (group : ℕ) → AreTheirOwn groups parts
     → group_interval groups parts group ≡ option_map (λ p. p.interval) (slice_get parts group)
 group_interval-own groups parts group own =
-    ap (fold narrowed None) (one_each (group_of groups) 0 group group parts (λ i part at. own i part at ∙ omega arith) (omega arith))
+    ap (fold narrowed None)
+    (one_each (group_of groups) 0 group group parts (λ i part at. own i part at ∙ omega arith) (omega arith))
     ∙ of_one (slice_get parts group)

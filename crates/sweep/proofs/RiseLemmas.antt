@@ -133,7 +133,8 @@ module _ (ppb : ℕ) (slow : IsRate ppb) (extremes : List Extreme) (stretch : St
       level = level_of ppb early;
       top = wins Early Late _ (is_early.top clear)
           (λ index level reaches.
-          lower_level (billion - ppb) level late.room early.room (omega arith) (is_late.under index level reaches) apart);
+          lower_level (billion - ppb) level late.room early.room (omega arith) (is_late.under index level reaches)
+          apart);
     }
 
     pub late_higher : billion - ppb ≤ late.room - early.room → IsTrue late.is_clear →

@@ -22,12 +22,12 @@ pub record LeadsUpto (ppb : ℕ) (extremes : List Extreme) (place : ℕ) (crest 
 
 -- the crests of these extremes: each tells from its place on, up to where the next begins
 pub record AreCrestsOf (ppb : ℕ) (extremes : List Extreme) (crests : List Crest) : Type 0 where
-  pub leads : (i place : ℕ) (crest : Crest) → slice_get crests i ≡ Some crest
-      → crest.place ≤ place →
+  pub leads : (i place : ℕ) (crest : Crest) → slice_get crests i ≡ Some crest →
+      crest.place ≤ place →
       ((next : Crest) → slice_get crests (i + 1) ≡ Some next → place < next.place) →
       LeadsUpto ppb extremes place crest
-  pub none : (place : ℕ)
-      → ((first : Crest) → slice_get crests 0 ≡ Some first → place < first.place) →
+  pub none : (place : ℕ) →
+      ((first : Crest) → slice_get crests 0 ≡ Some first → place < first.place) →
       (index : ℕ) (extreme : Extreme) → slice_get extremes index ≡ Some extreme →
       place < extreme.from + extreme.to
 

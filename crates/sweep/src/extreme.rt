@@ -1,7 +1,8 @@
 //! The ends of a server's samples, as numbers that aren't below zero.
 ghost use Rattle.std.specs.Prelude.{◌≡◌, ◌≤◌, length, All, IfOk, map};
 ghost use Rattle.sample_interval.specs.Sample.{IsLawfulSample};
-ghost use Rattle.sweep.specs.Extreme.{AreExtremesOf, IsExtremeOf, IsLawfulExtreme, mirrored_extreme, seen_one};
+ghost use Rattle.sweep.specs.Extreme.{AreExtremesOf, IsExtremeOf, IsLawfulExtreme};
+ghost use Rattle.sweep.specs.Extreme.{mirrored_extreme, seen_one};
 
 use crate::tick::{from_origin, mirrored_tick};
 use intersection::Side;

@@ -5,8 +5,8 @@ use Rattle.std.proofs.lemmas.Option.{slice_get-get_or}
 use Rattle.sweep.specs.Extreme.{seen}
 use Rattle.sweep.specs.declared.crest.Crest.{Crest}
 use Rattle.sweep.proofs.ListLemmas.{there}
-use Rattle.sweep.proofs.CrestLemmas.{CrestsSoFar, CrestsSoFar-none, CrestsSoFar-kept, CrestsSoFar-first, CrestsSoFar-more}
-use Rattle.sweep.proofs.CrestLemmas.{AreCrestsOf-all}
+use Rattle.sweep.proofs.CrestLemmas.{CrestsSoFar, CrestsSoFar-none, CrestsSoFar-kept, CrestsSoFar-first}
+use Rattle.sweep.proofs.CrestLemmas.{CrestsSoFar-more, AreCrestsOf-all}
 use Rattle.sweep.proofs.crest.crests_of.Goals as goal
 use Rattle.sweep.proofs.crest.crests_of.Goals.{in-Some+in_ok-push, in_default}
 
@@ -31,13 +31,15 @@ loop-turn-preserved c =
           (⊎_elim
           (λ (some : 0 < length crests).
           let last = there crests (length crests - 1) (omega arith) in
-          CrestsSoFar-more c.args.drift_ppb (seen c.args.backwards c.args.extremes.now) queue c.in_ok-queue.ensures turn crests
+          CrestsSoFar-more c.args.drift_ppb (seen c.args.backwards c.args.extremes.now) queue
+          c.in_ok-queue.ensures turn crests
           c.loop-turn.invariant arrival here last.0 crest last.1
           (w.in-Some.ensures.later last.0
           (subst (λ (xs : List Crest). slice_get xs (length xs - 1) ≡ Some last.0) (sym passed) last.1)))
           (λ le.
           let empty : length crests ≡ 0 = omega arith in
-          CrestsSoFar-first c.args.drift_ppb (seen c.args.backwards c.args.extremes.now) queue c.in_ok-queue.ensures turn crests
+          CrestsSoFar-first c.args.drift_ppb (seen c.args.backwards c.args.extremes.now) queue
+          c.in_ok-queue.ensures turn crests
           c.loop-turn.invariant arrival here crest empty
           (w.in-Some.ensures.first (ap length passed ∙ empty)))
           (cases_lt 0 (length crests)))
@@ -46,7 +48,8 @@ loop-turn-preserved c =
           (⊎_elim
           (λ (some : 0 < length crests).
           let last = there crests (length crests - 1) (omega arith) in
-          CrestsSoFar-kept c.args.drift_ppb (seen c.args.backwards c.args.extremes.now) queue c.in_ok-queue.ensures turn crests
+          CrestsSoFar-kept c.args.drift_ppb (seen c.args.backwards c.args.extremes.now) queue
+          c.in_ok-queue.ensures turn crests
           c.loop-turn.invariant arrival here last.0 last.1
           (w.in_default.ensures.later last.0
           (subst (λ (xs : List Crest). slice_get xs (length xs - 1) ≡ Some last.0) (sym passed) last.1)))
@@ -66,5 +69,6 @@ returns c =
     let long = c.in_ok-queue.queue.ok.0 in
     let test = c.loop-turn-test.false in
     let end = c.len-turn-end.ensures in
-    AreCrestsOf-all c.args.drift_ppb (seen c.args.backwards c.args.extremes.now) c.in_ok-queue.queue.items c.in_ok-queue.ensures c.loop-turn.turn
+    AreCrestsOf-all c.args.drift_ppb (seen c.args.backwards c.args.extremes.now) c.in_ok-queue.queue.items
+    c.in_ok-queue.ensures c.loop-turn.turn
     c.loop-turn.crests.items (omega arith) c.loop-turn.invariant

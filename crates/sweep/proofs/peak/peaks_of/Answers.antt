@@ -30,14 +30,16 @@ loop-turn-preserved c =
       | then-is_higher+in_ok-push w ↦
           subst (PeaksSoFar queue _)
           (sym (ap (λ (v : Vec Peak Global). v.items) w.peaks-is ∙ w.in_ok-push.ensures.items))
-          (PeaksSoFar-more c.args.drift_ppb (seen c.args.backwards c.args.extremes.now) queue c.in_ok-queue.ensures turn peaks
+          (PeaksSoFar-more c.args.drift_ppb (seen c.args.backwards c.args.extremes.now) queue
+          c.in_ok-queue.ensures turn peaks
           c.loop-turn.invariant arrival here _ refl refl
           (λ last at. c.is_higher.ensures.higher w.if-is_higher.true last
           (subst (λ (xs : List Peak). slice_get xs (length xs - 1) ≡ Some last) (sym passed) at)))
       | else-is_higher w ↦
           let low = c.is_higher.ensures.no_higher (λ t. true≢false (sym t ∙ w.if-is_higher.false)) in
           subst (PeaksSoFar queue _) (sym (ap (λ (v : Vec Peak Global). v.items) w.peaks-is))
-          (PeaksSoFar-kept c.args.drift_ppb (seen c.args.backwards c.args.extremes.now) queue c.in_ok-queue.ensures turn peaks
+          (PeaksSoFar-kept c.args.drift_ppb (seen c.args.backwards c.args.extremes.now) queue
+          c.in_ok-queue.ensures turn peaks
           c.loop-turn.invariant arrival here low.0
           (subst (λ (xs : List Peak). slice_get xs (length xs - 1) ≡ Some low.0) passed low.1) low.2)
     ]
@@ -47,5 +49,6 @@ returns c =
     let long = c.in_ok-queue.queue.ok.0 in
     let test = c.loop-turn-test.false in
     let end = c.len-turn-end.ensures in
-    ArePeaksOf-all c.args.drift_ppb (seen c.args.backwards c.args.extremes.now) c.in_ok-queue.queue.items c.in_ok-queue.ensures c.loop-turn.turn
+    ArePeaksOf-all c.args.drift_ppb (seen c.args.backwards c.args.extremes.now) c.in_ok-queue.queue.items
+    c.in_ok-queue.ensures c.loop-turn.turn
     c.loop-turn.peaks.items (omega arith) c.loop-turn.invariant
