@@ -1,3 +1,4 @@
+pub mod FieldRoom
 pub mod Digits
 pub mod Last
 pub mod Pairs

@@ -1,6 +1,7 @@
 //! A line as a list of fields, in the order in which they are read.
 
 ghost use Rattle.std.specs.Prelude.{◌≡◌, ◌+◌, ◌-◌, ◌≤◌, ◌++◌, IfOk, length, map, replicate};
+ghost use Rattle.std.specs.List.{list_all};
 ghost use Rattle.line_writer.specs.Text.{are_printable, is_printable, millionths};
 ghost use Rattle.line_writer.specs.Field.{field_data, fields_text, human_text, in_column, is_absent, is_short, line_of};
 ghost use Rattle.line_writer.specs.Field.{most_of, next_text, plain_text, reference_text, rest_text, room_of, text_of, width_of};
@@ -304,6 +305,38 @@ fn add_next(
     add_field(text, line, style, field)
 }
 
+/// How many fields are written together.
+const TOGETHER: usize = 4;
+
+/// Whether the longest text of each field has at most 100 bytes.
+fn are_short(fields: &[Field<'_>]) -> bool
+    ensures { result ≡ list_all (λ field. is_short (field_data field)) fields.now }
+{
+    fields.iter().all(|field| is_short(field))
+}
+
+/// Adds a few fields that follow another: if all are short, they are written and copied together.
+fn add_few(
+    text: &mut Vec<u8>,
+    line: &mut Line,
+    style: Style,
+    fields: &[Field<'_>],
+) -> Result<(), AllocError>
+    requires { length fields.now ≤ 4 }
+    ensures { IfOk result (λ _. text.new.items ≡
+        text.old.items ++ rest_text style (map field_data fields.now)) }
+{
+    if are_short(fields) {
+        line.clear();
+        put_rest(line, style, fields);
+        return text.extend_from_slice(line.as_bytes());
+    }
+    for field in fields {
+        add_next(text, line, style, field)?;
+    }
+    Ok(())
+}
+
 /// Adds fields that follow another.
 fn add_rest(
     text: &mut Vec<u8>,
@@ -314,8 +347,11 @@ fn add_rest(
     ensures { IfOk result (λ _. text.new.items ≡
         text.old.items ++ rest_text style (map field_data fields.now)) }
 {
-    for field in fields {
-        add_next(text, line, style, field)?;
+    let mut at = 0;
+    while at < fields.len() {
+        let end = fields.len().min(at + TOGETHER);
+        add_few(text, line, style, &fields[at..end])?;
+        at = end;
     }
     Ok(())
 }
