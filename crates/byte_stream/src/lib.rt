@@ -3,6 +3,16 @@
 //! What a call does with bytes is said for known ones, as those in memory are; how it counts the
 //! faults of its device is said always. A reader and a writer make a feed and a sink that repeat
 //! nothing that failed. Two doubles for tests cut and fail as their contracts say.
+//!
+//! One pull on a device, as `pull` of `worked_examples/src/engines/streams.rt` does it, which the
+//! gate runs:
+//!
+//! ```text
+//! let mut feed = ReadFeed::new(&mut device);
+//! let pulled = feed.pull(&mut [0; 4]);
+//! (pulled.is_ok(), feed.faults(), device.calls)
+//! ```
+
 #![tactic(auto)]
 
 mod feed;

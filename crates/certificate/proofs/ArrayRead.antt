@@ -2,7 +2,7 @@
 use Rattle.std.proofs.Common.{◌≡◌, ℕ, ◌-◌, ◌<◌, List, Bool, true, false, Some, None, option_map, MatchBool, ap, ◌∙◌}
 use Rattle.json.specs.Json.{parse_map}
 use Rattle.json.specs.Token.{Token}
-use Rattle.json_text.proofs.NextMapped.{mapped_some, mapped_none}
+use Rattle.json_text.proofs.NextToken.{mapped_some, mapped_none}
 use Rattle.json_text.specs.Next.{next_value, next_items, HasOther}
 use Rattle.serde_json.specs.Data.{Items, array}
 use Rattle.serde_json.specs.Find.{as_array}

@@ -5,7 +5,7 @@ use Rattle.serde_json.specs.Data.{Data, Items, no_items, item}
 use Rattle.serde_json.specs.Events.{items_len}
 use Rattle.json.specs.Json.{parse_map, after_end_array}
 use Rattle.json.specs.Token.{Token}
-use Rattle.json_text.proofs.NextMapped.{mapped_same, array_ends, element_read, goes_on}
+use Rattle.json_text.proofs.NextToken.{mapped_same, array_ends, element_read, goes_on}
 use Rattle.json_text.specs.Next.{next_value, next_items, rest_after}
 use Rattle.json_text.specs.Step.{given, asked}
 use Rattle.certificate.specs.declared.fault.CertificateFault.{CertificateFault}

@@ -3,10 +3,10 @@ pub mod Ascii
 pub mod CompactRead
 pub mod Digits
 pub mod EntriesRead
-pub mod Joined
+pub mod CommaList
 pub mod Limits
 pub mod LineFeed
-pub mod Outlined
+pub mod Outline
 pub mod PairRead
 pub mod PartsRead
 pub mod PiecesRead

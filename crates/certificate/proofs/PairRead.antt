@@ -2,7 +2,7 @@
 use Rattle.std.proofs.Common.{◌≡◌, ℕ, List, Option, Some, None, option_map, option_and_then, ap, ap₂, ◌∙◌}
 use Rattle.json.specs.Json.{parse_map, after_end_array}
 use Rattle.json.specs.Token.{Token}
-use Rattle.json_text.proofs.NextMapped.{array_ends, element_refused, element_read, goes_on}
+use Rattle.json_text.proofs.NextToken.{array_ends, element_refused, element_read, goes_on}
 use Rattle.json_text.specs.Next.{next_value, next_items, rest_after}
 use Rattle.serde_json.specs.Data.{Data, item}
 use Rattle.certificate.specs.Reading.{sample_of, pair_of}

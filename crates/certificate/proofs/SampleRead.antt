@@ -2,7 +2,7 @@
 use Rattle.std.proofs.Common.{◌≡◌, ℕ, ◌<◌, ◌≤◌, ◌^◌, List, Option, Some, None, option_and_then, nat_lt, if◌then◌else◌, refl, sym, ap, ◌∙◌, arith, lt-ltb, le-ltb}
 use Rattle.json.specs.Json.{parse_map}
 use Rattle.json.specs.Token.{Token}
-use Rattle.json_text.proofs.NextMapped.{mapped_twice}
+use Rattle.json_text.proofs.NextToken.{mapped_twice}
 use Rattle.json_text.specs.Member.{unsigned_of}
 use Rattle.json_text.specs.Next.{next_value}
 use Rattle.certificate.specs.Reading.{sample_of}

@@ -1,26 +1,26 @@
-pub mod PartLemmas
-pub mod SaidLemmas
-pub mod ExchangeLemmas
-pub mod CountingLemmas
-pub mod CoverLemmas
-pub mod TestLemmas
-pub mod KeptLemmas
-pub mod FirstFaultLemmas
-pub mod VerdictLemmas
-pub mod PieceLemmas
-pub mod PieceFitLemmas
-pub mod BestLemmas
-pub mod HullLemmas
-pub mod TraceabilityLemmas
-pub mod AcceptanceLemmas
-pub mod CourseLemmas
-pub mod WorkedLemmas
-pub mod ComparisonLemmas
-pub mod EntryLemmas
-pub mod OrderLemmas
-pub mod ApartLemmas
-pub mod NarrowLemmas
-pub mod SpanLemmas
-mod RefutationLemmas
-mod RefutationCourseLemmas
-mod RefutationStampLemmas
+pub mod Part
+pub mod EntryStatement
+pub mod Exchange
+pub mod Counting
+pub mod Cover
+pub mod Test
+pub mod Kept
+pub mod FirstFault
+pub mod VerdictPieces
+pub mod PieceVerdict
+pub mod PieceFit
+pub mod Best
+pub mod Hull
+pub mod Traceability
+pub mod Acceptance
+pub mod Course
+pub mod WorkedExchange
+pub mod Comparison
+pub mod EntryStep
+pub mod Order
+pub mod Separation
+pub mod Narrow
+pub mod Span
+mod RefutationTests
+mod RefutationCourse
+mod RefutationStamp

@@ -11,13 +11,13 @@ use Rattle.checker.specs.Refutation.{is_liar}
 
 -- the request can leave in time, if it leaves no sooner than this
 abbrev pub leaves_in_time : ℤ → ℤ → ℤ → ℤ → Bool
-leaves_in_time leaves receipt_to answer_to arrives =
-    int_le leaves receipt_to && int_le leaves answer_to && int_le leaves arrives
+leaves_in_time leaves receipt_high answer_high arrives =
+    int_le leaves receipt_high && int_le leaves answer_high && int_le leaves arrives
 
 -- the server can receive and answer in time, if the reply arrives no later than this
 abbrev pub answers_in_time : ℤ → ℤ → ℤ → ℤ → Bool
-answers_in_time receipt_from answer_from answer_to arrives =
-    int_le receipt_from answer_to && int_le receipt_from arrives && int_le answer_from arrives
+answers_in_time receipt_low answer_low answer_high arrives =
+    int_le receipt_low answer_high && int_le receipt_low arrives && int_le answer_low arrives
 
 abbrev pub admits : ℤ → ℤ → Exchange → Bool
 admits allowance error x =

@@ -5,6 +5,7 @@
 //! (`sample_interval`), the error throughout a piece (`span_cover`), how many groups leave it out
 //! (here), the hull of whole points that holds it (`intersection`), the pieces that hold every
 //! reading of the span (here).
+
 ghost use Rattle.std.specs.Prelude.{◌≡◌, ◌⊎◌, ◌↔◌, Bool, true, false, None, Some, Ok};
 ghost use Rattle.std.specs.Prelude.{ℕ, ◌+◌, ◌<◌, ◌≤◌, ℤ, pos, neg_ℤ, ◌≤ℤ◌};
 ghost use Rattle.std.specs.Prelude.{List, [], ◌∷◌, length, All, slice_get};

@@ -19,6 +19,7 @@
 //!     Verdict::No { .. } => false,
 //! }
 //! ```
+
 #![tactic(auto)]
 
 mod entry;

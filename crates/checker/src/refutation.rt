@@ -182,23 +182,23 @@ fn admits(exchange: &Exchange, claim: &Claim, refutation: &Refutation) -> bool
 /// A first and a last true time, in ticks.
 #[derive(Clone, Copy)]
 struct Times {
-    from: i128,
-    to: i128,
+    low: i128,
+    high: i128,
 }
 
 /// Whether the request can leave before the server receives, the server answers and the reply
 /// arrives.
 fn leaves_in_time(client: Times, receipt: Times, answer: Times) -> bool
-    ensures { result ≡ spec.leaves_in_time client.from receipt.to answer.to client.to }
+    ensures { result ≡ spec.leaves_in_time client.low receipt.high answer.high client.high }
 {
-    client.from <= receipt.to && client.from <= answer.to && client.from <= client.to
+    client.low <= receipt.high && client.low <= answer.high && client.low <= client.high
 }
 
 /// Whether the server can receive before it answers, and do both before the reply arrives.
 fn answers_in_time(client: Times, receipt: Times, answer: Times) -> bool
-    ensures { result ≡ spec.answers_in_time receipt.from answer.from answer.to client.to }
+    ensures { result ≡ spec.answers_in_time receipt.low answer.low answer.high client.high }
 {
-    receipt.from <= answer.to && receipt.from <= client.to && answer.from <= client.to
+    receipt.low <= answer.high && receipt.low <= client.high && answer.low <= client.high
 }
 
 /// The first time at which the request can have left and the last at which the reply can have
@@ -206,37 +206,37 @@ fn answers_in_time(client: Times, receipt: Times, answer: Times) -> bool
 fn client_times(exchange: &Exchange, claim: &Claim, refutation: &Refutation) -> Times
     requires claim { IsLawful (claim_data claim.now) }
     requires exchange { IsLawfulExchange (length claim.now.servers.items) exchange.now }
-    ensures from { result.from ≡
+    ensures low { result.low ≡
         request_start exchange.now claim.now.reading -ℤ refutation.now.error }
-    ensures to { result.to ≡ reply_end exchange.now claim.now.reading -ℤ refutation.now.error }
+    ensures high { result.high ≡ reply_end exchange.now claim.now.reading -ℤ refutation.now.error }
 {
     let error = i128::from(refutation.error);
     Times {
-        from: exchange.t1_low - claim.reading - error,
-        to: exchange.t4_high + claim.reading - error,
+        low: exchange.t1_low - claim.reading - error,
+        high: exchange.t4_high + claim.reading - error,
     }
 }
 
 /// The times at which the server can have received the request.
 fn receipt_times(exchange: &Exchange) -> Times
     requires { IsOfSomeClaim exchange.now }
-    ensures from { result.from ≡ exchange.now.t2 -ℤ exchange.now.distance }
-    ensures to { result.to ≡ exchange.now.t2 +ℤ exchange.now.distance }
+    ensures low { result.low ≡ exchange.now.t2 -ℤ exchange.now.distance }
+    ensures high { result.high ≡ exchange.now.t2 +ℤ exchange.now.distance }
 {
     Times {
-        from: exchange.t2 - exchange.distance,
-        to: exchange.t2 + exchange.distance,
+        low: exchange.t2 - exchange.distance,
+        high: exchange.t2 + exchange.distance,
     }
 }
 
 /// The times at which it can have sent the reply.
 fn answer_times(exchange: &Exchange) -> Times
     requires { IsOfSomeClaim exchange.now }
-    ensures from { result.from ≡ exchange.now.t3 -ℤ exchange.now.distance }
-    ensures to { result.to ≡ exchange.now.t3 +ℤ exchange.now.distance }
+    ensures low { result.low ≡ exchange.now.t3 -ℤ exchange.now.distance }
+    ensures high { result.high ≡ exchange.now.t3 +ℤ exchange.now.distance }
 {
     Times {
-        from: exchange.t3 - exchange.distance,
-        to: exchange.t3 + exchange.distance,
+        low: exchange.t3 - exchange.distance,
+        high: exchange.t3 + exchange.distance,
     }
 }

@@ -1,4 +1,5 @@
 //! What holds of refutations, and why.
+
 ghost use Rattle.std.specs.Prelude.{◌≡◌, ℕ, ◌+◌, ℤ, pos, neg_ℤ, ◌≤ℤ◌, ◌↔◌, true};
 ghost use Rattle.std.specs.Prelude.{List, [], ◌∷◌, length, All, AllPairs};
 ghost use Rattle.certificate.specs.Certificate.{CertificateData};

@@ -113,7 +113,7 @@ pub fn check_exchanges<X: ToExchange>(
     first_fault(source, claim, certificate)
 }
 
-// The verdict, piece by piece.
+/// The verdict, piece by piece.
 fn first_fault<S: SampleSource>(samples: S, claim: &Claim, certificate: &Certificate) -> Verdict
     requires claim { IsLawful (claim_data claim.now) }
     requires samples { All IsLawfulSample (S.samples samples) }

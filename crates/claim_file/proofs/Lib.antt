@@ -8,4 +8,4 @@ pub mod Lawful
 pub mod Times
 pub mod Made
 pub mod Scalars
-pub mod Worked
+pub mod WorkedClaim

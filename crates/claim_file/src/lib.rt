@@ -13,6 +13,7 @@
 //!     Err(fault) => format!(in alloc; "fault {}", fault.number()),
 //! }
 //! ```
+
 #![tactic(auto)]
 
 mod address;

@@ -70,9 +70,11 @@ compatible_to ppb low high h =
 
 -- ---- lists of marks
 
-pub all_from : (ppb : ℕ) (lows highs : List Mark) → all_compatible ppb lows highs ≡ true → AreAllCompatible ppb lows highs
+pub all_from : (ppb : ℕ) (lows highs : List Mark) → all_compatible ppb lows highs ≡ true
+    → AreAllCompatible ppb lows highs
 all_from ppb lows highs e = λ i d below.
-    λ j d' below'. compatible_from ppb _ _ (AllPass-from_list_all _ highs (AllPass-from_list_all _ lows e i d below) j d' below')
+    λ j d' below'. compatible_from ppb _ _
+    (AllPass-from_list_all _ highs (AllPass-from_list_all _ lows e i d below) j d' below')
 
 pub all_to : (ppb : ℕ) (lows highs : List Mark) → AreAllCompatible ppb lows highs → all_compatible ppb lows highs ≡ true
 all_to ppb lows highs h =

@@ -1,5 +1,5 @@
 -- The first two marks of two groups that aren't compatible are of the first two exchanges that contradict each other.
-use Rattle.std.proofs.Common.{◌≡◌, ◌≢◌, ℕ, zero, suc, ◌-◌, ◌+◌, ◌<◌, ◌≤◌, ℤ, pos, negsuc, ◌+ℤ◌, ◌-ℤ◌, ◌*ℤ◌, ◌≤ℤ◌, ◌⊎◌, inl, inr, ⊎_elim, Bool, true, false, true≢false, List, [], ◌∷◌, Some, length, map, get_or, slice_get, refl, sym, ap, ◌∙◌, subst, arith}
+use Rattle.std.proofs.Common.{◌≡◌, ◌≢◌, ℕ, zero, suc, ◌+◌, ◌<◌, ◌≤◌, ◌≤ℤ◌, ◌⊎◌, inl, inr, ⊎_elim, Bool, true, false, true≢false, List, [], ◌∷◌, Some, length, map, get_or, slice_get, refl, sym, ap, ◌∙◌, subst, arith}
 use Rattle.std.specs.Prelude.{All, ◌==◌, ◌||◌}
 use Rattle.std.proofs.lemmas.Int.{ints}
 use Rattle.std.proofs.lemmas.Bool.{cond-true, cond-false, cases_lt}
@@ -12,9 +12,8 @@ use Rattle.marks.specs.Conflict.{IsFirstConflict}
 use Rattle.marks.specs.Mark.{low_mark, high_mark, IsPossible, AreCompatible}
 use Rattle.marks.specs.Range.{IsWithinRange}
 use Rattle.marks.specs.declared.mark.Mark.{Mark}
-use Rattle.marks.proofs.CompatibleLemmas.{none_above, no_less}
+use Rattle.marks.proofs.Compatibility.{no_higher}
 use Rattle.pairing.specs.declared.exchange.Exchange.{Exchange}
-use Rattle.sample_interval.specs.Widening.{billion}
 use Rattle.courses.specs.Contradiction.{Pair, AreOfGroups, IsContradiction, IsFirstContradiction, IsNoLater, HasContradiction}
 use Rattle.courses.specs.Cover.{group_of, HasImpossible, Contradicts}
 use Rattle.courses.specs.GroupMarks.{IsSound}
@@ -23,28 +22,6 @@ use Rattle.courses.proofs.GroupMarks.{sound_isnt_broken}
 use Rattle.courses.proofs.TrueExchanges.{by_test}
 
 -- ---- marks that ask for nothing
-
-some_ahead : (n : ℕ) (z : ℤ) → pos 0 ≤ℤ z → pos 0 ≤ℤ (pos n *ℤ z)
-some_ahead n (pos x) h = omega (arith, ints)
-some_ahead n (negsuc x) h = absurd (omega (arith, ints))
-
-through : (a b c : ℤ) → a ≤ℤ b → b ≤ℤ c → a ≤ℤ c
-through a b c p q = omega (arith, ints)
-
-ahead : (a b : ℤ) → a ≤ℤ b → pos 0 ≤ℤ (b -ℤ a)
-ahead a b h = omega (arith, ints)
-
-ahead_lt : (a b : ℤ) → (a +ℤ pos 1) ≤ℤ b → pos 0 ≤ℤ (b -ℤ a)
-ahead_lt a b h = omega (arith, ints)
-
--- a low mark that is no higher is compatible wherever it stands
-no_higher : (ppb : ℕ) (low high : Mark) → low.error ≤ℤ high.error → AreCompatible ppb low high
-no_higher ppb low high le = record {
-  falls = λ before. through _ (pos 0) _ (none_above (billion - ppb) (low.error -ℤ high.error) (no_less low.error high.error le))
-      (some_ahead ppb (high.place -ℤ low.place) (ahead low.place high.place before));
-  rises = λ after. through _ (pos 0) _ (none_above (billion + ppb) (low.error -ℤ high.error) (no_less low.error high.error le))
-      (some_ahead ppb (low.place -ℤ high.place) (omega (arith, ints)));
-}
 
 least : (m : Mark) → IsWithinRange m → lowest_mark.error ≤ℤ m.error
 least m range = let size = range.error in omega (arith, ints, size)
@@ -134,7 +111,8 @@ module _ (claim : ClaimData) (xs : List Exchange) (a b : ℕ) where
   abbrev highs : List Mark
   highs = map (high_of claim a b) xs
 
-  at_map : (f : Exchange → Mark) (k : ℕ) (x : Exchange) (d : Mark) → slice_get xs k ≡ Some x → get_or (map f xs) k d ≡ f x
+  at_map : (f : Exchange → Mark) (k : ℕ) (x : Exchange) (d : Mark) → slice_get xs k ≡ Some x
+      → get_or (map f xs) k d ≡ f x
   at_map f k x d at = get_or-map f xs k x d (slice_get_within xs k x at) ∙ ap f (get_or_from_slice_get xs k x x at)
 
   within_map : (f : Exchange → Mark) (k : ℕ) (x : Exchange) → slice_get xs k ≡ Some x → k < length (map f xs)

@@ -28,9 +28,9 @@ pub mod CoverSearch
 pub mod CoverBusiest
 pub mod CoverRows
 pub mod CoverWithin
-pub mod CoverFound
+pub mod CoverList
 pub mod PartialTables
 pub mod SortedMarks
 pub mod TableCovers
-pub mod ToldConflicts
+pub mod ConflictList
 pub mod FirstPairs

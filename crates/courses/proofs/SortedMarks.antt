@@ -12,7 +12,7 @@ use Rattle.std.proofs.Math.ListN.{get_or-append, length-append}
 use Rattle.std.proofs.Math.Seq.{get_or-append_seam}
 use Rattle.claim_file.specs.Claim.{ClaimData}
 use Rattle.marks.specs.declared.mark.Mark.{Mark}
-use Rattle.marks.proofs.CompatibleLemmas.{of_permutation, of_sorted}
+use Rattle.marks.proofs.Compatibility.{of_permutation, of_sorted}
 use Rattle.pairing.specs.declared.exchange.Exchange.{Exchange}
 use Rattle.courses.specs.DriftTest.{is_possible}
 use Rattle.courses.specs.GroupMarks.{is_outside, group_exchanges, group_lows, group_highs, IsSound, DoGroupsAgree}
@@ -51,7 +51,8 @@ module _ (claim : ClaimData) (xs : List Exchange) (group : ℕ) where
       (λ k d below. possible_to claim.reading _ (sound.possible k d below))) ∙ is)
 
   -- where they are possible, the group is sound exactly if the marks agree
-  pub sound_by_marks : (compatible : Bool) → list_all (is_possible claim.reading) (group_exchanges claim xs group) ≡ true
+  pub sound_by_marks : (compatible : Bool)
+      → list_all (is_possible claim.reading) (group_exchanges claim xs group) ≡ true
       → IsTrue compatible ↔ AreAllCompatible claim.drift_ppb (group_lows claim xs group) (group_highs claim xs group)
       → IsTrue compatible ↔ IsSound claim xs group
   sound_by_marks compatible is (from, to) = (
@@ -73,10 +74,12 @@ module _ (claim : ClaimData) (xs : List Exchange) (a b : ℕ) (ms ns : SortedMar
   pub agree_from : SortedAgree → DoGroupsAgree claim xs a b
   agree_from (one, other) = record {
     one_way = of_permutation claim.drift_ppb ms.kept.lows.items (group_lows claim xs a) ns.kept.highs.items
-        (group_highs claim xs b) (IsPermutation-sym _ _ (of_a.lows right_a)) (IsPermutation-sym _ _ (of_b.highs right_b))
+        (group_highs claim xs b) (IsPermutation-sym _ _ (of_a.lows right_a))
+        (IsPermutation-sym _ _ (of_b.highs right_b))
         one;
     other_way = of_permutation claim.drift_ppb ns.kept.lows.items (group_lows claim xs b) ms.kept.highs.items
-        (group_highs claim xs a) (IsPermutation-sym _ _ (of_b.lows right_b)) (IsPermutation-sym _ _ (of_a.highs right_a))
+        (group_highs claim xs a) (IsPermutation-sym _ _ (of_b.lows right_b))
+        (IsPermutation-sym _ _ (of_a.highs right_a))
         other;
   }
 
@@ -132,7 +135,8 @@ module _ (claim : ClaimData) (xs : List Exchange) (group : ℕ) (gathered : Kept
       → false ≡ list_all (is_possible claim.reading) (true_exchanges Outside xs)
       → AreMarksOf claim xs group record { is_sound = false; kept = kept }
   unsound_marks kept is =
-      let fails = impossible claim xs group (sym (is ∙ ap (list_all (is_possible claim.reading)) (of_group claim xs group))) in
+      let fails = impossible claim xs group
+      (sym (is ∙ ap (list_all (is_possible claim.reading)) (of_group claim xs group))) in
       record {
         sound = (λ t. absurd (true≢false (sym t)), λ sound. absurd (fails sound));
         lows = λ t. absurd (true≢false (sym t));
@@ -157,14 +161,16 @@ module _ (claim : ClaimData) (xs : List Exchange) (group : ℕ) (gathered : Kept
         sound = sound_by_marks claim xs group compatible
             (sym (possible ∙ ap (list_all (is_possible claim.reading)) (of_group claim xs group)))
             (subst (λ ms. IsTrue compatible ↔ AreAllCompatible claim.drift_ppb ms (group_highs claim xs group)) lows_are
-            (subst (λ ms. IsTrue compatible ↔ AreAllCompatible claim.drift_ppb gathered.lows.items ms) highs_are exact));
+            (subst (λ ms. IsTrue compatible ↔ AreAllCompatible claim.drift_ppb gathered.lows.items ms)
+            highs_are exact));
         lows = λ t. subst (λ ms. IsPermutation ms kept.lows.items) lows_are moved_lows;
         highs = λ t. subst (λ ms. IsPermutation ms kept.highs.items) highs_are moved_highs;
         sorted = λ t. sorted;
       }
 
 -- what is read from a list of the groups' marks
-module _ (claim : ClaimData) (xs : List Exchange) (marks : List SortedMarks) (each : AreOfGroupsInOrder claim xs marks) where
+module _ (claim : ClaimData) (xs : List Exchange) (marks : List SortedMarks)
+    (each : AreOfGroupsInOrder claim xs marks) where
   pub all_sorted : AreAllSorted marks
   all_sorted k d below = (each k d below).sorted
 
@@ -199,7 +205,8 @@ module _ (claim : ClaimData) (xs : List Exchange) (marks : List SortedMarks) (ea
       (here.0 t)
 
   pub disagree_by_test : answer ≡ false → DoGroupsAgree claim xs a b → ⊥
-  disagree_by_test is agree = true≢false (sym (here.1 (agree_to claim xs a b m n (at claim xs marks each a m below_a is_m)
+  disagree_by_test is agree =
+      true≢false (sym (here.1 (agree_to claim xs a b m n (at claim xs marks each a m below_a is_m)
       (at claim xs marks each b n below_b is_n) (right a e m below_a is_m right_a) (right b f n below_b is_n right_b)
       agree)) ∙ is)
 

@@ -11,7 +11,7 @@ ghost use Rattle.pairing.specs.Exchange.{IsLawful as IsLawfulExchange};
 
 use crate::kept_marks::KeptMarks;
 use claim_file::Claim;
-use marks::{Mark, first_conflict, high_mark, is_possible, low_mark};
+use marks::{GREATEST_ERROR, Mark, first_conflict, high_mark, is_possible, low_mark};
 use pairing::{Exchange, ToExchange};
 use std::alloc::{AllocError, Global};
 
@@ -47,7 +47,7 @@ fn low_of(exchange: &Exchange, claim: &Claim, a: u8, b: u8) -> Mark
     } else {
         Mark {
             place: 0,
-            error: -9_444_732_965_739_290_427_392,
+            error: -GREATEST_ERROR,
         }
     }
 }
@@ -64,7 +64,7 @@ fn high_of(exchange: &Exchange, claim: &Claim, a: u8, b: u8) -> Mark
     } else {
         Mark {
             place: 0,
-            error: 9_444_732_965_739_290_427_392,
+            error: GREATEST_ERROR,
         }
     }
 }

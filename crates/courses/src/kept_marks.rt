@@ -128,7 +128,8 @@ impl KeptMarks {
         requires high_range { All IsWithinRange self.old.highs.items }
         ensures possible { IfOk result (λ possible. possible
             ≡ list_all (is_possible claim.now.reading)
-            (true_exchanges (is_outside claim.now.groups.items group) (map X.shown exchanges.now))) }
+            (true_exchanges (is_outside claim.now.groups.items group)
+            (map X.shown exchanges.now))) }
         ensures lows { IfOk result (λ possible. IsTrue possible → self.new.lows.items
             ≡ self.old.lows.items ++ low_marks claim.now.reading
             (is_outside claim.now.groups.items group) (map X.shown exchanges.now)) }

@@ -4,6 +4,7 @@
 //! The argument goes both ways. Each course that fits keeps the marks of its true exchanges, and
 //! marks that one course keeps are compatible in pairs. Where they are compatible in pairs, the
 //! lowest course keeps them all and fits.
+
 ghost use Rattle.std.specs.Prelude.{◌≡◌, ◌↔◌, Bool, false, IsTrue, Some};
 ghost use Rattle.std.specs.Prelude.{ℕ, ◌+◌, ◌-◌, ◌*◌, ◌<◌, ◌≤◌};
 ghost use Rattle.std.specs.Prelude.{ℤ, pos, ◌+ℤ◌, ◌-ℤ◌, ◌*ℤ◌, ◌≤ℤ◌};

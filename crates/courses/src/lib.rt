@@ -7,13 +7,21 @@
 //! is one (specs/TrueMarks): wherever each low mark is compatible with each high mark, the lowest
 //! course keeps them all (specs/LowestCourse).
 //!
-//! On this rest refutations of which the clock drifts (specs/DriftRefutation), which
-//! [`check_refutation_with_drift`] settles, and covers, by which it is settled whether any course
-//! fits (specs/Cover). [`laws`] has the theorems and their steps.
+//! Two things rest on this: refutations whose error may drift (specs/DriftRefutation), which
+//! [`check_refutation_with_drift`] settles; and covers, which settle whether any course fits
+//! (specs/Cover). [`laws`] has the theorems and their steps.
 //!
 //! Which groups can't all be right is a graph, [`Conflicts`], which finds groups that account for
 //! it if they are false (specs/Conflicts). [`conflicts_of`] makes it of the exchanges, and by it
 //! [`course_fits`] settles whether any course fits.
+//!
+//! Whether any course fits, as [`course_fits`] asks it, with its proof:
+//!
+//! ```text
+//! let found = conflicts_of(alloc, exchanges, claim)?;
+//! Ok(found.has_cover(claim.false_max))
+//! ```
+
 #![tactic(auto)]
 
 mod conflict_laws;

@@ -1,4 +1,5 @@
 //! What holds of refutations of which the clock may drift, and why.
+
 ghost use Rattle.std.specs.Prelude.{◌≡◌, ◌↔◌, Bool, IsTrue, ℕ, ◌≤◌, ℤ, ◌≤ℤ◌};
 ghost use Rattle.std.specs.Prelude.{pos, List, [], length, All, AllPairs};
 ghost use Rattle.certificate.specs.Certificate.{CertificateData};
@@ -72,8 +73,7 @@ pub fn yes_and_refutation_never_meet()
     verdicts_are_traceable();
 }
 
-/// A refutation of which the error never changes is one of which it drifts. If the claim grants no
-/// drift, there are no others.
+/// What stands without drift stands with it. If the claim grants no drift, nothing else stands.
 pub fn refutations_without_drift_stand()
     ensures stand { (claim : ClaimData) (xs : List Exchange) (refutation : RefutationData) →
         IsRefuted claim xs refutation → IsRefutedWithDrift claim xs refutation }

@@ -1,4 +1,4 @@
-pub mod StampLemmas
+pub mod StampTick
 pub mod Rounding
-pub mod NanosecondsLemmas
-pub mod WindowLemmas
+pub mod NanosecondTicks
+pub mod RecordWindow

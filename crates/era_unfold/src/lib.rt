@@ -8,6 +8,15 @@
 //!
 //! Each is exact by its contract, takes no memory and refuses nothing. `laws` has what holds of the
 //! definitions.
+//!
+//! The window of a record, as `windows_of_microseconds` of `worked_examples/src/readers/ticks.rt`
+//! asks for it, which the gate runs:
+//!
+//! ```text
+//! let window = (low(sec, sub, Unit::Micro), high(sec, sub, Unit::Micro));
+//! assert_equal_at(&rt, window, (first, last), (sec, sub));
+//! ```
+
 #![tactic(auto)]
 
 pub mod laws;

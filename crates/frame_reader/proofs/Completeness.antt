@@ -4,7 +4,7 @@ use Rattle.std.proofs.lemmas.List.{drop_at, length-append, take_at}
 use Rattle.std.proofs.Math.Seq.{drop-append-add}
 use Rattle.byteorder.specs.Endian.{big_bytes}
 use Rattle.frame_reader.specs.Frame.{Fields, Parts, Fit, HoldsDatagram, udp_bytes, total_length_of, ipv4_bytes, tag_bytes, frame_bytes, word, header_end, header_length, packet_of, segment_of, fields_at}
-use Rattle.frame_reader.proofs.WordLemmas.{word_is, word-append}
+use Rattle.frame_reader.proofs.Word.{word_is, word-append}
 use Rattle.frame_reader.proofs.HeaderTests.{IsLinked, IsPacket, IsSegment}
 
 drop-behind : (xs ys : List ℕ) (n i : ℕ) → length xs ≡ n → drop (n + i) (xs ++ ys) ≡ drop i ys

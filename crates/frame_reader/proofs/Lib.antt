@@ -1,4 +1,4 @@
-pub mod WordLemmas
+pub mod Word
 pub mod HeaderTests
 pub mod Soundness
 pub mod Completeness

@@ -6,7 +6,7 @@ use Rattle.std.proofs.lemmas.List.Edits.{length-between}
 use Rattle.std.proofs.lemmas.List.Folds.{drop_split}
 use Rattle.byteorder.specs.Endian.{big_bytes}
 use Rattle.frame_reader.specs.Frame.{Parts, Fit, HoldsDatagram, udp_bytes, total_length_of, ipv4_bytes, tag_bytes, word, header_end, header_length, packet_of, segment_of, fields_at}
-use Rattle.frame_reader.proofs.WordLemmas.{ReadsBytes, ReadsBytes-drop, ReadsBytes-take, word_fits, drop-word}
+use Rattle.frame_reader.proofs.Word.{ReadsBytes, ReadsBytes-drop, ReadsBytes-take, word_fits, drop-word}
 use Rattle.frame_reader.proofs.HeaderTests.{IsLinked, IsPacket, IsSegment}
 
 -- ---- Ethernet

@@ -4,7 +4,7 @@ use Rattle.std.proofs.lemmas.Bool.{cases_eq, cases_lt, eq-eqb, le-ltb, lt-ltb, n
 use Rattle.std.proofs.lemmas.List.{drop-take, get_or-take, length-drop, length-take-le}
 use Rattle.frame_reader.specs.declared.skip.Skip.TheVariants.{Short}
 use Rattle.frame_reader.specs.Frame.{Fields, Parts, HoldsDatagram, word, header_end, header_length, link_skip, packet_of, packet_skip, skip_of}
-use Rattle.frame_reader.proofs.WordLemmas.{word_is}
+use Rattle.frame_reader.proofs.Word.{word_is}
 use Rattle.frame_reader.proofs.HeaderTests.{IsLinked, IsPacket, link_passes}
 use Rattle.frame_reader.proofs.Completeness.{joined, length_held}
 

@@ -1,4 +1,5 @@
 //! The ends of intervals, in order.
+
 ghost use Rattle.std.specs.Prelude.{◌≡◌, ◌≤◌, ◌*◌, int_le, length, IsPermutation};
 ghost use Rattle.intersection.specs.Ends.{ends_of, IsInOrder};
 

@@ -1,4 +1,5 @@
 //! Two intervals narrowed to one.
+
 ghost use Rattle.std.specs.Prelude.{◌≡◌, ℤ, ◌⊎◌, ◌↔◌};
 ghost use Rattle.std.specs.Int.{int_max, int_min};
 ghost use Rattle.intersection.specs.Interval.{LeavesOut};

@@ -1,4 +1,5 @@
 //! Laws of the definitions, each the contract of a function that does nothing.
+
 ghost use Rattle.std.specs.Prelude.{◌≡◌, ℕ, ◌<◌, ◌≤◌, ℤ, ◌≤ℤ◌, ◌↔◌, ◌⊎◌, IsTrue, IsFalse, List, IsPermutation};
 ghost use Rattle.std.specs.Int.{int_max, int_min};
 ghost use Rattle.intersection.specs.Interval.{LeavesOut, leaves_out};

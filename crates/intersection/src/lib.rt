@@ -16,6 +16,7 @@
 //! intervals.push(c);
 //! hull(&intervals, 1)
 //! ```
+
 #![tactic(auto)]
 
 mod ends;

@@ -1,5 +1,6 @@
 //! The hull of a list of intervals, by Marzullo's algorithm (RFC 5905, section 11.2.1): the ends
 //! are sorted, and a walk along them counts the intervals that it has entered and not left.
+
 ghost use Rattle.std.specs.Prelude.{◌≡◌, ◌<◌, ◌≤◌, ◌*◌, length};
 ghost use Rattle.intersection.specs.Hull.{DescribesHull};
 ghost use Rattle.intersection.specs.Marzullo.{first_reached};

@@ -1,5 +1,5 @@
 pub mod Digits
 pub mod Names
-pub mod NextMapped
+pub mod NextToken
 pub mod NextTokens
 pub mod Texts

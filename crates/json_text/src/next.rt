@@ -81,7 +81,7 @@ pub fn next_unsigned(reader: &mut Reader<'_>, depth: usize) -> Result<Option<u64
     }
 }
 
-/// Whether the next value is an array. Its elements come next then, and else the value is passed.
+/// Whether the next value is an array. If so, its elements come next; if not, it is skipped.
 /// Invalid exactly if neither an array begins nor another value comes whole.
 pub fn open_array(reader: &mut Reader<'_>, depth: usize) -> Result<bool, Invalid>
     ensures { MatchResult result (λ opened. MatchBool opened
@@ -101,7 +101,7 @@ pub fn open_array(reader: &mut Reader<'_>, depth: usize) -> Result<bool, Invalid
     }
 }
 
-/// Whether the next value is an object. Its members come next then, and else the value is passed.
+/// Whether the next value is an object. If so, its members come next; if not, it is skipped.
 /// Invalid exactly if neither an object begins nor another value comes whole.
 pub fn open_object(reader: &mut Reader<'_>, depth: usize) -> Result<bool, Invalid>
     ensures { MatchResult result (λ opened. MatchBool opened

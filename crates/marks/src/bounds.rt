@@ -1,4 +1,5 @@
 //! The marks of an exchange.
+
 ghost use Rattle.std.specs.Prelude.{◌≡◌, ◌^◌, pos, ◌≤ℤ◌, ◌↔◌, IsTrue};
 ghost use Rattle.sample_interval.specs.Exchange.{IsOfSomeClaim};
 ghost use Rattle.marks.specs.Mark.{low_mark, high_mark, IsPossible};

@@ -1,4 +1,5 @@
 //! Whether low marks and high marks are all compatible.
+
 ghost use Rattle.std.specs.Prelude.{◌↔◌, IsTrue, IsPermutation, All};
 ghost use Rattle.sample_interval.specs.Widening.{IsRate};
 ghost use Rattle.marks.specs.Compatible.{AllCompatible};

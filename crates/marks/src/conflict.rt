@@ -1,4 +1,5 @@
 //! The first low mark and high mark that no course keeps.
+
 ghost use Rattle.std.specs.Prelude.{◌↔◌, ℕ, All, IfOk, MatchOption, IsPermutation};
 ghost use Rattle.sample_interval.specs.Widening.{IsRate};
 ghost use Rattle.marks.specs.Compatible.{AllCompatible};
@@ -8,12 +9,9 @@ ghost use Rattle.marks.specs.declared.mark.Mark.{Mark};
 ghost use Rattle.marks.specs.Range.{IsWithinRange};
 
 use crate::compatible::all_compatible;
-use crate::mark::Mark;
+use crate::mark::{GREATEST_ERROR, Mark};
 use crate::pair::are_compatible;
 use std::alloc::{AllocError, Global};
-
-/// The greatest error that a mark may have, in ticks.
-const GREATEST_ERROR: i128 = 1 << 73;
 
 /// The number of the first high mark that isn't compatible with a low mark, if there is one.
 ///
@@ -67,8 +65,8 @@ fn marks_in_front(
     Ok(count)
 }
 
-/// The same by halving, with the high marks in any order. Low marks that were found to be compatible
-/// aren't looked at again.
+/// The same by halving, with the high marks in any order. Low marks that were found to be
+/// compatible aren't looked at again.
 fn front_by_halving(
     alloc: Global,
     drift_ppb: u32,

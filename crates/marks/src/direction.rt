@@ -1,4 +1,5 @@
 //! Which way the error changes between two marks.
+
 ghost use Rattle.std.specs.Prelude.{◌↔◌, IsTrue};
 ghost use Rattle.sample_interval.specs.Widening.{IsRate};
 ghost use Rattle.marks.specs.Direction.{IsBelow};

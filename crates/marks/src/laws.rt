@@ -1,5 +1,6 @@
 //! What holds of the definitions. A law is a function that does nothing: its contract is the law,
 //! for every number.
+
 ghost use Rattle.std.specs.Prelude.{◌≡◌, ℕ, ◌≤◌, ℤ, ◌≤ℤ◌, ◌↔◌};
 ghost use Rattle.sample_interval.specs.Widening.{IsRate};
 ghost use Rattle.marks.specs.Mark.{AreCompatible};

@@ -9,6 +9,19 @@
 //!
 //! Each is exact by its contract, and only [`first_conflict`] takes memory. [`laws`] has what holds
 //! of the definitions.
+//!
+//! The marks of an exchange that can have happened, as `add` of `courses/src/kept_marks.rt` keeps
+//! them, with its proof:
+//!
+//! ```text
+//! if !is_possible(exchange, claim.reading) {
+//!     return Ok(false);
+//! }
+//! self.lows.push(low_mark(exchange, claim.reading))?;
+//! self.highs.push(high_mark(exchange, claim.reading))?;
+//! Ok(true)
+//! ```
+
 #![tactic(auto)]
 
 mod bounds;
@@ -24,5 +37,5 @@ mod sweep;
 pub use bounds::{high_mark, is_possible, low_mark};
 pub use compatible::{all_compatible, all_compatible_in_order, sort_marks};
 pub use conflict::{first_against, first_conflict};
-pub use mark::Mark;
+pub use mark::{GREATEST_ERROR, Mark};
 pub use pair::are_compatible;

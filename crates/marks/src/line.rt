@@ -1,4 +1,5 @@
 //! The lines through a mark along which the error changes as fast as it may.
+
 ghost use Rattle.std.specs.Prelude.{◌≡◌, ◌^◌, ◌≤◌, unsigned_abs};
 ghost use Rattle.sample_interval.specs.Widening.{IsRate};
 ghost use Rattle.marks.specs.Line.{falling_line, rising_line};

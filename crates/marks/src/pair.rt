@@ -1,4 +1,5 @@
 //! A low mark and a high mark.
+
 ghost use Rattle.std.specs.Prelude.{◌↔◌, IsTrue};
 ghost use Rattle.sample_interval.specs.Widening.{IsRate};
 ghost use Rattle.marks.specs.Mark.{AreCompatible};

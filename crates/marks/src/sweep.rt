@@ -1,4 +1,5 @@
 //! One way through low marks and high marks.
+
 ghost use Rattle.std.specs.Prelude.{◌≤◌, ◌↔◌, IsTrue, length, All};
 ghost use Rattle.std.specs.List.{AllWithin};
 ghost use Rattle.sample_interval.specs.Widening.{IsRate};

@@ -1,6 +1,7 @@
 //! The root distance that a sender announces.
 
-ghost use Rattle.std.specs.Prelude.{◌≡◌, ◌^◌, ◌↔◌, ◌<ℤ◌, ◌≤ℤ◌, pos, IsNone, IfSome};
+ghost use Rattle.std.specs.Prelude.{◌≡◌, ◌^◌, ◌<◌, ◌≤◌, ◌↔◌, ◌<ℤ◌, ◌≤ℤ◌, pos, IsNone, IfSome};
+ghost use Rattle.std.specs.Option.{option_map};
 ghost use Rattle.ntp_packet.specs.Header.{precision_of, precision_ticks_of, root_distance_of};
 
 use crate::NtpView;
@@ -16,11 +17,11 @@ impl NtpView<'_> {
     /// The root distance that the sender announces, in ticks of 2^-32 s: half its root delay, its
     /// root dispersion and its precision, which counts as one tick from -32 downwards (after RFC
     /// 5905, section 11.2). `None` comes for a precision above 16 and no other.
-    pub fn root_distance(&self) -> Option<i128>
-        ensures distance { result ≡ root_distance_of self.now }
+    pub fn root_distance(&self) -> Option<u64>
+        ensures distance { option_map pos result ≡ root_distance_of self.now }
         ensures none { IsNone result ↔ (pos 16 <ℤ precision_of self.now) }
-        ensures least { IfSome result (λ ticks. pos 1 ≤ℤ ticks) }
-        ensures greatest { IfSome result (λ ticks. ticks <ℤ pos (2 ^ 50)) }
+        ensures least { IfSome result (λ ticks. 1 ≤ ticks) }
+        ensures greatest { IfSome result (λ ticks. ticks < 2 ^ 50) }
     {
         let precision = self.precision();
         if precision > GREATEST_PRECISION {
@@ -28,7 +29,7 @@ impl NtpView<'_> {
         }
         let half_delay = u64::from(self.root_delay()) * (UNIT_TICKS / 2);
         let dispersion = u64::from(self.root_dispersion()) * UNIT_TICKS;
-        Some(i128::from(half_delay + dispersion + precision_ticks(precision)))
+        Some(half_delay + dispersion + precision_ticks(precision))
     }
 }
 

@@ -1,5 +1,6 @@
 //! What follows from the definitions of the fields, in the words of the subject. Each law is a
 //! function with no parameters, whose contract ranges over all lists of bytes.
+
 ghost use Rattle.std.specs.Prelude.{◌≡◌, ℕ, ◌+◌, ◌*◌, ◌^◌, ◌<◌, ◌⊎◌, ℤ, pos, negsuc, ◌+ℤ◌, ◌≤ℤ◌, ◌<ℤ◌, List, slice_index, IfSome};
 ghost use Rattle.ntp_packet.specs.Packet.{packet_of};
 ghost use Rattle.byte_stream.specs.Bytes.{IsBytes};

@@ -14,6 +14,7 @@
 //! let mut source = assert_ok(rt, Whole::begin(file));
 //! assert_ok(rt, collect(alloc, &mut source, &claim))
 //! ```
+
 #![tactic(auto)]
 
 mod chains;

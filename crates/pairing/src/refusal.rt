@@ -1,8 +1,7 @@
 //! Why a reply gives no exchange.
 
-ghost use Rattle.std.specs.Prelude.{◌≡◌, ◌<ℤ◌, ◌↔◌, pos, None, Some, IsNone, MatchResult};
-ghost use Rattle.std.specs.Option.{option_map};
-ghost use Rattle.ntp_packet.specs.Header.{precision_of, root_distance_of};
+ghost use Rattle.std.specs.Prelude.{◌≡◌, pos, None, Some, MatchResult};
+ghost use Rattle.ntp_packet.specs.Header.{root_distance_of};
 ghost use Rattle.pairing.specs.Refusal.{refusal_of};
 
 use ntp_packet::NtpView;
@@ -26,15 +25,6 @@ pub(crate) enum Refusal {
     Ambiguous,
 }
 
-/// The root distance that a header announces, in ticks: a number below 2^50, which half the room
-/// holds.
-pub(crate) fn announced_distance(header: &NtpView<'_>) -> Option<u64>
-    ensures distance { option_map pos result ≡ root_distance_of header.now }
-    ensures none { IsNone result ↔ (pos 16 <ℤ precision_of header.now) }
-{
-    header.root_distance().map(|distance| distance as u64)
-}
-
 /// The root distance of a reply in ticks, or the first reason that its header gives to refuse it.
 #[inline(always)]
 #[tactic(auto, unfolding(crate::specs::Refusal::refusal_of))]
@@ -53,7 +43,7 @@ pub(crate) fn accepted_distance(header: &NtpView<'_>) -> Result<u64, Refusal>
     if !(1..=15).contains(&header.stratum()) {
         return Err(Refusal::Stratum);
     }
-    let Some(distance) = announced_distance(header) else {
+    let Some(distance) = header.root_distance() else {
         return Err(Refusal::Precision);
     };
     if header.origin() == 0 || header.receive() == 0 || header.transmit() == 0 {

@@ -12,5 +12,5 @@ pub mod Step
 pub mod Intake
 pub mod NextRecord
 pub mod Beginning
-pub mod Undecided
+pub mod ShortBytes
 pub mod Shown

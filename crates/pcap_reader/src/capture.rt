@@ -44,10 +44,10 @@ impl<F: Feed> Capture<F> {
     /// The source of the records that the feed's bytes spell.
     ///
     /// Its one buffer is made before the first byte is taken: `Memory` comes if there is no memory
-    /// for it, and then the feed is as it was. `Read` comes exactly if the feed failed, and else
-    /// `TornHeader`, `Magic`, `Version` or `Link`, the first that applies, if the bytes begin with
-    /// no lawful header. Nothing is taken after a header that is there. A refusal hands the feed
-    /// back.
+    /// for it, and then the feed is as it was. `Read` comes exactly if the feed failed.
+    /// Otherwise, if the bytes begin with no lawful header, the first that applies of `TornHeader`,
+    /// `Magic`, `Version` and `Link` comes. Nothing is taken after a complete header. A refusal
+    /// hands the feed back.
     pub fn begin(alloc: Global, feed: F) -> Result<Capture<F>, (F, CaptureFault)>
         requires { IsReadable (F.state feed) }
         ensures begins { IfOk result (λ source. BeginsOver (F.state feed)

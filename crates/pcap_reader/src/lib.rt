@@ -6,8 +6,17 @@
 //! applies where the longest list of records at their beginning ends, with the place of that
 //! record in the file.
 //!
-//! A caller goes over a source by one loop, whatever holds the bytes: `count_records` in
-//! `worked_examples/src/uses.rt` is a small one, with its proof.
+//! A caller goes over a source by one loop, whatever holds the bytes, as `count_records` of
+//! `worked_examples/src/uses.rt` does, with its proof:
+//!
+//! ```text
+//! match source.next_record() {
+//!     Ok(Some(_head)) => count += 1,
+//!     Ok(None) => return Ok(count),
+//!     Err(fault) => return Err(fault),
+//! }
+//! ```
+
 #![tactic(auto)]
 
 mod buffered;

@@ -1,6 +1,6 @@
 pub mod Kept
-pub mod MomentLemmas
-pub mod OnWireLemmas
-pub mod SampleLemmas
-pub mod SourceLemmas
-pub mod WideningLemmas
+pub mod Moment
+pub mod OnWire
+pub mod ExchangeSample
+pub mod HeldSamples
+pub mod LeastWidening

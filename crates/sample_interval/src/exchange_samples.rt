@@ -1,4 +1,5 @@
 //! The samples of exchanges.
+
 ghost use Rattle.std.specs.Prelude.{◌≡◌, ◌^◌, ⊤, pos, ◌≤ℤ◌, map, All};
 ghost use Rattle.pairing.specs.Exchange.{IsLawful};
 ghost use Rattle.sample_interval.specs.Sample.{sample_of};

@@ -1,6 +1,7 @@
 //! What holds of the definitions. A law is a function that does nothing: its contract is the law,
 //! for every number. If a moment may fall between two ticks, times and readings are whole
 //! numbers of 1/n tick.
+
 ghost use Rattle.std.specs.Prelude.{◌≡◌, ℕ, ◌<◌, ◌≤◌, ◌*◌, ℤ, pos, ◌+ℤ◌, ◌-ℤ◌, ◌*ℤ◌, ◌≤ℤ◌, ◌↔◌};
 ghost use Rattle.std.specs.Prelude.{◌⊎◌};
 ghost use Rattle.intersection.specs.declared.kinds.Interval.{Interval};

@@ -12,6 +12,7 @@
 //!
 //! A [`SampleSource`] gives samples under their numbers. A slice of them is one, and so is
 //! [`ExchangeSamples`], which makes each sample from its exchange when it is asked for.
+
 #![tactic(auto)]
 
 mod bounds;

@@ -1,4 +1,5 @@
 //! Offset and delay of an exchange.
+
 ghost use Rattle.std.specs.Prelude.{◌≡◌, ◌≤◌, ◌^◌, pos, ◌-ℤ◌, ◌≤ℤ◌, unsigned_abs};
 ghost use Rattle.sample_interval.specs.Exchange.{IsOfSomeClaim};
 ghost use Rattle.sample_interval.specs.OnWire.{offset_doubled, delay_of};

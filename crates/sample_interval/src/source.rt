@@ -1,4 +1,5 @@
 //! Samples under their numbers.
+
 ghost use Rattle.std.specs.Prelude.{◌≡◌, ◌<◌, List, length, Some, slice_get};
 ghost use Rattle.sample_interval.specs.declared.kinds.Sample.{Sample};
 

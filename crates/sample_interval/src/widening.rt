@@ -1,4 +1,5 @@
 //! How far the error drifts.
+
 ghost use Rattle.std.specs.Prelude.{◌≡◌, ◌<◌, ◌^◌, pos, ◌≤ℤ◌, unsigned_abs};
 ghost use Rattle.std.specs.Int.{div_ceil};
 ghost use Rattle.sample_interval.specs.Widening.{IsRate, IsWidening, widening};
@@ -25,8 +26,8 @@ pub fn widen(drift_ppb: u32, distance: i128) -> i128
     rounded_up(rate * distance.unsigned_abs(), PARTS - rate) as i128
 }
 
-// The quotient, rounded up. Two numbers of 64 bits, as they mostly are, are divided in half the
-// time.
+/// The quotient, rounded up. Two numbers of 64 bits, as they mostly are, are divided in half the
+/// time.
 fn rounded_up(dividend: u128, divisor: u128) -> u128
     requires { 0 < divisor }
     ensures { result ≡ div_ceil dividend divisor }

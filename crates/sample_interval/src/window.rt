@@ -1,4 +1,5 @@
 //! The windows of an exchange's two client moments.
+
 ghost use Rattle.std.specs.Prelude.{◌≡◌, ◌≤◌, ◌^◌, pos, ◌≤ℤ◌, unsigned_abs};
 ghost use Rattle.sample_interval.specs.Exchange.{IsOfSomeClaim};
 ghost use Rattle.sample_interval.specs.Window.{request_start, request_end, reply_start, reply_end};

@@ -3,7 +3,7 @@ use Rattle.std.proofs.lemmas.List.Elements.{All-push}
 use Rattle.std.specs.Prelude.{All}
 use Rattle.certificate.specs.Certificate.{NamesSamples}
 use Rattle.certificate.specs.Writing.{entry_text}
-use Rattle.certificate.proofs.Joined.{IsReadUpTo, joined_read}
+use Rattle.certificate.proofs.CommaList.{IsReadUpTo, joined_read}
 use Rattle.certificate.proofs.compact.entries.Goals as goal
 
 pub loop-index-preserved : goal.loop-index-preserved

@@ -1,7 +1,7 @@
 use Rattle.std.specs.Prelude.{All}
 use Rattle.certificate.specs.Certificate.{NamesSamples}
 use Rattle.certificate.specs.Writing.{entry_text}
-use Rattle.certificate.proofs.Joined.{IsReadUpTo}
+use Rattle.certificate.proofs.CommaList.{IsReadUpTo}
 use Rattle.certificate.proofs.compact.entries.Given as goal
 
 abbrev pub invariant-loop-index : goal.invariant-loop-index

@@ -4,7 +4,7 @@ use Rattle.std.proofs.lemmas.List.Elements.{All-push}
 use Rattle.std.specs.Prelude.{All}
 use Rattle.certificate.specs.Certificate.{IsHeld, piece_data}
 use Rattle.certificate.specs.Writing.{piece_text}
-use Rattle.certificate.proofs.Joined.{IsReadUpTo, joined_read}
+use Rattle.certificate.proofs.CommaList.{IsReadUpTo, joined_read}
 use Rattle.certificate.proofs.compact.pieces.Goals as goal
 
 pub loop-index-preserved : goal.loop-index-preserved

@@ -2,7 +2,7 @@ use Rattle.std.proofs.Common.{map}
 use Rattle.std.specs.Prelude.{All}
 use Rattle.certificate.specs.Certificate.{IsHeld, piece_data}
 use Rattle.certificate.specs.Writing.{piece_text}
-use Rattle.certificate.proofs.Joined.{IsReadUpTo}
+use Rattle.certificate.proofs.CommaList.{IsReadUpTo}
 use Rattle.certificate.proofs.compact.pieces.Given as goal
 
 abbrev pub invariant-loop-index : goal.invariant-loop-index

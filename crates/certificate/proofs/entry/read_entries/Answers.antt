@@ -1,6 +1,6 @@
 use Rattle.std.proofs.Common.{◌≡◌, ◌+◌, ◌≤◌, length, Some, None, Ok, sym, ap, ◌∙◌, arith, length-append}
 use Rattle.json.specs.Json.{parse_map, after_end_array}
-use Rattle.json_text.proofs.NextMapped.{mapped_same, mapped-shorter, element_refused}
+use Rattle.json_text.proofs.NextToken.{mapped_same, mapped-shorter, element_refused}
 use Rattle.json_text.specs.Next.{next_items}
 use Rattle.json_text.specs.Step.{given}
 use Rattle.certificate.specs.Reading.{entry_of}

@@ -1,5 +1,5 @@
 use Rattle.std.proofs.Common.{Some, sym, ap, ◌∙◌, arith}
-use Rattle.json_text.proofs.NextMapped.{array_ends, element_refused}
+use Rattle.json_text.proofs.NextToken.{array_ends, element_refused}
 use Rattle.certificate.specs.Reading.{sample_of, pair_of}
 use Rattle.certificate.proofs.PairRead.{GoesOn, one_alone, high_refused, pair_read, third_refused, three}
 use Rattle.certificate.proofs.entry.read_pair.Goals as goal

@@ -1,6 +1,6 @@
 use Rattle.std.proofs.Common.{◌≡◌, ◌-◌, ◌<◌, Some, sym, ap, ◌∙◌, arith}
 use Rattle.json.specs.Json.{parse_map}
-use Rattle.json_text.proofs.NextMapped.{mapped_some}
+use Rattle.json_text.proofs.NextToken.{mapped_some}
 use Rattle.json_text.specs.Next.{next_value, next_members}
 use Rattle.serde_json.specs.Data.{object, no_members}
 use Rattle.certificate.specs.PartsData.{parts_data}

@@ -1,6 +1,6 @@
 use Rattle.std.proofs.Common.{◌≡◌, Some, None, Ok, inl, inr, map, sym, ap, ◌∙◌, arith}
 use Rattle.json.specs.Json.{parse_map, after_end_array}
-use Rattle.json_text.proofs.NextMapped.{mapped_same, mapped-shorter, array_ends, element_refused}
+use Rattle.json_text.proofs.NextToken.{mapped_same, mapped-shorter, array_ends, element_refused}
 use Rattle.json_text.specs.Next.{next_items}
 use Rattle.certificate.specs.Certificate.{piece_data}
 use Rattle.certificate.specs.PartsData.{pieces_data}

@@ -2,7 +2,7 @@ use Rattle.std.proofs.Common.{◌≡◌, [], ◌∷◌, List, true, false, Optio
 use Rattle.json.specs.Reads.{Yields}
 use Rattle.json.specs.Token as spec
 use Rattle.json.specs.declared.token.Token.{Token}
-use Rattle.json_text.proofs.NextMapped.{mapped_some, mapped_none}
+use Rattle.json_text.proofs.NextToken.{mapped_some, mapped_none}
 use Rattle.json_text.proofs.NextTokens.{whole_read, whole_and_more, whole_refused}
 use Rattle.json_text.specs.Next.{next_value}
 use Rattle.json_text.specs.Step.{given}

@@ -1,6 +1,6 @@
 use Rattle.std.proofs.Common.{◌<◌, length, arith, ◌∙◌, append_assoc, decimal}
 use Rattle.std.proofs.lemmas.Grind.{common_steps}
-use Rattle.certificate.proofs.Joined.{joined_more}
+use Rattle.certificate.proofs.CommaList.{joined_more}
 use Rattle.certificate.proofs.refutation_writing.push_servers.Goals as goal
 
 pub loop-index-preserved : goal.loop-index-preserved

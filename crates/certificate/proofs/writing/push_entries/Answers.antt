@@ -1,7 +1,7 @@
 use Rattle.std.proofs.Common.{◌<◌, length, arith, ◌∙◌, append_assoc}
 use Rattle.std.proofs.lemmas.Grind.{common_steps}
 use Rattle.certificate.specs.Writing.{entry_text}
-use Rattle.certificate.proofs.Joined.{joined_more}
+use Rattle.certificate.proofs.CommaList.{joined_more}
 use Rattle.certificate.proofs.writing.push_entries.Goals as goal
 
 pub loop-index-preserved : goal.loop-index-preserved

@@ -3,7 +3,7 @@ use Rattle.std.proofs.lemmas.Grind.{common_steps}
 use Rattle.std.proofs.lemmas.Simd.{map-map}
 use Rattle.certificate.specs.Certificate.{piece_data}
 use Rattle.certificate.specs.Writing.{comma_before, piece_text}
-use Rattle.certificate.proofs.Joined.{joined_more}
+use Rattle.certificate.proofs.CommaList.{joined_more}
 use Rattle.certificate.proofs.ReadBack.{held_pieces}
 use Rattle.certificate.proofs.writing.push_pieces.Goals as goal
 

@@ -1,5 +1,5 @@
 use Rattle.std.proofs.Common.{◌∙◌, sym, ap, Ok}
-use Rattle.checker.proofs.PartLemmas.{accepted, mixed, repeated}
+use Rattle.checker.proofs.Part.{accepted, mixed, repeated}
 use Rattle.checker.proofs.entry.part.Goals as goal
 
 pub returns : goal.returns

@@ -1,4 +1,4 @@
-use Rattle.checker.proofs.TraceabilityLemmas.{in_nanoseconds}
+use Rattle.checker.proofs.Traceability.{in_nanoseconds}
 use Rattle.checker.proofs.laws.bounds_hold_in_nanoseconds.Goals as goal
 
 pub returns : goal.returns

@@ -1,4 +1,4 @@
-use Rattle.checker.proofs.PieceFitLemmas.{fits_piece}
+use Rattle.checker.proofs.PieceFit.{fits_piece}
 use Rattle.checker.proofs.laws.capture_fits_each_piece.Goals as goal
 
 pub returns : goal.returns

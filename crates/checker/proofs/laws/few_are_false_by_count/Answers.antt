@@ -1,4 +1,4 @@
-use Rattle.checker.proofs.PieceFitLemmas.{few_from_count}
+use Rattle.checker.proofs.PieceFit.{few_from_count}
 use Rattle.checker.proofs.laws.few_are_false_by_count.Goals as goal
 
 pub returns : goal.returns

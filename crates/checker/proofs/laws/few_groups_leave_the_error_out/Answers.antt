@@ -1,4 +1,4 @@
-use Rattle.checker.proofs.CountingLemmas.{few_leave_it_out}
+use Rattle.checker.proofs.Counting.{few_leave_it_out}
 use Rattle.checker.proofs.laws.few_groups_leave_the_error_out.Goals as goal
 
 pub returns : goal.returns

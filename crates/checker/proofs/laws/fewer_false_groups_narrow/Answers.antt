@@ -1,4 +1,4 @@
-use Rattle.checker.proofs.ComparisonLemmas.{fewer_false}
+use Rattle.checker.proofs.Comparison.{fewer_false}
 use Rattle.checker.proofs.laws.fewer_false_groups_narrow.Goals as goal
 
 pub returns : goal.returns

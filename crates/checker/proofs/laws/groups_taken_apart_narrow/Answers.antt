@@ -1,4 +1,4 @@
-use Rattle.checker.proofs.ApartLemmas.{verdict_apart}
+use Rattle.checker.proofs.Separation.{verdict_apart}
 use Rattle.checker.proofs.laws.groups_taken_apart_narrow.Goals as goal
 
 pub returns : goal.returns

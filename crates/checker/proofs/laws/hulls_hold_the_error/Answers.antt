@@ -1,5 +1,5 @@
-use Rattle.checker.proofs.BestLemmas.{best_parts_are}
-use Rattle.checker.proofs.HullLemmas.{Laws, piece_holds, capture_holds}
+use Rattle.checker.proofs.Best.{best_parts_are}
+use Rattle.checker.proofs.Hull.{Laws, piece_holds, capture_holds}
 use Rattle.checker.specs.BestParts.{best_parts}
 use Rattle.checker.proofs.laws.hulls_hold_the_error.Goals as goal
 

@@ -1,4 +1,4 @@
-use Rattle.checker.proofs.EntryLemmas.{one_more_entry}
+use Rattle.checker.proofs.EntryStep.{one_more_entry}
 use Rattle.checker.proofs.laws.more_entries_narrow.Goals as goal
 
 pub returns : goal.returns

@@ -1,4 +1,4 @@
-use Rattle.checker.proofs.NarrowLemmas.{empty_or_inside}
+use Rattle.checker.proofs.Narrow.{empty_or_inside}
 use Rattle.checker.proofs.laws.narrower_parts_narrow.Goals as goal
 
 pub returns : goal.returns

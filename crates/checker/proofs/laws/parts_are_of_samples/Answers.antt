@@ -1,4 +1,4 @@
-use Rattle.checker.proofs.NarrowLemmas.{of_samples}
+use Rattle.checker.proofs.Narrow.{of_samples}
 use Rattle.checker.proofs.laws.parts_are_of_samples.Goals as goal
 
 pub returns : goal.returns

@@ -1,7 +1,7 @@
 use Rattle.std.proofs.Common.{arith}
 use Rattle.std.proofs.lemmas.Option.{slice_get_within}
-use Rattle.checker.proofs.PieceLemmas.{all_pass, each_passes, one_fails}
-use Rattle.checker.proofs.VerdictLemmas.{yes_end}
+use Rattle.checker.proofs.PieceVerdict.{all_pass, each_passes, one_fails}
+use Rattle.checker.proofs.VerdictPieces.{yes_end}
 use Rattle.checker.proofs.laws.pieces_give_the_verdict.Goals as goal
 
 pub returns-clause-yes : goal.returns-clause-yes

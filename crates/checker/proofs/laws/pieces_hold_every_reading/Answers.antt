@@ -1,4 +1,4 @@
-use Rattle.checker.proofs.CoverLemmas.{all_covered}
+use Rattle.checker.proofs.Cover.{all_covered}
 use Rattle.checker.proofs.laws.pieces_hold_every_reading.Goals as goal
 
 pub returns : goal.returns

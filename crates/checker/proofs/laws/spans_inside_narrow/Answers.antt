@@ -1,5 +1,5 @@
 use Rattle.std.proofs.Common.{arith}
-use Rattle.checker.proofs.SpanLemmas.{PieceLaws, verdict_within}
+use Rattle.checker.proofs.Span.{PieceLaws, verdict_within}
 use Rattle.checker.proofs.laws.spans_inside_narrow.Goals as goal
 
 pub returns : goal.returns

@@ -1,4 +1,4 @@
-use Rattle.checker.proofs.CourseLemmas.{stepped_fits, stepped_fits_no_capture}
+use Rattle.checker.proofs.Course.{stepped_fits, stepped_fits_no_capture}
 use Rattle.checker.proofs.laws.step_before_a_piece_is_no_matter.Goals as goal
 
 pub returns-clause-piece : goal.returns-clause-piece

@@ -1,5 +1,5 @@
 use Rattle.std.proofs.Common.{refl}
-use Rattle.checker.proofs.TraceabilityLemmas.{traceable_by_pieces, traceable, contradiction, refused_by_hull}
+use Rattle.checker.proofs.Traceability.{traceable_by_pieces, traceable, contradiction, refused_by_hull}
 use Rattle.checker.proofs.laws.verdicts_are_traceable.Goals as goal
 
 pub returns : goal.returns

@@ -1,4 +1,4 @@
-use Rattle.checker.proofs.ComparisonLemmas.{wider_bound}
+use Rattle.checker.proofs.Comparison.{wider_bound}
 use Rattle.checker.proofs.laws.wider_bounds_hold_too.Goals as goal
 
 pub returns : goal.returns

@@ -1,4 +1,4 @@
-use Rattle.checker.proofs.WorkedLemmas.{is_capture, is_exchange}
+use Rattle.checker.proofs.WorkedExchange.{is_capture, is_exchange}
 use Rattle.checker.proofs.laws.worked_exchange_is_captured.Goals as goal
 
 pub returns-clause-capture : goal.returns-clause-capture

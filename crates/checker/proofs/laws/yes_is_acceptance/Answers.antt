@@ -1,4 +1,4 @@
-use Rattle.checker.proofs.AcceptanceLemmas.{acceptance}
+use Rattle.checker.proofs.Acceptance.{acceptance}
 use Rattle.checker.proofs.laws.yes_is_acceptance.Goals as goal
 
 pub returns : goal.returns

@@ -3,7 +3,7 @@ use Rattle.std.specs.Prelude.{IsTrue}
 use Rattle.certificate.specs.Refutation.{data_of as refutation_data}
 use Rattle.claim_file.specs.Claim.{data_of as claim_data}
 use Rattle.checker.specs.Refutation.{IsRefuted}
-use Rattle.checker.proofs.RefutationLemmas.{refuted_from, refuted_to}
+use Rattle.checker.proofs.RefutationTests.{refuted_from, refuted_to}
 use Rattle.checker.proofs.refutation.check_refutation.Goals as goal
 
 pub returns : goal.returns

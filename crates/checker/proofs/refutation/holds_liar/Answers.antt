@@ -1,7 +1,7 @@
 use Rattle.std.proofs.Common.{sym, length, ◌==◌, ◌&&◌, ◌∙◌}
 use Rattle.std.specs.Prelude.{slice_index}
 use Rattle.checker.specs.Refutation.{is_liar}
-use Rattle.checker.proofs.RefutationLemmas.{found_below, both_pass}
+use Rattle.checker.proofs.RefutationTests.{found_below, both_pass}
 use Rattle.checker.proofs.refutation.holds_liar.Goals as goal
 
 pub returns-then-contains : goal.returns-then-contains

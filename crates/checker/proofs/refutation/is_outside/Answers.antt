@@ -3,7 +3,7 @@ use Rattle.std.proofs.Common.{of_z, unsigned_abs}
 use Rattle.std.proofs.lemmas.Int.{to_z-of_z}
 use mir.Syntax.{w64, w128}
 use Rattle.claim_file.specs.Claim.{data_of}
-use Rattle.checker.proofs.TestLemmas.{third_decides, fails_before}
+use Rattle.checker.proofs.Test.{third_decides, fails_before}
 use Rattle.checker.proofs.refutation.is_outside.Goals as goal
 use Rattle.checker.proofs.refutation.is_outside.Goals.{then-from-claim, else-from-claim}
 

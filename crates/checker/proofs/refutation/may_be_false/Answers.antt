@@ -5,7 +5,7 @@ use Rattle.claim_file.specs.Claim.{data_of}
 use Rattle.checker.specs.Groups.{false_group_count}
 use Rattle.checker.specs.Refutation.{is_liar}
 use Rattle.checker.specs.RefutationTest.{are_different}
-use Rattle.checker.proofs.TestLemmas.{third_decides, fails_before}
+use Rattle.checker.proofs.Test.{third_decides, fails_before}
 use Rattle.checker.proofs.refutation.may_be_false.Goals as goal
 use Rattle.checker.proofs.refutation.may_be_false.Goals.{then-are_listed, else-are_listed}
 

@@ -1,5 +1,5 @@
 use Rattle.std.proofs.Common.{length}
-use Rattle.checker.proofs.RefutationCourseLemmas.{has_course}
+use Rattle.checker.proofs.RefutationCourse.{has_course}
 use Rattle.checker.proofs.refutation_laws.accepted_refutations_have_a_course.Goals as goal
 
 pub returns : goal.returns

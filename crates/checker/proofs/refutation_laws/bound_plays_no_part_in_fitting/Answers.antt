@@ -1,5 +1,5 @@
 use Rattle.std.proofs.Common.{length}
-use Rattle.checker.proofs.RefutationCourseLemmas.{other_bound, some_fits_any_bound}
+use Rattle.checker.proofs.RefutationCourse.{other_bound, some_fits_any_bound}
 use Rattle.checker.proofs.refutation_laws.bound_plays_no_part_in_fitting.Goals as goal
 
 pub returns-clause-fits : goal.returns-clause-fits

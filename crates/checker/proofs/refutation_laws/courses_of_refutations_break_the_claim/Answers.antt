@@ -1,4 +1,4 @@
-use Rattle.checker.proofs.RefutationStampLemmas.{course_in_span, course_beyond_bound}
+use Rattle.checker.proofs.RefutationStamp.{course_in_span, course_beyond_bound}
 use Rattle.checker.proofs.refutation_laws.courses_of_refutations_break_the_claim.Goals as goal
 
 pub returns-clause-in_span : goal.returns-clause-in_span

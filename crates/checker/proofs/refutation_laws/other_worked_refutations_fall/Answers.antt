@@ -2,7 +2,7 @@ use Rattle.std.proofs.Common.{◌+◌, pos, neg_ℤ, [], ◌∷◌, refl}
 use Rattle.claim_file.specs.Worked.{worked_second}
 use Rattle.checker.specs.WorkedCourse.{worked_exchange}
 use Rattle.checker.specs.WorkedRefutation.{claim_with, refutation_with}
-use Rattle.checker.proofs.RefutationLemmas.{refused_by_test}
+use Rattle.checker.proofs.RefutationTests.{refused_by_test}
 use Rattle.checker.proofs.refutation_laws.other_worked_refutations_fall.Goals as goal
 
 pub returns-clause-too_great : goal.returns-clause-too_great

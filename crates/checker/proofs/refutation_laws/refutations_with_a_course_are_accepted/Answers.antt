@@ -1,4 +1,4 @@
-use Rattle.checker.proofs.RefutationStampLemmas.{refuted_by_course}
+use Rattle.checker.proofs.RefutationStamp.{refuted_by_course}
 use Rattle.checker.proofs.refutation_laws.refutations_with_a_course_are_accepted.Goals as goal
 
 pub returns : goal.returns

@@ -1,4 +1,4 @@
-use Rattle.checker.proofs.RefutationLemmas.{refuted_from, refuted_to}
+use Rattle.checker.proofs.RefutationTests.{refuted_from, refuted_to}
 use Rattle.checker.proofs.refutation_laws.test_is_passed_where_refuted.Goals as goal
 
 pub returns : goal.returns

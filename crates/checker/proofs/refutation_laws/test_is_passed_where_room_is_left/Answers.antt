@@ -1,4 +1,4 @@
-use Rattle.checker.proofs.RefutationLemmas.{admits_from, admits_to}
+use Rattle.checker.proofs.RefutationTests.{admits_from, admits_to}
 use Rattle.checker.proofs.refutation_laws.test_is_passed_where_room_is_left.Goals as goal
 
 pub returns : goal.returns

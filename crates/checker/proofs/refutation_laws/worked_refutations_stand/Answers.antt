@@ -1,7 +1,7 @@
 use Rattle.std.proofs.Common.{pos, neg_ℤ, [], ◌∷◌, refl}
 use Rattle.checker.specs.WorkedCourse.{worked_exchange}
 use Rattle.checker.specs.WorkedRefutation.{claim_with, refutation_with}
-use Rattle.checker.proofs.RefutationLemmas.{refuted_from}
+use Rattle.checker.proofs.RefutationTests.{refuted_from}
 use Rattle.checker.proofs.refutation_laws.worked_refutations_stand.Goals as goal
 
 pub returns-clause-beyond : goal.returns-clause-beyond

@@ -1,7 +1,7 @@
 use Rattle.std.proofs.Common.{length}
 use Rattle.checker.specs.Traceability.{samples_of}
-use Rattle.checker.proofs.RefutationCourseLemmas.{not_traceable}
-use Rattle.checker.proofs.ExchangeLemmas.{listed_samples}
+use Rattle.checker.proofs.RefutationCourse.{not_traceable}
+use Rattle.checker.proofs.Exchange.{listed_samples}
 use Rattle.checker.proofs.refutation_laws.yes_and_refutation_never_meet.Goals as goal
 
 pub returns : goal.returns

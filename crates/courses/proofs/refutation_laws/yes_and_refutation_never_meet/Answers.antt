@@ -1,5 +1,5 @@
 use Rattle.std.proofs.Common.{length}
-use Rattle.checker.proofs.ExchangeLemmas.{listed_samples}
+use Rattle.checker.proofs.Exchange.{listed_samples}
 use Rattle.checker.specs.Traceability.{samples_of}
 use Rattle.courses.proofs.DriftCourse.{not_traceable}
 use Rattle.courses.proofs.refutation_laws.yes_and_refutation_never_meet.Goals as goal

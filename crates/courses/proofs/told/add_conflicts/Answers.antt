@@ -5,7 +5,7 @@ use Rattle.courses.specs.PairMarks.{conflict_data}
 use Rattle.courses.specs.ToldConflicts.{AreToldTo}
 use Rattle.courses.specs.declared.told.Conflict.{Conflict}
 use Rattle.courses.proofs.PartialTables.{within_end}
-use Rattle.courses.proofs.ToldConflicts.{not_told, pushed, row_told, tells, tells_not, told_in_range}
+use Rattle.courses.proofs.ConflictList.{not_told, pushed, row_told, tells, tells_not, told_in_range}
 use Rattle.courses.proofs.told.add_conflicts.Goals as goal
 use Rattle.courses.proofs.told.add_conflicts.Goals.{then-is_to_tell+in_ok-shown_conflict+in_ok-push, else-is_to_tell}
 

@@ -4,7 +4,7 @@ use Rattle.courses.specs.PairMarks.{conflict_data}
 use Rattle.courses.specs.ToldConflicts.{AreToldTo}
 use Rattle.courses.specs.declared.told.Conflict.{Conflict}
 use Rattle.courses.proofs.PartialTables.{within_end}
-use Rattle.courses.proofs.ToldConflicts.{all_told, nothing_told, told_in_range}
+use Rattle.courses.proofs.ConflictList.{all_told, nothing_told, told_in_range}
 use Rattle.courses.proofs.told.first_contradictions.Goals as goal
 
 pub loop-a-init : goal.loop-a-init

@@ -1,6 +1,6 @@
 use Rattle.std.proofs.Common.{map}
 use Rattle.claim_file.specs.Claim.{data_of as claim_data}
-use Rattle.courses.proofs.ToldConflicts.{both_sound, has_pair}
+use Rattle.courses.proofs.ConflictList.{both_sound, has_pair}
 use Rattle.courses.proofs.told.shown_conflict.Goals as goal
 
 pub first_contradiction-requires-clause-sound : goal.first_contradiction-requires-clause-sound

@@ -1,4 +1,4 @@
-use Rattle.era_unfold.proofs.StampLemmas.{IsUnfolded-unfolded}
+use Rattle.era_unfold.proofs.StampTick.{IsUnfolded-unfolded}
 use Rattle.era_unfold.proofs.laws.every_stamp_is_unfolded.Goals as goal
 
 pub returns : goal.returns

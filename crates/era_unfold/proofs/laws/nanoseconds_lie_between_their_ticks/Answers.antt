@@ -1,4 +1,4 @@
-use Rattle.era_unfold.proofs.NanosecondsLemmas.{IsFloor-ticks_down, IsCeiling-ticks_up}
+use Rattle.era_unfold.proofs.NanosecondTicks.{IsFloor-ticks_down, IsCeiling-ticks_up}
 use Rattle.era_unfold.proofs.laws.nanoseconds_lie_between_their_ticks.Goals as goal
 
 pub returns-clause-down : goal.returns-clause-down

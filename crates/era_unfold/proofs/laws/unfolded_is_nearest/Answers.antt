@@ -1,4 +1,4 @@
-use Rattle.era_unfold.proofs.StampLemmas.{unfolded-nearest}
+use Rattle.era_unfold.proofs.StampTick.{unfolded-nearest}
 use Rattle.era_unfold.proofs.laws.unfolded_is_nearest.Goals as goal
 
 pub returns : goal.returns

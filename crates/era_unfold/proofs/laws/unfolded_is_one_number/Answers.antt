@@ -1,4 +1,4 @@
-use Rattle.era_unfold.proofs.StampLemmas.{IsUnfolded-one_number}
+use Rattle.era_unfold.proofs.StampTick.{IsUnfolded-one_number}
 use Rattle.era_unfold.proofs.laws.unfolded_is_one_number.Goals as goal
 
 pub returns : goal.returns

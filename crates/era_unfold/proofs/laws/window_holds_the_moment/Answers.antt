@@ -1,4 +1,4 @@
-use Rattle.era_unfold.proofs.WindowLemmas.{IsFloor-window_low, IsCeiling-window_high}
+use Rattle.era_unfold.proofs.RecordWindow.{IsFloor-window_low, IsCeiling-window_high}
 use Rattle.era_unfold.proofs.laws.window_holds_the_moment.Goals as goal
 
 pub returns-clause-begins_before : goal.returns-clause-begins_before

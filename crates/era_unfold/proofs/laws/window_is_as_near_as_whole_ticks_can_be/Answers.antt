@@ -1,4 +1,4 @@
-use Rattle.era_unfold.proofs.WindowLemmas.{IsFloor-window_low, IsCeiling-window_high}
+use Rattle.era_unfold.proofs.RecordWindow.{IsFloor-window_low, IsCeiling-window_high}
 use Rattle.era_unfold.proofs.laws.window_is_as_near_as_whole_ticks_can_be.Goals as goal
 
 pub returns-clause-begin : goal.returns-clause-begin

@@ -1,4 +1,4 @@
-use Rattle.era_unfold.proofs.WindowLemmas.{window_low-from_second, window_low-lt-window_high, window_high-to_second}
+use Rattle.era_unfold.proofs.RecordWindow.{window_low-from_second, window_low-lt-window_high, window_high-to_second}
 use Rattle.era_unfold.proofs.laws.window_lies_in_its_second.Goals as goal
 
 pub returns-clause-begin : goal.returns-clause-begin

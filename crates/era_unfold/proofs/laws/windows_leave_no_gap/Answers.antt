@@ -1,4 +1,4 @@
-use Rattle.era_unfold.proofs.WindowLemmas.{window_low-next_unit, window_high-last_unit}
+use Rattle.era_unfold.proofs.RecordWindow.{window_low-next_unit, window_high-last_unit}
 use Rattle.era_unfold.proofs.laws.windows_leave_no_gap.Goals as goal
 
 pub returns-clause-next_unit : goal.returns-clause-next_unit

@@ -2,7 +2,7 @@ use Rattle.std.proofs.Common.{◌%◌, ap, ◌∙◌, unsigned_abs}
 use Rattle.std.specs.Int.{w128}
 use Rattle.std.proofs.lemmas.Int.{to_z-of_z}
 use Rattle.era_unfold.specs.Stamp.{era}
-use Rattle.era_unfold.proofs.StampLemmas.{StandsFor-wrapping}
+use Rattle.era_unfold.proofs.StampTick.{StandsFor-wrapping}
 use Rattle.era_unfold.proofs.stamp.ticks_ahead.Goals as goal
 
 pub returns : goal.returns

@@ -1,6 +1,6 @@
 use Rattle.std.proofs.Common.{arith}
 use Rattle.std.proofs.lemmas.Int.{ints}
-use Rattle.era_unfold.proofs.StampLemmas.{StandsFor-era_earlier, unfolded-from_IsUnfolded}
+use Rattle.era_unfold.proofs.StampTick.{StandsFor-era_earlier, unfolded-from_IsUnfolded}
 use Rattle.era_unfold.proofs.stamp.unfold.Goals as goal
 
 pub returns-then-ahead-lt-HALF_ERA-clause-congruent_and_near :

@@ -1,6 +1,6 @@
 use Rattle.std.proofs.Common.{arith}
 use Rattle.std.proofs.lemmas.Int.{ints}
-use Rattle.era_unfold.proofs.WindowLemmas.{window_high-parts, window_low-lt-window_high}
+use Rattle.era_unfold.proofs.RecordWindow.{window_high-parts, window_low-lt-window_high}
 use Rattle.era_unfold.proofs.window.high.Goals as goal
 
 pub returns-clause-window : goal.returns-clause-window

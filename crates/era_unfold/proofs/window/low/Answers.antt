@@ -1,6 +1,6 @@
 use Rattle.std.proofs.Common.{arith}
 use Rattle.std.proofs.lemmas.Int.{ints}
-use Rattle.era_unfold.proofs.WindowLemmas.{window_low-parts}
+use Rattle.era_unfold.proofs.RecordWindow.{window_low-parts}
 use Rattle.era_unfold.proofs.window.low.Goals as goal
 
 pub returns-clause-window : goal.returns-clause-window

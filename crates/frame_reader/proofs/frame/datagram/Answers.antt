@@ -6,7 +6,7 @@ use Rattle.byte_stream.specs.Bytes.{IsBytes}
 use Rattle.frame_reader.specs.declared.kinds.Datagram.{Datagram}
 use Rattle.frame_reader.specs.declared.skip.Skip.{Skip}
 use Rattle.frame_reader.specs.Frame.{HoldsDatagram, datagram_of, fields_of, skip_of}
-use Rattle.frame_reader.proofs.WordLemmas.{IsBytes-from_reads}
+use Rattle.frame_reader.proofs.Word.{IsBytes-from_reads}
 use Rattle.frame_reader.proofs.Exactness.{holds-given}
 use Rattle.frame_reader.proofs.frame.datagram.Goals as goal
 

@@ -1,4 +1,4 @@
-use Rattle.marks.proofs.BoundLemmas.{possible, impossible}
+use Rattle.marks.proofs.Bound.{possible, impossible}
 use Rattle.marks.proofs.bounds.is_possible.Goals as goal
 
 pub returns-then-x-allowance : goal.returns-then-x-allowance

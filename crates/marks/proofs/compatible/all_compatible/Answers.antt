@@ -1,6 +1,6 @@
 use Rattle.std.proofs.lemmas.List.Sorted.{All-permutation}
 use Rattle.marks.specs.Range.{IsWithinRange}
-use Rattle.marks.proofs.CompatibleLemmas.{of_sorted}
+use Rattle.marks.proofs.Compatibility.{of_sorted}
 use Rattle.marks.proofs.compatible.all_compatible.Goals as goal
 
 pub all_compatible_in_order-requires-clause-lows : goal.all_compatible_in_order-requires-clause-lows

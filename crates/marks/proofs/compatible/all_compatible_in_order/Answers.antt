@@ -1,4 +1,4 @@
-use Rattle.marks.proofs.CompatibleLemmas.{where_falling, where_not}
+use Rattle.marks.proofs.Compatibility.{where_falling, where_not}
 use Rattle.marks.proofs.compatible.all_compatible_in_order.Goals as goal
 
 pub returns-then-keep_below : goal.returns-then-keep_below

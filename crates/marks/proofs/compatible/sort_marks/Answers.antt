@@ -1,6 +1,6 @@
 use Rattle.std.proofs.Common.{rules}
 use Rattle.std.proofs.lemmas.List.Sorted.{answers_always}
-use Rattle.marks.proofs.OrderLemmas.{in_order}
+use Rattle.marks.proofs.Order.{in_order}
 use Rattle.marks.proofs.compatible.sort_marks.Goals as goal
 
 pub returns-clause-order : goal.returns-clause-order

@@ -1,6 +1,6 @@
 use Rattle.std.proofs.Common.{◌+◌, Vec, Global, ap, ◌∙◌, subst, sym}
 use Rattle.marks.specs.declared.mark.Mark.{Mark}
-use Rattle.marks.proofs.BoundingLemmas.{StandFor, stand_for_all, stand_for_none, stand_with_one, stand_without}
+use Rattle.marks.proofs.Bounding.{StandFor, stand_for_all, stand_for_none, stand_with_one, stand_without}
 use Rattle.marks.proofs.conflict.bounding_marks.Goals as goal
 use Rattle.marks.proofs.conflict.bounding_marks.Goals.{then-high-lt-GREATEST_ERROR+in_ok-push, else-high-lt-GREATEST_ERROR}
 

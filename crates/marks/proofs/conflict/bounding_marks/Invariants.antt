@@ -1,4 +1,4 @@
-use Rattle.marks.proofs.BoundingLemmas.{StandFor}
+use Rattle.marks.proofs.Bounding.{StandFor}
 use Rattle.marks.proofs.conflict.bounding_marks.Given as goal
 
 abbrev pub invariant-loop-high : goal.invariant-loop-high

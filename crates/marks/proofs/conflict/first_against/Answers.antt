@@ -1,7 +1,7 @@
 use Rattle.std.proofs.Common.{refl, arith}
 use Rattle.std.proofs.lemmas.List.Elements.{AllWithin-more}
 use Rattle.marks.specs.Mark.{AreCompatible}
-use Rattle.marks.proofs.PassageLemmas.{at_any}
+use Rattle.marks.proofs.Passage.{at_any}
 use Rattle.marks.proofs.conflict.first_against.Goals as goal
 
 pub loop-j-preserved : goal.loop-j-preserved

@@ -3,8 +3,8 @@ use Rattle.std.specs.List.{AllWithin}
 use Rattle.std.proofs.lemmas.List.Sorted.{All-permutation, IsPermutation-trans}
 use Rattle.marks.specs.Conflict.{FitsAll}
 use Rattle.marks.specs.Range.{IsWithinRange}
-use Rattle.marks.proofs.CompatibleLemmas.{no_truth}
-use Rattle.marks.proofs.ConflictLemmas.{in_front, more_fit, part_compatible}
+use Rattle.marks.proofs.Compatibility.{no_truth}
+use Rattle.marks.proofs.FrontMarks.{in_front, more_fit, part_compatible}
 use Rattle.marks.proofs.conflict.front_by_halving.Goals as goal
 use Rattle.marks.proofs.conflict.front_by_halving.Goals.{then-all_compatible, else-all_compatible}
 

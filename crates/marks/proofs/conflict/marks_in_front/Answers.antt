@@ -1,7 +1,7 @@
 use Rattle.std.proofs.Common.{List, subst}
 use Rattle.marks.specs.Conflict.{AreInFront}
 use Rattle.marks.specs.declared.mark.Mark.{Mark}
-use Rattle.marks.proofs.BoundingLemmas.{in_front_of_all}
+use Rattle.marks.proofs.Bounding.{in_front_of_all}
 use Rattle.marks.proofs.conflict.marks_in_front.Goals as goal
 
 pub returns : goal.returns

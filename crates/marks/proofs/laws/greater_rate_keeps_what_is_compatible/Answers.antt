@@ -1,4 +1,4 @@
-use Rattle.marks.proofs.RateLemmas.{faster}
+use Rattle.marks.proofs.Rate.{faster}
 use Rattle.marks.proofs.laws.greater_rate_keeps_what_is_compatible.Goals as goal
 
 pub returns : goal.returns

@@ -1,4 +1,4 @@
-use Rattle.marks.proofs.RateLemmas.{lower, higher}
+use Rattle.marks.proofs.Rate.{lower, higher}
 use Rattle.marks.proofs.laws.weaker_marks_stay_compatible.Goals as goal
 
 pub returns-clause-lower : goal.returns-clause-lower

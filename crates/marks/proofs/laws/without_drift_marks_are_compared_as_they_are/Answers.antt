@@ -1,4 +1,4 @@
-use Rattle.marks.proofs.RateLemmas.{without_drift}
+use Rattle.marks.proofs.Rate.{without_drift}
 use Rattle.marks.proofs.laws.without_drift_marks_are_compared_as_they_are.Goals as goal
 
 pub returns : goal.returns

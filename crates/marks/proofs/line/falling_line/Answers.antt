@@ -1,5 +1,5 @@
 use Rattle.std.proofs.Common.{ℤ, ◌≤◌, ◌^◌, unsigned_abs, sym, subst}
-use Rattle.marks.proofs.LineLemmas.{times_left, times_rate, left_small, rate_small, sum_fits, sum_is, falling_small}
+use Rattle.marks.proofs.MarkLine.{times_left, times_rate, left_small, rate_small, sum_fits, sum_is, falling_small}
 use Rattle.marks.proofs.line.falling_line.Goals as goal
 
 pub overflow_add-result : goal.overflow_add-result

@@ -1,5 +1,5 @@
 use Rattle.std.proofs.Common.{ℤ, ◌≤◌, ◌^◌, unsigned_abs, sym, subst}
-use Rattle.marks.proofs.LineLemmas.{times_more, times_rate, more_small, rate_small, difference_is, rising_small}
+use Rattle.marks.proofs.MarkLine.{times_more, times_rate, more_small, rate_small, difference_is, rising_small}
 use Rattle.marks.proofs.line.rising_line.Goals as goal
 
 pub returns-clause-exact : goal.returns-clause-exact

@@ -1,5 +1,5 @@
 use Rattle.marks.specs.Line.{falling_line, rising_line}
-use Rattle.marks.proofs.PairLemmas.{falls_line, rises_line, before_from_test, behind_from_test, joined, lines_compared}
+use Rattle.marks.proofs.MarkPair.{falls_line, rises_line, before_from_test, behind_from_test, joined, lines_compared}
 use Rattle.marks.proofs.pair.are_compatible.Goals as goal
 
 pub returns-then-low-high : goal.returns-then-low-high

@@ -1,4 +1,4 @@
-use Rattle.sample_interval.proofs.OnWireLemmas.{offset_from_below, offset_to_above, delay_low, delay_high}
+use Rattle.sample_interval.proofs.OnWire.{offset_from_below, offset_to_above, delay_low, delay_high}
 use Rattle.sample_interval.proofs.laws.offset_and_delay_hold_every_choice.Goals as goal
 
 pub returns-clause-offset : goal.returns-clause-offset

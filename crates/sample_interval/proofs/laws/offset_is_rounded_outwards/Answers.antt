@@ -1,4 +1,4 @@
-use Rattle.sample_interval.proofs.OnWireLemmas.{IsSignedFloor-half_down, IsSignedCeiling-half_up}
+use Rattle.sample_interval.proofs.OnWire.{IsSignedFloor-half_down, IsSignedCeiling-half_up}
 use Rattle.sample_interval.proofs.laws.offset_is_rounded_outwards.Goals as goal
 
 pub returns-clause-from : goal.returns-clause-from

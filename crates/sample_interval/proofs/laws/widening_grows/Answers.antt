@@ -1,4 +1,4 @@
-use Rattle.sample_interval.proofs.WideningLemmas.{widening-mono_distance, widening-mono_rate, widening-zero}
+use Rattle.sample_interval.proofs.LeastWidening.{widening-mono_distance, widening-mono_rate, widening-zero}
 use Rattle.sample_interval.proofs.laws.widening_grows.Goals as goal
 
 pub returns-clause-distance : goal.returns-clause-distance

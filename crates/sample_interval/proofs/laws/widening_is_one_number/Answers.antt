@@ -1,6 +1,6 @@
 use Rattle.std.proofs.Common.{◌-◌, ◌*◌, arith}
 use Rattle.sample_interval.specs.Widening.{widening, billion}
-use Rattle.sample_interval.proofs.WideningLemmas.{HaveWidenings, IsWidening-one_number}
+use Rattle.sample_interval.proofs.LeastWidening.{HaveWidenings, IsWidening-one_number}
 use Rattle.sample_interval.proofs.laws.widening_is_one_number.Goals as goal
 
 is : (c : goal.After-ratios_are_rounded_as_little_as_can_be) → HaveWidenings

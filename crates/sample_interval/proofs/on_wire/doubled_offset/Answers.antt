@@ -1,6 +1,6 @@
 use Rattle.std.proofs.Common.{arith, ◌≡◌, ◌+ℤ◌, ◌-ℤ◌, ◌∙◌}
 use Rattle.std.proofs.lemmas.Int.{ints}
-use Rattle.sample_interval.proofs.OnWireLemmas.{offset_doubled-is}
+use Rattle.sample_interval.proofs.OnWire.{offset_doubled-is}
 use Rattle.sample_interval.proofs.Kept.{kept_sum}
 use Rattle.sample_interval.proofs.on_wire.doubled_offset.Goals as goal
 

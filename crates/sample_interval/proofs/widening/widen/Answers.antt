@@ -2,8 +2,8 @@ use Rattle.std.proofs.Common.{arith, ◌≡◌, ◌<◌, ◌≤◌, ◌≤ℤ◌
 use Rattle.std.proofs.lemmas.Int.{to_z_pos, to_z-of_z, fits_signed_from_abs}
 use mir.Syntax.{w128}
 use Rattle.sample_interval.specs.Widening.{IsWidening, widening}
-use Rattle.sample_interval.proofs.WideningLemmas.{IsWidening-div_ceil, IsWidening-le_distance}
-use Rattle.sample_interval.proofs.WideningLemmas.{product_fits, rate_below, parts_left, within_a_word, at_most}
+use Rattle.sample_interval.proofs.LeastWidening.{IsWidening-div_ceil, IsWidening-le_distance}
+use Rattle.sample_interval.proofs.LeastWidening.{product_fits, rate_below, parts_left, within_a_word, at_most}
 use Rattle.sample_interval.proofs.widening.widen.Goals as goal
 
 pub overflow_mul-rate : goal.overflow_mul-rate

@@ -1,6 +1,6 @@
 use Rattle.std.proofs.Common.{option_map, sym, ap, ◌∙◌}
 use Rattle.json.proofs.Grammar.{left_some}
-use Rattle.json_text.proofs.NextMapped.{mapped_some}
+use Rattle.json_text.proofs.NextToken.{mapped_some}
 use Rattle.json_text.specs.Next.{next_value}
 use Rattle.serde_json.specs.Data.{put}
 use Rattle.serde_json.specs.Find.{as_array}

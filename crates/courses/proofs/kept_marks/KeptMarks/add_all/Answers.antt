@@ -53,7 +53,8 @@ loop-exchange-preserved g c =
     c.loop-exchange.invariant in
     elim c.else-not-contains.branch [
       | else-not-contains-via-then-not-contains+in_ok-add+else-not-branch w ↦
-          subst (λ (s : KeptMarks). IsGathering allowance is_false xs (drop (k + 1) xs) lows highs s.lows.items s.highs.items)
+          subst (λ (s : KeptMarks).
+          IsGathering allowance is_false xs (drop (k + 1) xs) lows highs s.lows.items s.highs.items)
           (sym w.self-is)
           (past_kept allowance is_false x (drop (k + 1) xs) xs lows highs now.lows.items now.highs.items before
           _ _ (sym c.contains.ensures.value ∙ w.if-not-contains.true)
@@ -61,7 +62,8 @@ loop-exchange-preserved g c =
           (w.in_ok-add.ensures.lows w.if-not-branch.false) (w.in_ok-add.ensures.highs w.if-not-branch.false)
           (w.in_ok-add.ensures.low_range w.if-not-branch.false) (w.in_ok-add.ensures.high_range w.if-not-branch.false))
       | else-not-contains-via-else-not-contains w ↦
-          subst (λ (s : KeptMarks). IsGathering allowance is_false xs (drop (k + 1) xs) lows highs s.lows.items s.highs.items)
+          subst (λ (s : KeptMarks).
+          IsGathering allowance is_false xs (drop (k + 1) xs) lows highs s.lows.items s.highs.items)
           (sym w.self-is)
           (past_liar allowance is_false x (drop (k + 1) xs) xs lows highs now.lows.items now.highs.items before
           (sym c.contains.ensures.value ∙ w.if-not-contains.false))

@@ -38,7 +38,8 @@ returns-then-not-branch-clause-possible g c =
     first_left g.X.ToExchange.shown c.args.exchanges.now k c.exchange-item.result at x c.to_exchange-exchange.ensures in
     let lawful = lawful_shown g.X.ToExchange.shown c.args.exchanges.now k c.exchange-item.result at
     (length c.args.claim.now.servers.items) x c.to_exchange-exchange.ensures c.requires.exchanges in
-    let below : x.server < length groups = subst (λ n. x.server < n) (sym c.requires.claim.group_for_each) lawful.listed in
+    let below : x.server < length groups =
+    subst (λ n. x.server < n) (sym c.requires.claim.group_for_each) lawful.listed in
     let lows = c.args.self.now.lows.items in
     let highs = c.args.self.now.highs.items in
     let now = c.loop-exchange.self in
@@ -62,7 +63,8 @@ loop-exchange-preserved g c =
     first_left g.X.ToExchange.shown c.args.exchanges.now k c.exchange-item.result at x c.to_exchange-exchange.ensures in
     let lawful = lawful_shown g.X.ToExchange.shown c.args.exchanges.now k c.exchange-item.result at
     (length c.args.claim.now.servers.items) x c.to_exchange-exchange.ensures c.requires.exchanges in
-    let below : x.server < length groups = subst (λ n. x.server < n) (sym c.requires.claim.group_for_each) lawful.listed in
+    let below : x.server < length groups =
+    subst (λ n. x.server < n) (sym c.requires.claim.group_for_each) lawful.listed in
     let lows = c.args.self.now.lows.items in
     let highs = c.args.self.now.highs.items in
     let now = c.loop-exchange.self in
@@ -71,7 +73,8 @@ loop-exchange-preserved g c =
     c.loop-exchange.invariant in
     elim c.else-is_inside.branch [
       | else-is_inside-via-then-is_inside+in_ok-add+else-not-branch w ↦
-          subst (λ (s : KeptMarks). IsGathering allowance is_false xs (drop (k + 1) xs) lows highs s.lows.items s.highs.items)
+          subst (λ (s : KeptMarks).
+          IsGathering allowance is_false xs (drop (k + 1) xs) lows highs s.lows.items s.highs.items)
           (sym w.self-is)
           (past_kept allowance is_false x (drop (k + 1) xs) xs lows highs now.lows.items now.highs.items before
           _ _ (is_inside groups c.args.group x.server c.index.result.now below c.index.ensures w.if-is_inside.true)
@@ -79,7 +82,8 @@ loop-exchange-preserved g c =
           (w.in_ok-add.ensures.lows w.if-not-branch.false) (w.in_ok-add.ensures.highs w.if-not-branch.false)
           (w.in_ok-add.ensures.low_range w.if-not-branch.false) (w.in_ok-add.ensures.high_range w.if-not-branch.false))
       | else-is_inside-via-else-is_inside w ↦
-          subst (λ (s : KeptMarks). IsGathering allowance is_false xs (drop (k + 1) xs) lows highs s.lows.items s.highs.items)
+          subst (λ (s : KeptMarks).
+          IsGathering allowance is_false xs (drop (k + 1) xs) lows highs s.lows.items s.highs.items)
           (sym w.self-is)
           (past_liar allowance is_false x (drop (k + 1) xs) xs lows highs now.lows.items now.highs.items before
           (isnt_inside groups c.args.group x.server c.index.result.now below c.index.ensures w.if-is_inside.false))

@@ -13,7 +13,7 @@ use Rattle.pcap_reader.proofs.Intake.{refilled, refilled_twice, Refills-takes, l
 use Rattle.pcap_reader.proofs.NextRecord.{head_held, IsNext-same, says_nothing, next_end, next_fault, next_torn, next_whole}
 use Rattle.pcap_reader.proofs.Ranges.{length-range}
 use Rattle.pcap_reader.proofs.Step.{unfailed_iff, record_fault_may, record_fault_counts, record_fault_iff}
-use Rattle.pcap_reader.proofs.Undecided.{in_time_head, in_time_record, in_time_fault}
+use Rattle.pcap_reader.proofs.ShortBytes.{in_time_head, in_time_record, in_time_fault}
 use Rattle.pcap_reader.proofs.capture.Capture.read_record.Goals as goal
 
 pub returns-in_default : goal.returns-in_default

@@ -5,7 +5,7 @@ use Rattle.pcap_reader.specs.Remaining.{coming_from}
 use Rattle.pcap_reader.proofs.Remaining.{coming_from-nil, coming_from_fault, coming_from_read, next_is_fault}
 use Rattle.pcap_reader.specs.Source.{TakesFrom-none}
 use Rattle.pcap_reader.proofs.Step.{unfailed_iff, record_fault_may, record_fault_counts, record_fault_iff}
-use Rattle.pcap_reader.proofs.Undecided.{in_time_fault}
+use Rattle.pcap_reader.proofs.ShortBytes.{in_time_fault}
 use Rattle.pcap_reader.proofs.whole.WholeRecordSource.next_record.Goals as goal
 
 pub returns-then-is_empty : goal.returns-then-is_empty

@@ -3,7 +3,7 @@ use Rattle.std.proofs.lemmas.Int.{to_z-of_z}
 use Rattle.std.proofs.lemmas.List.{length-map}
 use mir.Syntax.{w128}
 use mir.Val.{SFits}
-use Rattle.sample_interval.proofs.SourceLemmas.{of_some_claim, sample_made}
+use Rattle.sample_interval.proofs.HeldSamples.{of_some_claim, sample_made}
 use Rattle.sample_interval.proofs.exchange_samples.ExchangeSamplesSampleSource.sample_at.Goals as goal
 
 pub sample-requires-clause-exchange : goal.sample-requires-clause-exchange

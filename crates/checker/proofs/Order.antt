@@ -24,7 +24,7 @@ use Rattle.span_cover.specs.declared.stretch.Stretch.{Stretch}
 use Rattle.checker.specs.declared.verdict.Verdict.TheVariants.{Yes}
 use Rattle.checker.specs.declared.verdict.Why.{Why}
 use Rattle.checker.specs.declared.verdict.Why.TheVariants.{MixedServers, RepeatedServer}
-use Rattle.checker.proofs.ComparisonLemmas.{Follows, verdict_follows, all_follow, piece_follows}
+use Rattle.checker.proofs.Comparison.{Follows, verdict_follows, all_follow, piece_follows}
 
 -- one of the parts is of this server
 abbrev pub names : ℕ → List Part → Bool

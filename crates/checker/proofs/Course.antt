@@ -12,7 +12,7 @@ use Rattle.checker.specs.Groups.{holds_false, false_group_count}
 use Rattle.span_cover.specs.Group.{numbers_below}
 use Rattle.checker.specs.PieceFit.{OfEachEntry, FitsPiece}
 use Rattle.checker.specs.Traceability.{IsTraceable}
-use Rattle.checker.proofs.PieceFitLemmas.{few_from_count}
+use Rattle.checker.proofs.PieceFit.{few_from_count}
 use Rattle.claim_file.specs.Worked.{worked_second, worked_claim}
 use Rattle.checker.specs.WorkedCourse.{worked_exchange, moment_with, served_course, slow_reply, slow_course, slow_claim, earlier_exchange, stepped_course, lone_course}
 

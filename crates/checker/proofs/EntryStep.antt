@@ -21,8 +21,8 @@ use Rattle.span_cover.specs.declared.stretch.Stretch.{Stretch}
 use Rattle.checker.specs.declared.verdict.Verdict.TheVariants.{Yes}
 use Rattle.checker.specs.declared.verdict.Why.{Why}
 use Rattle.checker.specs.declared.verdict.Why.TheVariants.{BadSample, MixedServers, RepeatedServer}
-use Rattle.checker.proofs.PartLemmas.{by_test}
-use Rattle.checker.proofs.ComparisonLemmas.{FaultIs, Follows, verdict_follows, all_follow, piece_follows, EveryHull, hull_follows}
+use Rattle.checker.proofs.Part.{by_test}
+use Rattle.checker.proofs.Comparison.{FaultIs, Follows, verdict_follows, all_follow, piece_follows, EveryHull, hull_follows}
 
 -- if there is a first, there is a second too, and it leaves out whatever the first leaves out
 abbrev pub Narrows : Option Interval → Option Interval → Type 0

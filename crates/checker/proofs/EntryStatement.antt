@@ -16,7 +16,7 @@ use Rattle.span_cover.specs.declared.part.Part.{Part}
 use Rattle.span_cover.specs.declared.stretch.Stretch.{Stretch}
 use Rattle.checker.specs.declared.verdict.Why.{Why}
 use Rattle.checker.specs.declared.verdict.Why.TheVariants.{MixedServers, RepeatedServer}
-use Rattle.checker.proofs.PartLemmas.{by_test, same_server, accepted}
+use Rattle.checker.proofs.Part.{by_test, same_server, accepted}
 
 -- what follows of each pair of two lists holds of all of the second
 pub zip_all : {X Y : Type 0} (R : X → Y → Type 0) (P : Y → Type 0) (xs : List X) (ys : List Y) → AllZip R xs ys

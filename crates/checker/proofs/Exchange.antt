@@ -8,7 +8,7 @@ use Rattle.claim_file.specs.Claim.{ClaimData, IsLawful}
 use Rattle.pairing.specs.Exchange.{IsLawful as IsLawfulExchange}
 use Rattle.pairing.specs.declared.exchange.Exchange.{Exchange}
 use Rattle.sample_interval.specs.Sample.{sample_of, IsLawfulSample}
-use Rattle.sample_interval.proofs.SampleLemmas as sample
+use Rattle.sample_interval.proofs.ExchangeSample as sample
 use Rattle.checker.specs.Traceability.{samples_of}
 
 -- what the element at a place shows is lawful, if all that is shown is

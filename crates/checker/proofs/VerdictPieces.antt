@@ -20,7 +20,7 @@ use Rattle.checker.specs.declared.verdict.Verdict.{Verdict}
 use Rattle.checker.specs.declared.verdict.Verdict.TheVariants.{Yes, No}
 use Rattle.checker.specs.declared.verdict.Why.{Why}
 use Rattle.checker.specs.declared.verdict.Why.TheVariants.{Cut, BadSample, MixedServers, RepeatedServer, Contradiction, Exceeds, Uncovered}
-use Rattle.checker.proofs.PartLemmas.{by_test}
+use Rattle.checker.proofs.Part.{by_test}
 
 pub empty_hull : (bound : ℤ) (hull : Hull) → hull_fault bound hull ≡ Some Contradiction → hull ≡ Empty
 empty_hull bound Unbounded e = absurd cc

@@ -16,7 +16,7 @@ use Rattle.checker.specs.Course.{Course, Fits, IsClientMoment, ReadsInWindows, C
 use Rattle.checker.specs.Refutation.{is_liar, AdmitsError, Admits, IsRefuted, SharesRequests, HasCourse, SomeCourseFits}
 use Rattle.checker.specs.Traceability.{IsObservedIn, IsTraceable, samples_of}
 use Rattle.checker.specs.WorkedCourse.{moment_with}
-use Rattle.checker.proofs.PartLemmas.{by_test}
+use Rattle.checker.proofs.Part.{by_test}
 
 -- ---- bounds
 

@@ -20,8 +20,8 @@ use Rattle.checker.specs.declared.verdict.Verdict.{Verdict}
 use Rattle.checker.specs.declared.verdict.Verdict.TheVariants.{Yes, No}
 use Rattle.checker.specs.declared.verdict.Why.{Why}
 use Rattle.checker.specs.declared.verdict.Why.TheVariants.{Cut, Contradiction, Exceeds, Uncovered}
-use Rattle.checker.proofs.PartLemmas.{by_test}
-use Rattle.checker.proofs.VerdictLemmas.{yes_step}
+use Rattle.checker.proofs.Part.{by_test}
+use Rattle.checker.proofs.VerdictPieces.{yes_step}
 
 -- no fault, or such a one
 abbrev pub FaultIs : (Why → Type 0) → Option Why → Type 0

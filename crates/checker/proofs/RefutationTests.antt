@@ -13,8 +13,8 @@ use Rattle.sample_interval.specs.Window.{request_start, reply_end}
 use Rattle.span_cover.specs.Group.{numbers_below}
 use Rattle.checker.specs.Refutation.{is_liar, Admits, IsAgainst, IsRefuted}
 use Rattle.checker.specs.RefutationTest.{admits, allows, are_different, is_against, is_refuted}
-use Rattle.checker.proofs.CountingLemmas.{fails_below}
-use Rattle.checker.proofs.PartLemmas.{by_test}
+use Rattle.checker.proofs.Counting.{fails_below}
+use Rattle.checker.proofs.Part.{by_test}
 
 -- ---- tests of the numbers from 0 on
 

@@ -13,7 +13,7 @@ use Rattle.sample_interval.specs.Window.{request_start, reply_end}
 use Rattle.checker.specs.Course.{Course}
 use Rattle.checker.specs.Refutation.{is_liar, AdmitsError, Admits, IsAgainst, IsRefuted, IsCourseOf, ShowsThroughout}
 use Rattle.checker.specs.Traceability.{IsObservedIn, IsWithin}
-use Rattle.checker.proofs.PartLemmas.{by_test}
+use Rattle.checker.proofs.Part.{by_test}
 
 -- ---- what a course says about the stamps
 

@@ -11,7 +11,8 @@ use Rattle.marks.specs.Line.{rising_line}
 use Rattle.marks.specs.Mark.{AreCompatible}
 use Rattle.marks.specs.declared.mark.Mark.{Mark}
 use Rattle.marks.specs.declared.direction.Direction.TheVariants.{Falling, Rising}
-use Rattle.marks.proofs.PairLemmas.{falls_line, rises_line, rising_lines}
+use Rattle.marks.proofs.MarkPair.{falls_line, rises_line, rising_lines}
+use Rattle.marks.proofs.Passage.{up_to}
 
 pub no_truth : IsTrue false → ⊥
 no_truth t = cc
@@ -48,14 +49,29 @@ both_ways a b p q = omega (arith, ints)
 as_far : (a b : ℤ) → a ≡ b → a ≤ℤ b
 as_far a b e = omega (arith, ints)
 
-not_behind : (a b : ℤ) → a ≡ b → b <ℤ a → ⊥
-not_behind a b e h = omega (arith, ints)
-
 no_further : (a b : ℤ) → a <ℤ b → a ≤ℤ b
 no_further a b h = omega (arith, ints)
 
 upright : (a b : ℤ) → neg_ℤ b ≤ℤ neg_ℤ a → a ≤ℤ b
 upright a b h = omega (arith, ints)
+
+some_ahead : (n : ℕ) (z : ℤ) → pos 0 ≤ℤ z → pos 0 ≤ℤ (pos n *ℤ z)
+some_ahead n (pos x) h = omega (arith, ints)
+some_ahead n (negsuc x) h = absurd (omega (arith, ints))
+
+ahead : (a b : ℤ) → a ≤ℤ b → pos 0 ≤ℤ (b -ℤ a)
+ahead a b h = omega (arith, ints)
+
+-- a low mark that is no higher is compatible wherever it stands
+pub no_higher : (ppb : ℕ) (low high : Mark) → low.error ≤ℤ high.error → AreCompatible ppb low high
+no_higher ppb low high le = record {
+  falls = λ before. up_to _ (pos 0) _
+      (none_above (billion - ppb) (low.error -ℤ high.error) (no_less low.error high.error le))
+      (some_ahead ppb (high.place -ℤ low.place) (ahead low.place high.place before));
+  rises = λ after. up_to _ (pos 0) _
+      (none_above (billion + ppb) (low.error -ℤ high.error) (no_less low.error high.error le))
+      (some_ahead ppb (low.place -ℤ high.place) (omega (arith, ints)));
+}
 
 -- at one place two marks are compatible exactly if the low one lies no higher
 pub at_one_place : (ppb : ℕ) (low high : Mark) → IsRate ppb → low.place ≡ high.place →
@@ -65,11 +81,7 @@ at_one_place ppb low high rate same = (
       (some_above (billion - ppb) (low.error -ℤ high.error) (omega arith)
       (rw (no_advance ppb (high.place -ℤ low.place) (none_between low.place high.place same)) at
       (fits.falls (as_far low.place high.place same)))),
-  λ le. record {
-    falls = λ before. rw (no_advance ppb (high.place -ℤ low.place) (none_between low.place high.place same))
-        (none_above (billion - ppb) (low.error -ℤ high.error) (no_less low.error high.error le));
-    rises = λ after. absurd (not_behind low.place high.place same after);
-  },
+  no_higher ppb low high,
 )
 
 -- and then its rising line lies no higher

@@ -13,7 +13,7 @@ use Rattle.checker.specs.Groups.{holds_false, false_group_count}
 use Rattle.span_cover.specs.Group.{numbers_below}
 use Rattle.span_cover.specs.Group.{meet_of, narrowed, group_interval, group_intervals}
 use Rattle.span_cover.specs.declared.part.Part.{Part}
-use Rattle.checker.proofs.PartLemmas.{by_test}
+use Rattle.checker.proofs.Part.{by_test}
 
 -- ---- tests that fail
 

@@ -10,7 +10,7 @@ use Rattle.sample_interval.specs.Exchange.{IsOfSomeClaim}
 use Rattle.sample_interval.proofs.Kept.{kept, stamp_is, kept_sum, kept_difference}
 use Rattle.marks.specs.Mark.{low_mark, high_mark, IsPossible}
 use Rattle.marks.specs.Range.{IsWithinRange}
-use Rattle.marks.proofs.PairLemmas.{le_from_test, lt_from_test, tests, not_both}
+use Rattle.marks.proofs.MarkPair.{le_from_test, lt_from_test, tests, not_both}
 use Rattle.marks.specs.declared.mark.Mark.{Mark}
 
 -- marks whose numbers are equal

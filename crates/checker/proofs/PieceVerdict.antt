@@ -14,7 +14,7 @@ use Rattle.checker.specs.declared.verdict.Verdict.{Verdict}
 use Rattle.checker.specs.declared.verdict.Verdict.TheVariants.{Yes, No}
 use Rattle.checker.specs.declared.verdict.Why.{Why}
 use Rattle.checker.specs.declared.verdict.Why.TheVariants.{Uncovered}
-use Rattle.checker.proofs.VerdictLemmas.{yes_step}
+use Rattle.checker.proofs.VerdictPieces.{yes_step}
 
 module _ (samples : List Sample) (claim : ClaimData) where
   -- the fault of a piece, by its number

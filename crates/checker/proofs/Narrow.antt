@@ -19,10 +19,10 @@ use Rattle.span_cover.specs.Group.{group_interval, group_intervals, piece_hull}
 use Rattle.checker.specs.Verdict.{parts_after, hull_fault}
 use Rattle.span_cover.specs.declared.part.Part.{Part}
 use Rattle.span_cover.specs.declared.stretch.Stretch.{Stretch}
-use Rattle.checker.proofs.PartLemmas.{by_test, all_parts}
-use Rattle.checker.proofs.ComparisonLemmas.{FaultIs, EveryHull, hull_follows}
-use Rattle.checker.proofs.VerdictLemmas.{empty_hull}
-use Rattle.checker.proofs.ApartLemmas.{IsOfEither, passes, group_passes, counted, meet_leaves_it_out, all_counted}
+use Rattle.checker.proofs.Part.{by_test, all_parts}
+use Rattle.checker.proofs.Comparison.{FaultIs, EveryHull, hull_follows}
+use Rattle.checker.proofs.VerdictPieces.{empty_hull}
+use Rattle.checker.proofs.Separation.{IsOfEither, passes, group_passes, counted, meet_leaves_it_out, all_counted}
 
 module _ (p : Interval → Bool) (either : IsOfEither p)
     (narrower : (part next : Part) → IsNarrower part next → p part.interval ≡ true → p next.interval ≡ true)

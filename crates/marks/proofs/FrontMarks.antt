@@ -9,7 +9,7 @@ use Rattle.marks.specs.Compatible.{AllCompatible}
 use Rattle.marks.specs.Conflict.{FitsAll, AreInFront}
 use Rattle.marks.specs.Mark.{AreCompatible}
 use Rattle.marks.specs.declared.mark.Mark.{Mark}
-use Rattle.marks.proofs.PassageLemmas.{at_any}
+use Rattle.marks.proofs.Passage.{at_any}
 
 within_both : (X : Type 0) (P : X → Type 0) (xs : List X) (low middle high : ℕ) → AllWithin P xs low middle
     → AllWithin P xs middle high → AllWithin P xs low high

@@ -6,8 +6,8 @@ use Rattle.std.proofs.Math.Nat.{mul-le-mul_left, mul-le-mul_right}
 use Rattle.sample_interval.specs.Widening.{billion, IsRate}
 use Rattle.marks.specs.Mark.{AreCompatible}
 use Rattle.marks.specs.declared.mark.Mark.{Mark}
-use Rattle.marks.proofs.PairLemmas.{times-sub}
-use Rattle.marks.proofs.CompatibleLemmas.{none_above, some_above, no_less}
+use Rattle.marks.proofs.MarkPair.{times-sub}
+use Rattle.marks.proofs.Compatibility.{none_above, some_above, no_less, no_higher}
 
 -- n times an order
 times_le : (n : ℕ) (a b : ℤ) → a ≤ℤ b → (pos n *ℤ a) ≤ℤ (pos n *ℤ b)
@@ -89,9 +89,6 @@ from_none n z x y some h =
     let none = some_above n (x -ℤ y) some (rw (zero_times z) at h) in
     omega (arith, ints)
 
-to_none : (n : ℕ) (z x y : ℤ) → x ≤ℤ y → (pos n *ℤ (x -ℤ y)) ≤ℤ (pos 0 *ℤ z)
-to_none n z x y h = rw (zero_times z) (none_above n (x -ℤ y) (no_less x y h))
-
 pub without_drift : (low high : Mark) → AreCompatible 0 low high ↔ (low.error ≤ℤ high.error)
 without_drift low high = (
   λ fits. by_lt_z high.place low.place
@@ -99,10 +96,7 @@ without_drift low high = (
       (fits.rises behind))
       (λ before. from_none (billion - 0) (high.place -ℤ low.place) low.error high.error (omega arith)
       (fits.falls before)),
-  λ le. record {
-    falls = λ before. to_none (billion - 0) (high.place -ℤ low.place) low.error high.error le;
-    rises = λ behind. to_none (billion + 0) (low.place -ℤ high.place) low.error high.error le;
-  },
+  no_higher 0 low high,
 )
 
 -- ---- weaker marks

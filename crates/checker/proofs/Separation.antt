@@ -26,11 +26,11 @@ use Rattle.span_cover.specs.declared.part.Part.{Part}
 use Rattle.span_cover.specs.declared.stretch.Stretch.{Stretch}
 use Rattle.checker.specs.declared.verdict.Verdict.TheVariants.{Yes}
 use Rattle.checker.specs.declared.verdict.Why.{Why}
-use Rattle.checker.proofs.PartLemmas.{by_test, listed_parts}
-use Rattle.checker.proofs.CountingLemmas.{fails_below}
-use Rattle.checker.proofs.ComparisonLemmas.{FaultIs, verdict_follows, all_follow, piece_follows, EveryHull, hull_follows}
-use Rattle.checker.proofs.EntryLemmas.{held_ends, held_test, meet_leaves_out}
-use Rattle.checker.proofs.OrderLemmas.{meet_turned}
+use Rattle.checker.proofs.Part.{by_test, listed_parts}
+use Rattle.checker.proofs.Counting.{fails_below}
+use Rattle.checker.proofs.Comparison.{FaultIs, verdict_follows, all_follow, piece_follows, EveryHull, hull_follows}
+use Rattle.checker.proofs.EntryStep.{held_ends, held_test, meet_leaves_out}
+use Rattle.checker.proofs.Order.{meet_turned}
 
 -- ---- counts of the numbers below n
 

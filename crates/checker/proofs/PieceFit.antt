@@ -14,8 +14,8 @@ use Rattle.checker.specs.Course.{Course, Fits}
 use Rattle.checker.specs.Groups.{holds_false, false_group_count}
 use Rattle.span_cover.specs.Group.{numbers_below}
 use Rattle.checker.specs.PieceFit.{HasFewFalse, OfEachEntry, FitsPiece}
-use Rattle.checker.proofs.CountingLemmas.{fails_below}
-use Rattle.checker.proofs.PartLemmas.{by_test}
+use Rattle.checker.proofs.Counting.{fails_below}
+use Rattle.checker.proofs.Part.{by_test}
 
 -- ---- numbers
 

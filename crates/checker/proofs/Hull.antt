@@ -24,10 +24,10 @@ use Rattle.checker.specs.PieceFit.{FitsPiece}
 use Rattle.checker.specs.Traceability.{samples_of, IsObservedIn, IsInHull, HoldsError, HoldsErrorOfPiece}
 use Rattle.span_cover.specs.declared.part.Part.{Part}
 use Rattle.span_cover.specs.declared.stretch.Stretch.{Stretch}
-use Rattle.checker.proofs.PartLemmas.{All-slice_get}
-use Rattle.checker.proofs.CountingLemmas.{few_leave_it_out}
-use Rattle.checker.proofs.PieceFitLemmas.{counts_as_false, count_from_few, true_if_uncounted, fits_piece}
-use Rattle.checker.proofs.SaidLemmas.{zip_all}
+use Rattle.checker.proofs.Part.{All-slice_get}
+use Rattle.checker.proofs.Counting.{few_leave_it_out}
+use Rattle.checker.proofs.PieceFit.{counts_as_false, count_from_few, true_if_uncounted, fits_piece}
+use Rattle.checker.proofs.EntryStatement.{zip_all}
 
 -- the law on the error throughout a piece
 abbrev pub PieceLaw : Type 0

@@ -23,11 +23,11 @@ use Rattle.span_cover.specs.declared.stretch.Stretch.{Stretch}
 use Rattle.checker.specs.declared.verdict.Verdict.TheVariants.{Yes, No}
 use Rattle.checker.specs.declared.verdict.Why.{Why}
 use Rattle.checker.specs.declared.verdict.Why.TheVariants.{Cut, MixedServers, RepeatedServer, Uncovered}
-use Rattle.checker.proofs.PartLemmas.{All-slice_get, by_test}
-use Rattle.checker.proofs.VerdictLemmas.{yes_step, yes_end}
-use Rattle.checker.proofs.ComparisonLemmas.{FaultIs, fails_here, EveryHull}
-use Rattle.checker.proofs.NarrowLemmas.{narrower_hull}
-use Rattle.checker.proofs.OrderLemmas.{names, begins, begin_with}
+use Rattle.checker.proofs.Part.{All-slice_get, by_test}
+use Rattle.checker.proofs.VerdictPieces.{yes_step, yes_end}
+use Rattle.checker.proofs.Comparison.{FaultIs, fails_here, EveryHull}
+use Rattle.checker.proofs.Narrow.{narrower_hull}
+use Rattle.checker.proofs.Order.{names, begins, begin_with}
 
 -- the laws of the layer below: a piece inside another has narrower intervals
 pub record PieceLaws : Type 0 where

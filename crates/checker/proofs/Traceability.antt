@@ -25,10 +25,10 @@ use Rattle.span_cover.specs.declared.stretch.Stretch.{Stretch}
 use Rattle.checker.specs.declared.verdict.Verdict.TheVariants.{Yes, No}
 use Rattle.checker.specs.declared.verdict.Why.{Why}
 use Rattle.checker.specs.declared.verdict.Why.TheVariants.{Contradiction}
-use Rattle.checker.proofs.CoverLemmas.{all_covered, piece_at, stretch_of_piece}
-use Rattle.checker.proofs.PieceLemmas.{each_passes}
-use Rattle.checker.proofs.SaidLemmas.{said_from}
-use Rattle.checker.proofs.VerdictLemmas.{HullGives, empty_hull, inside_from, from_hull, tested, yes_end, no_at}
+use Rattle.checker.proofs.Cover.{all_covered, piece_at, stretch_of_piece}
+use Rattle.checker.proofs.PieceVerdict.{each_passes}
+use Rattle.checker.proofs.EntryStatement.{said_from}
+use Rattle.checker.proofs.VerdictPieces.{HullGives, empty_hull, inside_from, from_hull, tested, yes_end, no_at}
 
 -- ---- bounds
 

@@ -17,8 +17,8 @@ use Rattle.checker.specs.Verdict.{parts_after, hull_fault, parts_fault, piece_fa
 use Rattle.span_cover.specs.declared.stretch.Stretch.{Stretch}
 use Rattle.checker.specs.declared.verdict.Verdict.TheVariants.{Yes}
 use Rattle.checker.specs.declared.verdict.Why.TheVariants.{Cut}
-use Rattle.checker.proofs.SaidLemmas.{said_from, taken_from}
-use Rattle.checker.proofs.VerdictLemmas.{HullGives, tested, inside_from, none_from_inside}
+use Rattle.checker.proofs.EntryStatement.{said_from, taken_from}
+use Rattle.checker.proofs.VerdictPieces.{HullGives, tested, inside_from, none_from_inside}
 
 -- the laws that the argument stands on
 pub record Laws : Type 0 where

@@ -1,37 +1,17 @@
 -- The high marks but those with the greatest error say as much as all of them.
-use Rattle.std.proofs.Common.{◌≡◌, ℕ, ◌+◌, ◌-◌, ◌^◌, ◌<◌, ◌≤◌, ℤ, pos, negsuc, ◌-ℤ◌, ◌*ℤ◌, ◌≤ℤ◌, ◌↔◌, false, to_z, of_z, List, [], ◌∷◌, ◌++◌, length, get_or, sym, subst, arith}
+use Rattle.std.proofs.Common.{◌≡◌, ℕ, ◌+◌, ◌^◌, ◌<◌, ◌≤◌, ℤ, pos, ◌≤ℤ◌, ◌↔◌, false, to_z, of_z, List, [], ◌∷◌, ◌++◌, length, get_or, sym, subst, arith}
 use lib.Signed.{lt_z}
 use mir.Syntax.{w128}
 use Rattle.std.specs.List.{All, AllWithin}
 use Rattle.std.proofs.lemmas.Int.{ints}
 use Rattle.std.proofs.lemmas.List.Elements.{All-cons, All-from_all_within, All-head, All-nil, All-push, All-tail, AllWithin-from_all, AllWithin-more, AllWithin-none, AllWithin-upto}
 use Rattle.sample_interval.proofs.Kept.{kept as kept_as_it_is}
-use Rattle.sample_interval.specs.Widening.{billion}
 use Rattle.marks.specs.Conflict.{AreInFront, FitsAll}
 use Rattle.marks.specs.Mark.{AreCompatible}
 use Rattle.marks.specs.Range.{IsWithinRange}
 use Rattle.marks.specs.declared.mark.Mark.{Mark}
-use Rattle.marks.proofs.CompatibleLemmas.{no_less, none_above}
-use Rattle.marks.proofs.PassageLemmas.{at_any, up_to}
-
--- ---- a low mark that is no higher is compatible wherever it stands
-
-some_ahead : (n : ℕ) (z : ℤ) → pos 0 ≤ℤ z → pos 0 ≤ℤ (pos n *ℤ z)
-some_ahead n (pos x) h = omega (arith, ints)
-some_ahead n (negsuc x) h = absurd (omega (arith, ints))
-
-ahead : (a b : ℤ) → a ≤ℤ b → pos 0 ≤ℤ (b -ℤ a)
-ahead a b h = omega (arith, ints)
-
-no_higher : (ppb : ℕ) (low high : Mark) → low.error ≤ℤ high.error → AreCompatible ppb low high
-no_higher ppb low high le = record {
-  falls = λ before. up_to _ (pos 0) _
-      (none_above (billion - ppb) (low.error -ℤ high.error) (no_less low.error high.error le))
-      (some_ahead ppb (high.place -ℤ low.place) (ahead low.place high.place before));
-  rises = λ after. up_to _ (pos 0) _
-      (none_above (billion + ppb) (low.error -ℤ high.error) (no_less low.error high.error le))
-      (some_ahead ppb (low.place -ℤ high.place) (omega (arith, ints)));
-}
+use Rattle.marks.proofs.Compatibility.{no_higher}
+use Rattle.marks.proofs.Passage.{at_any}
 
 split_last : (P : Mark → Type 0) (ms : List Mark) (m : Mark) → All P (ms ++ m ∷ []) → All P ms × P m
 split_last P [] m all = (All-nil P, All-head P m [] all)
@@ -44,8 +24,10 @@ split_last P (x ∷ ms) m all =
 -- what is kept says as much to a low mark as the first n high marks
 pub record StandFor (highs kept : List Mark) (n : ℕ) : Type 0 where
   pub range : All IsWithinRange kept
-  pub fits : (ppb : ℕ) (low : Mark) → IsWithinRange low → AllWithin (AreCompatible ppb low) highs 0 n → FitsAll ppb kept low
-  pub back : (ppb : ℕ) (low : Mark) → IsWithinRange low → FitsAll ppb kept low → AllWithin (AreCompatible ppb low) highs 0 n
+  pub fits : (ppb : ℕ) (low : Mark) → IsWithinRange low → AllWithin (AreCompatible ppb low) highs 0 n
+      → FitsAll ppb kept low
+  pub back : (ppb : ℕ) (low : Mark) → IsWithinRange low → FitsAll ppb kept low
+      → AllWithin (AreCompatible ppb low) highs 0 n
 
 pub stand_for_none : (highs kept : List Mark) → kept ≡ [] → StandFor highs kept 0
 stand_for_none highs kept none = record {
