@@ -9,8 +9,8 @@ use Rattle.checker.specs.Verdict.{verdict_of}
 use Rattle.checker.specs.declared.verdict.Verdict.TheVariants.{Yes}
 use Rattle.finder.specs.Fewest.{AreLongest}
 use Rattle.finder.specs.Samples.{AreSamplesOf}
-use Rattle.finder.proofs.FewestLemmas.{InSpan, Laws, end_in_span, first_in_span, no_further, pass_of}
-use Rattle.finder.proofs.RefusalLemmas.{Pass}
+use Rattle.finder.proofs.FewestPieces.{InSpan, Laws, end_in_span, first_in_span, no_further, pass_of}
+use Rattle.finder.proofs.Refusal.{Pass}
 
 module _ (laws : Laws) (samples : List Sample) (claim : ClaimData) (lawful : IsLawful claim)
     (are : AreSamplesOf claim samples) where

@@ -3,7 +3,7 @@ use Rattle.std.proofs.Common.{◌≡◌, ℕ, ◌<◌, List, length, get_or, sub
 use Rattle.std.specs.Prelude.{map, All}
 use Rattle.pairing.specs.Exchange.{IsLawful}
 use Rattle.pairing.specs.declared.exchange.Exchange.{Exchange}
-use Rattle.finder.proofs.RoomsLemmas.{shown_here, within_shown}
+use Rattle.finder.proofs.Rooms.{shown_here, within_shown}
 
 module _ {X : Type 0} (shown : X → Exchange) (held : List X) (index : ℕ) (item : X) (x : Exchange)
     (below : index < length held) (is : item ≡ get_or held index item) (says : x ≡ shown item) where

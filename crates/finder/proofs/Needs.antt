@@ -11,7 +11,7 @@ use Rattle.finder.specs.Envelope.{HasNoEnds, reach_of}
 use Rattle.finder.specs.Fewest.{IsNoWider, hull_over, next_tick, stretch_over}
 use Rattle.finder.specs.Need.{IsTick, need_at, need_of, tick_hull}
 use Rattle.finder.specs.Samples.{AreSamplesOf}
-use Rattle.finder.proofs.NarrowLemmas.{WithinLaw}
+use Rattle.finder.proofs.Narrow.{WithinLaw}
 use Rattle.finder.proofs.UnboundedHulls.{UnboundedLaw}
 
 -- ---- of hulls

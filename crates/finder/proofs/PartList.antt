@@ -14,9 +14,9 @@ use Rattle.claim_file.specs.Group.{servers_of}
 use Rattle.finder.specs.Entry.{best_entries, best_hull, parts_named}
 use Rattle.finder.specs.Fewest.{stretch_over}
 use Rattle.finder.specs.TickParts.{best_part, best_parts}
-use Rattle.finder.proofs.BestLemmas.{BestLaw}
-use Rattle.finder.proofs.ListLemmas.{range_more}
-use Rattle.finder.proofs.PartLemmas.{parts_said}
+use Rattle.finder.proofs.Best.{BestLaw}
+use Rattle.finder.proofs.List.{range_more}
+use Rattle.finder.proofs.Part.{parts_said}
 
 -- one sample more was taken
 pub gathered_more : (samples : List Sample) (i : ℕ) (s : Sample) (tick : ℤ) (ppb : ℕ) (best : Gathering)

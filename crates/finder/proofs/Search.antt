@@ -12,9 +12,9 @@ use Rattle.finder.specs.NeedSearch.{IsWithin127, beats, is_cut, may_beat, tick_n
 use Rattle.finder.specs.Samples.{AreSamplesOf}
 use Rattle.finder.specs.declared.neediest.StretchNeed.{StretchNeed}
 use Rattle.finder.specs.declared.neediest.TickNeed.{TickNeed}
-use Rattle.finder.proofs.ListLemmas.{by_test}
-use Rattle.finder.proofs.NarrowLemmas.{WithinLaw}
-use Rattle.finder.proofs.NearestLemmas.{int_cases}
+use Rattle.finder.proofs.List.{by_test}
+use Rattle.finder.proofs.Narrow.{WithinLaw}
+use Rattle.finder.proofs.Nearest.{int_cases}
 use Rattle.finder.proofs.Needs.{has_no_ends, same_tick, tick_end_within, tick_needs_no_more}
 use Rattle.finder.proofs.UnboundedHulls.{UnboundedLaw}
 

@@ -14,8 +14,8 @@ use Rattle.span_cover.specs.Group.{group_interval, group_intervals, numbers_belo
 use Rattle.span_cover.specs.declared.part.Part.{Part}
 use Rattle.span_cover.specs.declared.stretch.Stretch.{Stretch}
 use Rattle.finder.specs.Entry.{best_over, best_entries, best_hull, parts_named}
-use Rattle.finder.proofs.BestLemmas.{BestLaw, best_of_is, best_of_none}
-use Rattle.finder.proofs.GroupHullLemmas.{EveryHull, all_counted, counted, group_passes, passes}
+use Rattle.finder.proofs.Best.{BestLaw, best_of_is, best_of_none}
+use Rattle.finder.proofs.GroupHull.{EveryHull, all_counted, counted, group_passes, passes}
 
 -- the law on it
 abbrev pub UnboundedLaw : Type 0

@@ -26,11 +26,11 @@ use Rattle.finder.specs.Samples.{AreSamplesOf}
 use Rattle.finder.specs.declared.fewest.Fewest.TheVariants as found
 use Rattle.finder.specs.declared.need.LeastNeed.{LeastNeed}
 use Rattle.finder.specs.declared.neediest.TickNeed.{TickNeed}
-use Rattle.finder.proofs.BoundLemmas.{Roundings, enough, needed}
-use Rattle.finder.proofs.FewestLemmas.{Laws, some_over}
-use Rattle.finder.proofs.NearestLemmas.{int_cases}
+use Rattle.finder.proofs.Bound.{Roundings, enough, needed}
+use Rattle.finder.proofs.FewestPieces.{Laws, some_over}
+use Rattle.finder.proofs.Nearest.{int_cases}
 use Rattle.finder.proofs.Needs.{has_ends, tick_end_within, tick_is_piece, tick_to_last}
-use Rattle.finder.proofs.RefusalLemmas.{pass_each, some_and}
+use Rattle.finder.proofs.Refusal.{pass_each, some_and}
 use Rattle.finder.proofs.UnboundedHulls.{UnboundedLaw}
 
 -- more ticks are no fewer nanoseconds

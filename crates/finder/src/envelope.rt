@@ -2,6 +2,7 @@
 
 ghost use Rattle.std.specs.Prelude.{◌≡◌, ◌≤◌, IfOk, length};
 ghost use Rattle.claim_file.specs.Claim.{IsLawful, data_of as claim_data};
+ghost use Rattle.pairing.specs.Exchange.{most_exchanges};
 ghost use Rattle.finder.specs.Answer.{FindsEnvelope};
 ghost use Rattle.finder.specs.Envelope.{data_of, envelope_to, IsLawfulEnvelope};
 ghost use Rattle.finder.specs.Piece.{IsStep};
@@ -46,7 +47,7 @@ pub fn find_envelope(
 ) -> Result<Envelope, FindFault>
     requires claim { IsLawful (claim_data claim.now) }
     requires samples { AreSamplesOf (claim_data claim.now) samples.now }
-    requires few { length samples.now ≤ 1_000_000 }
+    requires few { length samples.now ≤ most_exchanges }
     requires step { IsStep step_s }
     ensures { FindsEnvelope samples.now (claim_data claim.now) step_s result }
 {
@@ -62,7 +63,7 @@ pub fn find_envelope_over<S: SampleSource>(
 ) -> Result<Envelope, FindFault>
     requires claim { IsLawful (claim_data claim.now) }
     requires samples { AreSamplesOf (claim_data claim.now) (S.samples samples) }
-    requires few { length (S.samples samples) ≤ 1_000_000 }
+    requires few { length (S.samples samples) ≤ most_exchanges }
     requires step { IsStep step_s }
     ensures { FindsEnvelope (S.samples samples) (claim_data claim.now) step_s result }
 {
@@ -76,7 +77,7 @@ pub fn find_envelope_over<S: SampleSource>(
     Ok(found)
 }
 
-// The envelope of the first `count` pieces.
+/// The envelope of the first `count` pieces.
 fn envelope_to<S: SampleSource>(
     alloc: Global,
     samples: S,
@@ -86,7 +87,7 @@ fn envelope_to<S: SampleSource>(
 ) -> Result<Envelope, AllocError>
     requires claim { IsLawful (claim_data claim.now) }
     requires samples { AreSamplesOf (claim_data claim.now) (S.samples samples) }
-    requires few { length (S.samples samples) ≤ 1_000_000 }
+    requires few { length (S.samples samples) ≤ most_exchanges }
     ensures value { IfOk result (λ found.
         data_of found ≡ envelope_to (S.samples samples) (claim_data claim.now) step_s count) }
     ensures lawful { IfOk result (IsLawfulEnvelope (length (S.samples samples))) }

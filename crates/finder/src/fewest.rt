@@ -3,6 +3,7 @@
 ghost use Rattle.std.specs.Prelude.{◌≡◌, ◌≤◌, IfOk, length, map};
 ghost use Rattle.certificate.specs.Certificate.{piece_data};
 ghost use Rattle.claim_file.specs.Claim.{IsLawful, data_of as claim_data};
+ghost use Rattle.pairing.specs.Exchange.{most_exchanges};
 ghost use Rattle.sweep.specs.Pieces.{ArePieces};
 ghost use Rattle.finder.specs.Fewest.{pieces_over};
 ghost use Rattle.finder.specs.FewestAnswer.{FindsFewest};
@@ -54,7 +55,7 @@ pub enum Fewest {
 pub fn find_fewest(alloc: Global, samples: &[Sample], claim: &Claim) -> Result<Fewest, FindFault>
     requires claim { IsLawful (claim_data claim.now) }
     requires samples { AreSamplesOf (claim_data claim.now) samples.now }
-    requires few { length samples.now ≤ 1_000_000 }
+    requires few { length samples.now ≤ most_exchanges }
     ensures { FindsFewest samples.now (claim_data claim.now) result }
 {
     find_fewest_over(alloc, samples, claim)
@@ -68,7 +69,7 @@ pub fn find_fewest_over<S: SampleSource>(
 ) -> Result<Fewest, FindFault>
     requires claim { IsLawful (claim_data claim.now) }
     requires samples { AreSamplesOf (claim_data claim.now) (S.samples samples) }
-    requires few { length (S.samples samples) ≤ 1_000_000 }
+    requires few { length (S.samples samples) ≤ most_exchanges }
     ensures { FindsFewest (S.samples samples) (claim_data claim.now) result }
 {
     let tables = tables_for(alloc, samples, claim)?;
@@ -85,7 +86,7 @@ pub(crate) fn fewest_by<S: SampleSource>(
 ) -> Result<Fewest, FindFault>
     requires claim { IsLawful (claim_data claim.now) }
     requires samples { AreSamplesOf (claim_data claim.now) (S.samples samples) }
-    requires few { length (S.samples samples) ≤ 1_000_000 }
+    requires few { length (S.samples samples) ≤ most_exchanges }
     requires tables { AreTablesFor (S.samples samples) (claim_data claim.now) tables.now }
     ensures { FindsFewest (S.samples samples) (claim_data claim.now) result }
 {
@@ -117,7 +118,7 @@ fn certificate_over<S: SampleSource>(
 ) -> Result<Certificate, AllocError>
     requires claim { IsLawful (claim_data claim.now) }
     requires samples { AreSamplesOf (claim_data claim.now) (S.samples samples) }
-    requires few { length (S.samples samples) ≤ 1_000_000 }
+    requires few { length (S.samples samples) ≤ most_exchanges }
     requires pieces { ArePieces claim.now.first ends.now }
     ensures { IfOk result (λ found. map piece_data found.pieces.items
         ≡ pieces_over (S.samples samples) (claim_data claim.now) claim.now.first ends.now) }

@@ -2,6 +2,7 @@
 
 ghost use Rattle.std.specs.Prelude.{◌≡◌, ◌≤◌, IfOk, length};
 ghost use Rattle.claim_file.specs.Claim.{IsLawful, data_of as claim_data};
+ghost use Rattle.pairing.specs.Exchange.{most_exchanges};
 ghost use Rattle.finder.specs.Answer.{Finds};
 ghost use Rattle.finder.specs.Found.{data_of, found_without, first_failing};
 ghost use Rattle.finder.specs.Piece.{IsStep, count_of};
@@ -54,7 +55,7 @@ pub fn find(
 ) -> Result<Found, FindFault>
     requires claim { IsLawful (claim_data claim.now) }
     requires samples { AreSamplesOf (claim_data claim.now) samples.now }
-    requires few { length samples.now ≤ 1_000_000 }
+    requires few { length samples.now ≤ most_exchanges }
     requires step { IsStep step_s }
     ensures { Finds samples.now (claim_data claim.now) step_s result }
 {
@@ -70,7 +71,7 @@ pub fn find_over<S: SampleSource>(
 ) -> Result<Found, FindFault>
     requires claim { IsLawful (claim_data claim.now) }
     requires samples { AreSamplesOf (claim_data claim.now) (S.samples samples) }
-    requires few { length (S.samples samples) ≤ 1_000_000 }
+    requires few { length (S.samples samples) ≤ most_exchanges }
     requires step { IsStep step_s }
     ensures { Finds (S.samples samples) (claim_data claim.now) step_s result }
 {
@@ -88,7 +89,7 @@ pub fn find_over<S: SampleSource>(
     Ok(found)
 }
 
-// The pieces up to the first that fails.
+/// The pieces up to the first that fails.
 fn find_pieces<S: SampleSource>(
     alloc: Global,
     samples: S,
@@ -98,7 +99,7 @@ fn find_pieces<S: SampleSource>(
 ) -> Result<Found, AllocError>
     requires claim { IsLawful (claim_data claim.now) }
     requires samples { AreSamplesOf (claim_data claim.now) (S.samples samples) }
-    requires few { length (S.samples samples) ≤ 1_000_000 }
+    requires few { length (S.samples samples) ≤ most_exchanges }
     requires count { count ≡ count_of (claim_data claim.now) step_s }
     ensures { IfOk result (λ found. data_of found
         ≡ found_without (S.samples samples) (claim_data claim.now) step_s

@@ -1,5 +1,6 @@
 //! What holds of the definitions. A law is a function that does nothing: its contract is the law,
 //! for every number.
+
 ghost use Rattle.std.specs.Prelude.{◌≡◌, ◌⊎◌, ℕ, ◌<◌, ◌≤◌, ◌*◌, ℤ, ◌≤ℤ◌, pos, true, List, [], Ok, All, length, Option, slice_get};
 ghost use Rattle.certificate.specs.Certificate.{CertificateData, PieceData};
 ghost use Rattle.claim_file.specs.Claim.{ClaimData, IsLawful, max_drift_ppb};
@@ -216,8 +217,8 @@ pub fn least_need_is_one()
         IsLeastNeedIfAny samples claim a → IsLeastNeedIfAny samples claim b → a ≡ b }
 {}
 
-/// Of the pieces that are cut every so many seconds, the one with the neediest tick is the first
-/// with a tick that needs as much.
+/// If the span is cut at equal steps, the piece that holds the neediest tick is the first that holds
+/// a tick needing as much.
 pub fn piece_with_the_tick_is_the_first()
     ensures { (samples : List Sample) (claim : ClaimData) (step n : ℕ) (p : ℤ) → IsLawful claim →
         0 < step → IsNeediest samples claim p n →

@@ -1,8 +1,8 @@
 //! Finds certificates and refutations, and how good a bound the samples show.
 //!
-//! [`find`] cuts the span of a claim into pieces, takes for each server the samples that say most
-//! of each piece, and gives either a certificate, which the checker accepts, or the first piece of
-//! which these samples don't show enough. What it finds is a proposal: nothing rests on it before
+//! [`find`] cuts the span of a claim into pieces, takes the samples of each server that say most
+//! about each piece, and gives either a certificate, which the checker accepts, or the first piece
+//! about which they show too little. What it finds is a proposal: nothing rests on it before
 //! the checker has said yes. [`find_fewest`] makes each piece as long as the bound allows: no
 //! certificate that is accepted has fewer pieces, and where it finds none, none is accepted, unless
 //! the samples contradict each other. [`find_envelope`] takes the pieces of [`find`], and gives the
@@ -11,10 +11,11 @@
 //! [`least_bound`] gives the least bound that every tick of the span allows: no certificate has a
 //! lesser one. [`best_parts`] gives what each server says at one tick. [`find_refutation`] gives a
 //! refutation, which the checker accepts, unless it accepts none, and
-//! [`find_refutation_with_drift`] one of which the clock drifts, if it finds one with the groups of
+//! [`find_refutation_with_drift`] one whose error may drift, if it finds one with the groups of
 //! one of the given covers false. [`settle`] gives a certificate of fewest pieces or a refutation
 //! with drift; or else the tick where such pieces stop, or all conflicts if no course of events
 //! fits. [`laws`] has what holds of the definitions.
+
 #![tactic(auto)]
 
 mod drift_refutation;

@@ -3,6 +3,7 @@
 ghost use Rattle.std.specs.Prelude.{◌≡◌, ◌≤◌, pos, ◌+ℤ◌, ◌≤ℤ◌, true, List, length, IfOk};
 ghost use Rattle.std.specs.Int.{int_min};
 ghost use Rattle.claim_file.specs.Claim.{IsLawful, data_of};
+ghost use Rattle.pairing.specs.Exchange.{most_exchanges};
 ghost use Rattle.sample_interval.specs.declared.kinds.Sample.{Sample};
 ghost use Rattle.finder.specs.Entry.{best_hull};
 ghost use Rattle.finder.specs.Fewest.{IsLongest, shows, stretch_over};
@@ -29,7 +30,7 @@ pub(crate) fn tables_for<S: SampleSource>(
 ) -> Result<Vec<BestTable>, AllocError>
     requires claim { IsLawful (data_of claim.now) }
     requires samples { AreSamplesOf (data_of claim.now) (S.samples samples) }
-    requires few { length (S.samples samples) ≤ 1_000_000 }
+    requires few { length (S.samples samples) ≤ most_exchanges }
     ensures { IfOk result (λ tables.
         AreTablesFor (S.samples samples) (data_of claim.now) tables.items) }
 {

@@ -2,6 +2,7 @@
 
 ghost use Rattle.std.specs.Prelude.{◌≡◌, ◌<◌, ◌≤◌, ◌^◌, pos, ◌≤ℤ◌, length, List, Ok};
 ghost use Rattle.claim_file.specs.Claim.{IsLawful, data_of as claim_data};
+ghost use Rattle.pairing.specs.Exchange.{most_exchanges};
 ghost use Rattle.sample_interval.specs.declared.kinds.Sample.{Sample as TheSample};
 ghost use Rattle.finder.specs.Need as need;
 ghost use Rattle.finder.specs.NeedAnswer.{FindsLeastNeed};
@@ -57,7 +58,7 @@ pub fn least_bound(
 ) -> Result<Option<LeastNeed>, AllocError>
     requires claim { IsLawful (claim_data claim.now) }
     requires samples { AreSamplesOf (claim_data claim.now) samples.now }
-    requires few { length samples.now ≤ 1_000_000 }
+    requires few { length samples.now ≤ most_exchanges }
     ensures { FindsLeastNeed samples.now (claim_data claim.now) result }
 {
     least_bound_over(alloc, samples, claim)
@@ -71,7 +72,7 @@ pub fn least_bound_over<S: SampleSource>(
 ) -> Result<Option<LeastNeed>, AllocError>
     requires claim { IsLawful (claim_data claim.now) }
     requires samples { AreSamplesOf (claim_data claim.now) (S.samples samples) }
-    requires few { length (S.samples samples) ≤ 1_000_000 }
+    requires few { length (S.samples samples) ≤ most_exchanges }
     ensures { FindsLeastNeed (S.samples samples) (claim_data claim.now) result }
 {
     let tables = tables_for(alloc, samples, claim)?;

@@ -6,7 +6,7 @@ ghost use Rattle.checker.specs.Traceability.{samples_of};
 ghost use Rattle.finder.specs.Reach.{IsTabled};
 ghost use Rattle.finder.specs.Samples.{AreSamplesOf};
 ghost use Rattle.finder.specs.Settlement.{Settles};
-ghost use Rattle.pairing.specs.Exchange.{IsLawful as IsLawfulExchange};
+ghost use Rattle.pairing.specs.Exchange.{IsLawful as IsLawfulExchange, most_exchanges};
 
 use crate::drift_refutation::find_refutation_with_drift;
 use crate::fault::FindFault;
@@ -103,7 +103,7 @@ pub fn settle<X: ToExchange>(
     requires claim { IsLawful (claim_data claim.now) }
     requires exchanges { All (IsLawfulExchange (length claim.now.servers.items))
         (map X.shown exchanges.now) }
-    requires few { length exchanges.now ≤ 1_000_000 }
+    requires few { length exchanges.now ≤ most_exchanges }
     ensures { Settles (claim_data claim.now) (map X.shown exchanges.now) result }
 {
     some_course_fits_where_a_cover_is_small();

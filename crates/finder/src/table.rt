@@ -3,6 +3,7 @@
 ghost use Rattle.std.specs.Prelude.{◌≡◌, ℕ, ℤ, ◌≤◌, ◌<◌, length, All, IfOk, slice_get};
 ghost use Rattle.std.specs.List.{filter_map};
 ghost use Rattle.claim_file.specs.Claim.{IsLawful, data_of};
+ghost use Rattle.pairing.specs.Exchange.{most_exchanges};
 ghost use Rattle.sample_interval.specs.Sample.{IsLawfulSample};
 ghost use Rattle.sweep.specs.Pieces.{ArePieces, IsPieceAt};
 ghost use Rattle.finder.specs.Entry.{best_entries};
@@ -27,7 +28,7 @@ pub(crate) fn tables<S: SampleSource>(
 ) -> Result<Vec<Vec<(u32, u32)>>, AllocError>
     requires claim { IsLawful (data_of claim.now) }
     requires samples { All IsLawfulSample (S.samples samples) }
-    requires few { length (S.samples samples) ≤ 1_000_000 }
+    requires few { length (S.samples samples) ≤ most_exchanges }
     ensures few { IfOk result (λ tables. length tables.items ≤ length claim.now.servers.items) }
     ensures long { IfOk result (λ tables.
         All (λ table. length table.items ≡ count) tables.items) }
@@ -52,7 +53,7 @@ pub(crate) fn tables_over<S: SampleSource>(
 ) -> Result<Vec<Vec<(u32, u32)>>, AllocError>
     requires claim { IsLawful (data_of claim.now) }
     requires samples { All IsLawfulSample (S.samples samples) }
-    requires few { length (S.samples samples) ≤ 1_000_000 }
+    requires few { length (S.samples samples) ≤ most_exchanges }
     requires pieces { ArePieces first ends.now }
     ensures few { IfOk result (λ tables. length tables.items ≤ length claim.now.servers.items) }
     ensures long { IfOk result (λ tables.

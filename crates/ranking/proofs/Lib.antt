@@ -2,7 +2,7 @@ pub mod Children
 pub mod Descent
 pub mod Empty
 pub mod Entries
-pub mod Leading
+pub mod Leader
 pub mod Root
 pub mod Spans
 pub mod Steps

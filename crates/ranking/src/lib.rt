@@ -3,6 +3,7 @@
 //! A [`Ranking`] only grows: a number gets a value once. To put a value and to find a number takes
 //! a number of steps that grows with the logarithm of the size, the greatest value takes one, and
 //! memory is taken only by [`Ranking::new`]. [`laws`] has what holds of the definitions.
+
 #![tactic(auto)]
 
 pub mod laws;

@@ -1,6 +1,6 @@
-pub mod PieceLemmas
-pub mod BestLemmas
-pub mod GatheringLemmas
-pub mod GroupLemmas
-pub mod PassedOn
-mod OwnGroupLemmas
+pub mod PieceDistance
+pub mod BestSample
+pub mod GatheringSteps
+pub mod GroupIntervals
+pub mod Worth
+mod OwnGroup

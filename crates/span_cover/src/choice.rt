@@ -1,4 +1,5 @@
 //! The best samples of a server.
+
 ghost use Rattle.std.specs.Prelude.{◌≡◌, ℕ, ℤ, ◌≤◌, ◌≤ℤ◌, length, All, IsNone, IfSome, ◌↔◌};
 ghost use Rattle.sample_interval.specs.Sample.{IsLawfulSample};
 ghost use Rattle.sample_interval.specs.Widening.{IsRate};
@@ -31,7 +32,7 @@ pub fn best(samples: &[Sample], server: u8, p: i128, q: i128, drift_ppb: u32) ->
     Some((low, high))
 }
 
-// The first of the server's samples with the greatest merit.
+/// The first of the server's samples with the greatest merit.
 fn first_best(
     samples: &[Sample],
     server: u8,
@@ -57,7 +58,7 @@ fn first_best(
     best.map(|(number, _)| number)
 }
 
-// The sample, unless a later one has more merit.
+/// The sample, unless a later one has more merit.
 fn first_of(
     number: u32,
     sample: &Sample,
@@ -81,7 +82,7 @@ fn first_of(
     better_of(number, merit_of(sample, side, p, q, drift_ppb), later)
 }
 
-// How good the sample would be for this end if it weren't moved for the piece.
+/// How good the sample would be for this end if it weren't moved for the piece.
 #[tactic(auto, unfolding(crate::specs::Piece::moved_low, crate::specs::Piece::moved_high))]
 fn unmoved(sample: &Sample, side: Side) -> i128
     requires { IsLawfulSample sample.now }
@@ -93,7 +94,7 @@ fn unmoved(sample: &Sample, side: Side) -> i128
     }
 }
 
-// How good the sample is for this end: more is narrower.
+/// How good the sample is for this end: more is narrower.
 fn merit_of(sample: &Sample, side: Side, p: i128, q: i128, drift_ppb: u32) -> i128
     requires sample { IsLawfulSample sample.now }
     requires piece { IsPiece p q }
@@ -106,7 +107,7 @@ fn merit_of(sample: &Sample, side: Side, p: i128, q: i128, drift_ppb: u32) -> i1
     }
 }
 
-// A sample, unless a later one has more merit.
+/// A sample, unless a later one has more merit.
 fn better_of(number: u32, merit: i128, later: Option<(u32, i128)>) -> Option<(u32, i128)>
     ensures { result ≡ better number merit later }
 {

@@ -1,4 +1,5 @@
 //! The best samples of every server, of samples that are taken one by one.
+
 ghost use Rattle.std.specs.Prelude.{◌≡◌, ℕ, ℤ, ◌<◌, List, [], ◌∷◌, ◌++◌};
 ghost use Rattle.std.specs.Int.{int_max, int_min};
 ghost use Rattle.sample_interval.specs.Sample.{IsLawfulSample};
@@ -89,7 +90,7 @@ impl BestSamples {
     }
 }
 
-// The greater of a low end and a sample's, moved down for the piece.
+/// The greater of a low end and a sample's, moved down for the piece.
 #[tactic(auto, unfolding(crate::specs::Piece::moved_low))]
 fn greater_low(low: i128, sample: &Sample, p: i128, q: i128, drift_ppb: u32) -> i128
     requires sample { IsLawfulSample sample.now }
@@ -104,7 +105,7 @@ fn greater_low(low: i128, sample: &Sample, p: i128, q: i128, drift_ppb: u32) -> 
     low.max(lowered(sample, p, q, drift_ppb))
 }
 
-// The lesser of a high end and a sample's, moved up for the piece.
+/// The lesser of a high end and a sample's, moved up for the piece.
 #[tactic(auto, unfolding(crate::specs::Piece::moved_high))]
 fn lesser_high(high: i128, sample: &Sample, p: i128, q: i128, drift_ppb: u32) -> i128
     requires sample { IsLawfulSample sample.now }

@@ -1,4 +1,5 @@
 //! The hull over groups of servers.
+
 ghost use Rattle.std.specs.Prelude.{◌≡◌, ◌<◌, ◌≤◌, pos, ◌≤ℤ◌, length, slice_get, All, IsTrue};
 ghost use Rattle.std.specs.Option.{option_map};
 ghost use Rattle.span_cover.specs.Group.{group_interval, piece_hull, is_inside, AreTheirOwn};
@@ -27,7 +28,7 @@ pub fn piece_hull(parts: &[Part], groups: &[u8], false_max: u8) -> Hull
     hull(&intervals, false_max)
 }
 
-// Whether each part is of the group that has its place's number.
+/// Whether each part is of the group that has its place's number.
 fn are_their_own(parts: &[Part], groups: &[u8]) -> bool
     requires { All (λ part. part.server < length groups.now) parts.now }
     ensures { IsTrue result → AreTheirOwn groups.now parts.now }
@@ -40,7 +41,7 @@ fn are_their_own(parts: &[Part], groups: &[u8]) -> bool
     true
 }
 
-// The interval of the part at a place, if there is one.
+/// The interval of the part at a place, if there is one.
 fn interval_at(parts: &[Part], place: usize) -> Option<Interval>
     ensures { result ≡ option_map (λ part. part.interval) (slice_get parts.now place) }
 {
@@ -51,7 +52,7 @@ fn interval_at(parts: &[Part], place: usize) -> Option<Interval>
     }
 }
 
-// The interval of a group, if one of its servers says something.
+/// The interval of a group, if one of its servers says something.
 fn group_interval(parts: &[Part], groups: &[u8], group: usize, own: bool) -> Option<Interval>
     requires listed { All (λ part. part.server < length groups.now) parts.now }
     requires own { IsTrue own → AreTheirOwn groups.now parts.now }

@@ -1,5 +1,6 @@
 //! What holds of the definitions. A law is a function that does nothing: its contract is the law,
 //! for every number.
+
 ghost use Rattle.std.specs.Prelude.{◌≡◌, List, Some, None, MatchOption};
 ghost use Rattle.std.specs.Prelude.{ℕ, ◌<◌, ◌≤◌, ℤ, pos, ◌-ℤ◌, ◌*ℤ◌, ◌≤ℤ◌, unsigned_abs};
 ghost use Rattle.intersection.specs.Fraction.{HoldsFraction};

@@ -11,6 +11,7 @@
 //!
 //! Each is exact by its contract, takes no memory and refuses nothing. [`laws`] has what holds of
 //! the definitions.
+
 #![tactic(auto)]
 
 mod choice;

@@ -1,4 +1,5 @@
 //! What one server says about a stretch.
+
 ghost use Rattle.std.specs.Prelude.{◌≡◌};
 ghost use Rattle.sample_interval.specs.Sample.{IsLawfulSample};
 ghost use Rattle.sample_interval.specs.Widening.{IsRate};

@@ -1,4 +1,5 @@
 //! The interval of a piece.
+
 ghost use Rattle.std.specs.Prelude.{◌≡◌, ◌≤◌, ◌^◌, pos, ◌≤ℤ◌, unsigned_abs};
 ghost use Rattle.sample_interval.specs.Sample.{IsLawfulSample};
 ghost use Rattle.sample_interval.specs.Widening.{IsRate};
@@ -51,7 +52,7 @@ pub fn raised(sample: &Sample, p: i128, q: i128, drift_ppb: u32) -> i128
     sample.high + widen(drift_ppb, distance)
 }
 
-// The greatest distance between a window and a piece.
+/// The greatest distance between a window and a piece.
 fn greatest_distance(from: i128, to: i128, p: i128, q: i128) -> i128
     requires from { unsigned_abs from ≤ 2 ^ 72 }
     requires to { unsigned_abs to ≤ 2 ^ 72 }

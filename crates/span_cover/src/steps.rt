@@ -1,4 +1,5 @@
 //! The ends of pieces of equal length.
+
 ghost use Rattle.std.specs.Prelude.{◌≡◌, ◌+◌, ◌*◌, ◌^◌, ◌≤◌, pos, ◌≤ℤ◌, ◌<ℤ◌, unsigned_abs};
 ghost use Rattle.era_unfold.specs.Window.{ticks_per_second};
 ghost use Rattle.span_cover.specs.Step.{piece_end_of};
@@ -16,7 +17,7 @@ pub fn piece_end(first: i128, last: i128, step_s: u32, k: u32) -> i128
     (first + ticks(step_s, k)).min(last)
 }
 
-// How far piece `k` ends after the first tick.
+/// How far piece `k` ends after the first tick.
 fn ticks(step_s: u32, k: u32) -> i128
     ensures value { result ≡ pos ((k + 1) * step_s * ticks_per_second) }
     ensures in_range { unsigned_abs result ≤ 2 ^ 100 }

@@ -1,5 +1,5 @@
 -- The extremes in the order in which they become early while the stretches go by.
-use Rattle.std.specs.Prelude.{◌≡◌, ℕ, ◌+◌, ◌<◌, ◌≤◌, ◌^◌, ℤ, pos}
+use Rattle.std.specs.Prelude.{◌≡◌, ℕ, ◌+◌, ◌-◌, ◌<◌, ◌≤◌, ◌^◌, ℤ, pos, Bool, true, false}
 use Rattle.std.specs.Prelude.{List, Option, Some, slice_get, length}
 use Rattle.ranking.specs.Ranking.{IsHeld, IsFree, HasAtLeast}
 use Rattle.sweep.specs.Top.{height}
@@ -18,11 +18,17 @@ abbrev pub IsArrivalAt : ℕ → List Extreme → ℕ → Arrival → Type 0
 IsArrivalAt ppb extremes index arrival =
     (arrival.index ≡ index) × IsArrivalOf ppb extremes arrival × (arrival.height < 2 ^ 110)
 
--- the arrivals in the order of the extremes
-pub record AreArrivalsOf (ppb : ℕ) (extremes : List Extreme) (arrivals : List Arrival)
-    : Type 0 where
+-- the index of the extreme whose turn it is: in their order, or backwards from the last one on
+abbrev pub index_at : Bool → ℕ → ℕ → ℕ
+index_at false count turn = turn
+index_at true count turn = count - 1 - turn
+
+-- the arrivals in the order of the extremes, or backwards
+pub record AreArrivalsOf (ppb : ℕ) (backwards : Bool) (extremes : List Extreme)
+    (arrivals : List Arrival) : Type 0 where
   pub as_many : length arrivals ≡ length extremes
-  pub each : (i : ℕ) (a : Arrival) → slice_get arrivals i ≡ Some a → IsArrivalAt ppb extremes i a
+  pub each : (i : ℕ) (a : Arrival) → slice_get arrivals i ≡ Some a →
+      IsArrivalAt ppb extremes (index_at backwards (length extremes) i) a
 
 -- no two arrivals are of one index, and a ranking has room for their heights
 pub record ArriveOnce (queue : List Arrival) : Type 0 where

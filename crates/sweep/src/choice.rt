@@ -1,4 +1,5 @@
 //! The best samples for one end.
+
 ghost use Rattle.std.specs.Prelude.{◌≤◌, ◌<◌, length, All, IfOk, IfSome};
 ghost use Rattle.sample_interval.specs.Widening.{IsRate};
 ghost use Rattle.sweep.specs.Extreme.{IsLawfulExtreme};
@@ -36,7 +37,7 @@ pub fn top_numbers(
     ranked_numbers(alloc, extremes, stretches, drift_ppb)
 }
 
-// The same by the crests alone, if over each stretch these tell.
+/// The same by the crests alone, if over each stretch these tell.
 fn clear_numbers(
     alloc: Global,
     extremes: &[Extreme],
@@ -72,7 +73,7 @@ fn clear_numbers(
     Ok(Some(numbers))
 }
 
-// The same by rankings.
+/// The same by rankings.
 fn ranked_numbers(
     alloc: Global,
     extremes: &[Extreme],
@@ -100,8 +101,8 @@ fn ranked_numbers(
     Ok(numbers)
 }
 
-// The top of the extremes that are early with time running backwards: over the last stretch, then
-// over the one before it, and so on.
+/// The top of the extremes that are early with time running backwards: over the last stretch, then
+/// over the one before it, and so on.
 fn late_tops(
     alloc: Global,
     extremes: &[Extreme],

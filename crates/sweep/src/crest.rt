@@ -1,4 +1,5 @@
 //! Which extreme leads while more and more of them become early.
+
 ghost use Rattle.std.specs.Prelude.{◌≡◌, ◌-◌, ◌≤◌, length, All, IfOk, MatchOption, Some, slice_get};
 ghost use Rattle.sample_interval.specs.Widening.{IsRate};
 ghost use Rattle.sweep.specs.Crest.{AreCrestsOf, CountsUpto, Begins, Follows, Stays};
@@ -36,7 +37,7 @@ pub fn crests_of(
         AreCrestsOf drift_ppb (seen backwards extremes.now) crests.items) }
 {
     let queue = queue_of(alloc, extremes, backwards, drift_ppb)?;
-    let mut crests: Vec<Crest> = Vec::with_capacity(alloc, queue.len())?;
+    let mut crests: Vec<Crest> = Vec::new(alloc);
     for turn in 0..queue.len() {
         if let Some(crest) = crest_after(crests.as_slice(), queue[turn]) {
             crests.push(crest)?;
@@ -45,7 +46,7 @@ pub fn crests_of(
     Ok(crests)
 }
 
-// The crest that begins with an arrival, if it changes anything.
+/// The crest that begins with an arrival, if it changes anything.
 fn crest_after(crests: &[Crest], arrival: Arrival) -> Option<Crest>
     ensures first { length crests.now ≡ 0 → MatchOption result ⊥ (Begins arrival) }
     ensures later { (last : TheCrest) → slice_get crests.now (length crests.now - 1) ≡ Some last →
@@ -62,7 +63,7 @@ fn crest_after(crests: &[Crest], arrival: Arrival) -> Option<Crest>
     overtaken(crests[crests.len() - 1], arrival)
 }
 
-// The crest that follows one when one more extreme arrives, if that changes anything.
+/// The crest that follows one when one more extreme arrives, if that changes anything.
 fn overtaken(last: Crest, arrival: Arrival) -> Option<Crest>
     ensures { MatchOption result (Stays last arrival) (Follows last arrival) }
 {

@@ -1,4 +1,5 @@
 //! The ends of a server's samples, as numbers that aren't below zero.
+
 ghost use Rattle.std.specs.Prelude.{◌≡◌, ◌≤◌, length, All, IfOk, map};
 ghost use Rattle.sample_interval.specs.Sample.{IsLawfulSample};
 ghost use Rattle.sweep.specs.Extreme.{AreExtremesOf, IsExtremeOf, IsLawfulExtreme};
@@ -37,7 +38,7 @@ pub fn servers_of<S: SampleSource>(alloc: Global, samples: S) -> Result<Vec<u8>,
     Ok(servers)
 }
 
-// How many samples are of the server.
+/// How many samples are of the server.
 fn count_of(servers: &[u8], server: u8) -> usize
     ensures { result ≤ length servers.now }
 {
@@ -76,7 +77,7 @@ pub fn extremes_of<S: SampleSource>(
     Ok((lows, highs))
 }
 
-// The end of one sample.
+/// The end of one sample.
 fn extreme_of(number: u32, sample: &Sample, side: Side) -> Extreme
     requires { IsLawfulSample sample.now }
     ensures number { result.number ≡ number }

@@ -21,6 +21,7 @@
 //! once, by a sort, and [`parts_over`] says by a search what the best of them say over any one
 //! piece. Of the samples that are early the table has only those that are higher than all before
 //! them, so that the last of these up to the piece's middle is the highest.
+
 #![tactic(auto)]
 
 mod choice;

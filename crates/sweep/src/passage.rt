@@ -1,4 +1,5 @@
 //! The extremes that are early, while the stretches go by.
+
 ghost use Rattle.std.specs.Prelude.{◌≡◌, ℕ, ◌≤◌, ◌<◌, length, All, IfOk, Some, slice_get};
 ghost use Rattle.sample_interval.specs.Widening.{IsRate};
 ghost use Rattle.sweep.specs.Extreme.{IsLawfulExtreme};
@@ -39,8 +40,8 @@ pub fn early_tops(
     Ok(tops)
 }
 
-// Puts the arrivals from number `next` on that aren't after `limit` into the ranking, and says how
-// many have been put there by then.
+/// Puts the arrivals from number `next` on that aren't after `limit` into the ranking, and says how
+/// many have been put there by then.
 fn admit(ranking: &mut Ranking, queue: &[Arrival], next: usize, limit: u128) -> usize
     requires within { next ≤ length queue.now }
     requires once { ArriveOnce queue.now }

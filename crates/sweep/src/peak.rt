@@ -1,4 +1,5 @@
 //! The highest of the extremes that are early, for any stretch.
+
 ghost use Rattle.std.specs.Prelude.{◌≡◌, ℕ, ◌<◌, ◌≤◌, ◌-◌, ◌+◌, ◌/◌, IsTrue, List, length};
 ghost use Rattle.std.specs.Prelude.{All, IfOk, Some, slice_get};
 ghost use Rattle.sample_interval.specs.Widening.{IsRate, billion};
@@ -48,7 +49,7 @@ pub fn peaks_of(
     Ok(peaks)
 }
 
-// Whether a height is above that of the last peak.
+/// Whether a height is above that of the last peak.
 fn is_higher(height: u128, peaks: &[Peak]) -> bool
     ensures higher { IsTrue result → (peak : Peak) →
         slice_get peaks.now (length peaks.now - 1) ≡ Some peak → peak.height < height }
@@ -58,7 +59,7 @@ fn is_higher(height: u128, peaks: &[Peak]) -> bool
     peaks.is_empty() || peaks[peaks.len() - 1].height < height
 }
 
-// How many of the peaks come no later than a place.
+/// How many of the peaks come no later than a place.
 fn count_upto(peaks: &[Peak], place: u128) -> usize
     ensures within { result ≤ length peaks.now }
     ensures upto { (peak : Peak) → 0 < result →
@@ -78,7 +79,7 @@ fn count_upto(peaks: &[Peak], place: u128) -> usize
     low
 }
 
-// The greatest height of the extremes that come no later than a place, 0 if there is none.
+/// The greatest height of the extremes that come no later than a place, 0 if there is none.
 fn height_upto(peaks: &[Peak], place: u128) -> u128
     ensures { (ppb : ℕ) (extremes : List TheExtreme) → ArePeaksOf ppb extremes peaks.now →
         IsHeightUpto ppb extremes place result }

@@ -1,4 +1,5 @@
 //! The best samples of every piece.
+
 ghost use Rattle.std.specs.Prelude.{◌≡◌, ◌≤◌, length, All, IsNone, IfOk, IfSome, ◌↔◌, map};
 ghost use Rattle.sample_interval.specs.Sample.{IsLawfulSample};
 ghost use Rattle.sample_interval.specs.Widening.{IsRate};
@@ -50,7 +51,7 @@ pub fn best_of_pieces<S: SampleSource>(
     Ok(Some(chosen))
 }
 
-// What stands at the same index of both.
+/// What stands at the same index of both.
 fn pairs_of(alloc: Global, lows: &[u32], highs: &[u32]) -> Result<Vec<(u32, u32)>, AllocError>
     requires { length lows.now ≡ length highs.now }
     ensures { IfOk result (λ pairs. ArePairsOf lows.now highs.now pairs.items) }

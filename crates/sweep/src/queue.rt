@@ -1,8 +1,9 @@
 //! The extremes in the order in which they become early.
-ghost use Rattle.std.specs.Prelude.{◌≤◌, length, All, IfOk};
+
+ghost use Rattle.std.specs.Prelude.{◌≡◌, ◌≤◌, ◌<◌, length, All, IfOk};
 ghost use Rattle.sample_interval.specs.Widening.{IsRate};
 ghost use Rattle.sweep.specs.Extreme.{IsLawfulExtreme, seen};
-ghost use Rattle.sweep.specs.Queue.{AreArrivalsOf, IsQueueOf};
+ghost use Rattle.sweep.specs.Queue.{AreArrivalsOf, IsQueueOf, index_at};
 
 use crate::extreme::{Extreme, seen};
 use sample_interval::PARTS;
@@ -37,7 +38,8 @@ pub fn queue_of(
     Ok(queue)
 }
 
-// The arrivals in the order of the extremes.
+/// The arrivals in the order of the extremes, or with time running backwards from the last one on:
+/// so they are mostly in order.
 fn arrivals_of(
     alloc: Global,
     extremes: &[Extreme],
@@ -48,12 +50,14 @@ fn arrivals_of(
     requires few { length extremes.now ≤ 1_000_000 }
     requires rate { IsRate drift_ppb }
     ensures { IfOk result (λ arrivals.
-        AreArrivalsOf drift_ppb (seen backwards extremes.now) arrivals.items) }
+        AreArrivalsOf drift_ppb backwards (seen backwards extremes.now) arrivals.items) }
 {
     let rate = u128::from(drift_ppb);
-    let mut arrivals = Vec::with_capacity(alloc, extremes.len())?;
-    for (index, extreme) in extremes.iter().enumerate() {
-        let extreme = seen(extreme, backwards);
+    let count = extremes.len();
+    let mut arrivals = Vec::with_capacity(alloc, count)?;
+    for turn in 0..count {
+        let index = index_at(turn, count, backwards);
+        let extreme = seen(&extremes[index], backwards);
         arrivals.push(Arrival {
             at: extreme.from + extreme.to,
             height: (PARTS - rate) * extreme.end + rate * extreme.from,
@@ -61,4 +65,13 @@ fn arrivals_of(
         })?;
     }
     Ok(arrivals)
+}
+
+/// The index of the extreme whose turn it is.
+fn index_at(turn: usize, count: usize, backwards: bool) -> usize
+    requires { turn < count }
+    ensures is { result ≡ index_at backwards count turn }
+    ensures within { result < count }
+{
+    if backwards { count - 1 - turn } else { turn }
 }

@@ -1,4 +1,5 @@
 //! How far the highest of the early extremes rises over a stretch.
+
 ghost use Rattle.std.specs.Prelude.{◌≡◌, ◌+◌, List, IfSome, IsTrue};
 ghost use Rattle.sample_interval.specs.Widening.{IsRate};
 ghost use Rattle.sweep.specs.Crest.{AreCrestsOf, CountsUpto};
@@ -60,7 +61,7 @@ pub fn highest_index(early: Option<Rise>, late: Option<Rise>, drift_ppb: u32) ->
     }
 }
 
-// The same of two rises.
+/// The same of two rises.
 fn higher_index(early: Rise, late: Rise, drift_ppb: u32) -> Option<u32>
     requires { IsRate drift_ppb }
     ensures { (extremes : List Extreme) (stretch : TheStretch) →
@@ -91,7 +92,7 @@ fn higher_index(early: Rise, late: Rise, drift_ppb: u32) -> Option<u32>
     None
 }
 
-// The index of a rise that is clear.
+/// The index of a rise that is clear.
 fn clear_index(rise: Rise) -> Option<u32>
     ensures { IfSome result (λ index. (index ≡ rise.index) × IsTrue rise.is_clear) }
 {

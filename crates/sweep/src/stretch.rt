@@ -1,4 +1,5 @@
 //! Pieces, as numbers that aren't below zero.
+
 ghost use Rattle.std.specs.Prelude.{◌≡◌, IfOk, map, reverse, All};
 ghost use Rattle.sweep.specs.Pieces.{ArePieces};
 ghost use Rattle.sweep.specs.Stretch.{AreStretchesOf, IsLawfulStretch, mirrored_stretch};

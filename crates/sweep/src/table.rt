@@ -1,4 +1,5 @@
 //! Tables of the best samples, which are asked for any piece.
+
 ghost use Rattle.std.specs.Prelude.{◌≡◌, ℕ, ◌<◌, ◌≤◌, ◌^◌, ◌↔◌, List, length, map, All, Some};
 ghost use Rattle.std.specs.Prelude.{IfOk, IfSome, IsNone, pos, ◌-ℤ◌, neg_ℤ};
 ghost use Rattle.sample_interval.specs.Sample.{IsLawfulSample};
@@ -67,7 +68,7 @@ pub fn tables_of<S: SampleSource>(
     Ok(tables)
 }
 
-// The table of a server, if it has a sample.
+/// The table of a server, if it has a sample.
 fn table_of<S: SampleSource>(
     alloc: Global,
     samples: S,
@@ -97,7 +98,7 @@ fn table_of<S: SampleSource>(
     }))
 }
 
-// The peaks of extremes both ways.
+/// The peaks of extremes both ways.
 fn both_ways(alloc: Global, extremes: &[Extreme], drift_ppb: u32) -> Result<Peaks, AllocError>
     requires extremes { All IsLawfulExtreme extremes.now }
     requires few { length extremes.now ≤ 1_000_000 }
@@ -109,7 +110,7 @@ fn both_ways(alloc: Global, extremes: &[Extreme], drift_ppb: u32) -> Result<Peak
     Ok(Peaks { early, late })
 }
 
-// The highest level that an extreme reaches over a stretch.
+/// The highest level that an extreme reaches over a stretch.
 fn level_over(peaks: &Peaks, stretch: Stretch, drift_ppb: u32) -> u128
     requires stretch { IsLawfulStretch stretch }
     requires rate { IsRate drift_ppb }
@@ -129,7 +130,7 @@ fn level_over(peaks: &Peaks, stretch: Stretch, drift_ppb: u32) -> u128
     early.max(late) / (PARTS - u128::from(drift_ppb))
 }
 
-// What a server says over a piece.
+/// What a server says over a piece.
 fn part_over(table: &BestTable, begin: i128, end: i128, drift_ppb: u32) -> Part
     requires piece { IsPiece begin end }
     requires rate { IsRate drift_ppb }
@@ -149,8 +150,8 @@ fn part_over(table: &BestTable, begin: i128, end: i128, drift_ppb: u32) -> Part
     }
 }
 
-// The interval of the greatest low end and of the greatest high end with its sign turned, both
-// counted from the origin.
+/// The interval of the greatest low end and of the greatest high end with its sign turned, both
+/// counted from the origin.
 fn interval_between(low: u128, high: u128) -> Interval
     requires low { low ≤ 2 ^ 100 }
     requires high { high ≤ 2 ^ 100 }

@@ -1,10 +1,11 @@
 //! Ticks counted from an origin that lies before everything.
+
 ghost use Rattle.std.specs.Prelude.{◌≡◌, ◌+◌, ◌-◌, ◌^◌, ◌≤◌, pos, ◌+ℤ◌, ◌-ℤ◌, unsigned_abs};
 
-// 2^75 ticks before zero.
+/// 2^75 ticks before zero.
 const ORIGIN: i128 = 1 << 75;
 
-// Twice as far from the origin as zero.
+/// Twice as far from the origin as zero.
 const TWICE: u128 = 1 << 76;
 
 /// A number of ticks from -2^74 to 2^74, counted from the origin.

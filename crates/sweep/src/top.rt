@@ -1,4 +1,5 @@
 //! The highest level that is reached.
+
 ghost use Rattle.std.specs.Prelude.{◌≡◌, ◌≤◌, ◌^◌};
 ghost use Rattle.sample_interval.specs.Widening.{IsRate};
 ghost use Rattle.sweep.specs.Top.{IsTopOf, HasHeight, higher_of, is_above};
@@ -41,7 +42,7 @@ pub fn higher(one: Option<Top>, other: Option<Top>) -> Option<Top>
     }
 }
 
-// Whether the one is at a higher level, or at the same level and an index before the other.
+/// Whether the one is at a higher level, or at the same level and an index before the other.
 fn is_above(one: Top, other: Top) -> bool
     ensures { result ≡ is_above one other }
 {

@@ -3,8 +3,8 @@ use Rattle.std.specs.Prelude.{All}
 use Rattle.std.proofs.lemmas.List.{map-append}
 use Rattle.claim_file.specs.Claim.{data_of as claim_data}
 use Rattle.finder.specs.Envelope.{IsLawfulPiece, PieceHullData, piece_data}
-use Rattle.finder.proofs.EnvelopeLemmas.{All-from_map, envelope_is, lawful_pieces, least_more, piece_hulls_more}
-use Rattle.finder.proofs.TableLemmas.{best_tables, few_tables, long_tables}
+use Rattle.finder.proofs.EnvelopePieces.{All-from_map, envelope_is, lawful_pieces, least_more, piece_hulls_more}
+use Rattle.finder.proofs.TablePieces.{best_tables, few_tables, long_tables}
 use Rattle.finder.proofs.envelope.envelope_to.Goals as goal
 
 pub tables-requires-clause-claim : goal.tables-requires-clause-claim

@@ -1,7 +1,7 @@
 use Rattle.claim_file.specs.Claim.{data_of as claim_data}
 use Rattle.finder.specs.Found.{hull_at}
 use Rattle.finder.specs.Piece.{count_of}
-use Rattle.finder.proofs.EnvelopeLemmas.{envelope_few, envelope_many, envelope_without_memory}
+use Rattle.finder.proofs.EnvelopePieces.{envelope_few, envelope_many, envelope_without_memory}
 use Rattle.finder.proofs.envelope.find_envelope_over.Goals as goal
 
 pub returns-then-count : goal.returns-then-count

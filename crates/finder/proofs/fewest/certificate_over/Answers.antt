@@ -4,9 +4,9 @@ use Rattle.certificate.specs.Certificate.{piece_data}
 use Rattle.claim_file.specs.Claim.{data_of}
 use Rattle.sweep.specs.Pieces.{IsPieceAt}
 use Rattle.finder.specs.Fewest.{end_after, pieces_over}
-use Rattle.finder.proofs.ClaimLemmas.{first_kept}
-use Rattle.finder.proofs.LongestLemmas.{end_fits, end_kept, piece_at_take, taken_more}
-use Rattle.finder.proofs.TableLemmas.{best_tables}
+use Rattle.finder.proofs.Claim.{first_kept}
+use Rattle.finder.proofs.LongestPiece.{end_fits, end_kept, piece_at_take, taken_more}
+use Rattle.finder.proofs.TablePieces.{best_tables}
 use Rattle.finder.proofs.fewest.certificate_over.Goals as goal
 
 pub tables_over-requires-clause-pieces : goal.tables_over-requires-clause-pieces

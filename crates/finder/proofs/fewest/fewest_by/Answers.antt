@@ -1,7 +1,7 @@
 use Rattle.claim_file.specs.Claim.{data_of as claim_data}
-use Rattle.finder.proofs.FewestAnswerLemmas.{finds_certificate, finds_nothing_kept, finds_too_long}
-use Rattle.finder.proofs.FewestLemmas.{Laws, first_in_span}
-use Rattle.finder.proofs.LongestLemmas.{are_pieces}
+use Rattle.finder.proofs.FewestAnswer.{finds_certificate, finds_nothing_kept, finds_too_long}
+use Rattle.finder.proofs.FewestPieces.{Laws, first_in_span}
+use Rattle.finder.proofs.LongestPiece.{are_pieces}
 use Rattle.finder.proofs.fewest.fewest_by.Goals as goal
 
 pub returns-in_ok-found-in-End : goal.returns-in_ok-found-in-End

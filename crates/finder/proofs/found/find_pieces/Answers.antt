@@ -5,10 +5,10 @@ use Rattle.claim_file.specs.Claim.{data_of as claim_data}
 use Rattle.span_cover.specs.Group.{is_inside}
 use Rattle.finder.specs.Envelope.{PieceHullData}
 use Rattle.finder.specs.Piece.{count_of}
-use Rattle.finder.proofs.ClaimLemmas.{bound_kept}
-use Rattle.finder.proofs.FoundLemmas.{found_all, found_failing, passed_more, pieces_more}
-use Rattle.finder.proofs.PieceLemmas.{end_fits, end_kept}
-use Rattle.finder.proofs.TableLemmas.{best_tables, few_tables, long_tables}
+use Rattle.finder.proofs.Claim.{bound_kept}
+use Rattle.finder.proofs.Finding.{found_all, found_failing, passed_more, pieces_more}
+use Rattle.finder.proofs.SpanPieces.{end_fits, end_kept}
+use Rattle.finder.proofs.TablePieces.{best_tables, few_tables, long_tables}
 use Rattle.finder.proofs.found.find_pieces.Goals as goal
 
 pub tables-requires-clause-claim : goal.tables-requires-clause-claim

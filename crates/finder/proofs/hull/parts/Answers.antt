@@ -4,8 +4,8 @@ use Rattle.std.proofs.lemmas.List.{take_all}
 use Rattle.claim_file.specs.Claim.{data_of}
 use Rattle.sample_interval.specs.Sample.{IsLawfulSample}
 use Rattle.finder.specs.Entry.{part_named, parts_named}
-use Rattle.finder.proofs.EntryLemmas.{listed_parts, part_computed}
-use Rattle.finder.proofs.ListLemmas.{All-slice_get, filter_map_more}
+use Rattle.finder.proofs.EntryList.{listed_parts, part_computed}
+use Rattle.finder.proofs.List.{All-slice_get, filter_map_more}
 use Rattle.finder.proofs.hull.parts.Goals as goal
 
 pub sample_at-low-requires : goal.sample_at-low-requires

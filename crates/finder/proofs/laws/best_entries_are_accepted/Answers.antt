@@ -1,4 +1,4 @@
-use Rattle.finder.proofs.VerdictLemmas.{entries_accepted, entries_fault}
+use Rattle.finder.proofs.Verdict.{entries_accepted, entries_fault}
 use Rattle.finder.proofs.laws.best_entries_are_accepted.Goals as goal
 
 pub returns-clause-parts : goal.returns-clause-parts

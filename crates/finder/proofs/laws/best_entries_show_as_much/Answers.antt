@@ -1,4 +1,4 @@
-use Rattle.finder.proofs.NarrowLemmas.{shows_as_much}
+use Rattle.finder.proofs.Narrow.{shows_as_much}
 use Rattle.finder.proofs.laws.best_entries_show_as_much.Goals as goal
 
 pub returns : goal.returns

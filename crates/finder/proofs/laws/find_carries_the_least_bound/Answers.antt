@@ -1,5 +1,5 @@
-use Rattle.finder.proofs.BoundLemmas.{Roundings}
-use Rattle.finder.proofs.CarriedLemmas.{holds, no_lesser, none_holds}
+use Rattle.finder.proofs.Bound.{Roundings}
+use Rattle.finder.proofs.OtherBounds.{holds, no_lesser, none_holds}
 use Rattle.finder.proofs.laws.find_carries_the_least_bound.Goals as goal
 
 pub returns : goal.returns

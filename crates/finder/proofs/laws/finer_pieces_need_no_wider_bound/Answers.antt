@@ -1,4 +1,4 @@
-use Rattle.finder.proofs.FinerLemmas.{Laws, is_empty, no_wider}
+use Rattle.finder.proofs.Finer.{Laws, is_empty, no_wider}
 use Rattle.finder.proofs.laws.finer_pieces_need_no_wider_bound.Goals as goal
 
 pub returns : goal.returns

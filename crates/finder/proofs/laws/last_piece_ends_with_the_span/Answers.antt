@@ -1,4 +1,4 @@
-use Rattle.finder.proofs.PieceLemmas.{IsPieceCount-piece_count_of}
+use Rattle.finder.proofs.SpanPieces.{IsPieceCount-piece_count_of}
 use Rattle.finder.proofs.laws.last_piece_ends_with_the_span.Goals as goal
 
 pub returns : goal.returns

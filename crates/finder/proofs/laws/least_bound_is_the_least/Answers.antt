@@ -1,4 +1,4 @@
-use Rattle.finder.proofs.BoundLemmas.{least_is_least, least_is_one}
+use Rattle.finder.proofs.Bound.{least_is_least, least_is_one}
 use Rattle.finder.proofs.laws.least_bound_is_the_least.Goals as goal
 
 pub returns : goal.returns

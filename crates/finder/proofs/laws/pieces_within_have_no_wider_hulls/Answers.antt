@@ -1,4 +1,4 @@
-use Rattle.finder.proofs.NarrowLemmas.{no_wider_within}
+use Rattle.finder.proofs.Narrow.{no_wider_within}
 use Rattle.finder.proofs.laws.pieces_within_have_no_wider_hulls.Goals as goal
 
 pub returns : goal.returns

@@ -3,7 +3,7 @@ use Rattle.std.proofs.lemmas.List.{length-map}
 use Rattle.std.proofs.lemmas.List.Elements.{All-map}
 use Rattle.sample_interval.specs.Sample.{IsLawfulSample, sample_of}
 use Rattle.sample_interval.specs.declared.kinds.Sample.{Sample}
-use Rattle.sample_interval.proofs.SampleLemmas.{lawful}
+use Rattle.sample_interval.proofs.ExchangeSample.{lawful}
 use Rattle.finder.proofs.laws.samples_of_exchanges_keep_limits.Goals as goal
 
 pub returns-clause-lawful : goal.returns-clause-lawful

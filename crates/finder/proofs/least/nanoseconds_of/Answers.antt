@@ -1,4 +1,4 @@
-use Rattle.finder.proofs.BoundLemmas.{sum_is_ceiling}
+use Rattle.finder.proofs.Bound.{sum_is_ceiling}
 use Rattle.finder.proofs.least.nanoseconds_of.Goals as goal
 
 pub returns-clause-value : goal.returns-clause-value

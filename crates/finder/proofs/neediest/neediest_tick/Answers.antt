@@ -2,7 +2,7 @@ use Rattle.std.proofs.Common.{◌+◌, List, refl, sym, ◌∙◌}
 use Rattle.claim_file.specs.Claim.{data_of}
 use Rattle.sample_interval.specs.declared.kinds.Sample.{Sample}
 use Rattle.finder.specs.Reach.{AreTablesFor}
-use Rattle.finder.proofs.LongestLemmas.{last_is}
+use Rattle.finder.proofs.LongestPiece.{last_is}
 use Rattle.finder.proofs.Search.{IsAt, all_seen, at_part, from_part, moved_on, over_from}
 use Rattle.finder.proofs.neediest.neediest_tick.Goals as goal
 

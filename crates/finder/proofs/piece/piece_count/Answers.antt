@@ -1,7 +1,7 @@
 use Rattle.std.proofs.Common.{ap, subst, sym, ◌<◌, ◌^◌, ℕ, unsigned_abs}
 use Rattle.claim_file.specs.Claim.{data_of}
-use Rattle.finder.proofs.ClaimLemmas.{length_kept, length_fits, length_below, length_from_zero, length_fits_unsigned}
-use Rattle.finder.proofs.PieceLemmas.{count_from, count_fits, some_ticks, ticks_fit}
+use Rattle.finder.proofs.Claim.{length_kept, length_fits, length_below, length_from_zero, length_fits_unsigned}
+use Rattle.finder.proofs.SpanPieces.{count_from, count_fits, some_ticks, ticks_fit}
 use Rattle.finder.proofs.piece.piece_count.Goals as goal
 
 pub overflow_mul-step : goal.overflow_mul-step

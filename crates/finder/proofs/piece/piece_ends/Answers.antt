@@ -1,7 +1,7 @@
 use Rattle.std.proofs.Common.{rules, falls, le_antisymm, ◌≡◌, [], ◌∷◌, ◌++◌, to_z, of_z}
 use mir.Syntax.{w128}
 use Rattle.std.proofs.lemmas.Int.{to_z-of_z}
-use Rattle.finder.proofs.PieceLemmas.{ends_more}
+use Rattle.finder.proofs.SpanPieces.{ends_more}
 use Rattle.finder.proofs.piece.piece_ends.Goals as goal
 
 pub piece_end-requires-clause-from_zero : goal.piece_end-requires-clause-from_zero

@@ -2,8 +2,8 @@ use Rattle.std.proofs.Common.{◌≡◌, ◌-◌, ◌∙◌, sym, ap, arith, to_
 use mir.Syntax.{w128}
 use Rattle.claim_file.specs.Claim.{data_of}
 use Rattle.finder.specs.Piece.{piece_begin_of}
-use Rattle.finder.proofs.ClaimLemmas.{first_kept}
-use Rattle.finder.proofs.PieceLemmas.{begin_later, end_computed, stretch_is}
+use Rattle.finder.proofs.Claim.{first_kept}
+use Rattle.finder.proofs.SpanPieces.{begin_later, end_computed, stretch_is}
 use Rattle.finder.proofs.piece.stretch_at.Goals as goal
 use Rattle.finder.proofs.piece.stretch_at.Goals.{then-number-eq0, else-number-eq0}
 

@@ -1,9 +1,9 @@
 use Rattle.std.proofs.Common.{◌∙◌}
 use Rattle.claim_file.specs.Claim.{data_of as claim_data}
 use Rattle.finder.specs.Piece.{stretch_at}
-use Rattle.finder.proofs.EntryLemmas.{entries_there}
-use Rattle.finder.proofs.EnvelopeLemmas.{piece_hull_is}
-use Rattle.finder.proofs.PieceLemmas.{piece_of_claim}
+use Rattle.finder.proofs.EntryList.{entries_there}
+use Rattle.finder.proofs.EnvelopePieces.{piece_hull_is}
+use Rattle.finder.proofs.SpanPieces.{piece_of_claim}
 use Rattle.finder.proofs.piece_hull.piece_hull_at.Goals as goal
 
 pub hull_of-hull-requires-clause-stretch : goal.hull_of-hull-requires-clause-stretch

@@ -1,6 +1,6 @@
 use Rattle.std.proofs.Common.{pos, ap, ◌∙◌}
 use Rattle.claim_file.specs.Claim.{data_of}
-use Rattle.finder.proofs.LongestLemmas.{all_taken, before_last, in_64_bits, last_is, one_longer, reach_begins, reach_ends, reach_more, room_left, tick_kept}
+use Rattle.finder.proofs.LongestPiece.{all_taken, before_last, in_64_bits, last_is, one_longer, reach_begins, reach_ends, reach_more, room_left, tick_kept}
 use Rattle.finder.proofs.reach.longest_ends.Goals as goal
 
 pub returns-then-begin-last : goal.returns-then-begin-last

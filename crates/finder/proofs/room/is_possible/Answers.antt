@@ -3,7 +3,7 @@ use Rattle.std.proofs.lemmas.Int.{to_z-of_z}
 use mir.Syntax.{w128}
 use Rattle.claim_file.specs.Claim.{data_of as claim_data}
 use Rattle.finder.specs.Room.{refused_by}
-use Rattle.finder.proofs.LiarLemmas.{as_many_named}
+use Rattle.finder.proofs.Liar.{as_many_named}
 use Rattle.finder.proofs.room.is_possible.Goals as goal
 
 pub returns : goal.returns

@@ -1,5 +1,5 @@
 use Rattle.std.proofs.Common.{neg_ℤ, pos, ◌^◌}
-use Rattle.finder.proofs.RoomLemmas.{Computed, time_small, allowance_small, kept_small, end_small, request_kept, reply_kept, receipt_kept, answer_kept, earlier_kept, later_kept, after_kept, before_kept, low_kept, high_kept, room_is, no_room_backward, no_room_early}
+use Rattle.finder.proofs.ErrorRoom.{Computed, time_small, allowance_small, kept_small, end_small, request_kept, reply_kept, receipt_kept, answer_kept, earlier_kept, later_kept, after_kept, before_kept, low_kept, high_kept, room_is, no_room_backward, no_room_early}
 use Rattle.finder.proofs.room.room_of.Goals as goal
 use Rattle.finder.proofs.room.room_of.Goals.{After-sum-latest_answer, then-reply-request-via-then-reply-request, then-reply-request-via-else-reply-request+then-latest_answer-earliest_receipt}
 

@@ -5,8 +5,8 @@ use Rattle.std.proofs.lemmas.List.{length-set}
 use mir.Syntax.{w128}
 use Rattle.intersection.specs.Interval.{leaves_out}
 use Rattle.finder.specs.Room.{AreRooms, room_at}
-use Rattle.finder.proofs.RoomLemmas.{left_out_of_either}
-use Rattle.finder.proofs.RoomsLemmas.{lawful_here, shown_here, within_shown, rooms_of_none, rooms_step}
+use Rattle.finder.proofs.ErrorRoom.{left_out_of_either}
+use Rattle.finder.proofs.Rooms.{lawful_here, shown_here, within_shown, rooms_of_none, rooms_step}
 use Rattle.finder.proofs.room.rooms_of.Goals as goal
 
 pub loop-held-init : goal.loop-held-init

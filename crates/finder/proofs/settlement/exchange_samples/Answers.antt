@@ -1,7 +1,7 @@
 use Rattle.std.proofs.Common.{length}
 use Rattle.claim_file.specs.Claim.{data_of as claim_data}
-use Rattle.finder.proofs.ClaimLemmas.{reading_kept}
-use Rattle.finder.proofs.SettlementLemmas.{of_most_servers}
+use Rattle.finder.proofs.Claim.{reading_kept}
+use Rattle.finder.proofs.SettlementAnswer.{of_most_servers}
 use Rattle.finder.proofs.settlement.exchange_samples.Goals as goal
 
 pub invariant_of-result : goal.invariant_of-result

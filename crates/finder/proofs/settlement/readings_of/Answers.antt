@@ -1,6 +1,6 @@
 use Rattle.claim_file.specs.Claim.{data_of as claim_data}
-use Rattle.finder.proofs.LongestLemmas.{end_fits}
-use Rattle.finder.proofs.SettlementLemmas.{need_piece}
+use Rattle.finder.proofs.LongestPiece.{end_fits}
+use Rattle.finder.proofs.SettlementAnswer.{need_piece}
 use Rattle.finder.proofs.settlement.readings_of.Goals as goal
 
 pub overflow_cast-need-in-Some : goal.overflow_cast-need-in-Some

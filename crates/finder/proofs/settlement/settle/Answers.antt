@@ -3,7 +3,7 @@ use Rattle.claim_file.specs.Claim.{data_of as claim_data}
 use Rattle.sample_interval.specs.declared.kinds.Sample.{Sample}
 use Rattle.finder.specs.FewestAnswer.{FindsFewest}
 use Rattle.finder.specs.declared.fewest.Fewest.TheVariants as found
-use Rattle.finder.proofs.SettlementLemmas.{contested_by, fits_if, fits_not, left_open, none_fits, shown_by, stuck_within}
+use Rattle.finder.proofs.SettlementAnswer.{contested_by, fits_if, fits_not, left_open, none_fits, shown_by, stuck_within}
 use Rattle.finder.proofs.settlement.settle.Goals as goal
 
 -- no course fits

@@ -5,7 +5,7 @@ use Rattle.pairing.specs.declared.exchange.Exchange.{Exchange}
 use Rattle.finder.specs.Room.{AreRooms}
 use Rattle.finder.specs.Sought.{greatest_error, is_possible, least_error_below, nearest}
 use Rattle.finder.proofs.Kept.{kept}
-use Rattle.finder.proofs.SoughtLemmas.{found_is, none_found, none_sought, possible_is, possible_turned, sought_above, sought_below}
+use Rattle.finder.proofs.RefutationSearch.{found_is, none_found, none_sought, possible_is, possible_turned, sought_above, sought_below}
 use Rattle.finder.proofs.sought.error_sought.Goals as goal
 use Rattle.finder.proofs.sought.error_sought.Goals.{In_default}
 

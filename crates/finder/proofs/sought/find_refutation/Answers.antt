@@ -4,8 +4,8 @@ use Rattle.std.proofs.lemmas.Int.{ints, to_z-of_z}
 use mir.Val.{SFits}
 use Rattle.claim_file.specs.Claim.{data_of as claim_data}
 use Rattle.finder.specs.Sought.{IsSought, refutation_at}
-use Rattle.finder.proofs.FoundRefutationLemmas.{refutation_is, says_none, says_some}
-use Rattle.finder.proofs.ClaimLemmas.{first_kept, reading_kept}
+use Rattle.finder.proofs.RefutationFinding.{refutation_is, says_none, says_some}
+use Rattle.finder.proofs.Claim.{first_kept, reading_kept}
 use Rattle.finder.proofs.Kept.{kept}
 use Rattle.finder.proofs.sought.find_refutation.Goals as goal
 

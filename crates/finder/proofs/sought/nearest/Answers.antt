@@ -3,9 +3,9 @@ use Rattle.std.proofs.lemmas.Int.{ints, to_z-of_z}
 use mir.Syntax.{w128}
 use Rattle.claim_file.specs.Claim.{ClaimData, IsLawful, data_of as claim_data}
 use Rattle.finder.specs.Room.{possible_by, room_at}
-use Rattle.finder.proofs.ClaimLemmas.{bound_kept, few_groups}
+use Rattle.finder.proofs.Claim.{bound_kept, few_groups}
 use Rattle.finder.proofs.Kept.{kept}
-use Rattle.finder.proofs.NearestLemmas.{first_is_nearest, next_is_nearest, nothing_so_far, none_is_nearest, passed, taken}
+use Rattle.finder.proofs.Nearest.{first_is_nearest, next_is_nearest, nothing_so_far, none_is_nearest, passed, taken}
 use Rattle.finder.proofs.sought.nearest.Goals as goal
 use Rattle.finder.proofs.sought.nearest.Goals.{Else-is_possible, then-claim-error+then-error-first+then-is_possible-2, else-claim-error, else-claim-error-via-then-claim-error+then-error-first+else-is_possible-2, else-claim-error-via-then-claim-error+else-error-first, else-claim-error-via-else-claim-error}
 

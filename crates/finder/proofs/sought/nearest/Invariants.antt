@@ -1,5 +1,5 @@
 use Rattle.claim_file.specs.Claim.{data_of as claim_data}
-use Rattle.finder.proofs.NearestLemmas.{SoFar}
+use Rattle.finder.proofs.Nearest.{SoFar}
 use Rattle.finder.proofs.sought.nearest.Given as goal
 
 abbrev pub invariant-loop-server : goal.invariant-loop-server

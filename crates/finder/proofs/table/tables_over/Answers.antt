@@ -8,9 +8,9 @@ use mir.Syntax.{w128}
 use Rattle.claim_file.specs.Claim.{data_of}
 use Rattle.finder.specs.Entry.{best_over}
 use Rattle.finder.specs.Fewest.{stretch_over}
-use Rattle.finder.proofs.ClaimLemmas.{server_fits}
-use Rattle.finder.proofs.ListLemmas.{without}
-use Rattle.finder.proofs.TableLemmas.{table_more}
+use Rattle.finder.proofs.Claim.{server_fits}
+use Rattle.finder.proofs.List.{without}
+use Rattle.finder.proofs.TablePieces.{table_more}
 use Rattle.finder.proofs.table.tables_over.Goals as goal
 use Rattle.finder.proofs.table.tables_over.Goals.{in-Some+in_ok-push, in_default}
 

@@ -1,5 +1,5 @@
 use Rattle.std.proofs.Common.{◌∙◌, sym, subst, refl, Some, None, IsNone}
-use Rattle.span_cover.proofs.BestLemmas.{best_of-is, low_known, high_known, none_of_server, first_of_server, some_sample}
+use Rattle.span_cover.proofs.BestSample.{best_of-is, low_known, high_known, none_of_server, first_of_server, some_sample}
 use Rattle.span_cover.proofs.choice.best.Goals as goal
 
 pub returns-in_err-low-clause-exact : goal.returns-in_err-low-clause-exact

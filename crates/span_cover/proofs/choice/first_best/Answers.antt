@@ -1,6 +1,6 @@
 use Rattle.std.proofs.Common.{◌-◌, refl}
-use Rattle.span_cover.proofs.BestLemmas.{best_from-step, best_from-skipped, best_from-end}
-use Rattle.span_cover.proofs.PassedOn.{piece_kept, one_back, before_all, number_fits, place_fits}
+use Rattle.span_cover.proofs.BestSample.{best_from-step, best_from-skipped, best_from-end}
+use Rattle.span_cover.proofs.Worth.{piece_kept, one_back, before_all, number_fits, place_fits}
 use Rattle.span_cover.proofs.choice.first_best.Goals as goal
 
 pub loop-number-init : goal.loop-number-init

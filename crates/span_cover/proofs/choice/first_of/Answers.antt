@@ -2,7 +2,7 @@ use Rattle.std.proofs.Common.{◌∙◌}
 use mir.Syntax.{w128}
 use Rattle.std.proofs.lemmas.Int.{to_z-of_z}
 use Rattle.span_cover.specs.Best.{better, merit}
-use Rattle.span_cover.proofs.PassedOn.{piece_kept}
+use Rattle.span_cover.proofs.Worth.{piece_kept}
 use Rattle.span_cover.proofs.choice.first_of.Goals as goal
 
 pub unmoved-requires : goal.unmoved-requires

@@ -1,4 +1,4 @@
-use Rattle.span_cover.proofs.PassedOn.{negation_fits, low_unmoved, high_unmoved}
+use Rattle.span_cover.proofs.Worth.{negation_fits, low_unmoved, high_unmoved}
 use Rattle.span_cover.proofs.choice.unmoved.Goals as goal
 
 pub overflow_sub-result : goal.overflow_sub-result

@@ -1,7 +1,7 @@
 use Rattle.std.proofs.Common.{◌≡◌, refl, rules, to_z, of_z}
 use Rattle.std.specs.Int.{w128}
 use Rattle.std.proofs.lemmas.Int.{to_z-of_z}
-use Rattle.span_cover.proofs.PieceLemmas.{low_stays}
+use Rattle.span_cover.proofs.PieceDistance.{low_stays}
 use Rattle.span_cover.proofs.gathering.greater_low.Goals as goal
 
 pub lowered-requires-clause-piece : goal.lowered-requires-clause-piece

@@ -1,7 +1,7 @@
 use Rattle.std.proofs.Common.{◌≡◌, refl, rules, to_z, of_z}
 use Rattle.std.specs.Int.{w128}
 use Rattle.std.proofs.lemmas.Int.{to_z-of_z}
-use Rattle.span_cover.proofs.PieceLemmas.{high_stays}
+use Rattle.span_cover.proofs.PieceDistance.{high_stays}
 use Rattle.span_cover.proofs.gathering.lesser_high.Goals as goal
 
 pub raised-requires-clause-piece : goal.raised-requires-clause-piece

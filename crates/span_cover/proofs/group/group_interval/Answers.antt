@@ -1,5 +1,5 @@
 use Rattle.std.proofs.Common.{◌∙◌, sym}
-use Rattle.span_cover.proofs.OwnGroupLemmas.{group_interval-own}
+use Rattle.span_cover.proofs.OwnGroup.{group_interval-own}
 use Rattle.span_cover.proofs.group.group_interval.Goals as goal
 
 pub returns-then-own : goal.returns-then-own

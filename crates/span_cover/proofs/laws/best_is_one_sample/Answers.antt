@@ -1,4 +1,4 @@
-use Rattle.span_cover.proofs.BestLemmas.{IsFirstBest-one}
+use Rattle.span_cover.proofs.BestSample.{IsFirstBest-one}
 use Rattle.span_cover.proofs.laws.best_is_one_sample.Goals as goal
 
 pub returns : goal.returns

@@ -1,4 +1,4 @@
-use Rattle.span_cover.proofs.BestLemmas.{best_numbers}
+use Rattle.span_cover.proofs.BestSample.{best_numbers}
 use Rattle.span_cover.proofs.laws.best_samples_are_the_first_best.Goals as goal
 
 pub returns : goal.returns

@@ -1,4 +1,4 @@
-use Rattle.span_cover.proofs.PieceLemmas.{error_no_less, error_no_more}
+use Rattle.span_cover.proofs.PieceDistance.{error_no_less, error_no_more}
 use Rattle.span_cover.proofs.laws.error_lies_in_the_interval_of_the_piece.Goals as goal
 
 pub returns : goal.returns

@@ -1,4 +1,4 @@
-use Rattle.span_cover.proofs.PieceLemmas.{moved_low-narrower, moved_high-narrower}
+use Rattle.span_cover.proofs.PieceDistance.{moved_low-narrower, moved_high-narrower}
 use Rattle.span_cover.proofs.laws.piece_inside_another_is_narrower.Goals as goal
 
 pub returns-clause-low : goal.returns-clause-low

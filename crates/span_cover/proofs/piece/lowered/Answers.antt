@@ -2,7 +2,7 @@ use Rattle.std.proofs.Common.{arith, ℤ, pos, ◌-ℤ◌, ◌≡◌, ◌∙◌,
 use mir.Syntax.{w128}
 use Rattle.std.proofs.lemmas.Int.{ints}
 use Rattle.sample_interval.specs.Widening.{widening}
-use Rattle.span_cover.proofs.PieceLemmas.{farthest-kept}
+use Rattle.span_cover.proofs.PieceDistance.{farthest-kept}
 use Rattle.span_cover.specs.Piece.{moved_low}
 use Rattle.span_cover.proofs.piece.lowered.Goals as goal
 

@@ -9,7 +9,7 @@ use Rattle.sweep.specs.declared.crest.Crest.{Crest}
 use Rattle.sweep.specs.declared.extreme.Extreme.{Extreme}
 use Rattle.sweep.specs.declared.rise.Rise.{Rise}
 use Rattle.sweep.specs.declared.stretch.Stretch.{Stretch}
-use Rattle.sweep.proofs.ChoiceLemmas.{NumbersSoFar, highest_within, highest_more}
+use Rattle.sweep.proofs.HighestExtreme.{NumbersSoFar, highest_within, highest_more}
 use Rattle.sweep.proofs.choice.clear_numbers.Goals as goal
 
 -- what the code hands on: the crests through a reference, and the stretch with time running backwards

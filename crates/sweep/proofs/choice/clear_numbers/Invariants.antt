@@ -1,5 +1,5 @@
 use Rattle.std.proofs.Common.{◌≤◌, length}
-use Rattle.sweep.proofs.ChoiceLemmas.{NumbersSoFar}
+use Rattle.sweep.proofs.HighestExtreme.{NumbersSoFar}
 use Rattle.sweep.proofs.choice.clear_numbers.Given as goal
 
 abbrev pub invariant-loop-k : goal.invariant-loop-k

@@ -6,8 +6,8 @@ use Rattle.sweep.specs.Top.{AreEarlyTops, AreLateTops}
 use Rattle.sweep.specs.Stretch.{IsLawfulStretch, MiddlesRise}
 use Rattle.sweep.specs.declared.extreme.Extreme.{Extreme}
 use Rattle.sweep.specs.declared.stretch.Stretch.{Stretch}
-use Rattle.sweep.proofs.MirrorLemmas.{lawful-mirrored_extremes, lawful-mirrored_stretches, MiddlesRise-mirrored}
-use Rattle.sweep.proofs.MirrorLemmas.{AreLateTops-mirrored}
+use Rattle.sweep.proofs.Mirror.{lawful-mirrored_extremes, lawful-mirrored_stretches, MiddlesRise-mirrored}
+use Rattle.sweep.proofs.Mirror.{AreLateTops-mirrored}
 use Rattle.sweep.proofs.choice.late_tops.Goals as goal
 
 pub early_tops-requires-clause-extremes : goal.early_tops-requires-clause-extremes

@@ -1,6 +1,6 @@
 use Rattle.std.proofs.Common.{subst, sym, ◌∙◌, IsSome, length, ◌<◌}
 use Rattle.std.proofs.lemmas.Option.{slice_get-get_or}
-use Rattle.sweep.proofs.ChoiceLemmas.{NumbersSoFar, higher_is_some, index_within, number_more}
+use Rattle.sweep.proofs.HighestExtreme.{NumbersSoFar, higher_is_some, index_within, number_more}
 use Rattle.sweep.proofs.choice.ranked_numbers.Goals as goal
 
 pub unwrap-top-requires : goal.unwrap-top-requires

@@ -1,4 +1,4 @@
-use Rattle.sweep.proofs.ChoiceLemmas.{NumbersSoFar}
+use Rattle.sweep.proofs.HighestExtreme.{NumbersSoFar}
 use Rattle.sweep.proofs.choice.ranked_numbers.Given as goal
 
 abbrev pub invariant-loop-k : goal.invariant-loop-k

@@ -4,9 +4,9 @@ use Rattle.std.proofs.lemmas.Bool.{cases_lt}
 use Rattle.std.proofs.lemmas.Option.{slice_get-get_or}
 use Rattle.sweep.specs.Extreme.{seen}
 use Rattle.sweep.specs.declared.crest.Crest.{Crest}
-use Rattle.sweep.proofs.ListLemmas.{there}
-use Rattle.sweep.proofs.CrestLemmas.{CrestsSoFar, CrestsSoFar-none, CrestsSoFar-kept, CrestsSoFar-first}
-use Rattle.sweep.proofs.CrestLemmas.{CrestsSoFar-more, AreCrestsOf-all}
+use Rattle.sweep.proofs.List.{there}
+use Rattle.sweep.proofs.CrestList.{CrestsSoFar, CrestsSoFar-none, CrestsSoFar-kept, CrestsSoFar-first}
+use Rattle.sweep.proofs.CrestList.{CrestsSoFar-more, AreCrestsOf-all}
 use Rattle.sweep.proofs.crest.crests_of.Goals as goal
 use Rattle.sweep.proofs.crest.crests_of.Goals.{in-Some+in_ok-push, in_default}
 
@@ -61,7 +61,7 @@ loop-turn-preserved c =
 
 pub loop-turn-init : goal.loop-turn-init
 loop-turn-init c =
-    subst (CrestsSoFar c.in_ok-queue.queue.items 0) (sym c.in_ok-crests.ensures.items)
+    subst (CrestsSoFar c.in_ok-queue.queue.items 0) (sym c.new-crests.ensures.items)
     (CrestsSoFar-none c.in_ok-queue.queue.items)
 
 pub returns : goal.returns

@@ -1,4 +1,4 @@
-use Rattle.sweep.proofs.CrestLemmas.{CrestsSoFar}
+use Rattle.sweep.proofs.CrestList.{CrestsSoFar}
 use Rattle.sweep.proofs.crest.crests_of.Given as goal
 
 abbrev pub invariant-loop-turn : goal.invariant-loop-turn

@@ -3,8 +3,8 @@ use Rattle.std.proofs.lemmas.Option.{slice_get-get_or}
 use Rattle.sample_interval.specs.declared.kinds.Sample.{Sample}
 use Rattle.sweep.specs.declared.extreme.Extreme.{Extreme}
 use Rattle.intersection.specs.declared.ends.Side.TheVariants.{Low, High}
-use Rattle.sweep.proofs.ExtremeLemmas.{as_many_servers, lawful_at, server_at}
-use Rattle.sweep.proofs.ExtremeLemmas.{ExtremesSoFar, ExtremesSoFar-more, ExtremesSoFar-other, ExtremesSoFar-all}
+use Rattle.sweep.proofs.ExtremeList.{as_many_servers, lawful_at, server_at}
+use Rattle.sweep.proofs.ExtremeList.{ExtremesSoFar, ExtremesSoFar-more, ExtremesSoFar-other, ExtremesSoFar-all}
 use Rattle.sweep.proofs.extreme.extremes_of.Goals as goal
 use Rattle.sweep.proofs.extreme.extremes_of.Goals.{then-of-server+in_ok-push+in_ok-push-2, else-of-server}
 

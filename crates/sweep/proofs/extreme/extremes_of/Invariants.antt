@@ -1,5 +1,5 @@
 use Rattle.intersection.specs.declared.ends.Side.TheVariants.{Low, High}
-use Rattle.sweep.proofs.ExtremeLemmas.{ExtremesSoFar}
+use Rattle.sweep.proofs.ExtremeList.{ExtremesSoFar}
 use Rattle.sweep.proofs.extreme.extremes_of.Given as goal
 
 abbrev pub invariant-loop-number : goal.invariant-loop-number

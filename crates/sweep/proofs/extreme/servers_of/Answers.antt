@@ -1,4 +1,4 @@
-use Rattle.sweep.proofs.ExtremeLemmas.{servers_more}
+use Rattle.sweep.proofs.ExtremeList.{servers_more}
 use Rattle.sweep.proofs.extreme.servers_of.Goals as goal
 
 pub loop-number-preserved : goal.loop-number-preserved

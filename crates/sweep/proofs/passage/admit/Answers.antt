@@ -6,7 +6,7 @@ use Rattle.std.proofs.lemmas.Option.{slice_get-get_or, slice_get_within, same_So
 use mir.Syntax.{w128}
 use Rattle.ranking.specs.Ranking.{HasBefore}
 use Rattle.sweep.specs.declared.queue.Arrival.{Arrival}
-use Rattle.sweep.proofs.RankingLemmas.{HoldsFirst-offered}
+use Rattle.sweep.proofs.Ranking.{HoldsFirst-offered}
 use Rattle.sweep.proofs.passage.admit.Goals as goal
 
 pub loop-next-preserved : goal.loop-next-preserved

@@ -1,6 +1,6 @@
 use Rattle.std.proofs.Common.{refl, subst, sym, ℤ, List, Option}
 use Rattle.std.proofs.lemmas.Option.{slice_get-get_or}
-use Rattle.sweep.proofs.PassageLemmas.{TopsSoFar, TopsSoFar-none, TopsSoFar-more}
+use Rattle.sweep.proofs.PassageSteps.{TopsSoFar, TopsSoFar-none, TopsSoFar-more}
 use Rattle.sweep.proofs.passage.early_tops.Goals as goal
 
 pub loop-stretch-init : goal.loop-stretch-init

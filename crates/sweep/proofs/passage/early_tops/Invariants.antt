@@ -1,4 +1,4 @@
-use Rattle.sweep.proofs.PassageLemmas.{TopsSoFar}
+use Rattle.sweep.proofs.PassageSteps.{TopsSoFar}
 use Rattle.sweep.proofs.passage.early_tops.Given as goal
 
 abbrev pub invariant-loop-stretch : goal.invariant-loop-stretch

@@ -1,6 +1,6 @@
 use Rattle.std.proofs.Common.{ℕ, ◌-◌, ◌*◌, ◌/◌, ap, ◌∙◌}
 use Rattle.sample_interval.specs.Widening.{billion}
-use Rattle.sweep.proofs.PeakLemmas.{IsEarlyLevel-room}
+use Rattle.sweep.proofs.PeakList.{IsEarlyLevel-room}
 use Rattle.sweep.proofs.peak.early_rise.Goals as goal
 
 pub returns : goal.returns

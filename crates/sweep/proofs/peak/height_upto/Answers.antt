@@ -1,7 +1,7 @@
 use Rattle.std.proofs.Common.{ℕ, ◌≡◌, ◌-◌, Some, arith, subst, sym}
 use Rattle.std.specs.List.{slice_get}
 use Rattle.std.proofs.lemmas.Option.{slice_get-get_or}
-use Rattle.sweep.proofs.PeakLemmas.{IsHeightUpto-none, IsHeightUpto-last}
+use Rattle.sweep.proofs.PeakList.{IsHeightUpto-none, IsHeightUpto-last}
 use Rattle.sweep.proofs.peak.height_upto.Goals as goal
 
 pub returns-then-count-eq0 : goal.returns-then-count-eq0

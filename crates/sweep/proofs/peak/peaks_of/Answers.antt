@@ -4,7 +4,7 @@ use Rattle.std.specs.List.{slice_get}
 use Rattle.std.proofs.lemmas.Option.{slice_get-get_or}
 use Rattle.sweep.specs.Extreme.{seen}
 use Rattle.sweep.specs.declared.peak.Peak.{Peak}
-use Rattle.sweep.proofs.PeakLemmas.{PeaksSoFar, PeaksSoFar-none, PeaksSoFar-kept, PeaksSoFar-more, ArePeaksOf-all}
+use Rattle.sweep.proofs.PeakList.{PeaksSoFar, PeaksSoFar-none, PeaksSoFar-kept, PeaksSoFar-more, ArePeaksOf-all}
 use Rattle.sweep.proofs.peak.peaks_of.Goals as goal
 use Rattle.sweep.proofs.peak.peaks_of.Goals.{then-is_higher+in_ok-push, else-is_higher}
 

@@ -1,4 +1,4 @@
-use Rattle.sweep.proofs.PeakLemmas.{PeaksSoFar}
+use Rattle.sweep.proofs.PeakList.{PeaksSoFar}
 use Rattle.sweep.proofs.peak.peaks_of.Given as goal
 
 abbrev pub invariant-loop-turn : goal.invariant-loop-turn

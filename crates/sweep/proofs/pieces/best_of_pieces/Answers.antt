@@ -7,9 +7,9 @@ use Rattle.sweep.specs.Pieces.{ArePieces}
 use Rattle.sweep.specs.Stretch.{AreStretchesOf, MiddlesRise}
 use Rattle.sweep.specs.declared.extreme.Extreme.{Extreme}
 use Rattle.intersection.specs.declared.ends.Side.TheVariants.{Low, High}
-use Rattle.sweep.proofs.ExtremeLemmas.{lawful_extremes, some_sample, some_extreme}
-use Rattle.sweep.proofs.PieceLemmas.{AreBestOfPieces-tops, AreTopNumbers-lent, ArePairsOf-lent}
-use Rattle.sweep.proofs.StretchLemmas.{MiddlesRise-adjoin}
+use Rattle.sweep.proofs.ExtremeList.{lawful_extremes, some_sample, some_extreme}
+use Rattle.sweep.proofs.Piece.{AreBestOfPieces-tops, AreTopNumbers-lent, ArePairsOf-lent}
+use Rattle.sweep.proofs.StretchList.{MiddlesRise-adjoin}
 use Rattle.sweep.proofs.pieces.best_of_pieces.Goals as goal
 
 pub stretches_of-requires : goal.stretches_of-requires

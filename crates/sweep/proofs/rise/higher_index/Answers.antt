@@ -3,7 +3,7 @@ use Rattle.std.proofs.lemmas.Option.{IfSome_then}
 use Rattle.sample_interval.specs.Widening.{billion}
 use Rattle.sweep.specs.Rise.{IsHighest}
 use Rattle.sweep.specs.Top.{higher_of}
-use Rattle.sweep.proofs.RiseLemmas.{early_higher, late_higher, both_clear}
+use Rattle.sweep.proofs.RiseOrder.{early_higher, late_higher, both_clear}
 use Rattle.sweep.proofs.rise.higher_index.Goals as goal
 
 pub returns-then-saturating_sub-parts : goal.returns-then-saturating_sub-parts

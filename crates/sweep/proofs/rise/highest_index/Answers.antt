@@ -1,7 +1,7 @@
 use Rattle.std.proofs.Common.{subst, sym}
 use Rattle.std.proofs.lemmas.Option.{IfSome_then}
 use Rattle.sweep.specs.Rise.{IsHighest, IsRiseOf, IsLateRiseOf}
-use Rattle.sweep.proofs.RiseLemmas.{early_alone, late_alone}
+use Rattle.sweep.proofs.RiseOrder.{early_alone, late_alone}
 use Rattle.sweep.proofs.rise.highest_index.Goals as goal
 
 pub returns-in-Some-None : goal.returns-in-Some-None

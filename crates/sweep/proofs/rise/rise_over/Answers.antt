@@ -2,7 +2,7 @@ use Rattle.std.proofs.Common.{◌-◌, ◌*◌, ℕ, arith, subst, sym, ap, refl
 use Rattle.std.proofs.lemmas.Bool.{leb-true}
 use Rattle.std.proofs.lemmas.Option.{slice_get-get_or}
 use Rattle.sweep.specs.Rise.{IsRiseOf}
-use Rattle.sweep.proofs.RiseLemmas.{no_crest, no_room, rises}
+use Rattle.sweep.proofs.RiseOrder.{no_crest, no_room, rises}
 use Rattle.sweep.proofs.rise.rise_over.Goals as goal
 
 pub returns-then-count-eq0 : goal.returns-then-count-eq0

@@ -2,7 +2,7 @@ use Rattle.std.proofs.Common.{arith, rules, get_or, ℤ, pos, subst, sym, FitsSi
 use Rattle.std.proofs.lemmas.Int.{ints, to_z-of_z}
 use mir.Syntax.{w128}
 use Rattle.sweep.specs.Stretch.{AreStretchesOf}
-use Rattle.sweep.proofs.StretchLemmas.{StretchesSoFar, piece_at, piece_here, StretchesSoFar-more, StretchesSoFar-all}
+use Rattle.sweep.proofs.StretchList.{StretchesSoFar, piece_at, piece_here, StretchesSoFar-more, StretchesSoFar-all}
 use Rattle.sweep.proofs.stretch.stretches_of.Goals as goal
 
 pub from_origin-requires : goal.from_origin-requires

@@ -1,4 +1,4 @@
-use Rattle.sweep.proofs.StretchLemmas.{StretchesSoFar}
+use Rattle.sweep.proofs.StretchList.{StretchesSoFar}
 use Rattle.sweep.proofs.stretch.stretches_of.Given as goal
 
 abbrev pub invariant-loop-reading : goal.invariant-loop-reading

@@ -4,7 +4,7 @@ use Rattle.sweep.specs.Extreme.{mirrored_extreme}
 use Rattle.sweep.specs.Peak.{ArePeaksOf, IsEarlyLevel}
 use Rattle.sweep.specs.Stretch.{mirrored_stretch}
 use Rattle.sweep.specs.declared.stretch.Stretch.{Stretch}
-use Rattle.sweep.proofs.LevelLemmas.{IsLevelOver-higher, higher_quotient}
+use Rattle.sweep.proofs.Level.{IsLevelOver-higher, higher_quotient}
 use Rattle.sweep.proofs.table.level_over.Goals as goal
 
 pub returns-clause-level : goal.returns-clause-level

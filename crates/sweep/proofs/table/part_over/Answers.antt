@@ -6,9 +6,9 @@ use Rattle.span_cover.specs.declared.part.Part.{Part}
 use Rattle.sweep.specs.Extreme.{IsFromOrigin}
 use Rattle.sweep.specs.Stretch.{IsStretchOf}
 use Rattle.sweep.specs.declared.stretch.Stretch.{Stretch}
-use Rattle.sweep.proofs.ExtremeLemmas.{lawful_extremes}
-use Rattle.sweep.proofs.LevelLemmas.{interval_is, part_is}
-use Rattle.sweep.proofs.StretchLemmas.{lawful_stretch}
+use Rattle.sweep.proofs.ExtremeList.{lawful_extremes}
+use Rattle.sweep.proofs.Level.{interval_is, part_is}
+use Rattle.sweep.proofs.StretchList.{lawful_stretch}
 use Rattle.sweep.proofs.table.part_over.Goals as goal
 
 pub returns : goal.returns

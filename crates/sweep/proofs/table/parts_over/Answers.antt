@@ -6,7 +6,7 @@ use Rattle.std.proofs.lemmas.List.{take_all}
 use mir.Syntax.{w128}
 use Rattle.sweep.specs.Table.{IsTableOf, best_part, best_parts}
 use Rattle.sweep.specs.declared.table.BestTable.{BestTable}
-use Rattle.sweep.proofs.TableLemmas.{filter_map_more, parts_are}
+use Rattle.sweep.proofs.TableList.{filter_map_more, parts_are}
 use Rattle.sweep.proofs.table.parts_over.Goals as goal
 
 pub loop-table-preserved : goal.loop-table-preserved

@@ -4,7 +4,7 @@ use Rattle.intersection.specs.declared.ends.Side.TheVariants.{Low, High}
 use Rattle.sweep.specs.Extreme.{IsLawfulExtreme}
 use Rattle.sweep.specs.Table.{ArePeaksBothWays}
 use Rattle.sweep.specs.declared.extreme.Extreme.{Extreme}
-use Rattle.sweep.proofs.ExtremeLemmas.{lawful_extremes, some_sample, some_extreme}
+use Rattle.sweep.proofs.ExtremeList.{lawful_extremes, some_sample, some_extreme}
 use Rattle.sweep.proofs.table.table_of.Goals as goal
 
 pub both_ways-requires-clause-extremes : goal.both_ways-requires-clause-extremes

@@ -3,7 +3,7 @@ use Rattle.std.proofs.Common.{unsigned_abs, FitsSigned, to_z, of_z}
 use Rattle.std.proofs.lemmas.Int.{ints, to_z-of_z}
 use mir.Syntax.{w128}
 use Rattle.sweep.specs.Top.{IsTopOf, HasHeight}
-use Rattle.sweep.proofs.TopLemmas.{top-below_zero, top-no_room, top-asked_some, top-asked}
+use Rattle.sweep.proofs.TopOrder.{top-below_zero, top-no_room, top-asked_some, top-asked}
 use Rattle.sweep.proofs.top.top_of.Goals as goal
 
 pub returns-then-greatest-lt0 : goal.returns-then-greatest-lt0

@@ -2,7 +2,7 @@ use Rattle.std.proofs.Common.{◌≤◌, ◌≤ℤ◌, ◌<ℤ◌, arith, rules}
 use Rattle.std.proofs.lemmas.Int.{ints, clamps, to_z-of_z}
 use mir.Syntax.{w128}
 use mir.Val.{SFits}
-use Rattle.ranking.proofs.Leading.{new_leads, old_leads}
+use Rattle.ranking.proofs.Leader.{new_leads, old_leads}
 use Rattle.ranking.proofs.lead.Lead.take_in.Goals as goal
 
 pub returns-then-value-greatest : goal.returns-then-value-greatest

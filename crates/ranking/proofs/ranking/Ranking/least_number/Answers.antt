@@ -6,7 +6,7 @@ use Rattle.ranking.specs.declared.tree.TheConstants.{NOTHING}
 use Rattle.ranking.specs.Tree.{value_of}
 use Rattle.ranking.specs.Tree.{entries_of}
 use Rattle.ranking.proofs.Entries.{leaf_of}
-use Rattle.ranking.proofs.Leading.{leader_is}
+use Rattle.ranking.proofs.Leader.{leader_is}
 use Rattle.ranking.proofs.Root.{all_below, greatest_is, least_is}
 use Rattle.ranking.proofs.ranking.Ranking.least_number.Goals as goal
 

@@ -3,8 +3,8 @@ use mir.Syntax.{w128}
 use Rattle.std.proofs.lemmas.Int.{ints}
 use Rattle.intersection.specs.declared.kinds.Interval.{Interval}
 use Rattle.span_cover.specs.Gathering.{Gathered, best_interval}
-use Rattle.span_cover.proofs.GatheringLemmas.{one_taken, entry_known, same_server, first_sample}
-use Rattle.span_cover.proofs.PassedOn.{piece_kept, entry_fits}
+use Rattle.span_cover.proofs.GatheringSteps.{one_taken, entry_known, same_server, first_sample}
+use Rattle.span_cover.proofs.Worth.{piece_kept, entry_fits}
 use Rattle.span_cover.proofs.gathering.BestSamples.take.Goals as goal
 use Rattle.span_cover.proofs.gathering.BestSamples.take.Goals.{in-Some, in-None}
 

@@ -1,0 +1,127 @@
+-- The pieces of an envelope, one after another.
+use Rattle.std.proofs.Common.{◌≡◌, ℕ, zero, suc, ◌+◌, ◌<◌, ◌≤◌, nat_lt, List, [], ◌∷◌, ◌++◌, length, map, Ok, Err, inl, inr, refl, sym, ap, ◌∙◌, arith, add-one, subst}
+use Rattle.std.specs.Prelude.{All, Result, ◌⊎◌, ◌↔◌, IsErrAnd}
+use Rattle.std.specs.List.{range_with_len}
+use Rattle.std.proofs.lemmas.Bool.{cond-true, cond-false}
+use Rattle.std.proofs.lemmas.List.{get_or-map, length-map}
+use Rattle.std.proofs.lemmas.List.Elements.{All-nil, All-cons}
+use Rattle.std.proofs.lemmas.List.FromFn.{map-range_with_len_more}
+use Rattle.certificate.specs.Certificate.{max_pieces}
+use Rattle.claim_file.specs.Claim.{ClaimData, IsLawful}
+use Rattle.intersection.specs.declared.kinds.Hull.{Hull}
+use Rattle.sample_interval.specs.declared.kinds.Sample.{Sample}
+use Rattle.span_cover.specs.Group.{piece_hull}
+use Rattle.span_cover.specs.declared.stretch.Stretch.{Stretch}
+use Rattle.finder.specs.Answer.{FindsEnvelope}
+use Rattle.finder.specs.Entry.{best_entries, parts_named}
+use Rattle.finder.specs.Envelope.{EnvelopeData, PieceHullData, IsLawfulEnvelope, IsLawfulPiece, IsLeast, data_of, piece_hull_at, piece_hulls, least_of, with_piece, envelope_of, envelope_to}
+use Rattle.finder.specs.Found.{hull_at}
+use Rattle.finder.specs.Piece.{count_of, stretch_at}
+use Rattle.finder.specs.declared.envelope.Envelope.{Envelope}
+use Rattle.finder.specs.declared.fault.FindFault.{FindFault}
+use Rattle.finder.specs.declared.fault.FindFault.TheVariants.{TooManyPieces, Memory}
+use Rattle.finder.specs.declared.least.LeastBound.{LeastBound}
+use Rattle.finder.proofs.Best.{BestLaw}
+use Rattle.finder.proofs.EntryList.{entries_there}
+use Rattle.finder.proofs.Finding.{hull_is}
+use Rattle.finder.proofs.SpanPieces.{is_few, is_many, piece_of_claim}
+
+-- what holds of what f gives of each holds of each
+pub All-from_map : {X Y : Type 0} (P : Y → Type 0) (f : X → Y) (xs : List X) → All P (map f xs)
+    → All (λ x. P (f x)) xs
+All-from_map P f xs all k d within =
+    let same = length-map xs f in
+    subst P (get_or-map f xs k d (f d) within) (all k (f d) (omega (arith, same, within)))
+
+module _ (samples : List Sample) (claim : ClaimData) (step : ℕ) where
+  pub envelope_of_many : max_pieces < count_of claim step → envelope_of samples claim step ≡ Err TooManyPieces
+  unfolding envelope_of
+  envelope_of_many many = cond-true (nat_lt max_pieces (count_of claim step)) _ _ (is_many _ many)
+
+  pub envelope_of_few : count_of claim step ≤ max_pieces
+      → envelope_of samples claim step ≡ Ok (envelope_to samples claim step (count_of claim step))
+  unfolding envelope_of
+  envelope_of_few h = cond-false (nat_lt max_pieces (count_of claim step)) _ _ (is_few _ h)
+
+  -- a piece that the code makes
+  pub piece_hull_is : (k : ℕ) (stretch : Stretch) (entries : List (ℕ × ℕ)) (hull : Hull)
+      → stretch ≡ stretch_at claim step k → entries ≡ best_entries samples claim (stretch_at claim step k)
+      → hull ≡ piece_hull claim.groups claim.false_max (parts_named samples claim stretch entries)
+      → ◌≡◌ {A = PieceHullData} (record { stretch = stretch; entries = entries; hull = hull })
+      (piece_hull_at samples claim step k)
+  piece_hull_is k stretch entries hull a b e =
+      let make : Stretch → List (ℕ × ℕ) → Hull → PieceHullData =
+      λ s es h. record { stretch = s; entries = es; hull = h } in
+      ap (λ (s : Stretch). make s entries hull) a
+      ∙ ap (λ (es : List (ℕ × ℕ)). make (stretch_at claim step k) es hull) b
+      ∙ ap (make (stretch_at claim step k) (best_entries samples claim (stretch_at claim step k)))
+      (hull_is samples claim step k stretch entries hull a b e)
+
+  -- one more piece
+  pub piece_hulls_more : (k : ℕ) (old : List PieceHullData) (piece : PieceHullData)
+      → old ≡ piece_hulls samples claim step k → piece ≡ piece_hull_at samples claim step k
+      → old ++ piece ∷ [] ≡ piece_hulls samples claim step (k + 1)
+  piece_hulls_more k old piece so_far is =
+      ap (λ (ps : List PieceHullData). ps ++ piece ∷ []) so_far
+      ∙ ap (λ (p : PieceHullData). piece_hulls samples claim step k ++ p ∷ []) is
+      ∙ sym (map-range_with_len_more (piece_hull_at samples claim step) 0 k k (omega arith))
+
+  pub least_more : (k : ℕ) (old : LeastBound) (hull : Hull) → old ≡ least_of (hull_at samples claim step) k
+      → hull ≡ hull_at samples claim step k
+      → with_piece old k hull ≡ least_of (hull_at samples claim step) (k + 1)
+  least_more k old hull a b =
+      rw add-one (ap (λ (l : LeastBound). with_piece l k hull) a
+      ∙ ap (with_piece (least_of (hull_at samples claim step) k) k) b)
+
+  pub envelope_is : (n : ℕ) (pieces : List PieceHullData) (least : LeastBound)
+      → pieces ≡ piece_hulls samples claim step n → least ≡ least_of (hull_at samples claim step) n
+      → ◌≡◌ {A = EnvelopeData} (record { pieces = pieces; least = least }) (envelope_to samples claim step n)
+  envelope_is n pieces least a b =
+      let make : List PieceHullData → LeastBound → EnvelopeData = λ ps l. record { pieces = ps; least = l } in
+      ap (λ (ps : List PieceHullData). make ps least) a ∙ ap (make (piece_hulls samples claim step n)) b
+
+  -- ---- each piece is lawful
+
+  module _ (law : BestLaw) (lawful : IsLawful claim) where
+    lawful_piece : (k : ℕ) → IsLawfulPiece (length samples) (piece_hull_at samples claim step k)
+    lawful_piece k = record {
+      stretch = piece_of_claim claim lawful step k;
+      named = entries_there law samples claim (stretch_at claim step k);
+    }
+
+    lawful_from : (k n : ℕ)
+        → All (IsLawfulPiece (length samples)) (map (piece_hull_at samples claim step) (range_with_len k n))
+    lawful_from k zero = All-nil (IsLawfulPiece (length samples))
+    lawful_from k (suc n) =
+        All-cons (IsLawfulPiece (length samples)) (piece_hull_at samples claim step k) _ (lawful_piece k)
+        (lawful_from (k + 1) n)
+
+    pub lawful_pieces : (n : ℕ) → All (IsLawfulPiece (length samples)) (piece_hulls samples claim step n)
+    lawful_pieces n = lawful_from 0 n
+
+  -- ---- the answer
+
+  refuses : (fault : FindFault) → (fault ≡ Memory) ⊎ (envelope_of samples claim step ≡ Err fault)
+      → (◌≡◌ {A = Result Envelope FindFault} (Err fault) (Err TooManyPieces)) ↔ (max_pieces < count_of claim step)
+      → FindsEnvelope samples claim step (Err fault)
+  refuses fault exact too_many = record { exact = exact; too_many = too_many; least = tt; lawful = tt }
+
+  pub envelope_many : max_pieces < count_of claim step → FindsEnvelope samples claim step (Err TooManyPieces)
+  envelope_many many = refuses TooManyPieces (inr (envelope_of_many many)) (λ is. many, λ over. refl)
+
+  pub envelope_without_memory : count_of claim step ≤ max_pieces → (result : Result Envelope FindFault)
+      → IsErrAnd result (λ fault. fault ≡ Memory) → FindsEnvelope samples claim step result
+  envelope_without_memory few (Ok found) is = absurd is
+  envelope_without_memory few (Err fault) is = refuses fault (inl is) (λ e. absurd cc, λ many. absurd (omega arith))
+
+  pub envelope_few : count_of claim step ≤ max_pieces
+      → IsLeast (hull_at samples claim step) (count_of claim step)
+      (least_of (hull_at samples claim step) (count_of claim step))
+      → (found : Envelope) → data_of found ≡ envelope_to samples claim step (count_of claim step)
+      → IsLawfulEnvelope (length samples) found → FindsEnvelope samples claim step (Ok found)
+  envelope_few few least found is lawful = record {
+    exact = envelope_of_few few ∙ ap Ok (sym is);
+    too_many = (λ is. absurd cc, λ many. absurd (omega arith));
+    least = rw (ap (λ (e : EnvelopeData). e.least) is) least;
+    lawful = lawful;
+  }

@@ -1,0 +1,278 @@
+-- What the longest pieces say of certificates: theirs is accepted, and no accepted one has fewer pieces.
+use Rattle.std.proofs.Common.{◌≡◌, ◌≢◌, ℕ, suc, ◌+◌, ◌<◌, ℤ, pos, ◌≤ℤ◌, int_lt, nat_lt, unsigned_abs, Bool, true, false, true≢false, cond, ◌&&◌, ◌||◌, ⊎_elim, List, [], ◌∷◌, ◌++◌, length, Option, Some, None, refl, sym, ap, ◌∙◌, subst, arith}
+use Rattle.std.specs.Prelude.{All, slice_get, IsSomeAnd}
+use Rattle.std.specs.Ordering.{int_eq}
+use Rattle.std.proofs.lemmas.Bool.{cond-true}
+use Rattle.std.proofs.lemmas.Bool.Decides.{nat_tests}
+use Rattle.std.proofs.lemmas.Int.{ints, clamps}
+use Rattle.std.proofs.lemmas.Option.{slice_get_within}
+use Rattle.certificate.specs.Certificate.{PieceData, CertificateData}
+use Rattle.claim_file.specs.Claim.{ClaimData, IsLawful}
+use Rattle.intersection.specs.declared.kinds.Hull.{Hull}
+use Rattle.intersection.specs.declared.kinds.Hull.TheVariants.{Empty}
+use Rattle.sample_interval.specs.declared.kinds.Sample.{Sample}
+use Rattle.span_cover.specs.Group.{is_inside}
+use Rattle.span_cover.specs.Piece.{IsPiece}
+use Rattle.span_cover.specs.declared.stretch.Stretch.{Stretch}
+use Rattle.checker.specs.Stretch.{last_end, stretches_from}
+use Rattle.checker.specs.Traceability.{HoldsError}
+use Rattle.checker.specs.Verdict.{parts_after, parts_fault, piece_fault, verdict_after, verdict_from, verdict_of, PassBelow}
+use Rattle.checker.specs.declared.verdict.Verdict.TheVariants.{Yes, No}
+use Rattle.checker.specs.declared.verdict.Why.{Why}
+use Rattle.checker.specs.declared.verdict.Why.TheVariants.{Cut, Uncovered}
+use Rattle.finder.specs.Entry.{best_entries, best_hull}
+use Rattle.finder.specs.Fewest.{AreLongest, IsLongest, IsNoWider, end_after, hull_over, next_tick, piece_over, pieces_over, shows, stretch_over}
+use Rattle.finder.specs.Refusal.{HoldsWhole}
+use Rattle.finder.specs.Samples.{AreSamplesOf}
+use Rattle.finder.proofs.Best.{BestLaw}
+use Rattle.finder.proofs.Narrow.{NarrowLaw, WithinLaw}
+use Rattle.finder.proofs.Nearest.{int_cases}
+use Rattle.finder.proofs.Refusal.{Pass, pass_each, shows_piece, some_and}
+use Rattle.finder.proofs.Verdict.{entries_fault, from_zero_kept, inside_passes, not_less}
+
+-- what is known of the best samples and of verdicts
+pub record Laws : Type 0 where
+  pub best : BestLaw
+  pub narrow : NarrowLaw
+  pub within : WithinLaw
+  pub each : (samples : List Sample) (claim : ClaimData) (certificate : CertificateData)
+      → verdict_of samples claim certificate ≡ Yes
+      → PassBelow samples claim certificate (length certificate.pieces)
+  pub covers : (samples : List Sample) (claim : ClaimData) (certificate : CertificateData)
+      → verdict_of samples claim certificate ≡ Yes
+      → (0 < length certificate.pieces) × (last_end claim.first certificate.pieces ≡ claim.last)
+  pub held : (claim : ClaimData) (samples : List Sample) (stretch : Stretch) → IsLawful claim
+      → All (λ sample. sample.server < length claim.servers) samples
+      → HoldsError claim samples stretch (best_hull samples claim stretch)
+
+not_inside : (bound : ℤ) (hull : Hull) → hull ≡ Empty → is_inside bound hull ≡ true → ⊥
+not_inside bound hull empty inside = true≢false (sym inside ∙ ap (is_inside bound) empty)
+
+empty_stays : (outer inner : Hull) → IsNoWider outer inner → outer ≡ Empty → inner ≡ Empty
+empty_stays outer inner is empty =
+    let at : IsNoWider Empty inner = subst (λ (h : Hull). IsNoWider h inner) empty is in at
+
+-- a piece that passes doesn't end after the span
+not_cut : (cut late : Bool) (rest : Option Why) → cond (cut || late) (Some Cut) rest ≡ None → late ≡ false
+not_cut true late rest e = absurd cc
+not_cut false true rest e = absurd cc
+not_cut false false rest e = refl
+
+not_late : (a b : ℤ) → int_lt a b ≡ false → b ≤ℤ a
+not_late a b e = grind (arith, ints)
+
+-- a reading of the span
+pub record InSpan (claim : ClaimData) (p : ℤ) : Type 0 where
+  pub from_zero : pos 0 ≤ℤ p
+  pub to_last : p ≤ℤ claim.last
+
+module _ (laws : Laws) (samples : List Sample) (claim : ClaimData) (lawful : IsLawful claim)
+    (are : AreSamplesOf claim samples) where
+  pub first_in_span : InSpan claim claim.first
+  first_in_span = record { from_zero = lawful.span_begins; to_last = lawful.span_forward }
+
+  pub piece_to : (p q : ℤ) → InSpan claim p → p ≤ℤ q → q ≤ℤ claim.last → IsPiece p q
+  piece_to p q is forward within =
+      let from_zero = is.from_zero in
+      let ends = lawful.span_ends in
+      record { from_zero = from_zero; in_order = forward; in_range = omega (arith, ints) }
+
+  pub next_later : (p : ℤ) → InSpan claim p → p ≤ℤ next_tick samples claim p
+  next_later p is = let to = is.to_last in omega (arith, ints, clamps)
+
+  pub next_within : (p : ℤ) → next_tick samples claim p ≤ℤ claim.last
+  next_within p = omega (arith, ints, clamps)
+
+  -- ---- the longest piece
+
+  pub longest_forward : (p q : ℤ) → InSpan claim p → IsLongest samples claim p q → p ≤ℤ q
+  longest_forward p q is long =
+      let next = next_later p is in
+      let some = long.some_tick in
+      omega (arith, ints)
+
+  pub end_in_span : (p q : ℤ) → InSpan claim p → IsLongest samples claim p q → InSpan claim q
+  end_in_span p q is long =
+      let forward = longest_forward p q is long in
+      let from_zero = is.from_zero in
+      record { from_zero = omega (arith, ints); to_last = long.in_span }
+
+  -- a shorter piece shows no less, unless its hull is empty; and then so is the longer one's
+  shorter : (p q r : ℤ) → InSpan claim p → p ≤ℤ q → q ≤ℤ r → r ≤ℤ claim.last
+      → IsNoWider (hull_over samples claim p r) (hull_over samples claim p q)
+  shorter p q r is forward more within =
+      laws.within samples claim (stretch_over p r) (stretch_over p q) lawful.drift_in_range are
+      (piece_to p q is forward (omega (arith, ints))) (omega (arith, ints), more)
+
+  fault_over : (p q end : ℤ) → InSpan claim p → p ≤ℤ q → q ≤ℤ claim.last → end ≡ q
+      → cond (int_lt end p || int_lt claim.last end) (Some Cut)
+      (parts_fault claim (parts_after samples (stretch_over p end) claim.drift_ppb []
+      (best_entries samples claim (stretch_over p q))))
+      ≡ parts_fault claim (parts_after samples (stretch_over p q) claim.drift_ppb []
+      (best_entries samples claim (stretch_over p q)))
+  fault_over p q end is forward within same =
+      rw (same, not_less q p forward, not_less claim.last q within) refl
+
+  -- the piece passes the checker's tests
+  no_fault : (p q : ℤ) → InSpan claim p → IsLongest samples claim p q
+      → piece_fault samples claim p (piece_over samples claim p q) ≡ None
+  no_fault p q is long =
+      let forward = longest_forward p q is long in
+      let end = end_in_span p q is long in
+      fault_over p q (pos (unsigned_abs q)) is forward long.in_span (from_zero_kept q end.from_zero)
+      ∙ entries_fault laws.best samples claim (stretch_over p q)
+      ∙ inside_passes claim.bound (hull_over samples claim p q) long.shown
+
+  -- ---- their certificate is accepted
+
+  covered : (k : ℕ) (z : ℤ) → z ≡ claim.last → (nat_lt 0 (k + 1) && int_eq z claim.last) ≡ true
+  covered k z e = grind (arith, nat_tests, ints)
+
+  pub yes_from : (k : ℕ) (p : ℤ) (earlier : List ℤ) → InSpan claim p → AreLongest samples claim p earlier
+      → IsLongest samples claim (end_after p earlier) claim.last
+      → verdict_from samples claim k p (pieces_over samples claim p (earlier ++ claim.last ∷ [])) ≡ Yes
+  yes_from k p [] is longest last =
+      let kept = from_zero_kept claim.last (end_in_span p claim.last is last).from_zero in
+      ap (λ (f : Option Why). verdict_after f k
+      (verdict_from samples claim (k + 1) (pos (unsigned_abs claim.last)) [])) (no_fault p claim.last is last)
+      ∙ cond-true (nat_lt 0 (k + 1) && int_eq (pos (unsigned_abs claim.last)) claim.last) Yes (No (k + 1) Uncovered)
+      (covered k (pos (unsigned_abs claim.last)) kept)
+  yes_from k p (q ∷ earlier) is longest last =
+      let rest = pieces_over samples claim q (earlier ++ claim.last ∷ []) in
+      let end = end_in_span p q is longest.0 in
+      ap (λ (f : Option Why). verdict_after f k
+      (verdict_from samples claim (k + 1) (pos (unsigned_abs q)) rest)) (no_fault p q is longest.0)
+      ∙ ap (λ (z : ℤ). verdict_from samples claim (k + 1) z rest) (from_zero_kept q end.from_zero)
+      ∙ yes_from (k + 1) q earlier end longest.2 last
+
+  -- ---- an accepted certificate has no fewer
+
+  -- from a reading no later than ours its piece ends no later
+  pub no_further : (a p q : ℤ) (t : PieceData) → InSpan claim p → a ≤ℤ p → IsLongest samples claim p q
+      → piece_fault samples claim a t ≡ None → pos t.upto ≤ℤ q
+  no_further a p q t is earlier long passes = ⊎_elim
+      (λ beyond. absurd (
+      let end : ℤ = pos t.upto in
+      let within : end ≤ℤ claim.last = not_late claim.last end
+      (not_cut (int_lt end a) (int_lt claim.last end) _ passes) in
+      let shown = shows_piece samples claim a t passes in
+      let forward = longest_forward p q is long in
+      let on : p ≤ℤ end = omega (arith, ints) in
+      ⊎_elim
+      (λ empty. not_inside claim.bound (hull_over samples claim p q)
+      (empty_stays (hull_over samples claim p end) (hull_over samples claim p q)
+      (shorter p q end is forward (omega (arith, ints)) within) empty) long.shown)
+      (λ inside. true≢false (sym inside ∙ long.no_longer end beyond within))
+      (laws.narrow samples claim (stretch_over a end) (stretch_over p end) shown.entries lawful.drift_in_range are
+      (piece_to p end is on within) (earlier, omega (arith, ints)) shown.passes)))
+      (λ le. le)
+      (int_cases q (pos t.upto))
+
+  -- so it takes more pieces to the end than ours that end before it
+  more_pieces : (a p : ℤ) (theirs : List PieceData) (ours : List ℤ) → InSpan claim p → a ≤ℤ p
+      → AreLongest samples claim p ours → Pass samples claim a theirs → last_end a theirs ≡ claim.last
+      → 0 < length theirs → length ours < length theirs
+  more_pieces a p theirs [] is earlier longest pass last some = some
+  more_pieces a p [] (q ∷ ours) is earlier longest pass last some = absurd (omega arith)
+  more_pieces a p (t ∷ []) (q ∷ ours) is earlier longest pass last some = absurd (
+      let end = no_further a p q t is earlier longest.0 (pass 0 t refl) in
+      let before = longest.1 in
+      let all : pos t.upto ≡ claim.last = last in
+      omega (arith, ints))
+  more_pieces a p (t ∷ next ∷ theirs) (q ∷ ours) is earlier longest pass last some =
+      let rest : length ours < length (next ∷ theirs) = more_pieces (pos t.upto) q (next ∷ theirs) ours
+      (end_in_span p q is longest.0)
+      (no_further a p q t is earlier longest.0 (pass 0 t refl)) longest.2 (λ k other at. pass (suc k) other at) last
+      (omega arith) in
+      omega (arith, rest)
+
+  pub pass_of : (other : CertificateData) → verdict_of samples claim other ≡ Yes
+      → Pass samples claim claim.first other.pieces
+  pass_of other accepted k piece at =
+      laws.each samples claim other accepted k piece (slice_get_within other.pieces k piece at) at
+
+  pub more_of_accepted : (earlier : List ℤ) → AreLongest samples claim claim.first earlier
+      → (other : CertificateData) → verdict_of samples claim other ≡ Yes → length earlier < length other.pieces
+  more_of_accepted earlier longest other accepted =
+      let covers = laws.covers samples claim other accepted in
+      more_pieces claim.first claim.first other.pieces earlier first_in_span (omega (arith, ints)) longest
+      (pass_of other accepted) covers.1 covers.0
+
+  pub as_many_pieces : (p : ℤ) (ends : List ℤ) → length (pieces_over samples claim p ends) ≡ length ends
+  as_many_pieces p [] = refl
+  as_many_pieces p (q ∷ ends) = let rest = as_many_pieces q ends in omega (arith, rest)
+
+  pub one_more_end : (earlier : List ℤ) (q : ℤ) → length (earlier ++ q ∷ []) ≡ length earlier + 1
+  one_more_end [] q = omega arith
+  one_more_end (e ∷ earlier) q = let rest = one_more_end earlier q in omega (arith, rest)
+
+  -- ---- a tick that doesn't show it
+
+  -- a piece of whatever cuts the span holds the whole of the tick
+  pub some_over : (a p : ℤ) (theirs : List PieceData) → a ≤ℤ p → 0 < length theirs
+      → next_tick samples claim p ≤ℤ last_end a theirs
+      → (k : ℕ) × IsSomeAnd (slice_get (stretches_from a theirs) k)
+      (λ piece. HoldsWhole piece (stretch_over p (next_tick samples claim p)))
+  some_over a p [] earlier some within = absurd (omega arith)
+  some_over a p (t ∷ []) earlier some within = (0, (earlier, within))
+  some_over a p (t ∷ next ∷ theirs) earlier some within = ⊎_elim
+      (λ before.
+      let rest = some_over (pos t.upto) p (next ∷ theirs) (omega (arith, ints, clamps)) (omega arith) within in
+      (suc rest.0, rest.1))
+      (λ reaches. (0, (earlier, reaches)))
+      (int_cases (pos t.upto) (next_tick samples claim p))
+
+  -- so none is accepted
+  pub none_accepted_over : (p : ℤ) (hull : Hull) → InSpan claim p → claim.first ≤ℤ p
+      → hull ≡ hull_over samples claim p (next_tick samples claim p) → is_inside claim.bound hull ≡ false
+      → hull ≢ Empty → (other : CertificateData) → ¬ (verdict_of samples claim other ≡ Yes)
+  none_accepted_over p hull is from its_hull fails some other accepted =
+      let covers = laws.covers samples claim other accepted in
+      let inner = stretch_over p (next_tick samples claim p) in
+      let within : next_tick samples claim p ≤ℤ last_end claim.first other.pieces =
+      rw covers.1 (next_within p) in
+      let over = some_over claim.first p other.pieces from covers.0 within in
+      let outer = some_and (λ outer. HoldsWhole outer inner) _ over.1 in
+      let shown = pass_each samples claim claim.first other.pieces (pass_of other accepted) over.0 outer.0 outer.1 in
+      ⊎_elim
+      (λ empty. some (its_hull ∙ empty))
+      (λ inside. true≢false (sym inside ∙ ap (is_inside claim.bound) (sym its_hull) ∙ fails))
+      (laws.narrow samples claim outer.0 inner shown.entries lawful.drift_in_range are
+      (piece_to p (next_tick samples claim p) is (next_later p is) (next_within p)) outer.2 shown.passes)
+
+  -- ---- where the longest pieces have come to
+
+  pub end_after_in_span : (p : ℤ) (earlier : List ℤ) → InSpan claim p → AreLongest samples claim p earlier
+      → InSpan claim (end_after p earlier)
+  end_after_in_span p [] is longest = is
+  end_after_in_span p (q ∷ earlier) is longest =
+      end_after_in_span q earlier (end_in_span p q is longest.0) longest.2
+
+  pub end_after_later : (p : ℤ) (earlier : List ℤ) → InSpan claim p → AreLongest samples claim p earlier
+      → p ≤ℤ end_after p earlier
+  end_after_later p [] is longest = omega (arith, ints)
+  end_after_later p (q ∷ earlier) is longest =
+      let forward = longest_forward p q is longest.0 in
+      let rest = end_after_later q earlier (end_in_span p q is longest.0) longest.2 in
+      omega (arith, ints)
+
+  -- ---- halving
+
+  -- what the least piece shows up to some tick, it shows up to each earlier one
+  pub shown_before : (p q r : ℤ) → InSpan claim p → next_tick samples claim p ≤ℤ q → q ≤ℤ r → r ≤ℤ claim.last
+      → shows samples claim p (next_tick samples claim p) ≡ true → shows samples claim p r ≡ true
+      → shows samples claim p q ≡ true
+  shown_before p q r is some more within least shown =
+      let next = next_later p is in
+      let forward : p ≤ℤ q = omega (arith, ints) in
+      let to : q ≤ℤ claim.last = omega (arith, ints) in
+      let passes = entries_fault laws.best samples claim (stretch_over p r)
+      ∙ inside_passes claim.bound (hull_over samples claim p r) shown in
+      let order : p ≤ℤ p = omega (arith, ints) in
+      ⊎_elim
+      (λ empty. absurd (not_inside claim.bound (hull_over samples claim p (next_tick samples claim p))
+      (empty_stays (hull_over samples claim p q) (hull_over samples claim p (next_tick samples claim p))
+      (shorter p (next_tick samples claim p) q is next some to) empty) least))
+      (λ inside. inside)
+      (laws.narrow samples claim (stretch_over p r) (stretch_over p q) (best_entries samples claim (stretch_over p r))
+      lawful.drift_in_range are (piece_to p q is forward to) (order, more) passes)

@@ -1,0 +1,68 @@
+-- What is found, piece by piece.
+use Rattle.std.proofs.Common.{◌≡◌, ℕ, ◌+◌, ◌<◌, ℤ, true, false, not, List, [], ◌∷◌, ◌++◌, Some, None, sym, ap, ◌∙◌, subst, ⊎_elim, unsigned_abs, arith}
+use Rattle.std.proofs.lemmas.Bool.{cases_lt}
+use Rattle.std.proofs.lemmas.List.FromFn.{map-range_with_len_more}
+use Rattle.certificate.specs.Certificate.{PieceData}
+use Rattle.claim_file.specs.Claim.{ClaimData}
+use Rattle.intersection.specs.declared.kinds.Hull.{Hull}
+use Rattle.sample_interval.specs.declared.kinds.Sample.{Sample}
+use Rattle.span_cover.specs.Step.{piece_end_of}
+use Rattle.span_cover.specs.Group.{piece_hull}
+use Rattle.span_cover.specs.declared.stretch.Stretch.{Stretch}
+use Rattle.span_cover.specs.Group.{is_inside}
+use Rattle.finder.specs.Entry.{best_entries, best_hull, parts_named}
+use Rattle.finder.specs.Found.{certificate, nothing, piece_at, pieces_from, hull_at, passes, first_failing, found_without}
+use Rattle.finder.specs.Piece.{count_of, stretch_at}
+use Rattle.finder.proofs.List.{find_none, find_first}
+
+module _ (samples : List Sample) (claim : ClaimData) (step : ℕ) where
+  pub hull_is : (k : ℕ) (stretch : Stretch) (entries : List (ℕ × ℕ)) (hull : Hull) → stretch ≡ stretch_at claim step k
+      → entries ≡ best_entries samples claim (stretch_at claim step k)
+      → hull ≡ piece_hull claim.groups claim.false_max (parts_named samples claim stretch entries)
+      → hull ≡ hull_at samples claim step k
+  unfolding best_hull
+  hull_is k stretch entries hull a b e =
+      e ∙ ap (λ (s : Stretch). piece_hull claim.groups claim.false_max (parts_named samples claim s entries)) a
+      ∙ ap (λ (es : List (ℕ × ℕ)). piece_hull claim.groups claim.false_max
+      (parts_named samples claim (stretch_at claim step k) es)) b
+
+  pub found_failing : (k : ℕ) (hull : Hull) → k < count_of claim step → hull ≡ hull_at samples claim step k
+      → is_inside claim.bound hull ≡ false → ((j : ℕ) → j < k → passes samples claim step j ≡ true)
+      → nothing k hull ≡ found_without samples claim step (first_failing samples claim step)
+  found_failing k hull within is outside others =
+      let first : first_failing samples claim step ≡ Some k =
+      find_first (λ j. not (passes samples claim step j)) 0 (count_of claim step) k (omega arith)
+      (omega (arith, within))
+      (λ j from to. ap not (others j to)) (ap not (ap (is_inside claim.bound) (sym is) ∙ outside)) in
+      ap (nothing k) is ∙ ap (found_without samples claim step) (sym first)
+
+  pub found_all : (pieces : List PieceData) → pieces ≡ pieces_from samples claim step 0 (count_of claim step)
+      → ((k : ℕ) → k < count_of claim step → passes samples claim step k ≡ true)
+      → certificate (record { pieces = pieces }) ≡ found_without samples claim step (first_failing samples claim step)
+  found_all pieces is all =
+      let none : first_failing samples claim step ≡ None =
+      find_none (λ j. not (passes samples claim step j)) 0 (count_of claim step)
+      (λ k from to. ap not (all k (omega (arith, to)))) in
+      ap (λ (ps : List PieceData). certificate (record { pieces = ps })) is
+      ∙ ap (found_without samples claim step) (sym none)
+
+  -- one more piece
+  pub pieces_more : (k : ℕ) (old : List PieceData) (entries : List (ℕ × ℕ)) (end : ℤ)
+      → old ≡ pieces_from samples claim step 0 k → entries ≡ best_entries samples claim (stretch_at claim step k)
+      → end ≡ piece_end_of claim.first claim.last step k
+      → old ++ record { entries = entries; upto = unsigned_abs end } ∷ []
+      ≡ pieces_from samples claim step 0 (k + 1)
+  pieces_more k old entries end so_far a b =
+      let make : List (ℕ × ℕ) → ℤ → PieceData = λ es z. record { entries = es; upto = unsigned_abs z } in
+      ap (λ (ps : List PieceData). ps ++ make entries end ∷ []) so_far
+      ∙ ap (λ (es : List (ℕ × ℕ)). pieces_from samples claim step 0 k ++ make es end ∷ []) a
+      ∙ ap (λ (z : ℤ). pieces_from samples claim step 0 k
+      ++ make (best_entries samples claim (stretch_at claim step k)) z ∷ []) b
+      ∙ sym (map-range_with_len_more (piece_at samples claim step) 0 k k (omega arith))
+
+  pub passed_more : (k : ℕ) → ((j : ℕ) → j < k → passes samples claim step j ≡ true)
+      → passes samples claim step k ≡ true → (j : ℕ) → j < k + 1 → passes samples claim step j ≡ true
+  passed_more k before here j below = ⊎_elim
+      (λ less. before j less)
+      (λ le. let same : k ≡ j = omega arith in subst (λ (i : ℕ). passes samples claim step i ≡ true) same here)
+      (cases_lt j k)

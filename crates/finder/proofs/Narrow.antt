@@ -1,0 +1,170 @@
+-- What the best entries of a piece show, if others show something of a stretch that has the whole of it.
+use Rattle.std.proofs.Common.{◌≡◌, ℕ, zero, suc, ◌+◌, ◌<◌, ◌≤◌, ℤ, ◌≤ℤ◌, true, ◌⊎◌, inl, inr, ⊎_elim, get_or, List, [], ◌∷◌, length, Option, Some, None, Result, Ok, Err, refl, sym, subst, arith}
+use Rattle.std.specs.Prelude.{All, Any, slice_get, filter_map}
+use Rattle.std.specs.List.{cons_option, range_with_len}
+use Rattle.std.proofs.lemmas.Bool.{cases_lt}
+use Rattle.std.proofs.lemmas.Int.{ints}
+use Rattle.claim_file.specs.Claim.{ClaimData, max_drift_ppb}
+use Rattle.intersection.specs.declared.kinds.Hull.TheVariants.{Empty}
+use Rattle.sample_interval.specs.Sample.{IsLawfulSample}
+use Rattle.sample_interval.specs.Widening.{billion}
+use Rattle.sample_interval.specs.declared.kinds.Sample.{Sample}
+use Rattle.span_cover.specs.Group.{is_inside, piece_hull}
+use Rattle.span_cover.specs.Part.{part_of}
+use Rattle.span_cover.specs.Piece.{IsPiece, moved_low, moved_high}
+use Rattle.span_cover.specs.declared.part.Part.{Part}
+use Rattle.span_cover.specs.declared.stretch.Stretch.{Stretch}
+use Rattle.checker.specs.Comparison.{IsNarrower, AreNarrower, IsOfSamples}
+use Rattle.checker.specs.Verdict.{parts_after, hull_fault, parts_fault}
+use Rattle.checker.specs.declared.verdict.Why.{Why}
+use Rattle.finder.specs.Entry.{best_over, best_entries, best_hull, part_named, parts_named}
+use Rattle.finder.specs.Refusal.{HoldsWhole}
+use Rattle.finder.specs.Samples.{AreSamplesOf}
+use Rattle.finder.proofs.Best.{BestLaw, best_of_is, best_of_none}
+use Rattle.finder.proofs.List.{All-slice_get}
+use Rattle.finder.specs.Fewest.{IsNoWider}
+use Rattle.finder.proofs.GroupHull.{EveryHull, narrower_is_no_wider}
+use Rattle.finder.proofs.Verdict.{entries_accepted, passes_inside}
+
+-- the law on it
+abbrev pub NarrowLaw : Type 0
+NarrowLaw = (samples : List Sample) (claim : ClaimData) (outer inner : Stretch) (entries : List (ℕ × ℕ))
+    → claim.drift_ppb ≤ max_drift_ppb → AreSamplesOf claim samples → IsPiece inner.begin inner.end
+    → HoldsWhole outer inner
+    → parts_fault claim (parts_after samples outer claim.drift_ppb [] entries) ≡ None
+    → (best_hull samples claim inner ≡ Empty) ⊎ (is_inside claim.bound (best_hull samples claim inner) ≡ true)
+
+any_here : (P : Part → Type 0) (part : Part) (parts : List Part) → P part → Any P (part ∷ parts)
+any_here P part parts holds = (0, part, omega arith, refl, holds)
+
+any_later : (P : Part → Type 0) (first : Option Part) (parts : List Part) → Any P parts
+    → Any P (cons_option first parts)
+any_later P None parts any = any
+any_later P (Some first) parts any = let within = any.2 in (suc any.0, any.1, omega arith, any.3, any.4)
+
+-- laws of the crates below
+pub record Laws : Type 0 where
+  pub best : BestLaw
+  pub low : (ppb : ℕ) (sample : Sample) (p q inner outer : ℤ) → ppb < billion → sample.low_from ≤ℤ sample.low_to
+      → p ≤ℤ inner → inner ≤ℤ outer → outer ≤ℤ q → moved_low sample p q ppb ≤ℤ moved_low sample inner outer ppb
+  pub high : (ppb : ℕ) (sample : Sample) (p q inner outer : ℤ) → ppb < billion → sample.high_from ≤ℤ sample.high_to
+      → p ≤ℤ inner → inner ≤ℤ outer → outer ≤ℤ q → moved_high sample inner outer ppb ≤ℤ moved_high sample p q ppb
+  pub said : (samples : List Sample) (stretch : Stretch) (ppb : ℕ) (entries : List (ℕ × ℕ)) (parts : List Part)
+      → parts_after samples stretch ppb [] entries ≡ Ok parts → All (IsOfSamples samples stretch ppb) parts
+  pub narrow : (groups : List ℕ) (false_max : ℕ) (bound : ℤ) (parts next : List Part) → AreNarrower parts next
+      → hull_fault bound (piece_hull groups false_max parts) ≡ None
+      → (hull_fault bound (piece_hull groups false_max next) ≡ None) ⊎ (piece_hull groups false_max next ≡ Empty)
+
+module _ (laws : Laws) (samples : List Sample) (claim : ClaimData) (outer inner : Stretch)
+    (rate : claim.drift_ppb ≤ max_drift_ppb) (are : AreSamplesOf claim samples)
+    (piece : IsPiece inner.begin inner.end) (whole : HoldsWhole outer inner)
+  where
+    abbrev over : ℕ → ℕ → List (ℕ × ℕ)
+    over s n = filter_map (best_over samples claim inner) (range_with_len s n)
+
+    abbrev best_parts : List Part
+    best_parts = parts_named samples claim inner (best_entries samples claim inner)
+
+    module _ (P : Part → Type 0) (server : ℕ) (entry : ℕ × ℕ) (part : Part) (holds : P part)
+        (best : best_over samples claim inner server ≡ Some entry)
+        (named : part_named samples claim inner entry ≡ Some part) where
+      skip : (o : Option (ℕ × ℕ)) (entries : List (ℕ × ℕ)) → Any P (parts_named samples claim inner entries)
+          → Any P (parts_named samples claim inner (cons_option o entries))
+      skip None entries any = any
+      skip (Some first) entries any =
+          any_later P (part_named samples claim inner first) (parts_named samples claim inner entries) any
+
+      -- what holds of a server's part holds of one that the best samples give
+      in_best : (s n : ℕ) → s ≤ server → server < s + n → Any P (parts_named samples claim inner (over s n))
+      in_best s zero from to = absurd (omega arith)
+      in_best s (suc n) from to = ⊎_elim
+          (λ less. skip (best_over samples claim inner s) (over (s + 1) n)
+          (in_best (s + 1) n (omega arith) (omega arith)))
+          (λ le.
+          let same : s ≡ server = omega arith in
+          let here : best_over samples claim inner s ≡ Some entry =
+          subst (λ (m : ℕ). best_over samples claim inner m ≡ Some entry) (sym same) best in
+          subst (λ (o : Option (ℕ × ℕ)). Any P (parts_named samples claim inner (cons_option o (over (s + 1) n))))
+          (sym here)
+          (subst (λ (o : Option Part). Any P (cons_option o (parts_named samples claim inner (over (s + 1) n))))
+          (sym named) (any_here P part (parts_named samples claim inner (over (s + 1) n)) holds)))
+          (cases_lt s server)
+
+    names_both : (entry : ℕ × ℕ) (low high : Sample) → slice_get samples entry.0 ≡ Some low
+        → slice_get samples entry.1 ≡ Some high
+        → part_named samples claim inner entry ≡ Some (part_of low high inner claim.drift_ppb)
+    names_both entry low high a b = rw (a, b) refl
+
+    -- the best samples give a narrower interval over the stretch inside
+    better_of : (part : Part) (said : IsOfSamples samples outer claim.drift_ppb part) (entry : ℕ × ℕ)
+        → best_over samples claim inner said.low.server ≡ Some entry → Any (IsNarrower part) best_parts
+    better_of part said entry is =
+        let ppb = claim.drift_ppb in
+        let low = said.low in
+        let high = said.high in
+        let best = best_of_is laws.best samples low.server inner.begin inner.end ppb entry is in
+        let low_sample = All-slice_get IsLawfulSample samples said.low_number low are.lawful said.low_is in
+        let high_sample = All-slice_get IsLawfulSample samples said.high_number high are.lawful said.high_is in
+        let within = All-slice_get (λ sample. sample.server < length claim.servers) samples said.low_number low
+        are.listed said.low_is in
+        let forward = piece.in_order in
+        let low_in = laws.low ppb low outer.begin outer.end inner.begin inner.end (omega arith)
+        low_sample.low_window_in_order whole.0 forward whole.1 in
+        let high_in = laws.high ppb high outer.begin outer.end inner.begin inner.end (omega arith)
+        high_sample.high_window_in_order whole.0 forward whole.1 in
+        let most = best.0.greatest said.low_number low said.low_is refl in
+        let least = best.1.greatest said.high_number high said.high_is (sym said.one_server) in
+        let other = part_of best.0.sample best.1.sample inner ppb in
+        let this = part_of low high outer ppb in
+        let narrower : IsNarrower this other = record {
+          server = sym best.0.of_server;
+          low = omega (arith, ints, low_in, most);
+          high = omega (arith, ints, high_in, least);
+        } in
+        in_best (IsNarrower part) low.server entry other
+        (subst (λ (p : Part). IsNarrower p other) (sym said.is) narrower) is
+        (names_both entry best.0.sample best.1.sample best.0.stands best.1.stands)
+        0 (length claim.servers) (omega arith) (omega (arith, within))
+
+    pub better_at : (part : Part) (said : IsOfSamples samples outer claim.drift_ppb part) (o : Option (ℕ × ℕ))
+        → best_over samples claim inner said.low.server ≡ o → Any (IsNarrower part) best_parts
+    better_at part said None is =
+        let none = best_of_none laws.best samples said.low.server inner.begin inner.end claim.drift_ppb is in
+        absurd (none said.low_number said.low said.low_is refl)
+    better_at part said (Some entry) is = better_of part said entry is
+
+    narrower : (entries : List (ℕ × ℕ)) (said : Result (List Part) Why)
+        → parts_after samples outer claim.drift_ppb [] entries ≡ said → parts_fault claim said ≡ None
+        → (best_hull samples claim inner ≡ Empty) ⊎ (is_inside claim.bound (best_hull samples claim inner) ≡ true)
+    unfolding best_hull
+    narrower entries (Err why) is passes = absurd cc
+    narrower entries (Ok parts) is passes =
+        let said = laws.said samples outer claim.drift_ppb entries parts is in
+        ⊎_elim
+        (λ inside. inr (passes_inside claim.bound _ inside))
+        (λ empty. inl empty)
+        (laws.narrow claim.groups claim.false_max claim.bound parts best_parts
+        (λ k d within. better_at (get_or parts k d) (said k d within) _ refl) passes)
+
+pub shows_as_much : Laws → NarrowLaw
+shows_as_much laws samples claim outer inner entries rate are piece whole passes =
+    narrower laws samples claim outer inner rate are piece whole entries _ refl passes
+
+-- ---- two pieces, one inside the other, with the best entries of each
+
+-- the law on their hulls
+abbrev pub WithinLaw : Type 0
+WithinLaw = (samples : List Sample) (claim : ClaimData) (outer inner : Stretch) → claim.drift_ppb ≤ max_drift_ppb
+    → AreSamplesOf claim samples → IsPiece inner.begin inner.end → HoldsWhole outer inner
+    → IsNoWider (best_hull samples claim outer) (best_hull samples claim inner)
+
+pub no_wider_within : Laws → EveryHull → WithinLaw
+unfolding best_hull
+no_wider_within laws hulls samples claim outer inner rate are piece whole =
+    let entries = best_entries samples claim outer in
+    let parts = parts_named samples claim outer entries in
+    let said = laws.said samples outer claim.drift_ppb entries parts (entries_accepted laws.best samples claim outer) in
+    narrower_is_no_wider hulls claim.groups claim.false_max parts
+    (parts_named samples claim inner (best_entries samples claim inner))
+    (λ k d within. better_at laws samples claim outer inner rate are piece whole (get_or parts k d) (said k d within) _
+    refl)

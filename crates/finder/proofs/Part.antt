@@ -1,0 +1,64 @@
+-- What the tables of servers say of a piece is what its best entries say.
+use Rattle.std.proofs.Common.{◌≡◌, ℕ, ◌<◌, ℤ, List, [], ◌∷◌, length, Option, Some, None, refl, sym, ap, ◌∙◌}
+use Rattle.std.specs.Prelude.{All}
+use Rattle.std.specs.List.{filter_map, cons_option}
+use Rattle.claim_file.specs.Claim.{ClaimData}
+use Rattle.claim_file.specs.Group.{servers_of}
+use Rattle.intersection.specs.declared.kinds.Hull.{Hull}
+use Rattle.sample_interval.specs.declared.kinds.Sample.{Sample}
+use Rattle.span_cover.specs.Group.{piece_hull}
+use Rattle.span_cover.specs.Piece.{piece_interval_of}
+use Rattle.span_cover.specs.declared.part.Part.{Part}
+use Rattle.sweep.specs.Table.{best_part, best_parts, said_by}
+use Rattle.finder.specs.Entry.{best_over, best_entries, best_hull, part_named, parts_named}
+use Rattle.finder.specs.Fewest.{stretch_over}
+use Rattle.finder.specs.Samples.{AreSamplesOf}
+use Rattle.finder.proofs.Best.{BestLaw, best_of_is}
+use Rattle.finder.proofs.EntryList.{listed_parts}
+
+-- what g gives of what h gives, in one step
+through : {X Y Z : Type 0} (h : X → Option Y) (g : Y → Option Z) (k : X → Option Z)
+    → ((x : X) → h x ≡ None → k x ≡ None) → ((x : X) (y : Y) → h x ≡ Some y → g y ≡ k x)
+    → (xs : List X) → filter_map g (filter_map h xs) ≡ filter_map k xs
+through h g k none some [] = refl
+through {X} {Y} {Z} h g k none some (x ∷ xs) = step (through h g k none some xs) (h x) refl
+  where
+    step : filter_map g (filter_map h xs) ≡ filter_map k xs → (o : Option Y) → h x ≡ o
+        → filter_map g (cons_option o (filter_map h xs)) ≡ cons_option (k x) (filter_map k xs)
+    step rest None e = rest ∙ ap (λ (z : Option Z). cons_option z (filter_map k xs)) (sym (none x e))
+    step rest (Some y) e =
+        ap (cons_option (g y)) rest ∙ ap (λ (z : Option Z). cons_option z (filter_map k xs)) (some x y e)
+
+module _ (law : BestLaw) (samples : List Sample) (claim : ClaimData) (p q : ℤ) where
+  -- the entry of a server says what its table says
+  said : (server : ℕ) (entry : ℕ × ℕ) → best_over samples claim (stretch_over p q) server ≡ Some entry
+      → part_named samples claim (stretch_over p q) entry ≡ best_part samples p q claim.drift_ppb server
+  said server entry e =
+      let best = best_of_is law samples server p q claim.drift_ppb entry e in
+      rw (e, best.0.stands, best.1.stands)
+      (ap (λ (n : ℕ). Some (said_by n (piece_interval_of best.0.sample best.1.sample p q claim.drift_ppb)))
+      best.0.of_server)
+
+  pub parts_said : best_parts samples (length claim.servers) p q claim.drift_ppb
+      ≡ parts_named samples claim (stretch_over p q) (best_entries samples claim (stretch_over p q))
+  parts_said = sym (through (best_over samples claim (stretch_over p q)) (part_named samples claim (stretch_over p q))
+      (best_part samples p q claim.drift_ppb) (λ server e. rw e refl) said (servers_of (length claim.servers)))
+
+  -- their servers are listed
+  pub listed_said : AreSamplesOf claim samples
+      → All (λ part. part.server < length claim.servers) (best_parts samples (length claim.servers) p q claim.drift_ppb)
+  listed_said are =
+      rw parts_said (listed_parts samples claim (stretch_over p q) (best_entries samples claim (stretch_over p q))
+      (length claim.servers) are.listed)
+
+  -- and their hull is that of the best entries
+  pub hull_said : (a b : ℤ) (parts : List Part) (hull : Hull) → a ≡ p → b ≡ q
+      → parts ≡ best_parts samples (length claim.servers) a b claim.drift_ppb
+      → hull ≡ piece_hull claim.groups claim.false_max parts → hull ≡ best_hull samples claim (stretch_over p q)
+  unfolding best_hull
+  hull_said a b parts hull begins ends are is =
+      is
+      ∙ ap (piece_hull claim.groups claim.false_max) (are
+      ∙ ap (λ (x : ℤ). best_parts samples (length claim.servers) x b claim.drift_ppb) begins
+      ∙ ap (λ (y : ℤ). best_parts samples (length claim.servers) p y claim.drift_ppb) ends
+      ∙ parts_said)

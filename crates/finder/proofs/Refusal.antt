@@ -1,0 +1,109 @@
+-- What it says that a piece fails: no certificate with a piece over it is accepted.
+use Rattle.std.proofs.Common.{◌≡◌, ◌≢◌, ℕ, zero, suc, ◌+◌, ◌<◌, ℤ, pos, Bool, true, false, true≢false, cond, ⊎_elim, List, [], ◌∷◌, ◌++◌, length, Option, Some, None, refl, sym, ap, ◌∙◌, subst, arith}
+use Rattle.std.specs.Prelude.{All, slice_get, IsSomeAnd}
+use Rattle.std.proofs.lemmas.Option.{slice_get_within}
+use Rattle.certificate.specs.Certificate.{PieceData, CertificateData}
+use Rattle.claim_file.specs.Claim.{ClaimData, IsLawful}
+use Rattle.intersection.specs.declared.kinds.Hull.{Hull}
+use Rattle.intersection.specs.declared.kinds.Hull.TheVariants.{Empty}
+use Rattle.sample_interval.specs.declared.kinds.Sample.{Sample}
+use Rattle.span_cover.specs.Group.{is_inside}
+use Rattle.span_cover.specs.declared.stretch.Stretch.{Stretch}
+use Rattle.checker.specs.Stretch.{begin_of, stretches_from, stretches_of}
+use Rattle.checker.specs.Traceability.{HoldsError, IsContradicted, IsVerdictOn}
+use Rattle.checker.specs.Verdict.{parts_after, parts_fault, piece_fault, verdict_of, PassBelow}
+use Rattle.checker.specs.declared.verdict.Verdict.TheVariants.{Yes}
+use Rattle.checker.specs.declared.verdict.Why.TheVariants.{Cut}
+use Rattle.finder.specs.Entry.{best_hull}
+use Rattle.finder.specs.Found.{piece_at, pieces_from, IsFirstFailing}
+use Rattle.finder.specs.Piece.{stretch_at}
+use Rattle.finder.specs.Refusal.{HoldsWhole, NoneIsAcceptedOver}
+use Rattle.finder.specs.Samples.{AreSamplesOf}
+use Rattle.finder.proofs.Best.{BestLaw}
+use Rattle.finder.proofs.Narrow.{NarrowLaw}
+use Rattle.finder.proofs.SpanPieces.{piece_of_claim}
+use Rattle.finder.proofs.Verdict.{contradicts_at, stretch_is_at}
+
+-- ---- what a yes says about a piece
+
+module _ (samples : List Sample) (claim : ClaimData) where
+  -- entries pass the tests of a verdict over a stretch
+  pub record Shows (stretch : Stretch) : Type 0 where
+    pub entries : List (ℕ × ℕ)
+    pub passes : parts_fault claim (parts_after samples stretch claim.drift_ppb [] entries) ≡ None
+
+  shows_cut : (stretch : Stretch) (entries : List (ℕ × ℕ)) (cut : Bool)
+      → cond cut (Some Cut) (parts_fault claim (parts_after samples stretch claim.drift_ppb [] entries)) ≡ None
+      → Shows stretch
+  shows_cut stretch entries true e = absurd cc
+  shows_cut stretch entries false e = record { entries = entries; passes = e }
+
+  pub shows_piece : (begin : ℤ) (piece : PieceData) → piece_fault samples claim begin piece ≡ None
+      → Shows (record { begin = begin; end = pos piece.upto })
+  shows_piece begin piece e = shows_cut (record { begin = begin; end = pos piece.upto }) piece.entries _ e
+
+  -- the pieces pass their tests, each where the one before it ends
+  abbrev pub Pass : ℤ → List PieceData → Type 0
+  Pass begin pieces = (k : ℕ) (piece : PieceData) → slice_get pieces k ≡ Some piece
+      → piece_fault samples claim (begin_of begin pieces k) piece ≡ None
+
+  -- so each piece shows it
+  pub pass_each : (begin : ℤ) (pieces : List PieceData) → Pass begin pieces → (j : ℕ) (stretch : Stretch)
+      → slice_get (stretches_from begin pieces) j ≡ Some stretch → Shows stretch
+  pass_each begin [] pass j stretch at = absurd cc
+  pass_each begin (piece ∷ pieces) pass zero stretch at =
+      let here : record { begin = begin; end = pos piece.upto } ≡ stretch = cc in
+      subst Shows here (shows_piece begin piece (pass 0 piece refl))
+  pass_each begin (piece ∷ pieces) pass (suc j) stretch at =
+      pass_each (pos piece.upto) pieces (λ k other is. pass (suc k) other is) j stretch at
+
+-- ---- a piece that fails
+
+pub some_and : (P : Stretch → Type 0) (o : Option Stretch) → IsSomeAnd o P → (s : Stretch) × (o ≡ Some s) × P s
+some_and P None h = absurd h
+some_and P (Some s) h = (s, refl, h)
+
+-- what is known of the best samples and of verdicts
+pub record Laws : Type 0 where
+  pub best : BestLaw
+  pub narrow : NarrowLaw
+  pub each : (samples : List Sample) (claim : ClaimData) (certificate : CertificateData)
+      → verdict_of samples claim certificate ≡ Yes
+      → PassBelow samples claim certificate (length certificate.pieces)
+  pub verdicts : (claim : ClaimData) (samples : List Sample) (certificate : CertificateData) → IsLawful claim
+      → All (λ sample. sample.server < length claim.servers) samples
+      → IsVerdictOn claim samples certificate (verdict_of samples claim certificate)
+  pub held : (claim : ClaimData) (samples : List Sample) (stretch : Stretch) → IsLawful claim
+      → All (λ sample. sample.server < length claim.servers) samples
+      → HoldsError claim samples stretch (best_hull samples claim stretch)
+
+module _ (laws : Laws) (samples : List Sample) (claim : ClaimData) (step : ℕ) (lawful : IsLawful claim)
+    (are : AreSamplesOf claim samples) (k : ℕ) (hull : Hull) (failing : IsFirstFailing samples claim step k hull)
+  where
+    pub none_accepted : hull ≢ Empty → NoneIsAcceptedOver samples claim (stretch_at claim step k)
+    none_accepted some certificate has accepted =
+        let inner = stretch_at claim step k in
+        let outer = some_and (λ outer. HoldsWhole outer inner) _ has.1 in
+        let shown = pass_each samples claim claim.first certificate.pieces
+        (λ k piece is. laws.each samples claim certificate accepted k piece
+        (slice_get_within certificate.pieces k piece is) is)
+        has.0 outer.0 outer.1 in
+        ⊎_elim
+        (λ empty. some (failing.its_hull ∙ empty))
+        (λ inside. true≢false (sym inside ∙ ap (is_inside claim.bound) (sym failing.its_hull) ∙ failing.fails))
+        (laws.narrow samples claim outer.0 inner shown.entries lawful.drift_in_range are
+        (piece_of_claim claim lawful step k) outer.2 shown.passes)
+
+    pub contradicted : hull ≡ Empty → IsContradicted claim samples (stretch_at claim step k)
+    contradicted empty =
+        let certificate : CertificateData =
+        record { pieces = pieces_from samples claim step 0 k ++ piece_at samples claim step k ∷ [] } in
+        let verdict = contradicts_at laws.best samples claim lawful step k failing.others_pass
+        (sym failing.its_hull ∙ empty) in
+        let same : 0 + k ≡ k = omega arith in
+        let at : slice_get (stretches_of claim certificate) k ≡ Some (stretch_at claim step k) =
+        subst (λ (m : ℕ). slice_get (stretches_from claim.first
+        (pieces_from samples claim step 0 k ++ piece_at samples claim step m ∷ [])) k ≡ Some (stretch_at claim step m))
+        same (stretch_is_at laws.best samples claim lawful step k 0 claim.first refl) in
+        subst (λ (o : Option Stretch). IsSomeAnd o (IsContradicted claim samples)) at
+        ((laws.verdicts claim samples certificate lawful are.listed).contradiction k verdict)

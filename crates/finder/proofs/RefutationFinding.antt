@@ -1,0 +1,190 @@
+-- What it says that a refutation is found, or none.
+use Rattle.std.proofs.Common.{◌≡◌, ℕ, ◌-◌, ◌≤◌, ◌^◌, ℤ, pos, neg_ℤ, ◌-ℤ◌, ◌≤ℤ◌, ◌<ℤ◌, unsigned_abs, Bool, false, true≢false, List, length, Option, Some, None, refl, sym, ap, ◌∙◌, subst, ⊎_elim, arith}
+use Rattle.std.specs.Prelude.{filter, option_map, All}
+use Rattle.std.specs.List.{find, range_with_len}
+use Rattle.std.specs.Option.{option_or}
+use Rattle.std.proofs.lemmas.Int.{ints}
+use Rattle.certificate.specs.Refutation.{RefutationData}
+use Rattle.claim_file.specs.Claim.{ClaimData, IsLawful}
+use Rattle.pairing.specs.Exchange.{IsLawful as IsLawfulExchange}
+use Rattle.pairing.specs.declared.exchange.Exchange.{Exchange}
+use Rattle.intersection.specs.declared.kinds.Interval.{Interval}
+use Rattle.span_cover.specs.Group.{numbers_below}
+use Rattle.finder.specs.Room.{AreRooms, refused_by, refuses}
+use Rattle.finder.specs.Sought.{IsErrorOf64Bits, IsFirstBeyond, IsNearest, IsSought, NoneIsRefuted, after, greatest_error, is_possible, least_error_below, nearest, refutation_at, sought_error}
+use Rattle.finder.proofs.Liar.{possible_of, refuted_at, same_passing_test}
+use Rattle.finder.proofs.List.{find_is_first, find_is_none}
+use Rattle.finder.proofs.Nearest.{int_cases}
+use Rattle.finder.proofs.ErrorRoom.{RoomLaw}
+
+-- ---- what the nearest number is
+
+module _ (test : ℤ → Bool) (bound limit : ℤ) where
+  abbrev place : ℤ → ℕ
+  place number = unsigned_abs (number -ℤ bound) - 1
+
+  at_place : (number : ℤ) → bound <ℤ number → after bound (place number) ≡ number
+  at_place number beyond = omega (arith, ints)
+
+  nearest_at : (o : Option ℕ)
+      → find (λ k. test (after bound k)) (range_with_len 0 (unsigned_abs (limit -ℤ bound))) ≡ o
+      → bound ≤ℤ limit → IsNearest test bound limit (option_map (after bound) o)
+  nearest_at None is some = λ other above le.
+      sym (ap test (at_place other above))
+      ∙ find_is_none (λ k. test (after bound k)) 0 (unsigned_abs (limit -ℤ bound)) is (place other) (omega arith)
+      (omega (arith, ints))
+  nearest_at (Some n) is some =
+      let found = find_is_first (λ k. test (after bound k)) 0 (unsigned_abs (limit -ℤ bound)) n is in
+      let to = found.to in
+      record {
+        beyond = omega (arith, ints);
+        within = omega (arith, ints);
+        passes = found.passes;
+        others_fail = λ other above below.
+            sym (ap test (at_place other above))
+            ∙ found.others_fail (place other) (omega arith) (omega (arith, ints));
+      }
+
+  pub nearest_is : bound ≤ℤ limit → IsNearest test bound limit (nearest test bound limit)
+  nearest_is some = nearest_at _ refl some
+
+-- ---- what is found
+
+module _ (law : RoomLaw) (claim : ClaimData) (lawful : IsLawful claim) (xs : List Exchange)
+    (each : All (IsLawfulExchange (length claim.servers)) xs) where
+  abbrev above : ℤ → Bool
+  above error = is_possible claim xs error
+
+  abbrev below : ℤ → Bool
+  below error = is_possible claim xs (neg_ℤ error)
+
+  abbrev up : Option ℤ
+  up = nearest above claim.bound greatest_error
+
+  abbrev down : Option ℤ
+  down = nearest below claim.bound least_error_below
+
+  some_above : claim.bound ≤ℤ greatest_error
+  some_above = let to = lawful.bound_in_range in omega (arith, ints)
+
+  some_below : claim.bound ≤ℤ least_error_below
+  some_below = let to = lawful.bound_in_range in omega (arith, ints)
+
+  negated : (z : ℤ) → neg_ℤ (neg_ℤ z) ≡ z
+  negated z = omega (arith, ints)
+
+  beyond_above : (error : ℤ) → claim.bound <ℤ error → claim.bound <ℤ pos (unsigned_abs error)
+  beyond_above error h = let from = lawful.bound_not_negative in omega (arith, ints)
+
+  beyond_below : (number : ℤ) → claim.bound <ℤ number → claim.bound <ℤ pos (unsigned_abs (neg_ℤ number))
+  beyond_below number h = let from = lawful.bound_not_negative in omega (arith, ints)
+
+  -- no error above the bound, or none below it on the other side, is that of a refutation
+  abbrev NoneAbove : Type 0
+  NoneAbove = (other : ℤ) → claim.bound <ℤ other → other ≤ℤ greatest_error → is_possible claim xs other ≡ false
+
+  abbrev NoneBelow : Type 0
+  NoneBelow = (other : ℤ) → claim.bound <ℤ other → other ≤ℤ least_error_below
+      → is_possible claim xs (neg_ℤ other) ≡ false
+
+  found_above : (error : ℤ) → IsFirstBeyond above claim.bound greatest_error error
+      → IsSought claim xs (refutation_at claim xs error)
+  found_above error is =
+      let from = lawful.bound_not_negative in
+      let beyond = is.beyond in
+      record {
+        accepted = refuted_at law claim lawful xs each error (beyond_above error beyond) is.passes;
+        least_above = λ over other refuted other_over. ⊎_elim
+            (λ less. absurd (true≢false (sym (possible_of law claim lawful xs each other refuted)
+            ∙ is.others_fail other.error other_over less)))
+            (λ le. le)
+            (int_cases other.error error);
+        none_above = λ under. absurd (omega (arith, ints));
+        greatest_below = λ under. absurd (omega (arith, ints));
+        liars = refl;
+        reading = refl;
+      }
+
+  found_below : NoneAbove → (number : ℤ) → IsFirstBeyond below claim.bound least_error_below number
+      → IsSought claim xs (refutation_at claim xs (neg_ℤ number))
+  found_below none number is =
+      let from = lawful.bound_not_negative in
+      let beyond = is.beyond in
+      record {
+        accepted = refuted_at law claim lawful xs each (neg_ℤ number) (beyond_below number beyond) is.passes;
+        least_above = λ over. absurd (omega (arith, ints));
+        none_above = λ under other of_64_bits refuted. ⊎_elim
+            (λ over. absurd (true≢false (sym (possible_of law claim lawful xs each other refuted)
+            ∙ none other.error over of_64_bits.not_above)))
+            (λ not_over. not_over)
+            (int_cases claim.bound other.error);
+        liars = refl;
+        reading = refl;
+        greatest_below = λ under other of_64_bits refuted.
+            let possible = possible_of law claim lawful xs each other refuted in
+            let outside = refuted.against.beyond_bound in
+            let top = of_64_bits.not_above in
+            ⊎_elim
+            (λ over. absurd (true≢false (sym possible ∙ none other.error over top)))
+            (λ not_over. ⊎_elim
+            (λ less. absurd (true≢false (sym possible
+            ∙ sym (ap (is_possible claim xs) (negated other.error))
+            ∙ is.others_fail (neg_ℤ other.error) (omega (arith, ints)) less)))
+            (λ le. omega (arith, ints))
+            (int_cases (neg_ℤ other.error) number))
+            (int_cases claim.bound other.error);
+      }
+
+  none_found : NoneAbove → NoneBelow → NoneIsRefuted claim xs
+  none_found no_more no_less other of_64_bits refuted =
+      let possible = possible_of law claim lawful xs each other refuted in
+      let outside = refuted.against.beyond_bound in
+      let top = of_64_bits.not_above in
+      let bottom = of_64_bits.not_below in
+      ⊎_elim
+      (λ over. true≢false (sym possible ∙ no_more other.error over top))
+      (λ not_over. true≢false (sym possible
+      ∙ sym (ap (is_possible claim xs) (negated other.error))
+      ∙ no_less (neg_ℤ other.error) (omega (arith, ints)) (omega (arith, ints))))
+      (int_cases claim.bound other.error)
+
+  -- what is said by what was sought
+  abbrev Says : Option ℤ → Type 0
+  Says (Some error) = IsSought claim xs (refutation_at claim xs error)
+  Says None = NoneIsRefuted claim xs
+
+  says_of : (a b : Option ℤ) → IsNearest above claim.bound greatest_error a
+      → IsNearest below claim.bound least_error_below b → Says (option_or a (option_map neg_ℤ b))
+  says_of (Some error) b is_a is_b = found_above error is_a
+  says_of None (Some number) is_a is_b = found_below is_a number is_b
+  says_of None None is_a is_b = none_found is_a is_b
+
+  says : Says (sought_error claim xs)
+  unfolding sought_error
+  says = says_of up down (nearest_is above claim.bound greatest_error some_above)
+      (nearest_is below claim.bound least_error_below some_below)
+
+  pub says_some : (error : ℤ) → sought_error claim xs ≡ Some error
+      → IsSought claim xs (refutation_at claim xs error)
+  says_some error is = subst Says is says
+
+  pub says_none : sought_error claim xs ≡ None → NoneIsRefuted claim xs
+  says_none is = subst Says is says
+
+  -- the code makes this refutation of it
+  pub refutation_is : (rooms : List Interval) → AreRooms claim.reading xs rooms → (found : ℤ)
+      → IsErrorOf64Bits found → (liars : List ℕ) (reading : ℕ)
+      → liars ≡ filter (refused_by rooms found) (numbers_below (length claim.servers))
+      → reading ≡ unsigned_abs claim.first
+      → ◌≡◌ {A = RefutationData} (record { error = found; liars = liars; reading = reading })
+      (refutation_at claim xs found)
+  refutation_is rooms are found in_range liars reading a b =
+      let bottom = in_range.not_below in
+      let top = in_range.not_above in
+      let near : unsigned_abs found ≤ 2 ^ 64 = omega (arith, ints) in
+      let few = lawful.few_servers in
+      let same = a ∙ same_passing_test (refused_by rooms found) (refuses claim.reading xs found) (length claim.servers)
+      (λ server within. (are server (omega (arith, within, few))).leaves_out_refused found near) in
+      let make : List ℕ → ℕ → RefutationData = λ l r. record { error = found; liars = l; reading = r } in
+      ap (λ (l : List ℕ). make l reading) same
+      ∙ ap (make (filter (refuses claim.reading xs found) (numbers_below (length claim.servers)))) b

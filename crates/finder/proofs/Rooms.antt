@@ -1,0 +1,184 @@
+-- The intervals of all servers, exchange by exchange.
+use Rattle.std.proofs.Common.{◌≡◌, ◌≢◌, ℕ, ◌+◌, ◌<◌, ◌≤◌, ◌^◌, ℤ, pos, neg_ℤ, ◌-ℤ◌, int_lt, unsigned_abs, Bool, true, false, not, ◌&&◌, ◌||◌, List, [], ◌∷◌, ◌++◌, length, take, set, replicate, get_or, refl, sym, ap, ◌∙◌, subst, ⊎_elim, arith}
+use Rattle.std.specs.Prelude.{◌==◌, map, All}
+use Rattle.std.proofs.lemmas.Bool.{cases_lt}
+use Rattle.std.proofs.lemmas.Bool.Decides.{nat_tests}
+use Rattle.std.proofs.lemmas.Int.{ints}
+use Rattle.std.proofs.lemmas.List.{get_or-map, get_or-replicate, get_or-set_same, get_or-set_other, length-map, take_more}
+use Rattle.std.proofs.lemmas.List.Folds.{list_any-append}
+use Rattle.intersection.specs.Interval.{leaves_out}
+use Rattle.intersection.specs.declared.kinds.Interval.{Interval}
+use Rattle.pairing.specs.Exchange.{IsLawful}
+use Rattle.pairing.specs.declared.exchange.Exchange.{Exchange}
+use Rattle.checker.specs.RefutationTest.{admits}
+use Rattle.finder.specs.Room.{AreRooms, IsNear, IsRoom, refuses, room_at}
+use Rattle.finder.proofs.Kept.{kept}
+use Rattle.finder.proofs.List.{by_test}
+use Rattle.finder.proofs.ErrorRoom.{bits}
+
+abbrev none : Interval
+none = record { lo = pos 0; hi = pos 0 }
+
+-- ---- before any exchange
+
+abbrev every : Interval
+every = record { lo = neg_ℤ (pos (2 ^ 80)); hi = pos (2 ^ 80) }
+
+every_room : (allowance : ℤ) (server : ℕ) → IsRoom allowance [] server every
+every_room allowance server = record {
+  leaves_out_refused = λ error near.
+      let a : int_lt error every.lo ≡ false = grind (arith, ints) in
+      let b : int_lt every.hi error ≡ false = grind (arith, ints) in
+      rw (a, b) refl;
+  low = omega arith;
+  high = omega arith;
+}
+
+pub rooms_of_none : (allowance : ℤ) (rooms : List Interval) → rooms ≡ replicate 32 every
+    → AreRooms allowance [] rooms
+rooms_of_none allowance rooms is server below =
+    let at : room_at rooms server ≡ every = rw is (get_or-replicate 32 server every none below) in
+    rw at (every_room allowance server)
+
+-- ---- one more exchange
+
+same_number : (a b : ℕ) → a ≡ b → (a == b) ≡ true
+same_number a b h = grind (arith, nat_tests)
+
+other_number : (a b : ℕ) → a ≢ b → (a == b) ≡ false
+other_number a b h = grind (arith, nat_tests)
+
+or_false : (a : Bool) → (a || false) ≡ a
+or_false true = refl
+or_false false = refl
+
+module _ (allowance : ℤ) (xs : List Exchange) (x : Exchange) where
+  refuses_more : (error : ℤ) (server : ℕ) → refuses allowance (xs ++ x ∷ []) error server
+      ≡ (refuses allowance xs error server || (((x.server == server) && not (admits allowance error x)) || false))
+  refuses_more error server =
+      list_any-append (λ y. (y.server == server) && not (admits allowance error y)) xs (x ∷ [])
+
+  of_server : (error : ℤ) (server : ℕ) → x.server ≡ server
+      → refuses allowance (xs ++ x ∷ []) error server
+      ≡ (refuses allowance xs error server || not (admits allowance error x))
+  of_server error server same =
+      refuses_more error server
+      ∙ ap (λ b. refuses allowance xs error server || ((b && not (admits allowance error x)) || false))
+      (same_number x.server server same)
+      ∙ ap (λ b. refuses allowance xs error server || b) (or_false (not (admits allowance error x)))
+
+  of_other : (error : ℤ) (server : ℕ) → x.server ≢ server
+      → refuses allowance (xs ++ x ∷ []) error server ≡ refuses allowance xs error server
+  of_other error server other =
+      refuses_more error server
+      ∙ ap (λ b. refuses allowance xs error server || ((b && not (admits allowance error x)) || false))
+      (other_number x.server server other)
+      ∙ or_false (refuses allowance xs error server)
+
+  module _ (rooms : List Interval) (count : length rooms ≡ 32) (are : AreRooms allowance xs rooms)
+      (listed : x.server < 32) (new : Interval)
+      (narrows : (error : ℤ) → IsNear error → leaves_out new error
+      ≡ (leaves_out (room_at rooms x.server) error || not (admits allowance error x)))
+      (low : unsigned_abs new.lo ≤ 2 ^ 80) (high : unsigned_abs new.hi ≤ 2 ^ 80) where
+    new_room : IsRoom allowance (xs ++ x ∷ []) x.server new
+    new_room = record {
+      leaves_out_refused = λ error near.
+          narrows error near
+          ∙ ap (λ b. b || not (admits allowance error x)) ((are x.server listed).leaves_out_refused error near)
+          ∙ sym (of_server error x.server refl);
+      low = low;
+      high = high;
+    }
+
+    old_room : (server : ℕ) → server < 32 → x.server ≢ server
+        → IsRoom allowance (xs ++ x ∷ []) server (room_at rooms server)
+    old_room server below other =
+        let old = are server below in
+        record {
+          leaves_out_refused = λ error near.
+              old.leaves_out_refused error near ∙ sym (of_other error server other);
+          low = old.low;
+          high = old.high;
+        }
+
+    pub rooms_more : AreRooms allowance (xs ++ x ∷ []) (set rooms x.server new)
+    rooms_more server below = by_test (x.server == server)
+        (λ e.
+        let same : server ≡ x.server = grind (arith, nat_tests) in
+        let at : room_at (set rooms x.server new) server ≡ new =
+        rw same (get_or-set_same rooms x.server new none (omega (arith, count))) in
+        rw (at, same) new_room)
+        (λ e.
+        let other : x.server ≢ server = grind (arith, nat_tests) in
+        let at : room_at (set rooms x.server new) server ≡ room_at rooms server =
+        get_or-set_other rooms x.server server new none (λ same. other (sym same)) in
+        rw at (old_room server below other))
+
+-- ---- negatives
+
+module _ (rooms mirrored : List Interval) (n : ℕ) (within : n < length mirrored) (new : Interval) where
+  at_new : room_at (set mirrored n new) n ≡ new
+  at_new = get_or-set_same mirrored n new none within
+
+  at_old : (server : ℕ) → server < n → room_at (set mirrored n new) server ≡ room_at mirrored server
+  at_old server below =
+      get_or-set_other mirrored n server new none (λ same. absurd (omega arith))
+
+  pub mirrored_more : (end : Interval → ℤ) (is : ℕ → ℤ)
+      → ((server : ℕ) → server < n → end (room_at mirrored server) ≡ is server) → end new ≡ is n
+      → (server : ℕ) → server < n + 1 → end (room_at (set mirrored n new) server) ≡ is server
+  mirrored_more end is before here server below = ⊎_elim
+      (λ less. ap end (at_old server less) ∙ before server less)
+      (λ last.
+      let same : server ≡ n = omega arith in
+      rw same (ap end at_new ∙ here))
+      (cases_lt server n)
+
+pub negative_kept : (a : ℤ) → unsigned_abs a ≤ 2 ^ 80 → bits (pos 0 -ℤ bits a) ≡ neg_ℤ a
+negative_kept a small =
+    let turned : pos 0 -ℤ a ≡ neg_ℤ a = omega (arith, ints) in
+    rw (kept a (omega (arith, small))) (kept (pos 0 -ℤ a) (omega (arith, ints, small)) ∙ turned)
+
+-- ---- the exchange at a place of the list that says them
+
+module _ {X : Type 0} (shown : X → Exchange) (held : List X) (index : ℕ) (item : X) (x : Exchange)
+    (below : index < length held) (is : item ≡ get_or held index item) (says : x ≡ shown item) where
+  pub within_shown : index < length (map shown held)
+  within_shown = rw (length-map held shown) below
+
+  pub shown_here : get_or (map shown held) index x ≡ x
+  shown_here = get_or-map shown held index item x below ∙ ap shown (sym is) ∙ sym says
+
+  pub lawful_here : All (IsLawful 32) (map shown held) → IsLawful 32 x
+  lawful_here all = subst (IsLawful 32) shown_here (all index x within_shown)
+
+-- ---- the step of the code
+
+-- what the code computes for the exchange at a place
+pub record IsStep (allowance : ℤ) (rooms : List Interval) (x : Exchange) (number : ℕ) (new : Interval) : Type 0 where
+  pub number_is : number ≡ x.server
+  pub listed : x.server < 32
+  pub narrows : (error : ℤ) → IsNear error → leaves_out new error
+      ≡ (leaves_out (room_at rooms number) error || not (admits allowance error x))
+  pub low : unsigned_abs new.lo ≤ 2 ^ 80
+  pub high : unsigned_abs new.hi ≤ 2 ^ 80
+
+module _ (allowance : ℤ) (xs : List Exchange) (index : ℕ) (within : index < length xs) (x : Exchange)
+    (here : get_or xs index x ≡ x) (rooms : List Interval) (count : length rooms ≡ 32)
+    (are : AreRooms allowance (take index xs) rooms) where
+  step_of_server : (number : ℕ) (new : Interval) → IsStep allowance rooms x number new
+      → AreRooms allowance (take index xs ++ x ∷ []) (set rooms x.server new)
+  step_of_server number new step =
+      rooms_more allowance (take index xs) x rooms count are step.listed new
+      (subst (λ (k : ℕ). (error : ℤ) → IsNear error → leaves_out new error
+      ≡ (leaves_out (room_at rooms k) error || not (admits allowance error x)))
+      step.number_is step.narrows) step.low step.high
+
+  one_more : take (index + 1) xs ≡ take index xs ++ x ∷ []
+  one_more = take_more xs index x within ∙ ap (λ y. take index xs ++ y ∷ []) here
+
+  pub rooms_step : (number : ℕ) (new : Interval) → IsStep allowance rooms x number new
+      → AreRooms allowance (take (index + 1) xs) (set rooms number new)
+  rooms_step number new step =
+      let all = step_of_server number new step in
+      rw (one_more, step.number_is) all

@@ -1,0 +1,176 @@
+-- What settles a claim.
+use Rattle.std.proofs.Common.{◌≡◌, ℕ, ◌≤◌, ℤ, pos, ◌*ℤ◌, ◌≤ℤ◌, ◌⊎◌, inl, inr, ⊎_elim, true, false, true≢false, List, [], ◌∷◌, Ok, Err, refl, sym, ◌∙◌, to_z, of_z, arith}
+use mir.Syntax.{w128}
+use Rattle.std.specs.Prelude.{◌↔◌, Bool, IsTrue}
+use Rattle.std.proofs.lemmas.Int.{ints, clamps}
+use Rattle.claim_file.specs.Claim.{ClaimData, IsLawful}
+use Rattle.pairing.specs.Exchange.{IsLawful as IsLawfulExchange}
+use Rattle.pairing.specs.declared.exchange.Exchange.{Exchange}
+use Rattle.certificate.specs.Certificate.{data_of as certificate_data}
+use Rattle.certificate.specs.Refutation.{RefutationData}
+use Rattle.certificate.specs.declared.certificate.Certificate.{Certificate}
+use Rattle.intersection.specs.Fineness.{times_le}
+use Rattle.intersection.specs.declared.kinds.Hull.{Hull}
+use Rattle.sample_interval.specs.declared.kinds.Sample.{Sample}
+use Rattle.span_cover.specs.Piece.{IsPiece}
+use Rattle.checker.specs.Course.{Course}
+use Rattle.checker.specs.Traceability.{IsObservedIn, samples_of}
+use Rattle.courses.specs.Contradiction.{AreAllConflicts, HoldsAnEnd, ShownConflict}
+use Rattle.courses.specs.Cover.{HasSmallCover, IsCover, SomeCourse, SomeCourseAt}
+use Rattle.courses.specs.DriftSettlement.{SettlesWithDrift}
+use Rattle.finder.specs.Fewest.{AreLongest, IsStuck, end_after}
+use Rattle.finder.specs.FewestAnswer.{FindsFewest}
+use Rattle.finder.specs.Need.{IsLawfulNeed, IsLeastNeed}
+use Rattle.finder.specs.Settlement.{HasTooManyPieces, IsContestedBy, IsFittedByNone, IsLeftOpen, IsShownBy}
+use Rattle.finder.specs.declared.fault.FindFault.{FindFault}
+use Rattle.finder.specs.declared.fault.FindFault.TheVariants as finds
+use Rattle.finder.specs.declared.fewest.Fewest.TheVariants as found
+use Rattle.finder.specs.declared.need.LeastNeed.{LeastNeed}
+use Rattle.finder.proofs.LongestPiece.{end_kept}
+
+-- ---- limits
+
+-- an exchange of a claim with so many servers is one of a claim with as many as may be
+pub of_most_servers : (servers : ℕ) (x : Exchange) → servers ≤ 32 → IsLawfulExchange servers x → IsLawfulExchange 32 x
+of_most_servers servers x few h =
+    let listed = h.listed in
+    record {
+      listed = omega (arith, listed);
+      t1_low = h.t1_low;
+      t1_high = h.t1_high;
+      t1_ordered = h.t1_ordered;
+      t4_low = h.t4_low;
+      t4_high = h.t4_high;
+      t4_ordered = h.t4_ordered;
+      t2 = h.t2;
+      t3 = h.t3;
+      distance = h.distance;
+      distance_not_negative = h.distance_not_negative;
+    }
+
+module _ (claim : ClaimData) (lawful : IsLawful claim) (samples : List Sample) where
+  -- a stretch of the span is a piece
+  pub piece_within : (begin end : ℤ) → claim.first ≤ℤ begin → begin ≤ℤ end → end ≤ℤ claim.last → IsPiece begin end
+  piece_within begin end from forward to =
+      let begins = lawful.span_begins in
+      let ends = lawful.span_ends in
+      record { from_zero = omega (arith, ints); in_order = forward; in_range = omega (arith, ints) }
+
+  -- so is the tick that needs most
+  pub need_piece : (need : LeastNeed) → IsLawfulNeed claim need → IsLeastNeed samples claim need → IsPiece need.begin need.end
+  need_piece need limits is =
+      let from = limits.from_first in
+      let to = limits.to_last in
+      let ends = is.ends in
+      piece_within need.begin need.end from (omega (arith, ints, clamps)) (omega (arith, ints, clamps))
+
+  in_span_after : (p : ℤ) (earlier : List ℤ) → claim.first ≤ℤ p → p ≤ℤ claim.last → AreLongest samples claim p earlier
+      → (claim.first ≤ℤ end_after p earlier) × (end_after p earlier ≤ℤ claim.last)
+  in_span_after p [] from to longest = (from, to)
+  in_span_after p (q ∷ earlier) from to longest =
+      let some = longest.0.some_tick in
+      in_span_after q earlier (omega (arith, ints, clamps)) longest.0.in_span longest.2
+
+  -- and the tick where the longest pieces stop, whose ends 128 bits hold
+  pub record IsTickWithin (begin end : ℤ) : Type 0 where
+    pub from_first : claim.first ≤ℤ begin
+    pub forward : begin ≤ℤ end
+    pub to_last : end ≤ℤ claim.last
+    pub begin_kept : to_z w128 (of_z w128 begin) ≡ begin
+    pub end_kept : to_z w128 (of_z w128 end) ≡ end
+
+  tick_within : (begin end : ℤ) → claim.first ≤ℤ begin → begin ≤ℤ end → end ≤ℤ claim.last → IsTickWithin begin end
+  tick_within begin end from forward to =
+      let piece = piece_within begin end from forward to in
+      record {
+        from_first = from;
+        forward = forward;
+        to_last = to;
+        begin_kept = end_kept begin begin (piece_within begin begin from (omega (arith, ints)) (omega (arith, ints)));
+        end_kept = end_kept begin end piece;
+      }
+
+  pub stuck_within : (begin end : ℤ) (hull : Hull) → IsStuck samples claim begin end hull → IsTickWithin begin end
+  stuck_within begin end hull stuck =
+      let forward = lawful.span_forward in
+      let begins = stuck.begins in
+      let ends = stuck.ends in
+      let (from, to) = in_span_after claim.first stuck.earlier (omega (arith, ints)) forward stuck.longest in
+      tick_within begin end (omega (arith, ints)) (omega (arith, ints, clamps)) (omega (arith, ints, clamps))
+
+-- ---- whether a course fits, by a test for covers
+
+pub fits_if : {A B : Type 0} (has : Bool) → has ≡ true → (IsTrue has ↔ A) → (B ↔ A) → B
+fits_if has is (has_cover, back) (to, from) = from (has_cover is)
+
+pub fits_not : {A B : Type 0} (has : Bool) → has ≡ false → (IsTrue has ↔ A) → (B ↔ A) → ¬ B
+fits_not has isnt (has_cover, back) (to, from) = λ course. true≢false (sym (back (to course)) ∙ isnt)
+
+-- ---- the answers
+
+module _ (claim : ClaimData) (xs : List Exchange) where
+  -- no course fits, and all conflicts are told
+  pub none_fits : (told : List ShownConflict) → AreAllConflicts claim xs told → ¬ (SomeCourse claim xs)
+      → (SomeCourse claim xs ↔ HasSmallCover claim xs)
+      → ((is_in : ℕ → Bool) → HoldsAnEnd is_in told → IsCover claim xs is_in) → IsFittedByNone claim xs told
+  none_fits told all no_course (to, from) covers = record {
+    no_course = no_course;
+    all = all;
+    unaccounted = λ is_in small ends. no_course (from (is_in, covers is_in ends, small));
+  }
+
+  -- a certificate that shows the claim
+  pub shown_by : (certificate : Certificate) → SomeCourse claim xs
+      → FindsFewest (samples_of xs claim) claim (Ok (found.Certificate certificate))
+      → IsShownBy claim xs (certificate_data certificate)
+  shown_by certificate course finds = record {
+    course = course;
+    longest = finds.exact;
+    accepted = finds.accepted;
+    fewest = finds.fewest;
+    few = finds.few;
+  }
+
+  -- a refutation that stands
+  pub contested_by : (refutation : RefutationData) → SettlesWithDrift claim xs refutation true
+      → IsContestedBy claim xs refutation
+  contested_by refutation settles = record {
+    accepted = settles.exact.0 refl;
+    course = settles.course refl;
+    none_accepted = settles.no_yes refl;
+  }
+
+  -- the reading at which a course is observed lies in the tick that begins there
+  observed : (begin end : ℤ) (course : Course) → begin ≤ℤ end
+      → course.observation.reading ≡ (begin *ℤ pos course.fineness) → IsObservedIn course begin end
+  observed begin end course forward is =
+      let n = course.fineness in
+      let further : (begin *ℤ pos n) ≤ℤ (end *ℤ pos n) = times_le begin end n forward in
+      rw is (omega (arith, ints), further)
+
+  -- as some course fits, the samples don't contradict each other there, and so no certificate is accepted
+  pub left_open : (begin end : ℤ) (hull : Hull) → begin ≤ℤ end → SomeCourse claim xs
+      → SomeCourseAt claim xs begin
+      → FindsFewest (samples_of xs claim) claim (Ok (found.Nothing begin end hull))
+      → IsLeftOpen claim xs begin end hull
+  left_open begin end hull forward some (course, fits, reads) finds = record {
+    course = some;
+    stuck = finds.stuck;
+    none_accepted = finds.none_accepted (λ empty.
+        finds.contradiction empty xs course refl fits (observed begin end course forward reads));
+    held = finds.held;
+  }
+
+  -- too many pieces, if memory didn't run out
+  pub fault_of : (fault : FindFault) → SomeCourse claim xs → FindsFewest (samples_of xs claim) claim (Err fault)
+      → (fault ≡ finds.Memory) ⊎ ((fault ≡ finds.TooManyPieces) × HasTooManyPieces claim xs)
+  fault_of finds.Memory course answer = inl refl
+  fault_of finds.TooManyPieces course answer = ⊎_elim (λ memory. absurd cc)
+      (λ too_long. inr (
+        refl,
+        record {
+          course = course;
+          too_long = too_long.1;
+          none_accepted = answer.too_many refl;
+        },
+      )) answer.refused

@@ -1,0 +1,249 @@
+-- What the checker says about pieces with the best samples.
+use Rattle.std.proofs.Common.{◌≡◌, ℕ, zero, suc, ◌+◌, ◌-◌, ◌<◌, ◌≤◌, ℤ, pos, ◌≤ℤ◌, int_lt, nat_lt, unsigned_abs, Bool, true, false, cond, not, ◌&&◌, ◌||◌, List, [], ◌∷◌, ◌++◌, length, Option, Some, None, Result, Ok, refl, sym, ap, ◌∙◌, subst, arith, append_assoc, add-one, add-zero}
+use Rattle.std.specs.Prelude.{slice_get, ◌==◌}
+use Rattle.std.specs.List.{list_any, filter_map, cons_option, range_with_len}
+use Rattle.std.specs.Ordering.{int_eq}
+use Rattle.std.proofs.lemmas.Bool.{cond-true, cond-false}
+use Rattle.std.proofs.lemmas.Bool.Decides.{nat_tests}
+use Rattle.std.proofs.lemmas.Int.{ints}
+use Rattle.std.proofs.lemmas.List.{append-nil}
+use Rattle.std.proofs.lemmas.List.Folds.{list_any-append}
+use Rattle.certificate.specs.Certificate.{PieceData}
+use Rattle.claim_file.specs.Claim.{ClaimData, IsLawful}
+use Rattle.intersection.specs.declared.kinds.Hull.{Hull}
+use Rattle.intersection.specs.declared.kinds.Hull.TheVariants.{Unbounded, Empty, Bounded}
+use Rattle.sample_interval.specs.declared.kinds.Sample.{Sample}
+use Rattle.span_cover.specs.Step.{piece_end_of}
+use Rattle.checker.specs.Stretch.{stretches_from}
+use Rattle.span_cover.specs.Part.{part_of}
+use Rattle.checker.specs.Verdict.{part_from, parts_after, unless_refused, hull_fault, parts_fault, piece_fault, verdict_after, verdict_from}
+use Rattle.span_cover.specs.declared.part.Part.{Part}
+use Rattle.span_cover.specs.declared.stretch.Stretch.{Stretch}
+use Rattle.checker.specs.declared.verdict.Verdict.{Verdict}
+use Rattle.checker.specs.declared.verdict.Verdict.TheVariants.{Yes, No}
+use Rattle.checker.specs.declared.verdict.Why.{Why}
+use Rattle.checker.specs.declared.verdict.Why.TheVariants.{Cut, Contradiction, Exceeds, Uncovered}
+use Rattle.span_cover.specs.Group.{is_inside}
+use Rattle.finder.specs.Entry.{best_over, best_entries, best_hull, part_between, parts_named}
+use Rattle.finder.specs.Found.{piece_at, pieces_from, hull_at, passes}
+use Rattle.finder.specs.Piece.{IsPieceCount, piece_begin_of, stretch_at}
+use Rattle.finder.proofs.Best.{BestLaw, best_of_is}
+use Rattle.finder.proofs.SpanPieces.{begin_before_end, end_to_last, piece_of_claim, stretch_is}
+
+-- ---- the entries are accepted
+
+-- one of the parts is of this server
+abbrev names : ℕ → List Part → Bool
+names server parts = list_any (λ part. part.server == server) parts
+
+same_test : (a b s : ℕ) → a ≡ s → b ≡ s → not (a == b) ≡ false
+same_test a b s e f = grind (arith, nat_tests)
+
+other_test : (a s server : ℕ) → a ≡ s → s + 1 ≤ server → (a == server) ≡ false
+other_test a s server e later = grind (arith, nat_tests)
+
+module _ (law : BestLaw) (samples : List Sample) (claim : ClaimData) (stretch : Stretch) where
+  abbrev after : List Part → List (ℕ × ℕ) → Result (List Part) Why
+  after earlier entries = parts_after samples stretch claim.drift_ppb earlier entries
+
+  abbrev over : ℕ → ℕ → List (ℕ × ℕ)
+  over s n = filter_map (best_over samples claim stretch) (range_with_len s n)
+
+  abbrev parts : List (ℕ × ℕ) → List Part
+  parts entries = parts_named samples claim stretch entries
+
+  -- the best samples of a server that isn't named yet are accepted
+  part_accepted : (s : ℕ) (earlier : List Part) (at_low at_high : Option Sample) (low high : Sample)
+      → (at_low ≡ Some low) × (at_high ≡ Some high) → (low.server ≡ s) × (high.server ≡ s)
+      → names s earlier ≡ false
+      → part_from stretch claim.drift_ppb earlier at_low at_high ≡ Ok (part_of low high stretch claim.drift_ppb)
+  part_accepted s earlier at_low at_high low high at of new =
+      rw (at.0, at.1)
+      (cond-false (not (low.server == high.server)) _ _ (same_test low.server high.server s of.0 of.1)
+      ∙ cond-false (names low.server earlier) _ _
+      (subst (λ (n : ℕ). names n earlier ≡ false) (sym of.0) new))
+
+  part_says : (at_low at_high : Option Sample) (low high : Sample) → at_low ≡ Some low → at_high ≡ Some high
+      → part_between stretch claim.drift_ppb at_low at_high ≡ Some (part_of low high stretch claim.drift_ppb)
+  part_says at_low at_high low high a b = rw (a, b) refl
+
+  names_more : (earlier : List Part) (part : Part) (s : ℕ) → part.server ≡ s
+      → ((server : ℕ) → s ≤ server → names server earlier ≡ false)
+      → (server : ℕ) → s + 1 ≤ server → names server (earlier ++ part ∷ []) ≡ false
+  names_more earlier part s of new server later =
+      list_any-append (λ p. p.server == server) earlier (part ∷ [])
+      ∙ rw (new server (omega arith), other_test part.server s server of later) refl
+
+  -- the entries of n servers from number s on are accepted after others
+  Accepted : ℕ → ℕ → Type 0
+  Accepted s n = (earlier : List Part) → ((server : ℕ) → s ≤ server → names server earlier ≡ false)
+      → after earlier (over s n) ≡ Ok (earlier ++ parts (over s n))
+
+  one_accepted : (s n : ℕ) (best : Option (ℕ × ℕ)) → best_over samples claim stretch s ≡ best → Accepted (s + 1) n
+      → (earlier : List Part) → ((server : ℕ) → s ≤ server → names server earlier ≡ false)
+      → after earlier (cons_option best (over (s + 1) n))
+      ≡ Ok (earlier ++ parts (cons_option best (over (s + 1) n)))
+  unfolding Accepted
+  one_accepted s n None is rest earlier new = rest earlier (λ server later. new server (omega arith))
+  one_accepted s n (Some entry) is rest earlier new =
+      let best = best_of_is law samples s stretch.begin stretch.end claim.drift_ppb entry is in
+      let low = best.0.sample in
+      let high = best.1.sample in
+      let part = part_of low high stretch claim.drift_ppb in
+      let said = part_accepted s earlier (slice_get samples entry.0) (slice_get samples entry.1) low high
+      (best.0.stands, best.1.stands) (best.0.of_server, best.1.of_server) (new s (omega arith)) in
+      let says = part_says (slice_get samples entry.0) (slice_get samples entry.1) low high best.0.stands
+      best.1.stands in
+      ap (λ (r : Result Part Why). unless_refused r (λ p. after (earlier ++ p ∷ []) (over (s + 1) n))) said
+      ∙ rest (earlier ++ part ∷ []) (names_more earlier part s best.0.of_server new)
+      ∙ ap Ok (append_assoc earlier (part ∷ []) (parts (over (s + 1) n)))
+      ∙ ap (λ (o : Option Part). Ok (earlier ++ cons_option o (parts (over (s + 1) n)))) (sym says)
+
+  accepted : (s n : ℕ) → Accepted s n
+  unfolding Accepted
+  accepted s zero earlier new = ap Ok (sym (append-nil earlier))
+  accepted s (suc n) earlier new =
+      one_accepted s n (best_over samples claim stretch s) refl (accepted (s + 1) n) earlier new
+
+  -- the entries of a piece say what they name
+  pub entries_accepted : after [] (best_entries samples claim stretch)
+      ≡ Ok (parts_named samples claim stretch (best_entries samples claim stretch))
+  unfolding Accepted
+  entries_accepted = accepted 0 (length claim.servers) [] (λ server later. refl)
+
+  -- and their hull decides
+  pub entries_fault : parts_fault claim (after [] (best_entries samples claim stretch))
+      ≡ hull_fault claim.bound (best_hull samples claim stretch)
+  unfolding best_hull
+  entries_fault = ap (parts_fault claim) entries_accepted
+
+-- ---- the hull of a piece
+
+pub inside_passes : (bound : ℤ) (hull : Hull) → is_inside bound hull ≡ true → hull_fault bound hull ≡ None
+inside_passes bound Unbounded e = absurd cc
+inside_passes bound Empty e = absurd cc
+inside_passes bound (Bounded lo hi) e = cond-true (is_inside bound (Bounded lo hi)) None (Some Exceeds) e
+
+pub passes_inside : (bound : ℤ) (hull : Hull) → hull_fault bound hull ≡ None → is_inside bound hull ≡ true
+passes_inside bound Unbounded e = absurd cc
+passes_inside bound Empty e = absurd cc
+passes_inside bound (Bounded lo hi) e =
+    elim (is_inside bound (Bounded lo hi)) as (λ t. cond t None (Some Exceeds) ≡ None → t ≡ true) [
+      | true ↦ λ e. refl
+      | false ↦ λ e. absurd cc
+    ] e
+
+-- ---- piece by piece
+
+pub not_less : (a b : ℤ) → b ≤ℤ a → int_lt a b ≡ false
+not_less a b le = grind (arith, ints)
+
+pub from_zero_kept : (z : ℤ) → pos 0 ≤ℤ z → pos (unsigned_abs z) ≡ z
+from_zero_kept z le = omega (arith, ints)
+
+module _ (law : BestLaw) (samples : List Sample) (claim : ClaimData) (lawful : IsLawful claim) (step : ℕ) where
+  end_number : (k : ℕ) → pos (unsigned_abs (piece_end_of claim.first claim.last step k))
+      ≡ piece_end_of claim.first claim.last step k
+  end_number k =
+      let piece = piece_of_claim claim lawful step k in
+      let from_zero = piece.from_zero in
+      let in_order = piece.in_order in
+      from_zero_kept (piece_end_of claim.first claim.last step k) (omega (arith, ints))
+
+  fault_at : (k : ℕ) (end : ℤ) → end ≡ piece_end_of claim.first claim.last step k
+      → (let stretch : Stretch = record { begin = piece_begin_of claim.first claim.last step k; end = end } in
+      cond (int_lt end (piece_begin_of claim.first claim.last step k) || int_lt claim.last end) (Some Cut)
+      (parts_fault claim
+      (parts_after samples stretch claim.drift_ppb [] (best_entries samples claim (stretch_at claim step k)))))
+      ≡ hull_fault claim.bound (hull_at samples claim step k)
+  fault_at k end is =
+      let begin = piece_begin_of claim.first claim.last step k in
+      let forward = begin_before_end claim.first claim.last lawful.span_forward step k in
+      let within = end_to_last claim.first claim.last lawful.span_forward step k in
+      rw (is, not_less _ begin forward, not_less claim.last _ within)
+      (entries_fault law samples claim (stretch_at claim step k))
+
+  -- the checker tests the hull of the piece
+  pub fault_is : (k : ℕ) → piece_fault samples claim (piece_begin_of claim.first claim.last step k)
+      (piece_at samples claim step k)
+      ≡ hull_fault claim.bound (hull_at samples claim step k)
+  fault_is k = fault_at k _ (end_number k)
+
+  next_begin : (k : ℕ) → piece_begin_of claim.first claim.last step (k + 1) ≡ piece_end_of claim.first claim.last step k
+  next_begin k = ap (piece_begin_of claim.first claim.last step) (add-one k)
+
+  abbrev verdict_at : ℕ → List PieceData → Verdict
+  verdict_at k pieces = verdict_from samples claim k (piece_begin_of claim.first claim.last step k) pieces
+
+  -- pieces that pass are passed over
+  pub passed_over : (n j : ℕ) (rest : List PieceData)
+      → ((k : ℕ) → j ≤ k → k < j + n → passes samples claim step k ≡ true)
+      → verdict_from samples claim j (piece_begin_of claim.first claim.last step j)
+      (pieces_from samples claim step j n ++ rest)
+      ≡ verdict_from samples claim (j + n) (piece_begin_of claim.first claim.last step (j + n)) rest
+  passed_over zero j rest pass = ap (λ (k : ℕ). verdict_at k rest) (sym (add-zero j))
+  passed_over (suc n) j rest pass =
+      let none : piece_fault samples claim (piece_begin_of claim.first claim.last step j)
+      (piece_at samples claim step j)
+      ≡ None =
+      fault_is j ∙ inside_passes claim.bound (hull_at samples claim step j) (pass j (omega arith) (omega arith)) in
+      let begin = end_number j ∙ sym (next_begin j) in
+      let same : j + 1 + n ≡ j + suc n = omega arith in
+      let others = pieces_from samples claim step (j + 1) n ++ rest in
+      ap (λ (f : Option Why). verdict_after f j (verdict_from samples claim (j + 1)
+      (pos (unsigned_abs (piece_end_of claim.first claim.last step j))) others)) none
+      ∙ ap (λ (z : ℤ). verdict_from samples claim (j + 1) z others) begin
+      ∙ passed_over n (j + 1) rest (λ k from to. pass k (omega arith) (omega arith))
+      ∙ ap (λ (k : ℕ). verdict_at k rest) same
+
+  begin_last : (n : ℕ) → 0 < n → piece_end_of claim.first claim.last step (n - 1) ≡ claim.last
+      → piece_begin_of claim.first claim.last step n ≡ claim.last
+  begin_last zero some ends = absurd (omega arith)
+  begin_last (suc m) some ends = let same : suc m - 1 ≡ m = omega arith in rw same at ends
+
+  covered : (k : ℕ) (z : ℤ) → 0 < k → z ≡ claim.last → (nat_lt 0 k && int_eq z claim.last) ≡ true
+  covered k z some e = grind (arith, nat_tests, ints)
+
+  -- if all pieces pass, they are accepted
+  pub all_accepted : (n : ℕ) → IsPieceCount claim.first claim.last step n
+      → ((k : ℕ) → k < n → passes samples claim step k ≡ true)
+      → verdict_from samples claim 0 claim.first (pieces_from samples claim step 0 n) ≡ Yes
+  all_accepted n is pass =
+      let zero_n : 0 + n ≡ n = omega arith in
+      let last = begin_last n is.some is.ends_with_span in
+      ap (verdict_from samples claim 0 claim.first) (sym (append-nil (pieces_from samples claim step 0 n)))
+      ∙ passed_over n 0 [] (λ k from to. pass k (omega arith))
+      ∙ ap (λ (k : ℕ). verdict_at k []) zero_n
+      ∙ cond-true (nat_lt 0 n && int_eq (piece_begin_of claim.first claim.last step n) claim.last) Yes (No n Uncovered)
+      (covered n _ is.some last)
+
+  -- the pieces up to one with an empty hull contradict themselves there
+  pub contradicts_at : (k : ℕ) → ((j : ℕ) → j < k → passes samples claim step j ≡ true)
+      → hull_at samples claim step k ≡ Empty
+      → verdict_from samples claim 0 claim.first
+      (pieces_from samples claim step 0 k ++ piece_at samples claim step k ∷ [])
+      ≡ No k Contradiction
+  contradicts_at k pass empty =
+      let zero_k : 0 + k ≡ k = omega arith in
+      let last = piece_at samples claim step k ∷ [] in
+      passed_over k 0 last (λ j from to. pass j (omega arith))
+      ∙ ap (λ (j : ℕ). verdict_at j last) zero_k
+      ∙ ap (λ (f : Option Why). verdict_after f k
+      (verdict_from samples claim (k + 1) (pos (unsigned_abs (piece_end_of claim.first claim.last step k))) []))
+      (fault_is k ∙ ap (hull_fault claim.bound) empty)
+
+  -- piece n after those from number j on
+  pub stretch_is_at : (n j : ℕ) (z : ℤ) → z ≡ piece_begin_of claim.first claim.last step j
+      → slice_get (stretches_from z (pieces_from samples claim step j n ++ piece_at samples claim step (j + n) ∷ [])) n
+      ≡ Some (stretch_at claim step (j + n))
+  stretch_is_at zero j z is =
+      let same : j + 0 ≡ j = omega arith in
+      let begin = is ∙ ap (piece_begin_of claim.first claim.last step) (sym same) in
+      ap Some (stretch_is claim step (j + 0) z _ begin (end_number (j + 0)))
+  stretch_is_at (suc n) j z is =
+      let same : j + 1 + n ≡ j + suc n = omega arith in
+      let begin = end_number j ∙ sym (next_begin j) in
+      subst (λ (k : ℕ). slice_get (stretches_from (pos (unsigned_abs (piece_end_of claim.first claim.last step j)))
+      (pieces_from samples claim step (j + 1) n ++ piece_at samples claim step k ∷ [])) n
+      ≡ Some (stretch_at claim step k))
+      same (stretch_is_at n (j + 1) _ begin)

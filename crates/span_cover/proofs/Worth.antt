@@ -1,0 +1,57 @@
+-- Numbers that are passed on, and what a sample is worth before it is moved.
+use Rattle.std.proofs.Common.{◌≡◌, ℕ, ◌-◌, ◌*◌, ◌^◌, ◌<◌, ◌≤◌, ℤ, pos, neg_ℤ, ◌+ℤ◌, ◌-ℤ◌, ◌≤ℤ◌, unsigned_abs, arith}
+use Rattle.std.proofs.Common.{to_z, of_z, Fits, FitsSigned}
+use mir.Syntax.{w32, w64, w128}
+use Rattle.std.proofs.lemmas.Int.{ints, fits_signed_from_abs}
+use Rattle.intersection.specs.declared.ends.Side.{Side}
+use Rattle.intersection.specs.declared.ends.Side.TheVariants.{Low, High}
+use Rattle.sample_interval.specs.declared.kinds.Sample.{Sample}
+use Rattle.span_cover.specs.Best.{merit}
+use Rattle.span_cover.specs.Piece.{IsPiece, moved_low, moved_high}
+use Rattle.span_cover.proofs.PieceDistance.{kept}
+
+pub piece_kept : (p q : ℤ) → IsPiece p q → IsPiece (to_z w128 (of_z w128 p)) (to_z w128 (of_z w128 q))
+piece_kept p q piece = rw (kept p (omega (arith, ints)), kept q (omega (arith, ints))) piece
+
+-- a number that is negated
+module _ (a : ℤ) (small : unsigned_abs a ≤ 2 ^ 72) where
+  pub negation_fits : FitsSigned w128 (pos 0 -ℤ to_z w128 (of_z w128 a))
+  negation_fits = rw (kept a (omega arith)) (fits_signed_from_abs w128 (pos 0 -ℤ a) (omega (arith, ints)))
+
+  negation_is : to_z w128 (of_z w128 (pos 0 -ℤ to_z w128 (of_z w128 a))) ≡ pos 0 -ℤ a
+  negation_is = rw (kept a (omega arith)) (kept (pos 0 -ℤ a) (omega (arith, ints)))
+
+lower : (a : ℤ) (w : ℕ) → (a -ℤ pos w) ≤ℤ a
+lower a w = omega (arith, ints)
+
+higher : (a : ℤ) (w : ℕ) → neg_ℤ (a +ℤ pos w) ≤ℤ (pos 0 -ℤ a)
+higher a w = omega (arith, ints)
+
+-- to be moved only takes merit away
+module _ (side : Side) (sample : Sample) where
+  pub low_unmoved : side ≡ Low → unsigned_abs sample.low ≤ 2 ^ 72 → (p q : ℤ) (ppb : ℕ) →
+      merit side sample p q ppb ≤ℤ to_z w128 (of_z w128 sample.low)
+  unfolding moved_low
+  low_unmoved is small p q ppb = rw (is, kept sample.low (omega arith)) (lower sample.low _)
+
+  pub high_unmoved : side ≡ High → unsigned_abs sample.high ≤ 2 ^ 72 → (p q : ℤ) (ppb : ℕ) →
+      merit side sample p q ppb ≤ℤ to_z w128 (of_z w128 (pos 0 -ℤ to_z w128 (of_z w128 sample.high)))
+  unfolding moved_high
+  high_unmoved is small p q ppb = rw (is, negation_is sample.high small) (higher sample.high _)
+
+-- the number before another, of a few samples
+module _ (number all : ℕ) (some : 0 < number) (within : number ≤ all) where
+  pub one_back : 1 ≤ number
+  one_back = omega arith
+
+  pub before_all : number - 1 < all
+  before_all = omega arith
+
+  pub number_fits : all ≤ 1000000 → Fits w32 (number - 1)
+  number_fits few = record { fits = omega arith }
+
+  pub place_fits : all ≤ 1000000 → Fits w64 ((number - 1) * 112)
+  place_fits few = record { fits = omega arith }
+
+pub entry_fits : (server : ℕ) → server < 32 → Fits w64 (server * 48)
+entry_fits server below = record { fits = omega arith }

@@ -1,0 +1,187 @@
+-- The extremes of a server's samples.
+use Rattle.std.proofs.Common.{◌≡◌, ℕ, ◌+◌, ◌<◌, ◌≤◌, ◌^◌, ℤ, List, [], ◌∷◌, ◌++◌, length, map, take, Some}
+use Rattle.std.proofs.Common.{arith, subst, get_or, ⊎_elim, sym, ◌∙◌, ap, neg_ℤ, unsigned_abs, ◌≢◌, ◌≤ℤ◌}
+use Rattle.std.specs.List.{slice_get, All}
+use Rattle.std.proofs.lemmas.Bool.{cases_lt}
+use Rattle.std.proofs.lemmas.Int.{ints}
+use Rattle.std.proofs.lemmas.List.{length-append, length-map, get_or-map, map_more}
+use Rattle.std.proofs.lemmas.Option.{slice_get-get_or, slice_get_within, same_Some, get_or_from_slice_get}
+use Rattle.sample_interval.specs.Sample.{IsLawfulSample}
+use Rattle.sample_interval.specs.declared.kinds.Sample.{Sample}
+use Rattle.span_cover.specs.Best.{HasNoSample}
+use Rattle.sweep.specs.Extreme.{IsEndAt, IsExtremeOf, IsOfServer, IsLawfulExtreme, AreExtremesOf}
+use Rattle.sweep.specs.declared.extreme.Extreme.{Extreme}
+use Rattle.intersection.specs.declared.ends.Side.{Side}
+use Rattle.intersection.specs.declared.ends.Side.TheVariants.{Low, High}
+use Rattle.sweep.proofs.List.{pushed_cases, slice_get-front, slice_get-last}
+
+lawful_end : (value start stop : ℤ) (extreme : Extreme) → unsigned_abs value ≤ 2 ^ 72 → unsigned_abs start ≤ 2 ^ 72 →
+    start ≤ℤ stop → unsigned_abs stop ≤ 2 ^ 72 → IsEndAt value start stop extreme → IsLawfulExtreme extreme
+lawful_end value start stop extreme a b c d is = record {
+  least_end = omega (arith, ints, is.end);
+  greatest_end = omega (arith, ints, is.end);
+  begins = omega (arith, ints, is.from);
+  in_order = omega (arith, ints, is.from, is.to);
+  ends = omega (arith, ints, is.to);
+}
+
+lawful_extreme : (side : Side) (sample : Sample) (extreme : Extreme) → IsLawfulSample sample →
+    IsExtremeOf side sample extreme →
+    IsLawfulExtreme extreme
+lawful_extreme Low sample extreme s is =
+    lawful_end sample.low sample.low_from sample.low_to extreme s.low s.low_from s.low_window_in_order s.low_to is
+lawful_extreme High sample extreme s is =
+    lawful_end (neg_ℤ sample.high) sample.high_from sample.high_to extreme (omega (arith, ints, s.high)) s.high_from
+    s.high_window_in_order s.high_to is
+
+-- ---- the server of each sample, in a list of its own
+module _ (samples : List Sample) (servers : List ℕ) (are : servers ≡ map (λ sample. sample.server) samples) where
+  pub as_many_servers : length servers ≡ length samples
+  as_many_servers = rw are (length-map samples (λ sample. sample.server))
+
+  pub server_at : (number : ℕ) (sample : Sample) (d : ℕ) → slice_get samples number ≡ Some sample →
+      get_or servers number d ≡ sample.server
+  server_at number sample d is =
+      let within = slice_get_within samples number sample is in
+      rw are (get_or-map (λ sample. sample.server) samples number sample d within
+      ∙ ap (λ s. s.server) (get_or_from_slice_get samples number sample sample is))
+
+-- what holds of all samples holds of the one of a number
+pub lawful_at : (samples : List Sample) → All IsLawfulSample samples → (number : ℕ) (sample : Sample) →
+    slice_get samples number ≡ Some sample → IsLawfulSample sample
+lawful_at samples lawful number sample is =
+    subst IsLawfulSample (get_or_from_slice_get samples number sample sample is)
+    (lawful number sample (slice_get_within samples number sample is))
+
+-- the server of one more sample
+pub servers_more : (samples : List Sample) (n : ℕ) (sample : Sample) → slice_get samples n ≡ Some sample →
+    (servers pushed : List ℕ) → servers ≡ map (λ s. s.server) (take n samples) → pushed ≡ servers ++
+    sample.server ∷ [] →
+    pushed ≡ map (λ s. s.server) (take (n + 1) samples)
+servers_more samples n sample is servers pushed so_far more =
+    let within = slice_get_within samples n sample is in
+    let here : get_or samples n sample ≡ sample = get_or_from_slice_get samples n sample sample is in
+    more ∙ ap (λ (xs : List ℕ). xs ++ sample.server ∷ []) so_far
+    ∙ sym (map_more (λ (s : Sample). s.server) samples n sample within
+    ∙ ap (λ (s : Sample). map (λ (s : Sample). s.server) (take n samples) ++ s.server ∷ []) here)
+
+-- the extremes of the samples below number n
+pub record ExtremesSoFar (side : Side) (samples : List Sample) (server n : ℕ) (extremes : List Extreme) : Type 0 where
+  pub few : length extremes ≤ n
+  pub within : n ≤ length samples
+  pub each : (index : ℕ) (extreme : Extreme) → slice_get extremes index ≡ Some extreme →
+      IsOfServer side samples server extreme × (extreme.number < n)
+  pub all : (number : ℕ) (sample : Sample) → number < n → slice_get samples number ≡ Some sample →
+      sample.server ≡ server →
+      (index : ℕ) × (extreme : Extreme) × (slice_get extremes index ≡ Some extreme) × (extreme.number ≡ number)
+  pub rising : (i j : ℕ) (a b : Extreme) → i < j → slice_get extremes i ≡ Some a → slice_get extremes j ≡ Some b →
+      a.number < b.number
+
+module _ (side : Side) (samples : List Sample) (server n : ℕ) (extremes : List Extreme)
+    (so_far : ExtremesSoFar side samples server n extremes) where
+  pub ExtremesSoFar-all : length samples ≤ n → AreExtremesOf side samples server extremes
+  ExtremesSoFar-all enough = record {
+    few = omega (arith, so_far.few, so_far.within);
+    each = λ index extreme is. (so_far.each index extreme is).0;
+    all = λ number sample is of.
+        let within = slice_get_within samples number sample is in
+        so_far.all number sample (omega arith) is of;
+    rising = so_far.rising;
+  }
+
+  -- a sample of another server
+  pub ExtremesSoFar-other : (sample : Sample) → slice_get samples n ≡ Some sample → sample.server ≢ server →
+      ExtremesSoFar side samples server (n + 1) extremes
+  ExtremesSoFar-other sample here other = record {
+    few = let few = so_far.few in omega arith;
+    within = let inside = slice_get_within samples n sample here in omega arith;
+    each = λ index extreme is.
+        let known = so_far.each index extreme is in
+        (known.0, let less = known.1 in omega arith);
+    all = all;
+    rising = so_far.rising;
+  }
+    where
+      all : (number : ℕ) (s : Sample) → number < n + 1 → slice_get samples number ≡ Some s → s.server ≡ server →
+          (index : ℕ) × (extreme : Extreme) × (slice_get extremes index ≡ Some extreme) × (extreme.number ≡ number)
+      all number s less is of = ⊎_elim
+          (λ below. so_far.all number s below is of)
+          (λ le.
+          let same : number ≡ n = omega arith in
+          let one : s ≡ sample = same_Some s sample (sym is ∙ ap (slice_get samples) same ∙ here) in
+          absurd (other (subst (λ (t : Sample). t.server ≡ server) one of)))
+          (cases_lt number n)
+
+  -- a sample of this one
+  pub ExtremesSoFar-more : (sample : Sample) (extreme : Extreme) → slice_get samples n ≡ Some sample →
+      sample.server ≡ server → IsLawfulSample sample → extreme.number ≡ n → IsExtremeOf side sample extreme →
+      ExtremesSoFar side samples server (n + 1) (extremes ++ extreme ∷ [])
+  ExtremesSoFar-more sample extreme here of_server s number is = record {
+    few = omega (arith, so_far.few, length-append extremes (extreme ∷ []));
+    within = let inside = slice_get_within samples n sample here in omega arith;
+    each = each;
+    all = all;
+    rising = rising;
+  }
+    where
+      own : IsOfServer side samples server extreme
+      own = record {
+        sample = sample;
+        stands = ap (slice_get samples) number ∙ here;
+        of_server = of_server;
+        is = is;
+        lawful = lawful_extreme side sample extreme s is;
+      }
+
+      each : (index : ℕ) (b : Extreme) → slice_get (extremes ++ extreme ∷ []) index ≡ Some b →
+          IsOfServer side samples server b × (b.number < n + 1)
+      each index b at = ⊎_elim
+          (λ old. let known = so_far.each index b old in (known.0, let less = known.1 in omega arith))
+          (λ new. subst (λ (x : Extreme). IsOfServer side samples server x × (x.number < n + 1)) (sym new.1)
+          (own, omega (arith, number)))
+          (pushed_cases extremes extreme b index at)
+
+      all : (k : ℕ) (t : Sample) → k < n + 1 → slice_get samples k ≡ Some t → t.server ≡ server →
+          (index : ℕ) × (b : Extreme) × (slice_get (extremes ++ extreme ∷ []) index ≡ Some b) × (b.number ≡ k)
+      all k t less at of = ⊎_elim
+          (λ below.
+          let old = so_far.all k t below at of in
+          let within = slice_get_within extremes old.0 old.1 old.2 in
+          (old.0, old.1, slice_get-front extremes extreme old.0 within ∙ old.2, old.3))
+          (λ le. (length extremes, extreme, slice_get-last extremes extreme, omega (arith, number)))
+          (cases_lt k n)
+
+      rising : (i j : ℕ) (a b : Extreme) → i < j → slice_get (extremes ++ extreme ∷ []) i ≡ Some a →
+          slice_get (extremes ++ extreme ∷ []) j ≡ Some b → a.number < b.number
+      rising i j a b less at_i at_j = ⊎_elim
+          (λ old_i. ⊎_elim
+          (λ old_j. so_far.rising i j a b less old_i old_j)
+          (λ new_j.
+          let below = (so_far.each i a old_i).1 in
+          subst (λ (x : Extreme). a.number < x.number) (sym new_j.1) (omega (arith, number)))
+          (pushed_cases extremes extreme b j at_j))
+          (λ new_i.
+          let within = slice_get_within (extremes ++ extreme ∷ []) j b at_j in
+          absurd (omega (arith, new_i.0, length-append extremes (extreme ∷ []))))
+          (pushed_cases extremes extreme a i at_i)
+
+-- ---- of all of them
+module _ (side : Side) (samples : List Sample) (server : ℕ) (extremes : List Extreme)
+    (are : AreExtremesOf side samples server extremes) where
+  pub lawful_extremes : All IsLawfulExtreme extremes
+  lawful_extremes k d within = (are.each k (get_or extremes k d) (slice_get-get_or extremes k d within)).lawful
+
+  pub some_sample : 0 < length extremes → ¬ HasNoSample samples server
+  some_sample some none =
+      let d : Extreme = record { number = 0; end = 0; from = 0; to = 0 } in
+      let own = are.each 0 (get_or extremes 0 d) (slice_get-get_or extremes 0 d some) in
+      none (get_or extremes 0 d).number own.sample own.stands own.of_server
+
+  pub some_extreme : ¬ HasNoSample samples server → 0 < length extremes
+  some_extreme some = ⊎_elim
+      (λ positive. positive)
+      (λ none. absurd (some (λ i s is of.
+      let there = are.all i s is of in
+      let inside = slice_get_within extremes there.0 there.1 there.2 in
+      absurd (omega arith))))
+      (cases_lt 0 (length extremes))

@@ -1,0 +1,178 @@
+-- The highest level over a stretch, and the interval that it gives.
+use Rattle.std.proofs.Common.{◌≡◌, ℕ, ◌+◌, ◌-◌, ◌/◌, ◌<◌, ◌≤◌, ◌^◌, max, ℤ, pos, ◌+ℤ◌, ◌-ℤ◌, ◌≤ℤ◌, neg_ℤ, List, length, map}
+use Rattle.std.proofs.Common.{Option, Some, None, MatchOption, refl, sym, ◌∙◌, ap, subst, arith, inl, inr, ⊎_elim}
+use Rattle.std.specs.List.{slice_get, All}
+use Rattle.std.specs.Option.{option_map}
+use Rattle.std.proofs.lemmas.Bool.{cases_lt}
+use Rattle.std.proofs.lemmas.Int.{ints}
+use Rattle.std.proofs.lemmas.Nat.{le-div}
+use Rattle.std.proofs.lemmas.Option.{same_Some}
+use Rattle.std.proofs.Math.Nat.{div-mul-le_self}
+use Rattle.intersection.specs.declared.kinds.Interval.{Interval}
+use Rattle.intersection.specs.declared.ends.Side.{Side}
+use Rattle.intersection.specs.declared.ends.Side.TheVariants.{Low, High}
+use Rattle.sample_interval.specs.Widening.{IsRate, IsWidening, widening, billion}
+use Rattle.sample_interval.specs.declared.kinds.Sample.{Sample}
+use Rattle.span_cover.specs.Best.{HasNoSample, IsFirstBest, IsBestLow, IsBestHigh, best_of, merit}
+use Rattle.span_cover.specs.Gathering.{best_interval, interval_between}
+use Rattle.span_cover.specs.Piece.{moved_low, moved_high}
+use Rattle.span_cover.specs.declared.part.Part.{Part}
+use Rattle.sweep.specs.Extreme.{IsLawfulExtreme, AreExtremesOf, mirrored_extreme}
+use Rattle.sweep.specs.Peak.{IsEarlyLevel}
+use Rattle.sweep.specs.Stretch.{IsStretchOf, IsLawfulStretch, mirrored_stretch}
+use Rattle.sweep.specs.Table.{IsLevelOver, best_part, said_by}
+use Rattle.sweep.specs.Top.{IsAtLeast, distance}
+use Rattle.sweep.specs.declared.extreme.Extreme.{Extreme}
+use Rattle.sweep.specs.declared.stretch.Stretch.{Stretch}
+use Rattle.sweep.proofs.ExtremeList.{some_sample}
+use Rattle.sweep.proofs.Merit.{merit_is}
+use Rattle.sweep.proofs.Reach.{reaches_either, either_reaches, some_reaches}
+
+-- ---- the higher of two quotients
+
+quotient_grows : (a b m : ℕ) → 0 < m → a ≤ b → a / m ≤ b / m
+quotient_grows a b m some le = let back = div-mul-le_self a m in le-div (a / m) b m some (omega arith)
+
+second : (x y z : ℕ) → z ≡ y → x ≤ y → z ≡ max x y
+second x y z same le = omega arith
+
+first : (x y z : ℕ) → z ≡ x → y ≤ x → z ≡ max x y
+first x y z same le = omega arith
+
+pub higher_quotient : (a b m : ℕ) → 0 < m → max a b / m ≡ max (a / m) (b / m)
+higher_quotient a b m some = ⊎_elim
+    (λ below. let is : max a b ≡ b = omega arith in
+    second (a / m) (b / m) (max a b / m) (ap (λ (n : ℕ). n / m) is) (quotient_grows a b m some (omega arith)))
+    (λ le. let is : max a b ≡ a = omega arith in
+    first (a / m) (b / m) (max a b / m) (ap (λ (n : ℕ). n / m) is) (quotient_grows b a m some le))
+    (cases_lt a b)
+
+-- ---- the higher of the levels of both ways
+
+module _ (widens : (ppb distance : ℕ) → ppb < billion → IsWidening ppb distance (widening ppb distance)) (ppb : ℕ)
+    (slow : IsRate ppb) (extremes : List Extreme) (stretch : Stretch) (all : All IsLawfulExtreme extremes)
+    (s : IsLawfulStretch stretch) (some : 0 < length extremes) where
+  -- an extreme reaches the level
+  abbrev Reached : ℕ → Type 0
+  Reached level = (index : ℕ) × IsAtLeast ppb extremes stretch index level
+
+  least : Reached 0
+  least = some_reaches widens ppb slow extremes stretch all s some
+
+  module _ (early late : ℕ) (forth : IsEarlyLevel ppb extremes stretch early)
+      (back : IsEarlyLevel ppb (map mirrored_extreme extremes) (mirrored_stretch stretch) late) where
+    early_reached : Reached early
+    early_reached = ⊎_elim
+        (λ none. subst Reached (sym none) least)
+        (λ one. (one.0, either_reaches widens ppb slow extremes stretch all s one.0 early (inl one.1)))
+        forth.reached
+
+    late_reached : Reached late
+    late_reached = ⊎_elim
+        (λ none. subst Reached (sym none) least)
+        (λ one. (one.0, either_reaches widens ppb slow extremes stretch all s one.0 late (inr one.1)))
+        back.reached
+
+    pub IsLevelOver-higher : (level : ℕ) → level ≡ max early late → IsLevelOver ppb extremes stretch level
+    IsLevelOver-higher level is =
+        let here : Reached level = ⊎_elim
+        (λ below. let same : late ≡ level = omega arith in subst Reached same late_reached)
+        (λ le. let same : early ≡ level = omega arith in subst Reached same early_reached)
+        (cases_lt early late) in
+        record {
+          index = here.0;
+          reached = here.1;
+          highest = λ other lower reaches. ⊎_elim
+              (λ in_early. let most = forth.highest other lower in_early in omega arith)
+              (λ in_late. let most = back.highest other lower in_late in omega arith)
+              (reaches_either widens ppb slow extremes stretch all s other lower reaches);
+        }
+
+-- ---- the level is the merit of the best sample, counted from the origin
+
+-- in plain numbers: y is the best merit, and x that of the extreme that reaches the level
+level_of_best : (x y : ℤ) (end wide best_end best_wide level : ℕ) → x +ℤ pos (2 ^ 75) ≡ pos end -ℤ pos wide →
+    y +ℤ pos (2 ^ 75) ≡ pos best_end -ℤ pos best_wide → level + wide ≤ end → x ≤ℤ y →
+    (best_wide ≤ best_end → best_end - best_wide ≤ level) → y +ℤ pos (2 ^ 75) ≡ pos level
+level_of_best x y end wide best_end best_wide level a b reached no_more most =
+    let under : best_wide ≤ best_end = omega (arith, ints) in
+    let top = most under in
+    omega (arith, ints)
+
+module _ (side : Side) (samples : List Sample) (server : ℕ) (extremes : List Extreme)
+    (are : AreExtremesOf side samples server extremes) where
+  module _ (p q : ℤ) (ppb : ℕ) (stretch : Stretch) (at : IsStretchOf p q stretch) (s : IsLawfulStretch stretch) where
+    pub level_counted : (level : ℕ) → IsLevelOver ppb extremes stretch level → (number : ℕ) →
+        (best : IsFirstBest (λ t. merit side t p q ppb) samples server number) →
+        merit side best.sample p q ppb +ℤ pos (2 ^ 75) ≡ pos level
+    level_counted level is number best =
+        let extreme : Extreme = is.reached.extreme in
+        let own = are.each is.index extreme is.reached.stands in
+        let came = are.all number best.sample best.stands best.of_server in
+        let other = are.each came.0 came.1 came.2 in
+        let same : other.sample ≡ best.sample =
+        same_Some other.sample best.sample (sym other.stands ∙ ap (slice_get samples) came.3 ∙ best.stands) in
+        let counted : merit side best.sample p q ppb +ℤ pos (2 ^ 75)
+        ≡ pos came.1.end -ℤ pos (widening ppb (distance came.1 stretch)) =
+        subst (λ (t : Sample). merit side t p q ppb +ℤ pos (2 ^ 75)
+        ≡ pos came.1.end -ℤ pos (widening ppb (distance came.1 stretch))) same
+        (merit_is side p q ppb other.sample came.1 stretch other.is other.lawful at s) in
+        level_of_best (merit side own.sample p q ppb) (merit side best.sample p q ppb) extreme.end
+        (widening ppb (distance extreme stretch)) came.1.end (widening ppb (distance came.1 stretch)) level
+        (merit_is side p q ppb own.sample extreme stretch own.is own.lawful at s) counted is.reached.at_least
+        (best.greatest extreme.number own.sample own.stands own.of_server)
+        (λ le. is.highest came.0 (came.1.end - widening ppb (distance came.1 stretch))
+        (record { extreme = came.1; stands = came.2; at_least = omega arith }))
+
+-- ---- the part of a table
+
+-- what the definition gives are the best samples, and it gives none only if there is no sample
+abbrev pub BestLaw : Type 0
+BestLaw = (samples : List Sample) (server : ℕ) (p q : ℤ) (ppb : ℕ) →
+    MatchOption (best_of samples server p q ppb) (HasNoSample samples server)
+    (λ best. IsBestLow samples server p q ppb best.0 × IsBestHigh samples server p q ppb best.1)
+
+from_zero_low : (merit : ℤ) (level : ℕ) (lo : ℤ) → merit +ℤ pos (2 ^ 75) ≡ pos level → lo ≡ pos level -ℤ pos (2 ^ 75) →
+    merit ≡ lo
+from_zero_low merit level lo counted is = omega (arith, ints)
+
+from_zero_high : (high : ℤ) (level : ℕ) (hi : ℤ) → neg_ℤ high +ℤ pos (2 ^ 75) ≡ pos level →
+    hi ≡ neg_ℤ (pos level -ℤ pos (2 ^ 75)) → high ≡ hi
+from_zero_high high level hi counted is = omega (arith, ints)
+
+module _ (law : BestLaw) (samples : List Sample) (server : ℕ) (p q : ℤ) (ppb : ℕ) (stretch : Stretch)
+    (at : IsStretchOf p q stretch) (s : IsLawfulStretch stretch) where
+  module _ (low high : ℕ) (interval : Interval) (lo : interval.lo ≡ pos low -ℤ pos (2 ^ 75))
+      (hi : interval.hi ≡ neg_ℤ (pos high -ℤ pos (2 ^ 75))) where
+    module _ (lows highs : List Extreme) (low_ends : AreExtremesOf Low samples server lows)
+        (high_ends : AreExtremesOf High samples server highs) (some : 0 < length lows)
+        (low_is : IsLevelOver ppb lows stretch low) (high_is : IsLevelOver ppb highs stretch high) where
+      between : (best : ℕ × ℕ) → IsBestLow samples server p q ppb best.0 → IsBestHigh samples server p q ppb best.1 →
+          interval_between (slice_get samples best.0) (slice_get samples best.1) p q ppb ≡ Some interval
+      between best a b =
+          let low_same : moved_low a.sample p q ppb ≡ interval.lo =
+          from_zero_low (moved_low a.sample p q ppb) low interval.lo
+          (level_counted Low samples server lows low_ends p q ppb stretch at s low low_is best.0 a) lo in
+          let high_same : moved_high b.sample p q ppb ≡ interval.hi =
+          from_zero_high (moved_high b.sample p q ppb) high interval.hi
+          (level_counted High samples server highs high_ends p q ppb stretch at s high high_is best.1 b) hi in
+          let make : ℤ → ℤ → Interval = λ x y. record { lo = x; hi = y } in
+          rw (a.stands, b.stands)
+          (ap (λ (x : ℤ). Some (make x (moved_high b.sample p q ppb))) low_same
+          ∙ ap (λ (y : ℤ). Some (make interval.lo y)) high_same)
+
+      chosen : (best : Option (ℕ × ℕ)) → best_of samples server p q ppb ≡ best →
+          MatchOption best (HasNoSample samples server)
+          (λ b. IsBestLow samples server p q ppb b.0 × IsBestHigh samples server p q ppb b.1) →
+          best_interval samples server p q ppb ≡ Some interval
+      chosen None is none = absurd (some_sample Low samples server lows low_ends some none)
+      chosen (Some best) is both = rw is (between best both.0 both.1)
+
+      pub interval_is : best_interval samples server p q ppb ≡ Some interval
+      interval_is = chosen (best_of samples server p q ppb) refl (law samples server p q ppb)
+
+-- the part that the levels give
+pub part_is : (samples : List Sample) (p q : ℤ) (ppb server : ℕ) (part : Part) → part.server ≡ server →
+    best_interval samples server p q ppb ≡ Some part.interval → best_part samples p q ppb server ≡ Some part
+part_is samples p q ppb server part same is =
+    ap (option_map (said_by server)) is ∙ ap (λ (n : ℕ). Some (said_by n part.interval)) (sym same)

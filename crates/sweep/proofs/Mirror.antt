@@ -1,0 +1,82 @@
+-- Extremes and stretches with time running backwards.
+use Rattle.std.proofs.Common.{◌≡◌, ℕ, ◌+◌, ◌-◌, ◌≤◌, ◌^◌, List, length, Option, Some}
+use Rattle.std.proofs.Common.{map, reverse, arith, sym, ◌∙◌, subst}
+use Rattle.std.specs.List.{slice_get, All}
+use Rattle.std.proofs.lemmas.List.{length-map, length-reverse}
+use Rattle.std.proofs.lemmas.List.Elements.{All-map, All-weaker}
+use Rattle.std.proofs.lemmas.List.Sorted.{All-permutation, IsPermutation-reverse}
+use Rattle.sweep.specs.Extreme.{IsLawfulExtreme, mirrored_extreme}
+use Rattle.sweep.specs.Stretch.{IsLawfulStretch, MiddlesRise, mirrored_stretch}
+use Rattle.sweep.specs.Top.{AreEarlyTops, AreLateTops, distance}
+use Rattle.sweep.specs.declared.extreme.Extreme.{Extreme}
+use Rattle.sweep.specs.declared.stretch.Stretch.{Stretch}
+use Rattle.sweep.specs.declared.top.Top.{Top}
+use Rattle.sweep.proofs.List.{map_at, at_map, at_reverse, reverse_at, all_at}
+
+pub lawful-mirrored_extreme : (extreme : Extreme) → IsLawfulExtreme extreme → IsLawfulExtreme (mirrored_extreme extreme)
+lawful-mirrored_extreme extreme is = record {
+  least_end = is.least_end;
+  greatest_end = is.greatest_end;
+  begins = omega (arith, is.ends);
+  in_order = omega (arith, is.in_order);
+  ends = omega (arith, is.begins);
+}
+
+pub lawful-mirrored_stretch : (stretch : Stretch) → IsLawfulStretch stretch → IsLawfulStretch (mirrored_stretch stretch)
+lawful-mirrored_stretch stretch is = record {
+  begins = omega (arith, is.ends);
+  in_order = omega (arith, is.in_order);
+  ends = omega (arith, is.begins);
+}
+
+pub lawful-mirrored_extremes : (extremes : List Extreme) → All IsLawfulExtreme extremes →
+    All IsLawfulExtreme (map mirrored_extreme extremes)
+lawful-mirrored_extremes extremes all =
+    All-map IsLawfulExtreme mirrored_extreme extremes
+    (All-weaker IsLawfulExtreme (λ b. IsLawfulExtreme (mirrored_extreme b)) lawful-mirrored_extreme extremes all)
+
+pub lawful-mirrored_stretches : (stretches : List Stretch) → All IsLawfulStretch stretches →
+    All IsLawfulStretch (reverse (map mirrored_stretch stretches))
+lawful-mirrored_stretches stretches all =
+    All-permutation IsLawfulStretch (map mirrored_stretch stretches) (reverse (map mirrored_stretch stretches))
+    (IsPermutation-reverse (map mirrored_stretch stretches))
+    (All-map IsLawfulStretch mirrored_stretch stretches
+    (All-weaker IsLawfulStretch (λ s. IsLawfulStretch (mirrored_stretch s)) lawful-mirrored_stretch stretches all))
+
+middles_turn : (a b : Stretch) → IsLawfulStretch a → IsLawfulStretch b → b.begin + b.end ≤ a.begin + a.end →
+    (2 ^ 76 - a.end) + (2 ^ 76 - a.begin) ≤ (2 ^ 76 - b.end) + (2 ^ 76 - b.begin)
+middles_turn a b is_a is_b le = omega (arith, is_a.ends, is_a.in_order, is_b.ends, is_b.in_order)
+
+pub MiddlesRise-mirrored : (stretches : List Stretch) → All IsLawfulStretch stretches → MiddlesRise stretches →
+    MiddlesRise (reverse (map mirrored_stretch stretches))
+MiddlesRise-mirrored stretches all rise i j a b le at_a at_b =
+    let back_a = at_reverse (map mirrored_stretch stretches) i a at_a in
+    let back_b = at_reverse (map mirrored_stretch stretches) j b at_b in
+    let from_a = at_map mirrored_stretch stretches _ a back_a.1 in
+    let from_b = at_map mirrored_stretch stretches _ b back_b.1 in
+    let less = rise _ _ from_b.0 from_a.0 (omega arith) from_b.1 from_a.1 in
+    let turned = middles_turn from_a.0 from_b.0 (all_at IsLawfulStretch stretches _ from_a.0 all from_a.1)
+    (all_at IsLawfulStretch stretches _ from_b.0 all from_b.1) less in
+    subst (λ (x : Stretch). a.begin + a.end ≤ x.begin + x.end) (sym from_b.2)
+    (subst (λ (x : Stretch). x.begin + x.end ≤ (mirrored_stretch from_b.0).begin + (mirrored_stretch from_b.0).end)
+    (sym from_a.2) turned)
+
+pub AreLateTops-mirrored : (ppb : ℕ) (extremes : List Extreme) (stretches : List Stretch) (tops : List (Option Top)) →
+    AreEarlyTops ppb (map mirrored_extreme extremes) (reverse (map mirrored_stretch stretches)) tops →
+    AreLateTops ppb extremes stretches tops
+AreLateTops-mirrored ppb extremes stretches tops early = record {
+  as_many = early.as_many ∙ length-reverse (map mirrored_stretch stretches) ∙ length-map stretches mirrored_stretch;
+  each = λ k stretch top at there.
+      early.each (length stretches - 1 - k) (mirrored_stretch stretch) top
+      (subst (λ (n : ℕ). slice_get (reverse (map mirrored_stretch stretches)) (n - 1 - k)
+      ≡ Some (mirrored_stretch stretch))
+      (length-map stretches mirrored_stretch)
+      (reverse_at (map mirrored_stretch stretches) k (mirrored_stretch stretch)
+      (map_at mirrored_stretch stretches k stretch at)))
+      there;
+}
+
+-- the distance is the same
+pub distance-mirrored : (extreme : Extreme) (stretch : Stretch) → IsLawfulExtreme extreme → IsLawfulStretch stretch →
+    distance (mirrored_extreme extreme) (mirrored_stretch stretch) ≡ distance extreme stretch
+distance-mirrored extreme stretch b s = omega (arith, b.begins, b.in_order, b.ends, s.begins, s.in_order, s.ends)

@@ -1,0 +1,63 @@
+-- The best samples of each piece.
+use Rattle.std.proofs.Common.{◌≡◌, ℕ, ℤ, List, Some, arith, get_or}
+use Rattle.std.proofs.Common.{subst, sym, ◌∙◌}
+use Rattle.std.proofs.lemmas.Option.{slice_get-get_or, slice_get_within}
+use Rattle.sample_interval.specs.declared.kinds.Sample.{Sample}
+use Rattle.span_cover.specs.Best.{IsBestLow, IsBestHigh, best_of}
+use Rattle.sweep.specs.Extreme.{AreExtremesOf}
+use Rattle.sweep.specs.Pieces.{AreBestOfPieces, ArePairsOf}
+use Rattle.sweep.specs.Stretch.{AreStretchesOf, IsLawfulStretch}
+use Rattle.sweep.specs.Top.{AreTopNumbers}
+use Rattle.sweep.specs.declared.extreme.Extreme.{Extreme}
+use Rattle.intersection.specs.declared.ends.Side.TheVariants.{Low, High}
+use Rattle.sweep.specs.declared.stretch.Stretch.{Stretch}
+use Rattle.sweep.proofs.List.{all_at}
+use Rattle.sweep.proofs.Merit.{IsFirstBest-top}
+
+-- whoever has the first best for both ends has the best samples: a law of the crate below
+abbrev pub BestLaw : Type 0
+BestLaw = (samples : List Sample) (server : ℕ) (p q : ℤ) (ppb low high : ℕ) →
+    IsBestLow samples server p q ppb low → IsBestHigh samples server p q ppb high →
+    best_of samples server p q ppb ≡ Some (low, high)
+
+module _ (law : BestLaw) (samples : List Sample) (server : ℕ) (first : ℤ) (ends : List ℤ) (ppb : ℕ)
+    (lows highs : List Extreme) (are_low : AreExtremesOf Low samples server lows)
+    (are_high : AreExtremesOf High samples server highs) (stretches : List Stretch)
+    (are_stretches : AreStretchesOf first ends stretches) where
+  pub AreBestOfPieces-tops : (low_numbers high_numbers : List ℕ) (chosen : List (ℕ × ℕ)) →
+      AreTopNumbers ppb lows stretches low_numbers → AreTopNumbers ppb highs stretches high_numbers →
+      ArePairsOf low_numbers high_numbers chosen → AreBestOfPieces samples server first ends ppb chosen
+  AreBestOfPieces-tops low_numbers high_numbers chosen low_tops high_tops pairs = record {
+    as_many = pairs.as_many ∙ low_tops.as_many ∙ are_stretches.as_many;
+    best = λ k p q at.
+        let within = slice_get_within ends k q at.ends_at in
+        let default : Stretch = record { begin = 0; end = 0 } in
+        let stretch : Stretch = get_or stretches k default in
+        let here = slice_get-get_or stretches k default (omega (arith, are_stretches.as_many)) in
+        let is_stretch = are_stretches.each k p q stretch at here in
+        let lawful = all_at IsLawfulStretch stretches k stretch are_stretches.lawful here in
+        let low : ℕ = get_or low_numbers k 0 in
+        let low_at = slice_get-get_or low_numbers k 0 (omega (arith, are_stretches.as_many, low_tops.as_many)) in
+        let high : ℕ = get_or high_numbers k 0 in
+        let high_at = slice_get-get_or high_numbers k 0 (omega (arith, are_stretches.as_many, high_tops.as_many)) in
+        pairs.each k low high low_at high_at
+        ∙ sym (law samples server p q ppb low high
+        (IsFirstBest-top Low samples server lows are_low p q ppb stretch is_stretch lawful low
+        (low_tops.each k stretch low here low_at))
+        (IsFirstBest-top High samples server highs are_high p q ppb stretch is_stretch lawful high
+        (high_tops.each k stretch high here high_at)));
+  }
+
+-- the same of lists that were lent
+pub AreTopNumbers-lent : (ppb : ℕ) (lent extremes : List Extreme) (lent_stretches stretches : List Stretch)
+    (numbers : List ℕ) →
+    lent ≡ extremes → lent_stretches ≡ stretches → AreTopNumbers ppb lent lent_stretches numbers →
+    AreTopNumbers ppb extremes stretches numbers
+AreTopNumbers-lent ppb lent extremes lent_stretches stretches numbers a b is =
+    subst (λ (s : List Stretch). AreTopNumbers ppb extremes s numbers) b
+    (subst (λ (x : List Extreme). AreTopNumbers ppb x lent_stretches numbers) a is)
+
+pub ArePairsOf-lent : (lent_lows lows lent_highs highs : List ℕ) (pairs : List (ℕ × ℕ)) → lent_lows ≡ lows →
+    lent_highs ≡ highs → ArePairsOf lent_lows lent_highs pairs → ArePairsOf lows highs pairs
+ArePairsOf-lent lent_lows lows lent_highs highs pairs a b is =
+    subst (λ (h : List ℕ). ArePairsOf lows h pairs) b (subst (λ (l : List ℕ). ArePairsOf l lent_highs pairs) a is)
