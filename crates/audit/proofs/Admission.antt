@@ -27,10 +27,10 @@ use Rattle.span_cover.specs.declared.part.Part.{Part}
 use Rattle.span_cover.specs.declared.stretch.Stretch.{Stretch}
 use Rattle.checker.specs.Acceptance.{IsSaidBy, ShowBound}
 use Rattle.checker.specs.Traceability.{samples_of}
-use Rattle.checker.proofs.ApartLemmas.{passes, group_passes, counted, meet_leaves_it_out}
-use Rattle.checker.proofs.EntryLemmas.{held_ends, held_test}
-use Rattle.checker.proofs.PartLemmas.{by_test}
-use Rattle.checker.proofs.PieceFitLemmas.{all_numbers}
+use Rattle.checker.proofs.Separation.{passes, group_passes, counted, meet_leaves_it_out}
+use Rattle.checker.proofs.EntryStep.{held_ends, held_test}
+use Rattle.checker.proofs.Part.{by_test}
+use Rattle.checker.proofs.PieceFit.{all_numbers}
 use Rattle.audit.specs.Headline.{MayChangeBy, Admit}
 
 -- ---- lists

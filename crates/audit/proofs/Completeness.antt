@@ -20,9 +20,9 @@ use Rattle.pairing.specs.Pairing.{requests_of, replies_of, answers, exchange_of,
 use Rattle.audit.specs.Captured.{CapturedFrame, frame_of}
 use Rattle.audit.specs.Held.{HoldsPacket, packet_with}
 use Rattle.audit.specs.Exchanged.{HoldsRequest, IsWindowOf, IsExchangeIn, SameExchange, IsAmong}
-use Rattle.audit.proofs.CapturedLemmas.{SaidBy, frame_at, said_by}
-use Rattle.audit.proofs.ExchangedLemmas.{Laws, AreInPlace, request_at, gives_request, three_pass, distance_is, moved, window_at}
-use Rattle.audit.proofs.UniquenessLemmas.{floor_same, ceiling_same}
+use Rattle.audit.proofs.RecordFrames.{SaidBy, frame_at, said_by}
+use Rattle.audit.proofs.ExchangeRecords.{Laws, AreInPlace, request_at, gives_request, three_pass, distance_is, moved, window_at}
+use Rattle.audit.proofs.Uniqueness.{floor_same, ceiling_same}
 
 -- ---- lists
 

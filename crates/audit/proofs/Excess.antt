@@ -25,8 +25,8 @@ use Rattle.audit.specs.Claimed.{IsClaimText}
 use Rattle.audit.specs.Contested.{HasCourseBeyond, IsBeyond, IsBeyondNanoseconds}
 use Rattle.audit.specs.Evidence.{EvidenceData}
 use Rattle.audit.specs.Refute.{IsContestedOf}
-use Rattle.audit.proofs.CapturedLemmas.{captured, each_record}
-use Rattle.audit.proofs.ExchangedLemmas.{in_place}
+use Rattle.audit.proofs.RecordFrames.{captured, each_record}
+use Rattle.audit.proofs.ExchangeRecords.{in_place}
 
 -- ---- sizes
 

@@ -8,8 +8,7 @@ use Rattle.report.specs.ClaimInput.{claim_read}
 use Rattle.report.specs.declared.fault.Outcome.{Outcome}
 use Rattle.report.specs.declared.fault.RunFault.{RunFault}
 use Rattle.report.specs.declared.fault.RunFault.TheVariants.{Pieces, Memory}
-use Rattle.report.specs.declared.publication.Made.{Made}
-use Rattle.report.specs.Publication.{IsMadeFor}
+use Rattle.report.specs.Publication.{IsMadeFor, Ready}
 use Rattle.report.specs.Reading.{Reads}
 use Rattle.report.specs.Reports.{Report, refused}
 use Rattle.report.specs.Run.{RunState}
@@ -59,14 +58,14 @@ run_report asked finding before =
 
 -- What was made of a task and evidence is the report on a finding, which shows what it says.
 pub record IsMadeOf (style : Style) (task : TaskData) (e : EvidenceData)
-    (made : Result Made RunFault) : Type 0 where
+    (made : Result Ready RunFault) : Type 0 where
   pub finding : Finding
   pub found : IsFindingFor task e finding
   pub is_made : IsMadeFor (report_on style finding task e) made
 
 -- The same of a claim that was read, or refused, and the bytes of the other inputs.
 pub record IsMadeAfter (asked : AskedData) (claim : Result Claim RunFault)
-    (second capture : Option (List ℕ)) (made : Result Made RunFault) : Type 0 where
+    (second capture : Option (List ℕ)) (made : Result Ready RunFault) : Type 0 where
   pub finding : Finding
   pub found : MatchResult claim
       (λ c. IfSome capture (IsFindingAfter asked.question finding (claim_data c)))

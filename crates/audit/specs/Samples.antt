@@ -1,10 +1,16 @@
 -- The report of `samples`: a line for each sample of the capture, and the counts.
 use Rattle.report.specs.declared.fault.Outcome.TheVariants.{Yes}
+use Rattle.report.specs.Publication.{Ready}
 use Rattle.report.specs.Reports.{Report, whole_text}
 use Rattle.line_writer.specs.declared.field.Style.{Style}
+use Rattle.line_writer.specs.declared.field.Style.TheVariants.{Plain}
 use Rattle.audit_text.specs.Samples.{samples_text}
 use Rattle.audit.specs.Evidence.{EvidenceData}
 
 -- the report of `samples` on a claim and the exchanges of a capture
 abbrev pub samples_report : Style → EvidenceData → Report
 samples_report style e = whole_text (samples_text style e.claim e.collection) Yes
+
+-- the same for a program, as it is ready to go out
+abbrev pub samples_ready : EvidenceData → Ready
+samples_ready e = record { text = samples_text Plain e.claim e.collection; outcome = Yes }

@@ -1,9 +1,9 @@
 //! One engine for every question on a claim and a capture.
 //!
 //! The inputs are read in the order claim, second input, capture, and what stands after a refusal
-//! isn't read. Of what they say the whole text is made, and only then is it written. The contract
-//! of each function here is one promise, `RunsFor`: the text and the answer are those that the
-//! bytes of the inputs call for; with it stands what an outcome shows.
+//! isn't read. Once all are read, and all memory is taken, the text is written. The contract of
+//! each function here is one promise, `RunsFor`: the text and the answer are those that the bytes
+//! of the inputs call for; with it stands what an outcome shows.
 
 ghost use Rattle.std.specs.Prelude.{◌≡◌, ◌⊎◌, Ok, Err, IfOk, IfErr};
 ghost use Rattle.byte_stream.specs.Fault.{CountsFault};
@@ -25,6 +25,7 @@ ghost use Rattle.audit.specs.Run.{AnswersFor, MayRun, RunsFor, ShowsAt};
 
 use crate::capture_input::read_capture_from;
 use crate::evidence::Evidence;
+use crate::finished::{Finished, publish_finished};
 use crate::laws::{
     bounds_of_bytes_hold_in_nanoseconds, course_beyond_the_bound_contests_the_claim,
     yes_shows_the_headline,
@@ -32,7 +33,7 @@ use crate::laws::{
 use crate::question::{Asked, make, read_task};
 use byte_stream::{Feed, Sink};
 use claim_file::Claim;
-use report::{Made, Outcome, RunFault, publish, read_claim_from, tell};
+use report::{Outcome, RunFault, read_claim_from, tell};
 use std::alloc::Global;
 use std::hash::BuildHasher;
 
@@ -45,8 +46,8 @@ pub struct Outputs<S, E> {
     pub err: E,
 }
 
-/// Reads the second input and the capture for a claim that was read, or refused, and makes the
-/// whole text. The capture's feed is handed back beside it.
+/// Reads the second input and the capture for a claim that was read, or refused, and makes what
+/// goes out. The capture's feed is handed back beside it.
 fn make_report<T: Feed, F: Feed, H: BuildHasher + Drop>(
     alloc: Global,
     asked: Asked,
@@ -54,7 +55,7 @@ fn make_report<T: Feed, F: Feed, H: BuildHasher + Drop>(
     second: &mut T,
     capture: F,
     hasher: H,
-) -> (F, Result<Made, RunFault>)
+) -> (F, Result<Finished, RunFault>)
     requires lawful { IfOk claim (λ c. IsLawful (claim_data c)) }
     requires claim_fault { IfErr claim IsOfClaim }
     requires second { IsReadable (T.state second.old) }
@@ -98,7 +99,7 @@ fn make_report<T: Feed, F: Feed, H: BuildHasher + Drop>(
     match collected {
         Ok(held) => {
             let evidence = Evidence { claim, held };
-            (capture, make(alloc, asked.style, &task, &evidence))
+            (capture, make(alloc, asked.style, &task, evidence))
         }
         Err(fault) => (capture, Err(fault)),
     }
@@ -109,10 +110,10 @@ fn make_report<T: Feed, F: Feed, H: BuildHasher + Drop>(
 /// a second input takes nothing of `second`.
 ///
 /// The claim is read first, then the second input, then the capture; what stands later isn't read
-/// after a refusal. Nothing is written before all of it is made. `Device` comes if a feed failed,
-/// and `Write(n)` if the sink failed after exactly n bytes of the text. The hash of the index of
-/// requests is keyed by two numbers of `hasher`: callers that don't trust the capture's writer
-/// should pass one with a random key.
+/// after a refusal. Nothing is written while more memory may be wanted. `Device` comes if a feed
+/// failed, and `Write(n)` if the sink failed after exactly n bytes of the text. The hash of the
+/// index of requests is keyed by two numbers of `hasher`: callers that don't trust the capture's
+/// writer should pass one with a random key.
 pub fn run<C: Feed, T: Feed, F: Feed, S: Sink, H: BuildHasher + Drop>(
     alloc: Global,
     asked: Asked,
@@ -137,7 +138,7 @@ pub fn run<C: Feed, T: Feed, F: Feed, S: Sink, H: BuildHasher + Drop>(
     bounds_of_bytes_hold_in_nanoseconds();
     yes_shows_the_headline();
     course_beyond_the_bound_contests_the_claim();
-    let answer = publish(out, &made);
+    let answer = publish_finished(out, made);
     (capture, answer)
 }
 

@@ -1,23 +1,27 @@
 //! What a capture shows of a claim: one engine for every question.
 //!
 //! [`run`] reads the claim, then the question's second input if it has one, and then the capture,
-//! makes its whole text, and writes it; [`answer`] does the same and reports the answer by an exit
-//! status. What is asked stands in `question`, a small module for each command, and beside it the
-//! style of the text, for a program or for a person; how a text is shown is said by audit_text.
-//! `specs/Run` says what a run needs and promises, `specs/Report` what it writes, and
-//! `specs/Question` what an outcome means. [`run_samples`], [`run_at`], [`run_check`],
-//! [`run_settle`], [`run_find`], [`run_refute`], [`run_seek`] and [`run_envelope`] are the engines
-//! of the commands, for a program, with a hasher of a fixed key.
+//! and writes its text, which is made whole before or, if it's the samples for a program, line by
+//! line as it goes out; [`answer`] does the same and reports the answer by an exit status. What is
+//! asked stands in `question`, a small module for each command, and beside it the style of the
+//! text, for a program or for a person; how a text is shown is said by audit_text. `specs/Run` says
+//! what a run needs and promises, `specs/Report` what it writes, and `specs/Question` what an
+//! outcome means. [`run_samples`], [`run_at`], [`run_check`], [`run_settle`], [`run_find`],
+//! [`run_refute`], [`run_seek`] and [`run_envelope`] are the engines of the commands, for a
+//! program, with a hasher of a fixed key.
+
 #![tactic(auto)]
 
 mod capture_input;
 mod commands;
 mod engine;
 mod evidence;
+mod finished;
 pub mod laws;
 mod least_line;
 mod question;
 mod sample_list;
+mod sample_output;
 mod step;
 
 pub use commands::{

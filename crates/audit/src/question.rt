@@ -26,6 +26,7 @@ mod seek;
 mod settle;
 
 use crate::evidence::Evidence;
+use crate::finished::{Finished, whole};
 use crate::question::at::make_at;
 use crate::question::check::make_check;
 use crate::question::envelope::make_envelope;
@@ -38,7 +39,7 @@ use crate::step::Step;
 use byte_stream::Feed;
 use certificate::{Certificate, Refutation};
 use line_writer::Style;
-use report::{Made, RunFault, read_certificate_from, read_refutation_from};
+use report::{RunFault, read_certificate_from, read_refutation_from};
 use std::alloc::Global;
 
 /// What is asked of a claim and a capture.
@@ -161,33 +162,35 @@ pub(crate) fn read_task<T: Feed>(
     }
 }
 
-/// Makes the whole text in this style and the outcome of a task, of a claim and the exchanges of a
-/// capture.
+/// Makes what goes out in this style for a task, a text and an outcome, of a claim and the
+/// exchanges of a capture.
 pub(crate) fn make(
     alloc: Global,
     style: Style,
     task: &Task,
-    evidence: &Evidence,
-) -> Result<Made, RunFault>
+    evidence: Evidence,
+) -> Result<Finished, RunFault>
     requires task { IsLawfulTask task.now }
-    requires evidence { IsLawfulEvidence evidence.now }
-    ensures made { IsMadeOf style (task_data task.now) (evidence_data evidence.now) result }
+    requires evidence { IsLawfulEvidence evidence }
+    ensures made { IsMadeOf style (task_data task.now) (evidence_data evidence) result }
     ensures fault { IfErr result IsOfMaking }
     ensures shows { IfOk result (λ made.
-        ShowsOf (task_data task.now) (evidence_data evidence.now) made.outcome) }
+        ShowsOf (task_data task.now) (evidence_data evidence) made.outcome) }
 {
     match task {
         Task::Samples => make_samples(alloc, style, evidence),
-        Task::At(second) => make_at(alloc, style, *second, evidence),
-        Task::Find(step) => make_find(alloc, style, *step, evidence),
-        Task::Check(certificate) => make_check(alloc, style, certificate, evidence),
-        Task::Refute { drift, refutation } => make_refute(alloc, *drift, refutation, evidence),
+        Task::At(second) => whole(make_at(alloc, style, *second, &evidence)),
+        Task::Find(step) => whole(make_find(alloc, style, *step, &evidence)),
+        Task::Check(certificate) => whole(make_check(alloc, style, certificate, &evidence)),
+        Task::Refute { drift, refutation } => {
+            whole(make_refute(alloc, *drift, refutation, &evidence))
+        }
         Task::Envelope {
             step,
             servers,
             least,
-        } => make_envelope(alloc, style, *step, *servers, *least, evidence),
-        Task::Seek => make_seek(alloc, evidence),
-        Task::Settle => make_settle(alloc, style, evidence),
+        } => whole(make_envelope(alloc, style, *step, *servers, *least, &evidence)),
+        Task::Seek => whole(make_seek(alloc, &evidence)),
+        Task::Settle => whole(make_settle(alloc, style, &evidence)),
     }
 }

@@ -1,4 +1,5 @@
-pub mod SampleLemmas
-pub mod ShownLemmas
-pub mod EnvelopeLemmas
-pub mod ListedLemmas
+pub mod PlainLines
+pub mod Sample
+pub mod Shown
+pub mod PieceLines
+pub mod Lines

@@ -1,3 +1,4 @@
+pub mod Line
 pub mod Second
 pub mod Heading
 pub mod SampleLine

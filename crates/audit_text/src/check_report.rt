@@ -183,7 +183,7 @@ pub fn check_text(
     let mut text = Vec::new(alloc);
     add_client(&mut text, style, claim, findings.groups)?;
     add_span(&mut text, style, claim)?;
-    add_counts(&mut text, style, held)?;
+    add_counts(&mut text, held)?;
     add_sources_advice(&mut text, style, findings.sources)?;
     add_reference_advice(&mut text, style, findings.reference)?;
     add_pieces(&mut text, style, findings.pieces)?;

@@ -6,6 +6,10 @@
 //! and the least bound that holds, and [`refuted_text`] whether a refutation is accepted. Each
 //! makes a whole text, of lines that end with a line feed, or is out of memory; what the lines say
 //! was calculated before. The line of each notion stands in `specs/` under its name.
+//!
+//! [`write_sample_line`] and [`write_counts_line`] write the lines of `samples` for a program one
+//! by one, in one place and with no memory.
+
 #![tactic(auto)]
 
 mod check_report;
@@ -24,10 +28,12 @@ mod second;
 mod settlement;
 
 pub use check_report::{Findings, check_text};
+pub use counts_line::write_counts_line;
 pub use envelope::envelope_text;
 pub use least_line::LeastLine;
 pub use nothing::nothing_text;
 pub use parts::parts_text;
 pub use refutation::{no_refutation_text, refuted_text};
+pub use sample_line::write_sample_line;
 pub use samples::samples_text;
 pub use settlement::{conflicts_text, open_text};

@@ -1,12 +1,16 @@
 //! The line of `samples` for one sample.
 
-ghost use Rattle.std.specs.Prelude.{◌≡◌, ◌<◌, ◌++◌, IfOk, length};
+ghost use Rattle.std.specs.Prelude.{◌≡◌, ◌+◌, ◌<◌, ◌≤◌, [], ◌∷◌, ◌++◌, IfOk, codes, length};
 ghost use Rattle.claim_file.specs.Claim.{IsLawful, data_of};
+ghost use Rattle.line_writer.specs.Field.{Address, High, Label, Low, Number, rest_text};
+ghost use Rattle.line_writer.specs.declared.field.Style.TheVariants.{Plain};
+ghost use Rattle.line_writer.specs.declared.line.TheConstants.{CAPACITY};
 ghost use Rattle.sample_interval.specs.Exchange.{IsOfSomeClaim};
+ghost use Rattle.audit_text.specs.Line.{most_line};
 ghost use Rattle.audit_text.specs.SampleLine.{sample_line, server_of};
 
 use claim_file::Claim;
-use line_writer::{Field, Style, add_line};
+use line_writer::{Field, Line, Style, add_line};
 use pairing::Exchange;
 use sample_interval::{delay, offset, sample};
 use std::alloc::AllocError;
@@ -17,6 +21,71 @@ pub(crate) fn server_of(claim: &Claim, number: u8) -> [u8; 4]
     ensures { result ≡ server_of (data_of claim.now) number }
 {
     claim.servers[usize::from(number)]
+}
+
+/// Writes which sample it is but for its number: its server, and its request and its reply.
+#[inline]
+fn put_records(line: &mut Line, server: [u8; 4], request: u32, reply: u32)
+    requires { length line.old + 38 ≤ CAPACITY }
+    ensures text { line.new ≡ rest_text Plain
+        (Address server ∷ Number request ∷ Number reply ∷ []) ++ line.old }
+    ensures at_most { length line.new ≤ length line.old + 38 }
+{
+    line.put_number(reply);
+    line.put_byte(b' ');
+    line.put_number(request);
+    line.put_byte(b' ');
+    line.put_address(&server);
+    line.put_byte(b' ');
+}
+
+/// Writes a word and the ends of an interval of ticks.
+#[inline]
+fn put_interval(line: &mut Line, word: &str, ends: (i128, i128))
+    requires { length line.old + length word.now + 83 ≤ CAPACITY }
+    ensures text { line.new ≡ rest_text Plain
+        (Label word.now ∷ Low ends.0 ∷ High ends.1 ∷ []) ++ line.old }
+    ensures at_most { length line.new ≤ length line.old + length word.now + 83 }
+{
+    line.put_number(ends.1);
+    line.put_byte(b' ');
+    line.put_number(ends.0);
+    line.put_byte(b' ');
+    line.put_text(word);
+    line.put_byte(b' ');
+}
+
+/// Writes the least and the greatest error, in ticks.
+#[inline]
+fn put_errors(line: &mut Line, least: i128, greatest: i128)
+    requires { length line.old + 91 ≤ CAPACITY }
+    ensures text { line.new ≡ rest_text Plain (Label (codes "low") ∷ Low least ∷
+        Label (codes "high") ∷ High greatest ∷ []) ++ line.old }
+    ensures at_most { length line.new ≤ length line.old + 91 }
+{
+    line.put_number(greatest);
+    line.put_text(" high ");
+    line.put_number(least);
+    line.put_text(" low ");
+}
+
+/// Writes the line of a sample, for a program, in place of what `line` held: at most 400 bytes.
+#[tactic(auto, unfolding(crate::specs::SampleLine::sample_line))]
+pub fn write_sample_line(line: &mut Line, claim: &Claim, number: u32, x: &Exchange)
+    requires lawful { IsLawful (data_of claim.now) }
+    requires exchange { IsOfSomeClaim x.now }
+    requires listed { x.now.server < length claim.now.servers.items }
+    ensures text { line.new ≡ sample_line Plain (data_of claim.now) number x.now }
+    ensures at_most { length line.new ≤ most_line }
+{
+    let error = sample(x, claim.reading);
+    line.clear();
+    line.put_byte(b'\n');
+    put_errors(line, error.low, error.high);
+    put_interval(line, "delay", delay(x, claim.reading));
+    put_interval(line, "offset", offset(x, claim.reading));
+    put_records(line, server_of(claim, x.server), x.request, x.reply);
+    line.put_number(number);
 }
 
 /// Adds the line of a sample.

@@ -51,6 +51,6 @@ pub fn samples_text(
     let mut text = Vec::new(alloc);
     add_sample_heading(&mut text, style)?;
     add_samples(&mut text, rows(style), claim, &held.exchanges)?;
-    add_counts(&mut text, style, held)?;
+    add_counts(&mut text, held)?;
     Ok(text)
 }

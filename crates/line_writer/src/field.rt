@@ -45,7 +45,7 @@ pub enum Field<'a> {
     Address([u8; 4]),
     /// A reference identifier.
     Reference([u8; 4]),
-    /// No field: not even a blank stands for it.
+    /// No field: not even a space stands for it.
     Nothing,
 }
 
@@ -165,7 +165,7 @@ fn width_of(field: &Field<'_>) -> usize
     }
 }
 
-/// Writes blanks before what stands in `line`.
+/// Writes spaces before what stands in `line`.
 #[tactic(auto, using(crate::proofs::Columns::one_more))]
 fn put_blanks(line: &mut Line, count: usize)
     requires { length line.old + count ≤ CAPACITY }
@@ -213,7 +213,7 @@ fn is_absent(style: Style, field: &Field<'_>) -> bool
     }
 }
 
-/// Writes the text of a field and a blank before it, if it stands there.
+/// Writes the text of a field and a space before it, if it stands there.
 fn put_next(line: &mut Line, style: Style, field: &Field<'_>)
     requires { length line.old + most_of (field_data field.now) ≤ CAPACITY }
     ensures text { line.new ≡ next_text style (field_data field.now) ++ line.old }
@@ -237,7 +237,7 @@ fn put_rest(line: &mut Line, style: Style, fields: &[Field<'_>])
     }
 }
 
-/// Writes fields, joined by blanks, before what stands in `line`. It takes no memory.
+/// Writes fields, joined by spaces, before what stands in `line`. It takes no memory.
 pub fn put_fields(line: &mut Line, style: Style, fields: &[Field<'_>])
     requires { length line.old + room_of (map field_data fields.now) ≤ CAPACITY }
     ensures { line.new ≡ fields_text style (map field_data fields.now) ++ line.old }
@@ -288,7 +288,7 @@ fn add_field(
     }
 }
 
-/// Adds a blank and the text of a field, if it stands there.
+/// Adds a space and the text of a field, if it stands there.
 fn add_next(
     text: &mut Vec<u8>,
     line: &mut Line,
@@ -356,7 +356,7 @@ fn add_rest(
     Ok(())
 }
 
-/// Adds a line: fields, joined by blanks, and a line feed.
+/// Adds a line: fields, joined by spaces, and a line feed.
 pub fn add_line(text: &mut Vec<u8>, style: Style, fields: &[Field<'_>]) -> Result<(), AllocError>
     ensures { IfOk result (λ _. text.new.items ≡
         text.old.items ++ line_of style (map field_data fields.now)) }

@@ -3,6 +3,7 @@
 //! What is written last stands first, so the first piece to write is the line feed. A piece of text
 //! is written once, in the place where it stays, which can't fail and takes no memory. The whole
 //! line is then one slice to copy.
+
 #![tactic(auto)]
 
 mod date;

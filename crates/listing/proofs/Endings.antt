@@ -21,7 +21,7 @@ use Rattle.report.specs.Reports.{Report, GetsText}
 use Rattle.listing.specs.Listing.{lines_of, closing_line, listing}
 use Rattle.listing.specs.Progress.{HasGiven, HasPassed, IsUnderWay, HasListed, Lists, progress, most_line}
 use Rattle.listing.proofs.Devices.{closed_counts}
-use Rattle.listing.proofs.ProgressLemmas.{at_some, lines-listing, cut_in_lines, listing-whole, listing-broken}
+use Rattle.listing.proofs.Progress.{at_some, lines-listing, cut_in_lines, listing-whole, listing-broken}
 use Rattle.listing.proofs.UnderWay.{ready_after}
 
 -- lines that were put are the first of the report's

@@ -1,6 +1,6 @@
 pub mod Endings
 pub mod Devices
-pub mod ProgressLemmas
+pub mod Progress
 pub mod TwentyFields
 pub mod UnderWay
 pub mod Refusal

@@ -7,7 +7,7 @@ use Rattle.byte_stream.specs.State.{SinkState}
 use Rattle.report.specs.Output.{OutputState, HasPut, IsReady, Puts, fresh_output, put_count}
 use Rattle.listing.specs.PacketLine.{line_of}
 use Rattle.listing.specs.Progress.{HasPassed, IsUnderWay, PutsLine, progress, most_line, texts_of}
-use Rattle.listing.proofs.ProgressLemmas.{passed_start, passed_more}
+use Rattle.listing.proofs.Progress.{passed_start, passed_more}
 
 -- an output that has just taken texts may take more
 pub ready_after : {o o' : OutputState} {added : List (List ℕ)} → IsReady o → Puts o o' added (Ok tt) →

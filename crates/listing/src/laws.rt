@@ -42,7 +42,7 @@ pub fn broken_capture_is_listed()
     fault_is_the_first();
 }
 
-/// A line is twenty fields with one blank between them, and a line feed.
+/// A line is twenty fields with one space between them, and a line feed.
 pub fn line_has_twenty_fields()
     ensures { (head : RecordHead) (packet : Packet) →
         packet_line head packet ≡ join_with_byte 32 (packet_fields head packet) ++ codes "\n" }

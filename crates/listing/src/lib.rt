@@ -4,6 +4,7 @@
 //! `run_list` lists what a feed gives, `list_from` what is to come of any source of records. Both
 //! promise what every engine does, `Reports` of the crate `report`, for the text that
 //! `specs/Listing` says. `answer_list` is the whole command, up to its exit status.
+
 #![tactic(auto)]
 
 mod command;

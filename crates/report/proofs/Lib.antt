@@ -1,7 +1,8 @@
 pub mod Known
-pub mod OutputLemmas
-pub mod ClosingLemmas
-pub mod FaultTextLemmas
-pub mod InputLemmas
-pub mod ReadingLemmas
-pub mod RefusalLemmas
+pub mod OutputSteps
+pub mod Closing
+pub mod PartedText
+pub mod FaultText
+pub mod InputIntake
+pub mod Reading
+pub mod LinelessRefusal

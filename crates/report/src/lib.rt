@@ -5,6 +5,7 @@
 //! devices have failed, and `specs/Runs` what is left of its inputs. An `Output` is the way of a
 //! text to a sink; ended by `close` it keeps that promise, and so does `publish` for a text that is
 //! made whole before.
+
 #![tactic(auto)]
 
 mod certificate_input;

@@ -45,8 +45,8 @@ impl<'a, S: Sink> Output<'a, S> {
     ghost use Rattle.report.specs.Closing.{CanClose, Closes, IsRefusal};
     ghost use Rattle.report.specs.State.{output_state, sink_name};
 
-    /// An output over this sink that has got nothing, and gathers in this buffer, in place of what
-    /// it held.
+    /// An output over this sink, with nothing put yet. It gathers in this buffer, in place of what
+    /// the buffer held.
     pub fn new(sink: &'a mut S, buffer: &'a mut Vec<u8>) -> Output<'a, S>
         requires { OUTPUT_CAPACITY ≤ vec_capacity buffer.old }
         ensures same_sink { sink_name result ≡ sink.entry.ghost_name }

@@ -6,6 +6,7 @@ ghost use Rattle.report.specs.Publication.{IsUnwritten, Publishes};
 use crate::delivery::deliver;
 use crate::fault::{Outcome, RunFault};
 use byte_stream::Sink;
+use std::marker::Model;
 
 /// The whole text of a run, and its outcome.
 #[derive(Debug, Drop)]
@@ -14,6 +15,15 @@ pub struct Made {
     pub text: Vec<u8>,
     /// The outcome.
     pub outcome: Outcome,
+}
+
+// Clauses see the text as its bytes.
+impl Model for Made {
+    ghost use Rattle.report.specs.Publication.{Ready};
+
+    ghost Value = { Ready };
+
+    ghost view = { λ made. record { text = made.text.items; outcome = made.outcome } };
 }
 
 /// Pushes the text that was made and finishes the sink. If none was made it only finishes the sink,

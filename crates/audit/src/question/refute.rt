@@ -49,7 +49,7 @@ fn does_stand(
 
 /// The text and the outcome for whether a refutation stands.
 fn make_answer(alloc: Global, stands: bool) -> Result<Made, AllocError>
-    ensures { IfOk result (λ made. (made.text.items ≡ refuted_text stands)
+    ensures { IfOk result (λ made. (made.text ≡ refuted_text stands)
         × (made.outcome ≡ spec.refuted_outcome stands)) }
 {
     Ok(Made {

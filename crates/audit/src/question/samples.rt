@@ -7,17 +7,14 @@ ghost use Rattle.audit.specs.Report.{IsOfMaking};
 ghost use Rattle.audit.specs.Samples.{samples_report};
 
 use crate::evidence::Evidence;
+use crate::finished::{Finished, whole};
 use audit_text::samples_text;
 use line_writer::Style;
 use report::{Made, Outcome, RunFault};
 use std::alloc::{AllocError, Global};
 
-/// The text with a line for each sample, and the counts.
-pub(crate) fn make_samples(
-    alloc: Global,
-    style: Style,
-    evidence: &Evidence,
-) -> Result<Made, RunFault>
+/// The text with a line for each sample, and the counts, made whole.
+fn make_text(alloc: Global, style: Style, evidence: &Evidence) -> Result<Made, RunFault>
     requires { IsLawfulEvidence evidence.now }
     ensures made { IsMadeFor (samples_report style (evidence_data evidence.now)) result }
     ensures fault { IfErr result IsOfMaking }
@@ -28,5 +25,25 @@ pub(crate) fn make_samples(
             outcome: Outcome::Yes,
         }),
         Err(AllocError) => Err(RunFault::Memory),
+    }
+}
+
+/// The text with a line for each sample, and the counts: made whole for a person, and line by line
+/// on its way out for a program.
+pub(crate) fn make_samples(
+    alloc: Global,
+    style: Style,
+    evidence: Evidence,
+) -> Result<Finished, RunFault>
+    requires { IsLawfulEvidence evidence }
+    ensures made { IsMadeFor (samples_report style (evidence_data evidence)) result }
+    ensures fault { IfErr result IsOfMaking }
+{
+    match style {
+        Style::Plain => match Finished::samples(alloc, evidence) {
+            Ok(finished) => Ok(finished),
+            Err(AllocError) => Err(RunFault::Memory),
+        },
+        style => whole(make_text(alloc, style, &evidence)),
     }
 }

@@ -6,7 +6,7 @@ use Rattle.pairing.specs.Held.{held_data}
 use Rattle.report.specs.declared.fault.RunFault.{RunFault}
 use Rattle.report.specs.Reading.{Reads}
 use Rattle.audit.specs.CaptureInput.{capture_read}
-use Rattle.audit.proofs.CaptureLemmas.{capture_is_read, capture_unread, capture_refused}
+use Rattle.audit.proofs.Capture.{capture_is_read, capture_unread, capture_refused}
 use Rattle.audit.proofs.capture_input.read_capture_from.Goals as goal
 
 pub returns-in-Ok-collected-clause-known : goal.returns-in-Ok-collected-clause-known

@@ -2,7 +2,7 @@ use Rattle.std.proofs.Common.{subst}
 use Rattle.report.specs.declared.fault.Outcome.TheVariants.{Yes}
 use Rattle.audit.specs.declared.question.Question.{Question}
 use Rattle.audit.specs.Question.{Shows, data_of}
-use Rattle.audit.proofs.StatusLemmas.{shown_by_status}
+use Rattle.audit.proofs.Status.{shown_by_status}
 use Rattle.audit.proofs.engine.answer.Goals as goal
 
 pub returns-clause-answers : goal.returns-clause-answers

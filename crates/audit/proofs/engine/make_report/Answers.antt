@@ -7,8 +7,8 @@ use Rattle.pairing.specs.Held.{held_data}
 use Rattle.audit.specs.Question.{asked_of, data_of, task_data, task_read}
 use Rattle.audit.specs.Report.{after_claim}
 use Rattle.audit.specs.Settle.{no_finding}
-use Rattle.audit.proofs.CaptureLemmas.{header_was_read}
-use Rattle.audit.proofs.RunLemmas.{capture_refusal, claim_refusal, evidence_made, finding_after, none_after, second_refusal, second_taken, second_was_read}
+use Rattle.audit.proofs.Capture.{header_was_read}
+use Rattle.audit.proofs.RunSteps.{capture_refusal, claim_refusal, evidence_made, finding_after, none_after, second_refusal, second_taken, second_was_read}
 use Rattle.audit.proofs.engine.make_report.Goals as goal
 
 -- memory that is refused after the capture was read
@@ -100,3 +100,8 @@ pub returns-in-Err-collected-clause-second_memory : goal.returns-in-Err-collecte
 returns-in-Err-collected-clause-second_memory g c = λ is.
     inr (second_was_read (task_read (data_of c.args.asked.question) (g.T.Feed.state c.args.second.now).remaining)
     c.in-Ok-read_task.task (rw c.in-Ok-read_task.is at c.read_task.ensures.known))
+
+pub returns-in-Ok-collected-clause-second_at_most : goal.returns-in-Ok-collected-clause-second_at_most
+returns-in-Ok-collected-clause-second_at_most g c =
+    second_taken (data_of c.args.asked.question) c.in-Ok-read_task.task c.make.result _ _
+    (rw c.in-Ok-read_task.is at c.read_task.ensures.at_most)

@@ -1,6 +1,6 @@
 use Rattle.audit.specs.Question.{asked_of, data_of}
-use Rattle.audit.proofs.RunLemmas.{claim_taken, claim_was_read, made_of_bytes, made_runs}
-use Rattle.audit.proofs.ShowsLemmas.{run_finds, run_shows}
+use Rattle.audit.proofs.RunSteps.{claim_taken, claim_was_read, made_of_bytes, made_runs}
+use Rattle.audit.proofs.Showing.{run_finds, run_shows}
 use Rattle.audit.proofs.engine.run.Goals as goal
 
 pub returns-clause-runs : goal.returns-clause-runs
@@ -29,7 +29,7 @@ returns-clause-runs g c =
         claim_memory = λ is. claim_was_read _ _ c.read_claim_from-claim.result read.known made.unread;
         second_memory = made.second_memory;
         capture_memory = made.capture_memory;
-      }) c.publish-answer.ensures;
+      }) c.publish_finished-answer.ensures;
     }
 
 pub returns-clause-shows : goal.returns-clause-shows
@@ -40,4 +40,4 @@ returns-clause-shows g c =
       headline = c.yes_shows_the_headline.ensures;
       contested = c.course_beyond_the_bound_contests_the_claim.ensures;
     }) (data_of c.args.asked.question) _ _ _ c.read_claim_from-claim.result c.make_report-capture.result.1 _
-    c.read_claim_from-claim.ensures.known made.read made.shows c.publish-answer.ensures.stays
+    c.read_claim_from-claim.ensures.known made.read made.shows c.publish_finished-answer.ensures.stays

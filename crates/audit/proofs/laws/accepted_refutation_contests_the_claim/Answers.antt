@@ -2,8 +2,8 @@ use Rattle.std.proofs.Common.{List, length, sym, subst}
 use Rattle.pairing.specs.Exchange.{AreLawful}
 use Rattle.pairing.specs.declared.exchange.Exchange.{Exchange}
 use Rattle.audit.proofs.Excess.{course_beyond, given_records}
-use Rattle.audit.proofs.HeadlineLemmas.{collected_of}
-use Rattle.audit.proofs.NanosecondLemmas.{claim_of_read}
+use Rattle.audit.proofs.Headline.{collected_of}
+use Rattle.audit.proofs.Nanosecond.{claim_of_read}
 use Rattle.audit.proofs.laws.accepted_refutation_contests_the_claim.Goals as goal
 
 pub returns : goal.returns

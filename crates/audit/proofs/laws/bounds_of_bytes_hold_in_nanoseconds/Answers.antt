@@ -1,4 +1,4 @@
-use Rattle.audit.proofs.NanosecondLemmas.{claim_of_read}
+use Rattle.audit.proofs.Nanosecond.{claim_of_read}
 use Rattle.audit.proofs.laws.bounds_of_bytes_hold_in_nanoseconds.Goals as goal
 
 pub returns : goal.returns

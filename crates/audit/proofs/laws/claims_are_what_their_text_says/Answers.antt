@@ -1,4 +1,4 @@
-use Rattle.audit.proofs.ClaimedLemmas.{Laws, read}
+use Rattle.audit.proofs.ClaimText.{Laws, read}
 use Rattle.audit.proofs.laws.claims_are_what_their_text_says.Goals as goal
 
 pub returns : goal.returns

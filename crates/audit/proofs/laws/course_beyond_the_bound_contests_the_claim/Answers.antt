@@ -5,8 +5,8 @@ use Rattle.audit.specs.Captured.{frame_of}
 use Rattle.audit.specs.Contested.{HasCourseBeyond}
 use Rattle.audit.proofs.ClaimLimits.{within_limits}
 use Rattle.audit.proofs.Excess.{beyond_in_ticks, beyond_in_nanoseconds}
-use Rattle.audit.proofs.HeadlineLemmas.{collected_of}
-use Rattle.audit.proofs.NanosecondLemmas.{claim_of_read}
+use Rattle.audit.proofs.Headline.{collected_of}
+use Rattle.audit.proofs.Nanosecond.{claim_of_read}
 use Rattle.audit.proofs.laws.course_beyond_the_bound_contests_the_claim.Goals as goal
 
 pub returns : goal.returns

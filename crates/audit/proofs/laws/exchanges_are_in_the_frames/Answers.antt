@@ -1,4 +1,4 @@
-use Rattle.audit.proofs.ExchangedLemmas.{Laws, in_place, all_exchanges}
+use Rattle.audit.proofs.ExchangeRecords.{Laws, in_place, all_exchanges}
 use Rattle.audit.proofs.laws.exchanges_are_in_the_frames.Goals as goal
 
 pub returns : goal.returns

@@ -1,4 +1,4 @@
-use Rattle.audit.proofs.ExchangedLemmas.{Laws, in_place}
+use Rattle.audit.proofs.ExchangeRecords.{Laws, in_place}
 use Rattle.audit.proofs.Completeness.{MoreLaws, collected}
 use Rattle.audit.proofs.laws.exchanges_in_the_frames_are_collected.Goals as goal
 

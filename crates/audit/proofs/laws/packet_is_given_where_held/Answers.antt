@@ -1,4 +1,4 @@
-use Rattle.audit.proofs.HeldLemmas.{packet_given, packet_held}
+use Rattle.audit.proofs.PacketParts.{packet_given, packet_held}
 use Rattle.audit.proofs.laws.packet_is_given_where_held.Goals as goal
 
 pub returns : goal.returns

@@ -9,9 +9,9 @@ use Rattle.pairing.specs.Pairing.{exchanges_of}
 use Rattle.audit.specs.Captured.{frame_of}
 use Rattle.audit.proofs.Admission.{some_admitted, none_beyond}
 use Rattle.audit.proofs.ClaimLimits.{within_limits}
-use Rattle.audit.proofs.ExchangedLemmas.{listed_servers}
-use Rattle.audit.proofs.HeadlineLemmas.{collected_of, piece_of}
-use Rattle.audit.proofs.NanosecondLemmas.{claim_of_read}
+use Rattle.audit.proofs.ExchangeRecords.{listed_servers}
+use Rattle.audit.proofs.Headline.{collected_of, piece_of}
+use Rattle.audit.proofs.Nanosecond.{claim_of_read}
 use Rattle.audit.proofs.laws.yes_shows_the_headline.Goals as goal
 
 pub returns : goal.returns

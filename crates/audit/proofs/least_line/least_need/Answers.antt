@@ -1,6 +1,6 @@
 use Rattle.std.proofs.Common.{◌<◌, arith}
 use Rattle.audit.specs.Evidence.{evidence_data}
-use Rattle.audit.proofs.LeastLemmas.{carried, exact, within_pieces}
+use Rattle.audit.proofs.Least.{carried, exact, within_pieces}
 use Rattle.audit.proofs.least_line.least_need.Goals as goal
 
 pub returns-clause-exact : goal.returns-clause-exact

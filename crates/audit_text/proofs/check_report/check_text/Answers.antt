@@ -12,7 +12,7 @@ returns c =
       c.in_ok-add_pieces.ensures,
       c.in_ok-add_reference_advice.ensures,
       c.in_ok-add_sources_advice.ensures,
-      c.in_ok-add_counts.ensures,
+      c.in_ok-add_counts.ensures c.args.style,
       c.in_ok-add_span.ensures,
       c.in_ok-add_client.ensures,
       c.new-text.ensures.items,

@@ -1,29 +1,16 @@
-use Rattle.std.proofs.Common.{◌≡◌, ◌++◌, [], ◌∷◌, codes, length, sym, rules}
+use Rattle.std.proofs.Common.{◌≡◌, ◌∙◌, ◌++◌, ℕ, List, ap, sym, length, rules}
+use Rattle.std.proofs.lemmas.List.{length-map}
+use Rattle.std.proofs.lemmas.Result.{IfOk-weaker}
 use Rattle.std.specs.Result.{IfOk}
-use Rattle.line_writer.specs.Field.{line_of, Named}
-use Rattle.audit_text.specs.CountsLine.{counts_line}
+use Rattle.pairing.specs.Held.{exchange_shown}
+use Rattle.audit_text.proofs.PlainLines.{counts_in_any_style}
 use Rattle.audit_text.proofs.counts_line.add_counts.Goals as goal
 
 pub returns : goal.returns
-unfolding counts_line
 returns c =
-    let samples : c.len.result ≡ length c.args.held.now.exchanges.items = search rules in
-    let told : IfOk c.add_line.result (λ _. c.add_line.new.text.items ≡ c.args.text.now.items ++ line_of c.args.style (
-    Named (codes "records") c.from.result ∷ Named (codes "requests") c.from-2.result ∷ Named (codes "replies") c.from-3.result ∷
-    Named (codes "samples") c.len.result ∷ Named (codes "version") c.from-4.result ∷ Named (codes "leap") c.from-5.result ∷
-    Named (codes "stratum") c.from-6.result ∷ Named (codes "precision") c.from-7.result ∷ Named (codes "zero") c.from-8.result ∷
-    Named (codes "norequest") c.from-9.result ∷ Named (codes "ambiguous") c.from-10.result ∷ Named (codes "warnings") c.from-11.result ∷ [])) = c.add_line.ensures in
-    rw (
-      sym c.from.ensures,
-      sym c.from-2.ensures,
-      sym c.from-3.ensures,
-      sym samples,
-      sym c.from-4.ensures,
-      sym c.from-5.ensures,
-      sym c.from-6.ensures,
-      sym c.from-7.ensures,
-      sym c.from-8.ensures,
-      sym c.from-9.ensures,
-      sym c.from-10.ensures,
-      sym c.from-11.ensures,
-    ) told
+    let held = c.args.held.now in
+    let line = rw (length-map held.exchanges.items exchange_shown) at c.write_counts_line.ensures.text in
+    let copied : IfOk c.extend_from_slice.result (λ _. c.extend_from_slice.new.self.items ≡
+    c.args.text.now.items ++ c.write_counts_line.new.line) = search rules in
+    IfOk-weaker c.extend_from_slice.result _ _ (λ _ same style. same ∙ ap (λ (l : List ℕ). c.args.text.now.items ++ l)
+    (line ∙ sym (counts_in_any_style style held.counts (length held.exchanges.items)))) copied

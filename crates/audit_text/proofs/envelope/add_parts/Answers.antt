@@ -1,6 +1,6 @@
 use Rattle.claim_file.specs.Claim.{data_of}
 use Rattle.audit_text.specs.Envelope.{server_line}
-use Rattle.audit_text.proofs.ListedLemmas.{listed_more, listed_all}
+use Rattle.audit_text.proofs.Lines.{listed_more, listed_all}
 use Rattle.audit_text.proofs.envelope.add_parts.Goals as goal
 
 pub loop-part-preserved : goal.loop-part-preserved

@@ -4,7 +4,7 @@ use Rattle.claim_file.specs.Claim.{data_of}
 use Rattle.finder.specs.Envelope.{IsLawfulPiece, piece_data}
 use Rattle.finder.specs.declared.piece_hull.PieceHull.{PieceHull}
 use Rattle.audit_text.specs.Envelope.{server_lines}
-use Rattle.audit_text.proofs.EnvelopeLemmas.{piece_added, pieces_done}
+use Rattle.audit_text.proofs.PieceLines.{piece_added, pieces_done}
 use Rattle.audit_text.proofs.envelope.add_pieces.Goals as goal
 use Rattle.audit_text.proofs.envelope.add_pieces.Goals.{then-servers+in_ok-add_servers, else-servers}
 

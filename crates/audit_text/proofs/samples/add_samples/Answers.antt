@@ -3,8 +3,8 @@ use Rattle.std.proofs.lemmas.List.{length-map}
 use Rattle.claim_file.specs.Claim.{data_of}
 use Rattle.pairing.specs.Held.{exchange_shown}
 use Rattle.audit_text.specs.SampleLine.{sample_line}
-use Rattle.audit_text.proofs.SampleLemmas.{line_added, lines_done}
-use Rattle.audit_text.proofs.ShownLemmas.{keeps_limits, stands_at}
+use Rattle.audit_text.proofs.Sample.{line_added, lines_done}
+use Rattle.audit_text.proofs.Shown.{keeps_limits, stands_at}
 use Rattle.audit_text.proofs.samples.add_samples.Goals as goal
 
 pub add_sample-requires-clause-exchange : goal.add_sample-requires-clause-exchange

@@ -8,7 +8,7 @@ pub returns : goal.returns
 unfolding samples_text
 returns c =
     rw (
-      c.in_ok-add_counts.ensures,
+      c.in_ok-add_counts.ensures c.args.style,
       c.in_ok-add_samples.ensures,
       c.rows.ensures,
       c.in_ok-add_sample_heading.ensures,

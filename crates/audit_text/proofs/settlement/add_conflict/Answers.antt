@@ -1,5 +1,5 @@
 use Rattle.std.proofs.Common.{◌∙◌, ap}
-use Rattle.audit_text.proofs.ShownLemmas.{found_at, keeps_limits}
+use Rattle.audit_text.proofs.Shown.{found_at, keeps_limits}
 use Rattle.audit_text.proofs.settlement.add_conflict.Goals as goal
 
 pub add_pair-requires-clause-low : goal.add_pair-requires-clause-low

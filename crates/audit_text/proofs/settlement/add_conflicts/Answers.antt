@@ -2,7 +2,7 @@ use Rattle.std.proofs.Common.{map}
 use Rattle.claim_file.specs.Claim.{data_of}
 use Rattle.courses.specs.PairMarks.{conflict_data}
 use Rattle.audit_text.specs.Settlement.{conflict_line}
-use Rattle.audit_text.proofs.ListedLemmas.{listed_more, listed_all}
+use Rattle.audit_text.proofs.Lines.{listed_more, listed_all}
 use Rattle.audit_text.proofs.settlement.add_conflicts.Goals as goal
 
 pub loop-conflict-preserved : goal.loop-conflict-preserved

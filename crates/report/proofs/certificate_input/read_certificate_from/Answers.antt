@@ -9,7 +9,7 @@ use Rattle.report.specs.declared.fault.RunFault.{RunFault}
 use Rattle.report.specs.Fault.{certificate_run_fault_of}
 use Rattle.report.specs.Reading.{IsFromOutside, Reads}
 use Rattle.report.specs.CertificateInput.{certificate_or_fault, certificate_read}
-use Rattle.report.proofs.ReadingLemmas.{input_is_read, input_refused, input_unread}
+use Rattle.report.proofs.Reading.{input_is_read, input_refused, input_unread}
 use Rattle.report.proofs.certificate_input.read_certificate_from.Goals as goal
 
 -- a certificate's refusal is the run's

@@ -10,8 +10,8 @@ use Rattle.report.specs.declared.fault.RunFault.{RunFault}
 use Rattle.report.specs.Fault.{claim_run_fault_of}
 use Rattle.report.specs.Reading.{IsFromOutside, Reads}
 use Rattle.report.specs.ClaimInput.{claim_or_fault, claim_read}
-use Rattle.report.proofs.InputLemmas.{takes_within}
-use Rattle.report.proofs.ReadingLemmas.{input_is_read, input_refused, input_unread}
+use Rattle.report.proofs.InputIntake.{takes_within}
+use Rattle.report.proofs.Reading.{input_is_read, input_refused, input_unread}
 use Rattle.report.proofs.claim_input.read_claim_from.Goals as goal
 
 -- a claim's refusal is the run's

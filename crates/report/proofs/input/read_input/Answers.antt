@@ -2,7 +2,7 @@ use Rattle.std.proofs.Common.{◌+◌, ◌-◌, ◌≤◌, ◌≡◌, ◌^◌, �
 use Rattle.std.specs.Io.KnownBytes.{Consumes}
 use Rattle.byte_stream.specs.Intake.{TakesAtMost, TakesAtMost-pull, TakesAtMost-trans, TakesAtMost-weaker}
 use Rattle.byte_stream.specs.State.{FeedState}
-use Rattle.report.proofs.InputLemmas.{takes_past, takes_within}
+use Rattle.report.proofs.InputIntake.{takes_past, takes_within}
 use Rattle.report.proofs.input.read_input.Goals as goal
 
 -- what was read before, and what the last pull gave

@@ -9,11 +9,10 @@ use Rattle.report.specs.declared.fault.Input.{Input}
 use Rattle.report.specs.declared.fault.Outcome.{Outcome}
 use Rattle.report.specs.declared.fault.RunFault.{RunFault}
 use Rattle.report.specs.declared.fault.RunFault.TheVariants.{Device, Memory, Write}
-use Rattle.report.specs.declared.publication.Made.{Made}
 use Rattle.report.specs.Delivery.{Delivers}
-use Rattle.report.specs.Publication.{IsMadeFor, IsUnwritten, Publishes}
+use Rattle.report.specs.Publication.{IsMadeFor, IsUnwritten, Publishes, Ready}
 use Rattle.report.specs.Reports.{CountsSink, GetsText, MayStop, Report, is_device, text_of}
-use Rattle.report.proofs.ClosingLemmas.{Finishes}
+use Rattle.report.proofs.Closing.{Finishes}
 use Rattle.report.proofs.Known.{appends_same}
 use Rattle.report.proofs.publication.publish.Goals as goal
 
@@ -23,7 +22,7 @@ may_stop report sent within ended =
     elim (cases_eq sent (length (text_of report))) [ inl whole ↦ inr (whole, ended) | inr part ↦ inl (omega arith) ]
 
 -- the whole text went out
-publishes_text : (made : Made) (text : List ℕ) (before after : SinkState) → text ≡ made.text.items →
+publishes_text : (made : Ready) (text : List ℕ) (before after : SinkState) → text ≡ made.text →
     Delivers text before after (Ok tt) → Publishes before after (Ok made) (Ok made.outcome)
 publishes_text made text before after same p = record {
   text = λ report is. (sym is.1, appends_same _ _ text (text_of report) (same ∙ sym is.0) p.went);
@@ -34,7 +33,7 @@ publishes_text made text before after same p = record {
 }
 
 -- the sink failed, and has got a number of the first bytes
-publishes_part : (made : Made) (text : List ℕ) (before after : SinkState) (sent : ℕ) → text ≡ made.text.items →
+publishes_part : (made : Ready) (text : List ℕ) (before after : SinkState) (sent : ℕ) → text ≡ made.text →
     Delivers text before after (Err sent) → Publishes before after (Ok made) (Err (Write sent))
 publishes_part made text before after sent same p = record {
   text = λ report is.
@@ -68,7 +67,7 @@ refusal_counts (Write sent) failed before after unwritten counts = absurd unwrit
 refusal_counts fault failed before after unwritten counts = (failed, counts)
 
 refusal_device : (fault : RunFault) (which : Input → Bool) →
-    is_device {A = Outcome} which (Err fault) ≡ is_device {A = Made} which (Err fault)
+    is_device {A = Outcome} which (Err fault) ≡ is_device {A = Ready} which (Err fault)
 refusal_device (Device input) which = refl
 refusal_device fault which = refl
 
@@ -85,7 +84,7 @@ publishes_refusal fault before after failed unwritten finishes = record {
 
 pub returns-in-Ok-deliver : goal.returns-in-Ok-deliver
 returns-in-Ok-deliver g c =
-    rw c.in-Ok.is (publishes_text c.in-Ok.made _ _ _ c.as_slice.ensures.value c.in-Ok-deliver.ensures)
+    rw (c.in-Ok.is, ← c.made.view_is) (publishes_text _ _ _ _ c.as_slice.ensures.value c.in-Ok-deliver.ensures)
 
 pub returns-in-Err : goal.returns-in-Err
 returns-in-Err g c =
@@ -102,5 +101,4 @@ finish-requires g c = c.requires.writable
 
 pub returns-in-Err-deliver : goal.returns-in-Err-deliver
 returns-in-Err-deliver g c =
-    rw c.in-Ok.is (publishes_part c.in-Ok.made _ _ _ c.in-Err-deliver.sent c.as_slice.ensures.value
-    c.in-Err-deliver.ensures)
+    rw (c.in-Ok.is, ← c.made.view_is) (publishes_part _ _ _ _ _ c.as_slice.ensures.value c.in-Err-deliver.ensures)

@@ -9,7 +9,7 @@ use Rattle.report.specs.declared.fault.RunFault.{RunFault}
 use Rattle.report.specs.Fault.{refutation_run_fault_of}
 use Rattle.report.specs.Reading.{IsFromOutside, Reads}
 use Rattle.report.specs.RefutationInput.{refutation_or_fault, refutation_read}
-use Rattle.report.proofs.ReadingLemmas.{input_is_read, input_refused, input_unread}
+use Rattle.report.proofs.Reading.{input_is_read, input_refused, input_unread}
 use Rattle.report.proofs.refutation_input.read_refutation_from.Goals as goal
 
 -- a refutation's refusal is the run's

@@ -1,6 +1,6 @@
 use Rattle.audit.specs.At.{stretch_at}
 use Rattle.audit.specs.Evidence.{evidence_data, samples_in}
-use Rattle.audit.proofs.SampleLemmas.{listed_samples}
+use Rattle.audit.proofs.Sample.{listed_samples}
 use Rattle.audit.proofs.question.at.make_at.Goals as goal
 
 pub returns-in-Ok-clause-shows : goal.returns-in-Ok-clause-shows

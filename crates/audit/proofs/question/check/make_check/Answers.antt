@@ -1,6 +1,6 @@
 use Rattle.certificate.specs.Certificate.{data_of as certificate_data}
 use Rattle.audit.specs.Evidence.{evidence_data}
-use Rattle.audit.proofs.CheckLemmas.{verdict_shows}
+use Rattle.audit.proofs.VerdictShowing.{verdict_shows}
 use Rattle.audit.proofs.question.check.make_check.Goals as goal
 
 pub returns-in-Ok-clause-shows : goal.returns-in-Ok-clause-shows

@@ -1,6 +1,6 @@
 use Rattle.claim_file.specs.Claim.{data_of}
 use Rattle.audit.specs.Evidence.{evidence_data}
-use Rattle.audit.proofs.EnvelopeLemmas.{count_is_few, envelope_shows, few_pieces}
+use Rattle.audit.proofs.EnvelopeShowing.{count_is_few, envelope_shows, few_pieces}
 use Rattle.audit.proofs.question.envelope.make_envelope.Goals as goal
 
 pub least_line-requires-clause-few : goal.least_line-requires-clause-few

@@ -1,5 +1,5 @@
 use Rattle.audit.specs.Evidence.{evidence_data}
-use Rattle.audit.proofs.FindLemmas.{found_shows}
+use Rattle.audit.proofs.SearchShowing.{found_shows}
 use Rattle.audit.proofs.question.find.make_find.Goals as goal
 
 pub returns-in-Ok-found_text-clause-shows : goal.returns-in-Ok-found_text-clause-shows

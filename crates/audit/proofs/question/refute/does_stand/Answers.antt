@@ -6,7 +6,7 @@ use Rattle.courses.specs.DriftSettlement.{SettlesWithDrift}
 use Rattle.audit.specs.Evidence.{evidence_data}
 use Rattle.audit.specs.Question.{ShowsOf, refute_by}
 use Rattle.audit.specs.Refute.{refuted_outcome}
-use Rattle.audit.proofs.RefuteLemmas.{drift_judgement_shows, judgement_shows}
+use Rattle.audit.proofs.RefutationShowing.{drift_judgement_shows, judgement_shows}
 use Rattle.audit.proofs.question.refute.does_stand.Goals as goal
 
 pub returns-then-drift-clause-shows : goal.returns-then-drift-clause-shows

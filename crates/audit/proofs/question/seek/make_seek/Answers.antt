@@ -1,5 +1,5 @@
 use Rattle.audit.specs.Evidence.{evidence_data}
-use Rattle.audit.proofs.SeekLemmas.{search_shows}
+use Rattle.audit.proofs.SeekShowing.{search_shows}
 use Rattle.audit.proofs.question.seek.make_seek.Goals as goal
 
 pub returns-in-Ok-clause-shows : goal.returns-in-Ok-clause-shows

@@ -2,7 +2,7 @@ use Rattle.std.proofs.Common.{Ok, Err, sym, ap}
 use Rattle.finder.specs.Settlement.{settled_data}
 use Rattle.audit.specs.Evidence.{evidence_data, samples_in}
 use Rattle.audit.specs.Settle.{IsSettledOf, no_finding}
-use Rattle.audit.proofs.SettleLemmas.{fault_found, refused_made, settled_of}
+use Rattle.audit.proofs.SettlementShowing.{fault_found, refused_made, settled_of}
 use Rattle.audit.proofs.question.settle.make_settle.Goals as goal
 
 holds : (c : goal.Joined-settled) → IsSettledOf (evidence_data c.args.evidence.now) (settled_data c.in-Ok.settled)

@@ -1,7 +1,7 @@
 use Rattle.std.proofs.lemmas.List.{length-map}
 use Rattle.pairing.specs.Held.{exchange_shown}
 use Rattle.audit.specs.Evidence.{evidence_data}
-use Rattle.audit.proofs.SettleLemmas.{numbers_within}
+use Rattle.audit.proofs.SettlementShowing.{numbers_within}
 use Rattle.audit.proofs.question.settle.settled_text.Goals as goal
 
 pub conflicts_text-requires-clause-numbers : goal.conflicts_text-requires-clause-numbers

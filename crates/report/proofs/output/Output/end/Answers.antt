@@ -1,4 +1,4 @@
-use Rattle.report.proofs.ClosingLemmas.{closes_ok, closes_unfinished, closes_short}
+use Rattle.report.proofs.Closing.{closes_ok, closes_unfinished, closes_short}
 use Rattle.report.proofs.output.Output.end.Goals as goal
 
 pub returns-in-Ok-finish-clause-closes : goal.returns-in-Ok-finish-clause-closes

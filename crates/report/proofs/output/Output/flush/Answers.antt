@@ -1,5 +1,5 @@
 use Rattle.std.proofs.Common.{◌≡◌, ◌+◌, ap, arith, length}
-use Rattle.report.proofs.OutputLemmas.{put_flushed, put_stopped}
+use Rattle.report.proofs.OutputSteps.{put_flushed, put_stopped}
 use Rattle.report.proofs.output.Output.flush.Goals as goal
 
 pub returns-in-Ok-clause-puts_nothing : goal.returns-in-Ok-clause-puts_nothing

@@ -4,7 +4,7 @@ use Rattle.report.specs.declared.fault.RunFault.{RunFault}
 use Rattle.report.specs.declared.fault.RunFault.TheVariants.{Device, Memory, Write}
 use Rattle.report.specs.State.{output_state}
 use Rattle.report.specs.Closing.{Closes}
-use Rattle.report.proofs.ClosingLemmas.{closes_device, closes_memory, closes_write, may_be_refused}
+use Rattle.report.proofs.Closing.{closes_device, closes_memory, closes_write, may_be_refused}
 use Rattle.report.proofs.output.Output.give_up.Goals as goal
 
 pub returns-in-Memory-clause-closes : goal.returns-in-Memory-clause-closes

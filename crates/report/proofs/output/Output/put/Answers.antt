@@ -1,7 +1,7 @@
 use Rattle.std.proofs.Common.{◌∷◌, [], Ok, sym, subst}
 use Rattle.report.specs.Output.{OutputState, Puts}
 use Rattle.report.specs.State.{output_state}
-use Rattle.report.proofs.OutputLemmas.{puts_one, puts_none}
+use Rattle.report.proofs.OutputSteps.{puts_one, puts_none}
 use Rattle.report.proofs.output.Output.put.Goals as goal
 
 pub returns-then-len-text-clause-puts : goal.returns-then-len-text-clause-puts

@@ -1,5 +1,5 @@
 use Rattle.std.specs.Prelude.{is_err}
-use Rattle.report.proofs.ClosingLemmas.{closes_refused, closes_refused_short}
+use Rattle.report.proofs.Closing.{closes_refused, closes_refused_short}
 use Rattle.report.proofs.output.Output.refuse.Goals as goal
 
 pub returns-in-Ok-clause-closes : goal.returns-in-Ok-clause-closes

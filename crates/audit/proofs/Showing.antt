@@ -13,9 +13,8 @@ use Rattle.pairing.specs.Pairing.{Collection}
 use Rattle.report.specs.declared.fault.Outcome.{Outcome}
 use Rattle.report.specs.declared.fault.Outcome.TheVariants as outcomes
 use Rattle.report.specs.declared.fault.RunFault.{RunFault}
-use Rattle.report.specs.declared.publication.Made.{Made}
 use Rattle.report.specs.ClaimInput.{claim_read}
-use Rattle.report.specs.Publication.{IsAnswerFor}
+use Rattle.report.specs.Publication.{IsAnswerFor, Ready}
 use Rattle.report.specs.Reading.{Reads}
 use Rattle.report.specs.RefutationInput.{refutation_read}
 use Rattle.audit.specs.At.{IsHeldOf}
@@ -328,7 +327,7 @@ module _ (laws : BytesLaws) (finding : Finding) (read : Result Claim RunFault) w
 
 module _ (laws : BytesLaws) (question : QuestionData) (claim second capture : FeedState) where
   -- what the outcome of a run shows
-  pub run_shows : (read : Result Claim RunFault) (made : Result Made RunFault) (answer : Result Outcome RunFault) →
+  pub run_shows : (read : Result Claim RunFault) (made : Result Ready RunFault) (answer : Result Outcome RunFault) →
       IfSome claim.remaining (λ bytes. Reads claim_data (claim_read bytes) read) →
       IfErr read (λ fault. made ≡ Err fault) →
       IfOk made (λ m. IfOk read (λ c.

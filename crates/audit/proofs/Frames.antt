@@ -8,7 +8,7 @@ use Rattle.pcap_reader.specs.declared.format.Endian.{Endian}
 use Rattle.pcap_reader.specs.Capture.{Record, AreRecordsFrom, IsCapture, magic_of}
 use Rattle.pcap_reader.specs.Field.{spelled}
 use Rattle.audit.specs.Captured.{CapturedFrame, IsCaptureOf, IsLawfulFrame, frame_of, record_bytes}
-use Rattle.audit.proofs.CapturedLemmas.{respelled}
+use Rattle.audit.proofs.RecordFrames.{respelled}
 
 -- ---- the records of frames
 

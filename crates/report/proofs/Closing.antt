@@ -14,7 +14,7 @@ use Rattle.report.specs.Output.{OutputState, IsReady, Puts, IsWrite}
 use Rattle.report.specs.Reports.{Report, text_of, GetsText, CountsSink, is_device}
 use Rattle.report.specs.Closing.{CanClose, IsPut, HasRun, Closes, IsRefusal, StaysOrWrites, stops_of}
 use Rattle.report.proofs.Known.{appends_kept, appends_same}
-use Rattle.report.proofs.OutputLemmas.{put_all}
+use Rattle.report.proofs.OutputSteps.{put_all}
 
 -- a sink was finished, and it failed or not
 pub record Finishes (old new : SinkState) (failed : Bool) : Type 0 where

@@ -6,7 +6,7 @@ use Rattle.report.specs.declared.fault.Outcome.{Outcome}
 use Rattle.report.specs.declared.fault.RunFault.{RunFault}
 use Rattle.report.specs.declared.fault.RunFault.TheVariants.{Device, Write, Memory}
 use Rattle.report.specs.Reports.{GetsText, MayStop, refused}
-use Rattle.report.proofs.ClosingLemmas.{keeps_nothing, left_nil}
+use Rattle.report.proofs.Closing.{keeps_nothing, left_nil}
 use Rattle.report.proofs.Known.{appends_same}
 
 -- it has no text that could be cut short, and no outcome that could fail to be finished

@@ -12,7 +12,6 @@ use Rattle.report.specs.declared.fault.Input.TheVariants as inputs
 use Rattle.report.specs.declared.fault.Outcome.{Outcome}
 use Rattle.report.specs.declared.fault.RunFault.{RunFault}
 use Rattle.report.specs.declared.fault.RunFault.TheVariants as faults
-use Rattle.report.specs.declared.publication.Made.{Made}
 use Rattle.claim_file.specs.declared.claim.Claim.{Claim}
 use Rattle.claim_file.specs.Claim.{ClaimData, data_of as claim_data}
 use Rattle.pairing.specs.declared.held.Held.{Held}
@@ -22,12 +21,12 @@ use Rattle.report.specs.CertificateInput.{max_certificate}
 use Rattle.report.specs.ClaimInput.{IsOfClaim, claim_read, max_claim}
 use Rattle.report.specs.Input.{most_read}
 use Rattle.report.specs.RefutationInput.{max_refutation}
-use Rattle.report.specs.Publication.{IsAnswerFor, IsMadeFor, IsUnwritten, Publishes}
+use Rattle.report.specs.Publication.{IsAnswerFor, IsMadeFor, IsUnwritten, Publishes, Ready}
 use Rattle.report.specs.Reports.{Report, Reports, GetsText, is_claim, is_second, is_capture, is_device, refused}
 use Rattle.report.specs.Reading.{IsFromOutside, Reads}
 use Rattle.report.specs.Run.{RunState}
 use Rattle.report.specs.Runs.{HasClaim, HasLawfulHeader, IsBeforeCapture, IsBeforeSecond, IsUnwrittenAt, Runs}
-use Rattle.report.proofs.InputLemmas.{takes_within}
+use Rattle.report.proofs.InputIntake.{takes_within}
 use Rattle.audit.specs.declared.question.Task.{Task}
 use Rattle.line_writer.specs.declared.field.Style.{Style}
 use Rattle.audit.specs.CaptureInput.{IsOfCapture, capture_read}
@@ -40,7 +39,7 @@ use Rattle.audit.specs.Settle.{Finding, no_finding}
 -- ---- the fault of an answer
 
 -- what holds of the fault of what was made, and of any failed write, holds of the answer's
-pub of_fault : (P : RunFault → Type 0) → ((sent : ℕ) → P (faults.Write sent)) → (made : Result Made RunFault)
+pub of_fault : (P : RunFault → Type 0) → ((sent : ℕ) → P (faults.Write sent)) → (made : Result Ready RunFault)
     (answer : Result Outcome RunFault) → IsAnswerFor made answer → IfErr made P → IfErr answer P
 of_fault P write (Ok m) answer (inl same) h = subst (λ (a : Result Outcome RunFault). IfErr a P) (sym same) tt
 of_fault P write (Ok m) answer (inr (sent, is)) h =
@@ -48,7 +47,7 @@ of_fault P write (Ok m) answer (inr (sent, is)) h =
 of_fault P write (Err fault) answer same h = subst (λ (a : Result Outcome RunFault). IfErr a P) (sym same) h
 
 -- being out of memory was known before
-pub was_memory : (made : Result Made RunFault) (answer : Result Outcome RunFault) → IsAnswerFor made answer →
+pub was_memory : (made : Result Ready RunFault) (answer : Result Outcome RunFault) → IsAnswerFor made answer →
     answer ≡ Err faults.Memory → made ≡ Err faults.Memory
 was_memory (Ok m) answer (inl same) is = cc
 was_memory (Ok m) answer (inr (sent, writes)) is = cc
@@ -80,7 +79,7 @@ refusal_for faults.Memory h = tt
 refusal_for (faults.Device input) h = tt
 refusal_for fault h = (refl, refl)
 
-unwritten : (before after : SinkState) (made : Result Made RunFault) (answer : Result Outcome RunFault) →
+unwritten : (before after : SinkState) (made : Result Ready RunFault) (answer : Result Outcome RunFault) →
     IsUnwritten made → Publishes before after made answer →
     IfErr made (λ fault. IsUnwrittenAt fault before.contents after.contents)
 unwritten before after (Ok m) answer h p = tt
@@ -92,15 +91,15 @@ unwritten before after (Err fault) answer h p =
 -- ---- how much is taken of the inputs
 
 -- what is taken of a claim
-pub claim_taken : (read : Result Claim RunFault) (made : Result Made RunFault) (before after : FeedState) →
+pub claim_taken : (read : Result Claim RunFault) (made : Result Ready RunFault) (before after : FeedState) →
     IfErr read (λ fault. made ≡ Err fault) → TakesAtMost (most_read inputs.Claim max_claim read) before after →
     TakesAtMost (most_read inputs.Claim max_claim made) before after
 claim_taken (Ok claim) made before after is h = takes_within inputs.Claim max_claim made before after h
 claim_taken (Err fault) made before after is h =
-    subst (λ (m : Result Made RunFault). TakesAtMost (most_read inputs.Claim max_claim m) before after) (sym is) h
+    subst (λ (m : Result Ready RunFault). TakesAtMost (most_read inputs.Claim max_claim m) before after) (sym is) h
 
 -- what is taken of a second input that was read is within its limit at any later answer
-pub second_taken : (question : QuestionData) (read : Task) (answer : Result Made RunFault)
+pub second_taken : (question : QuestionData) (read : Task) (answer : Result Ready RunFault)
     (before after : FeedState) → TakesAtMost (most_second question (Ok read)) before after →
     TakesAtMost (most_second question answer) before after
 second_taken questions.check read answer before after h =
@@ -110,13 +109,13 @@ second_taken (questions.refute drift) read answer before after h =
 second_taken question read answer before after h = h
 
 -- the answer says about an input's length what was known once the text was made
-same_most : (which : Input) (limit : ℕ) (made : Result Made RunFault) (answer : Result Outcome RunFault) →
+same_most : (which : Input) (limit : ℕ) (made : Result Ready RunFault) (answer : Result Outcome RunFault) →
     IsAnswerFor made answer → most_read which limit made ≡ most_read which limit answer
 same_most which limit (Ok m) answer (inl same) = sym (ap (most_read which limit) same)
 same_most which limit (Ok m) answer (inr (sent, is)) = sym (ap (most_read which limit) is)
 same_most which limit (Err fault) answer same = sym (ap (most_read which limit) same)
 
-same_most_second : (question : QuestionData) (made : Result Made RunFault) (answer : Result Outcome RunFault) →
+same_most_second : (question : QuestionData) (made : Result Ready RunFault) (answer : Result Outcome RunFault) →
     IsAnswerFor made answer → most_second question made ≡ most_second question answer
 same_most_second questions.check made answer stays = same_most inputs.Certificate max_certificate made answer stays
 same_most_second (questions.refute drift) made answer stays =
@@ -147,14 +146,14 @@ second_was_read (Some (Err fault)) task reads = cc
 
 -- what was made is published
 published_text : {before after : SinkState} {answer : Result Outcome RunFault} (report : Option Report)
-    (made : Result Made RunFault) → IfSome report (λ r. IsMadeFor r made) → Publishes before after made answer →
+    (made : Result Ready RunFault) → IfSome report (λ r. IsMadeFor r made) → Publishes before after made answer →
     IfSome report (λ r. GetsText r before.contents after.contents answer)
 published_text None made h p = tt
 published_text (Some r) made h p = p.text r h
 
 -- what is known of a run once its text is made
 pub record HasMade {T F : Type 0} (asked : AskedData) (finding : Finding) (before after : RunState)
-    (second second' : T) (capture capture' : F) (made : Result Made RunFault) : Type 0 where
+    (second second' : T) (capture capture' : F) (made : Result Ready RunFault) : Type 0 where
   pub is_made : IfSome (run_report asked finding before) (λ r. IsMadeFor r made)
   pub unwritten : IsUnwritten made
   pub claim_faults : CountsFault (is_device is_claim made) before.claim.faults after.claim.faults
@@ -171,7 +170,7 @@ pub record HasMade {T F : Type 0} (asked : AskedData) (finding : Finding) (befor
   pub capture_memory : made ≡ Err faults.Memory → (capture' ≡ capture) ⊎ HasLawfulHeader before.capture.remaining
 
 module _ {T F : Type 0} (asked : AskedData) (finding : Finding) (before after : RunState)
-    (second second' : T) (capture capture' : F) (made : Result Made RunFault)
+    (second second' : T) (capture capture' : F) (made : Result Ready RunFault)
     (answer : Result Outcome RunFault) where
   pub run_reports : HasMade asked finding before after second second' capture capture' made →
       Publishes before.sink after.sink made answer → Reports (run_report asked finding before) before after answer
@@ -287,7 +286,7 @@ module _ (style : Style) (finding : Finding) (claim : ClaimData) (fault : RunFau
 -- ---- no input is refused
 
 module _ (style : Style) (finding : Finding) (claim : ClaimData) (task : Task) (held : Held)
-    (made : Result Made RunFault) where
+    (made : Result Ready RunFault) where
   -- what was made of the evidence is what the bytes of the inputs call for
   pub evidence_made : (second : Option (Result TaskData RunFault)) (capture : Option (List ℕ)) →
       IfSome second (λ expected. Reads task_data expected (Ok task)) →
@@ -328,7 +327,7 @@ none_after question claim (Some bytes) = tt
 
 -- what was made of a claim that was read, or refused, is what its bytes call for
 pub made_of_bytes : (asked : AskedData) (claim second capture : Option (List ℕ)) (read : Result Claim RunFault)
-    (made : Result Made RunFault) → IfSome claim (λ bytes. Reads claim_data (claim_read bytes) read) →
+    (made : Result Ready RunFault) → IfSome claim (λ bytes. Reads claim_data (claim_read bytes) read) →
     (after : IsMadeAfter asked read second capture made) →
     IfSome (report_of_bytes asked after.finding claim second capture) (λ report. IsMadeFor report made)
 made_of_bytes asked None second capture read made reads after = tt

@@ -35,7 +35,7 @@ use Rattle.checker.specs.Traceability.{samples_of}
 use Rattle.audit.specs.Captured.{CapturedFrame, frame_of}
 use Rattle.audit.specs.Held.{HoldsPacket, HoldsShown, packet_with}
 use Rattle.audit.specs.Exchanged.{HoldsRequest, IsUsable, IsWindowOf, IsExchangeIn}
-use Rattle.audit.proofs.CapturedLemmas.{each_record, frame_at, said_by}
+use Rattle.audit.proofs.RecordFrames.{each_record, frame_at, said_by}
 
 -- the laws of the layers below
 pub record Laws : Type 0 where

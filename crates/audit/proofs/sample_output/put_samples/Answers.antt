@@ -1,0 +1,103 @@
+use Rattle.std.proofs.Common.{◌≡◌, ◌≤◌, ◌<◌, ◌∙◌, ◌+◌, ◌++◌, List, ℕ, ap, append-nil, arith, get_or, length, length-append, map, refl, subst, sym, []}
+use Rattle.std.proofs.lemmas.List.{length-map}
+use Rattle.line_writer.specs.declared.field.Style.TheVariants.{Plain}
+use Rattle.pairing.specs.declared.held.HeldExchange.{HeldExchange}
+use Rattle.pairing.specs.Held.{exchange_shown}
+use Rattle.report.specs.declared.fault.Outcome.TheVariants.{Yes}
+use Rattle.report.specs.Output.{put_count}
+use Rattle.report.specs.State.{output_state}
+use Rattle.report.proofs.PartedText.{IsGoing, going_start, going_more, going_short, going_done}
+use Rattle.audit_text.specs.SampleLine.{sample_line}
+use Rattle.audit_text.specs.Samples.{samples_text}
+use Rattle.audit_text.proofs.Shown.{keeps_limits, stands_at}
+use Rattle.audit.specs.Evidence.{evidence_data}
+use Rattle.audit.proofs.SampleLines.{all_left, counts_left, left_after, next_line}
+use Rattle.audit.proofs.sample_output.put_samples.Goals as goal
+
+pub loop-number-init : goal.loop-number-init
+loop-number-init g c =
+    let e = evidence_data c.args.evidence.now in
+    let output = output_state g.S.Sink.state c.args.out.now in
+    let text = samples_text Plain e.claim e.collection in
+    record {
+      same_sink = refl;
+      few = omega (arith, ap put_count c.requires.nothing_put);
+      going = subst (λ (left : List ℕ). IsGoing text left output.sink output) (all_left e.claim e.collection)
+          (going_start text output.sink output c.requires.ready c.requires.nothing_put);
+    }
+
+pub write_sample_line-requires-clause-exchange : goal.write_sample_line-requires-clause-exchange
+write_sample_line-requires-clause-exchange g c = record {
+  servers = length c.args.evidence.now.claim.servers.items;
+  lawful = keeps_limits exchange_shown c.deref-held-items.result.now c.loop-number.number _ c.loop-number-test.true
+      c.to_exchange.result c.to_exchange.ensures _
+      (rw c.deref-held-items.ensures.value c.requires.lawful.exchanges.each);
+}
+
+pub write_sample_line-requires-clause-listed : goal.write_sample_line-requires-clause-listed
+write_sample_line-requires-clause-listed g c =
+    (keeps_limits exchange_shown c.deref-held-items.result.now c.loop-number.number _ c.loop-number-test.true
+    c.to_exchange.result c.to_exchange.ensures (length c.args.evidence.now.claim.servers.items)
+    (rw c.deref-held-items.ensures.value c.requires.lawful.exchanges.each)).listed
+
+pub returns-in-Err-clause-puts : goal.returns-in-Err-clause-puts
+returns-in-Err-clause-puts g c = going_short c.loop-number.invariant.going _ Yes c.in-Err.fault c.in-Err.ensures.puts
+
+pub loop-number-preserved : goal.loop-number-preserved
+loop-number-preserved g c =
+    let e = evidence_data c.args.evidence.now in
+    let items = c.args.evidence.now.held.exchanges.items in
+    let xs = e.collection.exchanges in
+    let i = c.loop-number.number in
+    let x = c.to_exchange.result in
+    let part = c.as_bytes.result.now in
+    let many : length xs ≡ length items = length-map items exchange_shown in
+    let all : length c.deref-held-items.result.now ≡ length items = ap length c.deref-held-items.ensures.value in
+    let within : i < length xs = omega (arith, many, all, c.loop-number-test.true) in
+    let stands : x ≡ get_or xs i x =
+    subst (λ (held : List HeldExchange). x ≡ get_or (map exchange_shown held) i x) c.deref-held-items.ensures.value
+    (stands_at exchange_shown c.deref-held-items.result.now i _ c.loop-number-test.true x c.to_exchange.ensures x) in
+    let line : part ≡ sample_line Plain e.claim i (get_or xs i x) =
+    c.as_bytes.ensures.text ∙ (c.write_sample_line.ensures.text ∙ ap (sample_line Plain e.claim i) stands) in
+    let parted = next_line e.claim e.collection i x within
+    ∙ ap (λ (l : List ℕ). l ++ left_after e.claim e.collection (i + 1)) (sym line) in
+    let few = c.loop-number.invariant.few in
+    let more = c.in_default.ensures.puts.count in
+    let short = c.as_bytes.ensures.at_most in
+    let counted = length-append part [] in
+    record {
+      same_sink = c.put.ensures.same_sink ∙ c.loop-number.invariant.same_sink;
+      few = omega (arith, few, more, short, counted);
+      going = going_more c.loop-number.invariant.going part _ parted c.in_default.ensures.puts
+          (omega (arith, few, more, short, counted, within, c.requires.lawful.exchanges.few));
+    }
+
+pub returns-in-Ok-clause-puts : goal.returns-in-Ok-clause-puts
+returns-in-Ok-clause-puts g c =
+    let e = evidence_data c.args.evidence.now in
+    let items = c.args.evidence.now.held.exchanges.items in
+    let xs = e.collection.exchanges in
+    let i = c.loop-number.number in
+    let part = c.as_bytes-2.result.now in
+    let many : length xs ≡ length items = length-map items exchange_shown in
+    let all : length c.deref-held-items.result.now ≡ length items = ap length c.deref-held-items.ensures.value in
+    let past : length xs ≤ i = omega (arith, many, all, c.loop-number-test.false) in
+    let line = c.as_bytes-2.ensures.text ∙ c.write_counts_line.ensures.text in
+    let parted : left_after e.claim e.collection i ≡ part ++ [] =
+    counts_left e.claim e.collection i past ∙ sym (append-nil part ∙ line) in
+    going_done Yes (going_more c.loop-number.invariant.going part [] parted c.in-Ok.ensures.puts
+    (omega (
+      arith,
+      c.loop-number.invariant.few,
+      c.in-Ok.ensures.puts.count,
+      c.as_bytes-2.ensures.at_most,
+      length-append part [],
+      c.loop-number.auto.number-end,
+      many,
+      all,
+      c.requires.lawful.exchanges.few,
+    )))
+
+pub returns-in-Err-put-clause-puts : goal.returns-in-Err-put-clause-puts
+returns-in-Err-put-clause-puts g c =
+    going_short c.loop-number.invariant.going _ Yes c.in-Err-put.fault c.in-Err-put.ensures.puts

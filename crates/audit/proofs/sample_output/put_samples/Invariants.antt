@@ -1,0 +1,20 @@
+use Rattle.std.proofs.Common.{◌≡◌, ◌≤◌, ◌*◌}
+use Rattle.line_writer.specs.declared.field.Style.TheVariants.{Plain}
+use Rattle.report.specs.Output.{put_count}
+use Rattle.report.specs.State.{output_state, sink_name}
+use Rattle.report.proofs.PartedText.{IsGoing}
+use Rattle.audit_text.specs.Samples.{samples_text}
+use Rattle.audit.specs.Evidence.{evidence_data}
+use Rattle.audit.proofs.SampleLines.{left_after}
+use Rattle.audit.proofs.sample_output.put_samples.Given as goal
+
+abbrev pub invariant-loop-number : goal.invariant-loop-number
+invariant-loop-number g l =
+    let state = output_state g.S.Sink.state in
+    let e = evidence_data l.evidence in
+    record {
+      same_sink : sink_name l.out ≡ sink_name l.fn.out;
+      few : put_count (state l.out) ≤ 512 * l.number;
+      going : IsGoing (samples_text Plain e.claim e.collection) (left_after e.claim e.collection l.number)
+          (state l.fn.out).sink (state l.out);
+    }

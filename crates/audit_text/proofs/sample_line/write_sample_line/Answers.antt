@@ -1,0 +1,47 @@
+use Rattle.std.proofs.Common.{◌≡◌, ◌∙◌, ◌^◌, ◌<◌, ℤ, [], ◌∷◌, ap, arith, codes, unsigned_abs, to_z, of_z}
+use Rattle.std.proofs.lemmas.Int.{ints, to_z-of_z, fits_signed_from_abs}
+use mir.Syntax.{w128}
+use Rattle.line_writer.specs.Field.{Number, Address, Label, Low, High}
+use Rattle.claim_file.specs.Claim.{data_of}
+use Rattle.sample_interval.specs.OnWire.{offset_from, offset_to, delay_from, delay_to}
+use Rattle.sample_interval.specs.Sample.{least_error, greatest_error, sample_of}
+use Rattle.sample_interval.specs.declared.kinds.Sample.{Sample}
+use Rattle.audit_text.specs.SampleLine.{sample_line, server_of}
+use Rattle.audit_text.proofs.PlainLines.{groups_written}
+use Rattle.audit_text.proofs.sample_line.write_sample_line.Goals as goal
+
+fits : (a : ℤ) → unsigned_abs a < 2 ^ 127 → to_z w128 (of_z w128 a) ≡ a
+fits a h = to_z-of_z w128 a (fits_signed_from_abs w128 a h)
+
+pub returns-clause-text : goal.returns-clause-text
+unfolding sample_line
+returns-clause-text c =
+    let x = c.args.x.now in
+    let claim = data_of c.args.claim.now in
+    let lawful = c.requires.lawful in
+    let small : unsigned_abs claim.reading < 2 ^ 127 =
+    omega (arith, ints, lawful.reading_not_negative, lawful.reading_in_range) in
+    let reading = fits claim.reading small in
+    let error = c.sample-error.ensures in
+    let exact = error.exact ∙ ap (sample_of x) reading in
+    rw (
+      c.put_number.ensures.text,
+      c.put_records.ensures.text,
+      c.put_interval-2.ensures.text,
+      c.put_interval.ensures.text,
+      c.put_errors.ensures.text,
+      c.put_byte.ensures.text,
+      c.clear.ensures,
+      c.server_of.ensures,
+      c.offset.ensures.from ∙ ap (offset_from x) reading,
+      c.offset.ensures.to ∙ ap (offset_to x) reading,
+      c.delay.ensures.from ∙ ap (delay_from x) reading,
+      c.delay.ensures.to ∙ ap (delay_to x) reading,
+      fits _ (omega (arith, error.lawful.low)) ∙ ap (λ (s : Sample). s.low) exact,
+      fits _ (omega (arith, error.lawful.high)) ∙ ap (λ (s : Sample). s.high) exact,
+    ) (groups_written (Number c.args.number)
+    (Address (server_of claim x.server) ∷ Number x.request ∷ Number x.reply ∷ [])
+    (Label (codes "offset") ∷ Low (offset_from x claim.reading) ∷ High (offset_to x claim.reading) ∷ [])
+    (Label (codes "delay") ∷ Low (delay_from x claim.reading) ∷ High (delay_to x claim.reading) ∷ [])
+    (Label (codes "low") ∷ Low (least_error x claim.reading) ∷
+    Label (codes "high") ∷ High (greatest_error x claim.reading) ∷ []))
