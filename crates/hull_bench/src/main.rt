@@ -4,6 +4,7 @@
 //! WAY is `walk`, the crate's own, `plain`, which counts for each end the intervals that leave it
 //! out, or `none`, which makes the lists alone. It prints a sum over the answers, so that no work
 //! can be left out. With other arguments it does nothing.
+
 #![tactic(auto)]
 
 use arrayvec::ArrayVec;

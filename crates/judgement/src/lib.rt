@@ -5,6 +5,17 @@
 //! sums gives for its name, and the same memory is judged, by the engine of the crate audit. Of
 //! exit status 0 and 1 [`answer_by_sums`] says that there are bytes with these sums for which the
 //! answer is the definitions', and what it shows of them (`specs/Judgement`).
+//!
+//! Once the inputs are held to their sums, their bytes are judged, as `judge` of
+//! `judgement/src/engine.rt` does, with its proof:
+//!
+//! ```text
+//! let mut claim = ReadFeed::new(held.claim.as_slice());
+//! let mut second = ReadFeed::new(held.second.as_slice());
+//! let capture = ReadFeed::new(held.capture.as_slice());
+//! answer(alloc, asked, &mut claim, &mut second, capture, to, hasher).1
+//! ```
+
 #![tactic(auto)]
 
 mod engine;

@@ -240,7 +240,7 @@ fn with_judgements<'a>(alloc: Global, program: Command<'a>) -> Result<Command<'a
 /// The program with its commands.
 pub(crate) fn program<'a>(alloc: Global) -> Result<Command<'a>, AllocError> {
     let program = Command::new(alloc, "ntpaudit")
-        .version("0.6.0 (logic dac8208d650f15bf)")
+        .version("0.6.1 (logic dac8208d650f15bf)")
         .about("What a packet capture of NTP shows about a clock")
         .after_help(PROGRAM_HELP)
         .subcommand_required(true);

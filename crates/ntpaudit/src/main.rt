@@ -4,6 +4,7 @@
 //! engine writes and answers is said by its contract in its own crate, and how that is reported by
 //! the contracts of `audit::answer`, `judgement::answer_by_sums`, `listing::answer_list` and the
 //! crate report.
+
 #![tactic(auto)]
 
 ghost use Rattle.std.specs.Prelude.{◌≡◌, false};

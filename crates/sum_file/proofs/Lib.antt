@@ -2,7 +2,7 @@ pub mod Agreement
 pub mod Cuts
 pub mod Escapes
 pub mod FirstBad
-pub mod Listed
+pub mod ListedDigest
 pub mod Lookups
 pub mod Pairs
 pub mod Refusals

@@ -2,6 +2,7 @@
 //!
 //! `read_sums` gives the sums of a text, or its first bad line. `digest_of` finds the digest that
 //! they give to a name.
+
 #![tactic(auto)]
 
 mod fault;

@@ -1,5 +1,6 @@
 //! The worked examples that every layer is tried on: one capture, one claim and its certificate,
 //! made by hand.
+
 #![tactic(auto)]
 
 /// A capture of a request and its reply, at 24 and 130: little-endian, microseconds.

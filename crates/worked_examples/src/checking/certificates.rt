@@ -190,7 +190,7 @@ fn ends(rt: &impl Abort, alloc: Global, end: &str, expected: &str) {
     answers(rt, alloc, text.as_str(), expected);
 }
 
-// What `find` writes ends with a line feed, which is no part of the certificate.
+/// What `find` writes ends with a line feed, which is no part of the certificate.
 #[test]
 fn ends_of_lines(rt: HostRuntime) {
     let alloc = rt.alloc();

@@ -1,4 +1,5 @@
 //! Intervals of pieces, best samples and ends of pieces, by hand.
+
 ghost use Rattle.std.specs.Prelude.{◌≡◌, ◌<◌, ◌≤◌, ◌^◌, unsigned_abs};
 ghost use Rattle.sample_interval.specs.Sample.{IsLawfulSample};
 
@@ -9,7 +10,7 @@ use sample_interval::kinds::Sample;
 use span_cover::{best, piece_end, piece_interval};
 use vectors::TICK;
 
-// The sample of an exchange of 20 ms at the second, in microseconds.
+/// The sample of an exchange of 20 ms at the second, in microseconds.
 pub(crate) fn twenty_milliseconds() -> Sample
     ensures lawful { IsLawfulSample result }
     ensures server { result.server ≡ 0 }

@@ -1,4 +1,5 @@
 //! Samples, offsets, delays and widenings, by hand.
+
 ghost use Rattle.sample_interval.specs.Exchange.{IsOfSomeClaim};
 
 use crate::checking::pieces::twenty_milliseconds;
@@ -8,7 +9,7 @@ use sample_interval::kinds::Sample;
 use sample_interval::{delay, offset, sample, widen};
 use vectors::TICK;
 
-// A request at the second, in microseconds, its reply 20 ms later, and both timestamps half way.
+/// A request at the second, in microseconds, its reply 20 ms later, and both timestamps half way.
 fn exchange() -> Exchange
     ensures { IsOfSomeClaim result }
 {

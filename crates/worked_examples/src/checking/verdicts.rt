@@ -1,4 +1,5 @@
 //! Verdicts on certificates, by hand.
+
 ghost use Rattle.std.specs.Prelude.{◌≡◌};
 ghost use Rattle.sample_interval.specs.Sample.{IsLawfulSample};
 
@@ -13,7 +14,7 @@ use std::alloc::Global;
 use std::process::Abort;
 use vectors::{C1, K1, TICK};
 
-// What a server says at the second: its number, and the ends of the error in ticks.
+/// What a server says at the second: its number, and the ends of the error in ticks.
 fn sample_of(server: u8, low: i32, high: i32) -> Sample
     ensures lawful { IsLawfulSample result }
     ensures server { result.server ≡ server }

@@ -94,7 +94,7 @@ fn reads_every_field(rt: HostRuntime) {
 }
 
 /// Root delay, root dispersion, precision (its byte), and the root distance that they make.
-const DISTANCES: [(u32, u32, u8, Option<i128>); 10] = [
+const DISTANCES: [(u32, u32, u8, Option<u64>); 10] = [
     (0, 0, 0xe0, Some(1)),
     (256, 16, 0xec, Some(9_441_280)),
     (0xffff_ffff, 0, 0xe0, Some(140_737_488_322_561)),

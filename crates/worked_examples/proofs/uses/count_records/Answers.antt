@@ -1,5 +1,5 @@
 use Rattle.std.proofs.Common.{◌∙◌, ◌+◌, [], Err, refl, sym, ap, arith, true≢false}
-use Rattle.worked_examples.proofs.CountLemmas.{counted_none, counted_more, counted_whole, counted_fault}
+use Rattle.worked_examples.proofs.Count.{counted_none, counted_more, counted_whole, counted_fault}
 use Rattle.worked_examples.proofs.uses.count_records.Goals as goal
 
 pub records-init : goal.records-init

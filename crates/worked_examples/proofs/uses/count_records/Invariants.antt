@@ -1,6 +1,6 @@
 use Rattle.std.proofs.Common.{◌≡◌, ◌-◌, false}
 use Rattle.pcap_reader.specs.Capture.{most_records}
-use Rattle.worked_examples.proofs.CountLemmas.{HasCounted}
+use Rattle.worked_examples.proofs.Count.{HasCounted}
 use Rattle.worked_examples.proofs.uses.count_records.Given as goal
 
 abbrev pub invariant-records : goal.invariant-records
