@@ -39,7 +39,7 @@ class Options(NamedTuple):
 
 class Audited(NamedTuple):
     """What came of a folder: its record; whether it was done and nothing has changed since; and whether it was signed,
-    and the signature was taken away."""
+    and the signature was removed."""
 
     record: Record
     is_old: bool = False
@@ -90,7 +90,7 @@ def take_signature(options: Options) -> bool:
     try:
         remove(files.SIGNATURE)
     except OSError as error:
-        line = f"ntpaudit-dossier: {files.SIGNATURE} can't be taken away ({error.strerror})"
+        line = f"ntpaudit-dossier: {files.SIGNATURE} can't be removed ({error.strerror})"
         raise Fault(line, files.DEVICE) from None
     return True
 

@@ -25,6 +25,7 @@ ABOUT = """Puts many audits by ntpaudit together: folders with a claim and captu
 
 docs/DOSSIER.md has more. Statuses are those of ntpaudit: 0 yes, 1 no yes, 2 an input is refused, 3 out of memory, 4 a
 device, 5 the command line; the status of several folders is the worst of theirs."""
+FOLDER = "a folder with claim.json and captures, and what an audit wrote beside them"
 
 
 class Parser(argparse.ArgumentParser):
@@ -36,53 +37,55 @@ def parser() -> Parser:
     top = Parser(prog="ntpaudit-dossier", description=ABOUT, formatter_class=argparse.RawDescriptionHelpFormatter)
     commands = top.add_subparsers(dest="command", required=True, metavar="COMMAND", prog=top.prog)
     draft = commands.add_parser("draft", help="print a claim to start from")
-    draft.add_argument("captures", nargs="+", metavar="CAPTURE")
+    draft.add_argument("captures", nargs="+", metavar="CAPTURE", help="classic pcap files of one client")
     draft.add_argument("--client", metavar="ADDRESS", help="the client; the one that asks most if it is left out")
     draft.add_argument("--day", action="store_true", help="claim whole days (UTC)")
     draft.add_argument("--drift-ppb", type=int, metavar="N",
-                       help="oscillator and client together; by the client's configuration, else 100000")
+                       help="oscillator and client together, in parts of 10^9; by the client's configuration, else 100000")
     client = draft.add_mutually_exclusive_group()
     client.add_argument("--chrony", action="append", metavar="FILE", help="chronyd's configuration, which limits the drift")
     client.add_argument("--ntpd", action="append", metavar="FILE", help="ntpd's configuration")
     draft.add_argument("--tracking", action="append", metavar="FILE", help="chronyd's tracking.log, or its messages")
     draft.add_argument("--oscillator-ppb", type=in_range(0, 500_000_000), default=100_000, metavar="N",
                        help="the oscillator alone, to which the configuration adds; 100000 if it is left out")
-    draft.add_argument("--evidence", metavar="FILE", help="leave what was read of the client there, for evidence.json")
-    draft.add_argument("--reading-ns", type=int, default=100_000, metavar="N")
+    draft.add_argument("--evidence", metavar="FILE", help="write what was read from the client's files to FILE, for evidence.json")
+    draft.add_argument("--reading-ns", type=int, default=100_000, metavar="N",
+                       help="how far records' times may be from the clock, in nanoseconds; 100000 if it is left out")
     audit = commands.add_parser("audit", help="audit folders")
-    audit.add_argument("folders", nargs="+", metavar="FOLDER")
+    audit.add_argument("folders", nargs="+", metavar="FOLDER", help=FOLDER)
     audit.add_argument("--step", type=in_range(1, 86_400), metavar="N",
                        help="seconds of the envelope's pieces; else as few of 1, 4, 16, .. as make no more than 10,000")
     audit.add_argument("--days", action="store_true", help="a verdict for each day (UTC) of the span")
     audit.add_argument("--jobs", type=in_range(1, 4096), default=0, metavar="N",
                        help="folders side by side; as many as processors if it is left out")
     audit.add_argument("--again", action="store_true",
-                       help="audit folders that are done, or signed, too; a signature is taken away")
+                       help="audit folders that are done, or signed, too; a signature is removed")
     audit.add_argument("--leap-seconds", metavar="FILE", help="the list of leap seconds; the system's if it is left out")
     page = commands.add_parser("page", help="print a page of audits that were made")
-    page.add_argument("folders", nargs="+", metavar="FOLDER")
+    page.add_argument("folders", nargs="+", metavar="FOLDER", help=FOLDER)
     form = page.add_mutually_exclusive_group()
     form.add_argument("--json", action="store_true", help="the table as JSON")
     form.add_argument("--csv", action="store_true", help="the table as CSV")
-    page.add_argument("--signers", metavar="FILE", help="who may sign: signatures are looked at")
-    page.add_argument("--title", default="Clock dossier", metavar="TEXT")
-    page.add_argument("-o", "--output", metavar="FILE", help="write the file whole or not at all")
-    verify = commands.add_parser("verify", help="see whether inputs and answers are still the same")
-    verify.add_argument("folders", nargs="+", metavar="FOLDER")
+    page.add_argument("--signers", metavar="FILE", help="who may sign, as ssh-keygen's file of allowed signers has it: signatures are checked")
+    page.add_argument("--title", default="Clock dossier", metavar="TEXT", help="the page's heading")
+    page.add_argument("-o", "--output", metavar="FILE", help="write the page to FILE, whole or not at all; standard output if it is left out")
+    verify = commands.add_parser("verify", help="check that inputs and answers are still the same")
+    verify.add_argument("folders", nargs="+", metavar="FOLDER", help=FOLDER)
     verify.add_argument("--signers", metavar="FILE", help="who may sign, as ssh-keygen's file of allowed signers has it")
-    sign = commands.add_parser("sign", help="sign audits with a key of ssh")
-    sign.add_argument("folders", nargs="+", metavar="FOLDER")
+    sign = commands.add_parser("sign", help="sign audits with an ssh key")
+    sign.add_argument("folders", nargs="+", metavar="FOLDER", help=FOLDER)
     sign.add_argument("--key", required=True, metavar="FILE",
                       help="a private key, or the public one of a key that an agent holds")
     measure = commands.add_parser("measure", help="measure how far the times of records are from the clock")
     measure.add_argument("--interface", default="lo", metavar="NAME", help="where to record; the loopback if left out")
-    measure.add_argument("--count", type=in_range(10, 100_000), default=1000, metavar="N", help="packets; 1000 if left out")
+    measure.add_argument("--count", type=in_range(10, 100_000), default=1000, metavar="N", help="how many packets; 1000 if left out")
     measure.add_argument("--load", action="store_true", help="keep all processors busy meanwhile")
-    measure.add_argument("-o", "--output", metavar="FILE", help="leave it as JSON too, for evidence.json to name")
+    measure.add_argument("-o", "--output", metavar="FILE", help="write it as JSON to FILE too, for evidence.json to name")
     picture = commands.add_parser("picture", help="print the picture of a claim and a capture, as SVG")
-    picture.add_argument("claim", metavar="CLAIM")
-    picture.add_argument("capture", metavar="CAPTURE")
-    picture.add_argument("--step", type=in_range(1, 86_400), default=64, metavar="N")
+    picture.add_argument("claim", metavar="CLAIM", help="a JSON file")
+    picture.add_argument("capture", metavar="CAPTURE", help="a classic pcap file")
+    picture.add_argument("--step", type=in_range(1, 86_400), default=64, metavar="N",
+                         help="seconds of each piece; 64 if it is left out")
     return top
 
 

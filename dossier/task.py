@@ -36,7 +36,7 @@ class Task(NamedTuple):
             return self.refused(number, fault.line, fault.status)
         lines = [line_of(folder, entry) + (" (unchanged)" if is_old else "") for entry in record.entries]
         if was_signed:
-            lines.append(f"{'':14}{plain(folder)}: its signature was taken away")
+            lines.append(f"{'':14}{plain(folder)}: its signature was removed")
         return Done(record.status, [entry.verdict for entry in record.entries], lines)
 
     def refused(self, number: int, line: str, status: int) -> Done:

@@ -91,7 +91,7 @@ def keep_to(processors: set[int]) -> None:
     try:
         os.sched_setaffinity(0, processors)
     except OSError:
-        pass  # (they were taken away meanwhile)
+        pass  # (they were removed meanwhile)
 
 
 def live(task: Task, board: Board, place: int, parent: int, output: int) -> int:

@@ -140,4 +140,4 @@ class Again(Settling):
 def first_difference(kept: bytes, seen: bytes) -> str:
     """Where two texts begin to differ."""
     at = next((k for k, (a, b) in enumerate(zip(kept, seen)) if a != b), min(len(kept), len(seen)))
-    return f"something else comes of it now, from byte {at} on (line {kept[:at].count(10) + 1})"
+    return f"the answer is another one now, from byte {at} on (line {kept[:at].count(10) + 1})"

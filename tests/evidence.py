@@ -154,7 +154,7 @@ def test_signing_again(place):
         check(f"a signed folder, audited with {words[0]}", status=(status, 5), told=(b"only with --again" in out, True),
               same=({path.name: path.read_bytes() for path in folder.iterdir()} == kept, True))
     status, out, _ = dossier("audit", "--again", folder)
-    check("a signed folder, audited again", status=(status, 0), told=(f"        {folder}: its signature was taken away\n" in out.decode(), True),
+    check("a signed folder, audited again", status=(status, 0), told=(f"        {folder}: its signature was removed\n" in out.decode(), True),
           gone=(signature.exists(), False), signed=(json.loads((folder / "audit.json").read_text())["signed"], ""))
     (folder / "report.txt").write_text("")
     status, out, _ = dossier("sign", folder, "--key", key)

@@ -12,7 +12,7 @@ from datetime import datetime, timedelta
 
 TICKS = 1 << 32
 
-# The headings, each as wide as its column. Columns stand one blank apart, and everything ends where its column ends.
+# The headings, each as wide as its column. Columns stand one space apart, and everything ends where its column ends.
 SAMPLES = [("sample", 8), ("server", 15), ("request", 8), ("reply", 8), ("low offset ms", 14), ("high offset ms", 14),
            ("low delay ms", 14), ("high delay ms", 14), ("low error ms", 14), ("high error ms", 14)]
 PARTS = [("server", 15), ("low error ms", 14), ("high error ms", 14)]

@@ -1,4 +1,5 @@
-"""What the test scripts share: counting cases, showing what was wrong, and the last line 'N passed, M failed'."""
+"""What the test scripts share: counting cases, showing what was wrong, and the last line 'N passed, M failed', also of a
+script that breaks off."""
 import hashlib
 import os
 import subprocess
@@ -18,7 +19,11 @@ def program():
     """The program under test: the file that the environment's NTPAUDIT names (from the repository's root), or the one
     that the launcher keeps, which the launcher has made sure of just now."""
     if "NTPAUDIT" in os.environ:
-        return str((ROOT / os.environ["NTPAUDIT"]).resolve())
+        named = (ROOT / os.environ["NTPAUDIT"]).resolve()
+        if not os.access(named, os.X_OK):
+            print(f"FAILED: NTPAUDIT names {named}, and no program is there\n0 passed, 1 failed")
+            sys.exit(1)
+        return str(named)
     ran = subprocess.run([ROOT / "ntpaudit", "--version"], stdin=subprocess.DEVNULL, stdout=subprocess.DEVNULL)
     if ran.returncode:
         print(f"FAILED: ./ntpaudit --version ends with status {ran.returncode}\n0 passed, 1 failed")
@@ -52,7 +57,8 @@ def short(seen):
 
 
 def run(words, given=b"", **how):
-    """Status, standard output and standard error of a command."""
+    """Status, standard output and standard error of a command. A run that doesn't end, or that can't be begun, has a text
+    for its status."""
     if given is not None:
         how["input"] = given
     try:
@@ -60,7 +66,18 @@ def run(words, given=b"", **how):
                              **{"stdout": subprocess.PIPE, "stderr": subprocess.PIPE, "timeout": SECONDS, **how})
     except subprocess.TimeoutExpired:
         return "no end", b"", b""
+    except OSError as error:
+        return f"no start: {error}", b"", b""
     return ran.returncode, ran.stdout, ran.stderr
+
+
+def broken_off(kind, error, trace):
+    """A script that breaks off says where, and counts that as a failure."""
+    sys.__excepthook__(kind, error, trace)
+    print(f"FAILED: broken off by {kind.__name__} ({error}), above\n{passed} passed, {len(failed) + 1} failed", flush=True)
+
+
+sys.excepthook = broken_off
 
 
 def sum_of(data):
