@@ -9,6 +9,13 @@
 //! outcome means. [`run_samples`], [`run_at`], [`run_check`], [`run_settle`], [`run_find`],
 //! [`run_refute`], [`run_seek`] and [`run_envelope`] are the engines of the commands, for a
 //! program, with a hasher of a fixed key.
+//!
+//! A run on feeds, as `run` of `worked_examples/src/engines/trial.rt`, which the gate runs:
+//!
+//! ```text
+//! let hasher = BuildHasherDefault::<FoldHasher>::new();
+//! audit::run(alloc, asked, &mut claim, &mut second, capture, out, hasher)
+//! ```
 
 #![tactic(auto)]
 

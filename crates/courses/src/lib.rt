@@ -15,7 +15,7 @@
 //! it if they are false (specs/Conflicts). [`conflicts_of`] makes it of the exchanges, and by it
 //! [`course_fits`] settles whether any course fits.
 //!
-//! Whether any course fits, as [`course_fits`] asks it, with its proof:
+//! Whether any course fits, as [`course_fits`] of `courses/src/fits.rt` asks it, with its proof:
 //!
 //! ```text
 //! let found = conflicts_of(alloc, exchanges, claim)?;

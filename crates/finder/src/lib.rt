@@ -15,6 +15,14 @@
 //! one of the given covers false. [`settle`] gives a certificate of fewest pieces or a refutation
 //! with drift; or else the tick where such pieces stop, or all conflicts if no course of events
 //! fits. [`laws`] has what holds of the definitions.
+//!
+//! What is found of a sample, as `finds` of `worked_examples/src/checking/finds.rt` asks for it,
+//! which the gate runs:
+//!
+//! ```text
+//! let found = find(alloc, &samples, &claim, step_s);
+//! assert_equal_at(rt, answer_of(&found), wanted, (terms, step_s));
+//! ```
 
 #![tactic(auto)]
 

@@ -3,6 +3,20 @@
 //! What is written last stands first, so the first piece to write is the line feed. A piece of text
 //! is written once, in the place where it stays, which can't fail and takes no memory. The whole
 //! line is then one slice to copy.
+//!
+//! A line of named fields, as `nothing_text` of `audit_text/src/nothing.rt` adds it to a text, with
+//! its proof:
+//!
+//! ```text
+//! let fields = [
+//!     Field::Word("nothing"),
+//!     Field::Named("piece", u64::from(piece)),
+//!     Field::Word("hull"),
+//!     hull_low(hull),
+//!     hull_high(hull),
+//! ];
+//! add_line(&mut text, style, &fields)?;
+//! ```
 
 #![tactic(auto)]
 

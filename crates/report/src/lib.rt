@@ -5,6 +5,18 @@
 //! devices have failed, and `specs/Runs` what is left of its inputs. An `Output` is the way of a
 //! text to a sink; ended by `close` it keeps that promise, and so does `publish` for a text that is
 //! made whole before.
+//!
+//! A text that is made whole, on its way to a sink, as `goes_out` of
+//! `worked_examples/src/engines/reports.rt`, which the gate runs:
+//!
+//! ```text
+//! let made = Ok(Made {
+//!     text: assert_ok(rt, b"a text".as_slice().to_vec(alloc)),
+//!     outcome: Outcome::No,
+//! });
+//! assert_equal(rt, publish(&mut out, &made), answer);
+//! assert_equal(rt, out.bytes().len(), held);
+//! ```
 
 #![tactic(auto)]
 

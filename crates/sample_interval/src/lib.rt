@@ -12,6 +12,16 @@
 //!
 //! A [`SampleSource`] gives samples under their numbers. A slice of them is one, and so is
 //! [`ExchangeSamples`], which makes each sample from its exchange when it is asked for.
+//!
+//! What an exchange of 20 ms says, as `exact_readings` of `worked_examples/src/checking/samples.rt`
+//! asks for it, which the gate runs:
+//!
+//! ```text
+//! let x = exchange();
+//! assert_equal(&rt, offset(&x, 0), (-4295, 1));
+//! assert_equal(&rt, delay(&x, 0), (85_895_050, 85_903_641));
+//! assert_equal(&rt, sample(&x, 0), twenty_milliseconds());
+//! ```
 
 #![tactic(auto)]
 

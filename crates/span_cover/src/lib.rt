@@ -11,6 +11,14 @@
 //!
 //! Each is exact by its contract, takes no memory and refuses nothing. [`laws`] has what holds of
 //! the definitions.
+//!
+//! The best samples of a server, as `best_samples` of `worked_examples/src/checking/pieces.rt` asks
+//! for them, which the gate runs:
+//!
+//! ```text
+//! let samples = [twenty_milliseconds()];
+//! assert_equal(&rt, best(&samples, server, TICK, TICK, 0), chosen);
+//! ```
 
 #![tactic(auto)]
 

@@ -21,6 +21,13 @@
 //! once, by a sort, and [`parts_over`] says by a search what the best of them say over any one
 //! piece. Of the samples that are early the table has only those that are higher than all before
 //! them, so that the last of these up to the piece's middle is the highest.
+//!
+//! The hull over any one piece, as `hull_over` of `finder/src/longest.rt`, with its proof:
+//!
+//! ```text
+//! let parts = parts_over(tables, i128::from(begin), i128::from(end), claim.drift_ppb);
+//! piece_hull(parts.as_slice(), claim.groups.as_slice(), claim.false_max)
+//! ```
 
 #![tactic(auto)]
 
