@@ -1,8 +1,8 @@
 //! The best samples for one end.
 
-ghost use Rattle.std.specs.Prelude.{◌≤◌, ◌<◌, length, All, IfOk, IfSome};
+ghost use Rattle.std.specs.Prelude.{◌≡◌, ◌≤◌, ◌<◌, length, All, IfOk, IfSome, map};
 ghost use Rattle.sample_interval.specs.Widening.{IsRate};
-ghost use Rattle.sweep.specs.Extreme.{IsLawfulExtreme};
+ghost use Rattle.sweep.specs.Extreme.{IsLawfulExtreme, number_at};
 ghost use Rattle.sweep.specs.Stretch.{IsLawfulStretch, MiddlesRise};
 ghost use Rattle.sweep.specs.Top.{AreLateTops, AreTopNumbers};
 
@@ -55,7 +55,7 @@ fn clear_numbers(
     widening_is_one_number();
     let early = crests_of(alloc, extremes, false, drift_ppb)?;
     let late = crests_of(alloc, extremes, true, drift_ppb)?;
-    let mut numbers = Vec::with_capacity(alloc, stretches.len())?;
+    let mut indices = Vec::with_capacity(alloc, stretches.len())?;
     let mut early_count = 0;
     let mut late_count = late.len();
     for k in 0..stretches.len() {
@@ -68,9 +68,22 @@ fn clear_numbers(
         let Some(index) = highest_index(early_rise, late_rise, drift_ppb) else {
             return Ok(None);
         };
-        numbers.push(extremes[index as usize].number)?;
+        indices.push(index)?;
     }
-    Ok(Some(numbers))
+    Ok(Some(numbers_at(alloc, extremes, indices.as_slice())?))
+}
+
+/// The numbers of the extremes at these indices. They are looked up in a loop of their own, so that
+/// the processor has several loads under way at once.
+fn numbers_at(alloc: Global, extremes: &[Extreme], indices: &[u32]) -> Result<Vec<u32>, AllocError>
+    requires { All (λ index. index < length extremes.now) indices.now }
+    ensures { IfOk result (λ numbers. numbers.items ≡ map (number_at extremes.now) indices.now) }
+{
+    let mut numbers = Vec::with_capacity(alloc, indices.len())?;
+    for index in indices {
+        numbers.push(extremes[*index as usize].number)?;
+    }
+    Ok(numbers)
 }
 
 /// The same by rankings.

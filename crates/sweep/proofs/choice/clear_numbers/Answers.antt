@@ -1,8 +1,9 @@
-use Rattle.std.proofs.Common.{◌≡◌, ◌≤◌, ℕ, List, Option, Some, map, get_or, length, subst, sym}
-use Rattle.std.specs.List.{slice_get}
+use Rattle.std.proofs.Common.{◌≡◌, ◌≤◌, ◌<◌, ◌+◌, ℕ, List, Option, Some, map, get_or, length, subst, sym}
+use Rattle.std.specs.List.{slice_get, All}
+use Rattle.std.proofs.lemmas.List.Elements.{All-push}
 use Rattle.std.proofs.lemmas.Option.{slice_get-get_or}
 use Rattle.sweep.specs.Crest.{AreCrestsOf}
-use Rattle.sweep.specs.Extreme.{mirrored_extreme}
+use Rattle.sweep.specs.Extreme.{mirrored_extreme, number_at}
 use Rattle.sweep.specs.Rise.{IsHighest, IsRiseOf, IsLateRiseOf}
 use Rattle.sweep.specs.Stretch.{mirrored_stretch}
 use Rattle.sweep.specs.declared.crest.Crest.{Crest}
@@ -27,21 +28,6 @@ module _ (ppb : ℕ) (extremes : List Extreme) (stretch : Stretch) where
       subst (λ (s : Stretch). IsRiseOf ppb (map mirrored_extreme extremes) s rise) turned
       (rises (map mirrored_extreme extremes) (subst (AreCrestsOf ppb (map mirrored_extreme extremes)) (sym same) are))
 
-pub bounds-extremes-index : goal.bounds-extremes-index
-bounds-extremes-index c =
-    let stretch : Stretch = get_or c.args.stretches.now c.loop-k.k (record { begin = 0; end = 0 }) in
-    let here : slice_get c.args.stretches.now c.loop-k.k ≡ Some stretch =
-    slice_get-get_or c.args.stretches.now c.loop-k.k (record { begin = 0; end = 0 }) c.loop-k-test.true in
-    highest_within c.widening_is_one_number.ensures.is c.args.drift_ppb c.requires.rate c.args.extremes.now
-    c.requires.extremes c.args.stretches.now c.requires.stretches c.loop-k.k c.loop-k-test.true stretch here
-    c.in-Some.index
-    (c.in-Some.ensures c.args.extremes.now stretch
-    (of_early c.args.drift_ppb c.args.extremes.now stretch c.in_ok-early.early.items _ _ c.in_ok-early.ensures
-    c.deref-in-loop-k-2.ensures.value c.rise_over-early_rise.ensures)
-    (of_late c.args.drift_ppb c.args.extremes.now stretch _ c.in_ok-late.late.items _ _
-    c.mirrored_stretch-mirrored.ensures c.in_ok-late.ensures c.deref-in-loop-k-3.ensures.value
-    c.rise_over-late_rise.ensures))
-
 pub loop-k-preserved : goal.loop-k-preserved
 loop-k-preserved c =
     let stretch : Stretch = get_or c.args.stretches.now c.loop-k.k (record { begin = 0; end = 0 }) in
@@ -54,17 +40,22 @@ loop-k-preserved c =
     (of_late c.args.drift_ppb c.args.extremes.now stretch _ c.in_ok-late.late.items _ _
     c.mirrored_stretch-mirrored.ensures c.in_ok-late.ensures c.deref-in-loop-k-3.ensures.value
     c.rise_over-late_rise.ensures) in
-    let within = highest_within c.widening_is_one_number.ensures.is c.args.drift_ppb c.requires.rate
-    c.args.extremes.now c.requires.extremes c.args.stretches.now c.requires.stretches c.loop-k.k c.loop-k-test.true
-    stretch here c.in-Some.index highest in
     record {
       so_far =
-          subst (NumbersSoFar c.args.drift_ppb c.args.extremes.now c.args.stretches.now _)
+          subst (λ (xs : List ℕ).
+          NumbersSoFar c.args.drift_ppb c.args.extremes.now c.args.stretches.now (c.loop-k.k + 1)
+          (map (number_at c.args.extremes.now) xs))
           (sym c.in_ok-push.ensures.items)
           (highest_more c.widening_is_one_number.ensures.is c.args.drift_ppb c.requires.rate c.args.extremes.now
           c.requires.extremes c.args.stretches.now c.requires.stretches c.loop-k.k c.loop-k-test.true stretch here
-          c.in-Some.index highest _ (slice_get-get_or c.args.extremes.now c.in-Some.index _ within)
-          c.loop-k.numbers.items c.loop-k.invariant.so_far);
+          c.in-Some.index highest c.loop-k.indices.items c.loop-k.invariant.so_far);
+      within =
+          subst (All (λ (index : ℕ). index < length c.args.extremes.now)) (sym c.in_ok-push.ensures.items)
+          (All-push (λ (index : ℕ). index < length c.args.extremes.now) c.loop-k.indices.items c.in-Some.index
+          c.loop-k.invariant.within
+          (highest_within c.widening_is_one_number.ensures.is c.args.drift_ppb c.requires.rate c.args.extremes.now
+          c.requires.extremes c.args.stretches.now c.requires.stretches c.loop-k.k c.loop-k-test.true stretch here
+          c.in-Some.index highest));
       early = subst (λ (xs : List Crest). c.count_upto-early_count.result ≤ length xs) c.deref.ensures.value
           c.count_upto-early_count.ensures.within;
       late = subst (λ (xs : List Crest). c.count_upto-late_count.result ≤ length xs) c.deref-in-loop-k.ensures.value
