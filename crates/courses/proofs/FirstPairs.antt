@@ -1,7 +1,6 @@
--- The first two marks of two groups that aren't compatible are of the first two exchanges that contradict each other.
-use Rattle.std.proofs.Common.{◌≡◌, ◌≢◌, ℕ, zero, suc, ◌+◌, ◌<◌, ◌≤◌, ◌≤ℤ◌, ◌⊎◌, inl, inr, ⊎_elim, Bool, true, false, true≢false, List, [], ◌∷◌, Some, length, map, get_or, slice_get, refl, sym, ap, ◌∙◌, subst, arith}
-use Rattle.std.specs.Prelude.{All, ◌==◌, ◌||◌}
-use Rattle.std.proofs.lemmas.Int.{ints}
+-- The first marks of two groups that aren't compatible are of the first two exchanges that contradict each other.
+use Rattle.std.proofs.Common.{◌≡◌, ◌≢◌, ℕ, ◌+◌, ◌<◌, ◌≤◌, ◌⊎◌, inl, inr, ⊎_elim, Bool, true, false, true≢false, List, Option, None, Some, length, map, get_or, slice_get, pos, refl, sym, ap, ◌∙◌, subst, arith}
+use Rattle.std.specs.Prelude.{◌==◌, slice_index, MatchOption}
 use Rattle.std.proofs.lemmas.Bool.{cond-true, cond-false, cases_lt}
 use Rattle.std.proofs.lemmas.Bool.Decides.{nat_tests}
 use Rattle.std.proofs.lemmas.List.{get_or-map, length-map}
@@ -10,50 +9,18 @@ use Rattle.claim_file.specs.Claim.{ClaimData}
 use Rattle.marks.specs.Compatible.{AllCompatible}
 use Rattle.marks.specs.Conflict.{IsFirstConflict}
 use Rattle.marks.specs.Mark.{low_mark, high_mark, IsPossible, AreCompatible}
-use Rattle.marks.specs.Range.{IsWithinRange}
 use Rattle.marks.specs.declared.mark.Mark.{Mark}
-use Rattle.marks.proofs.Compatibility.{no_higher}
 use Rattle.pairing.specs.declared.exchange.Exchange.{Exchange}
-use Rattle.courses.specs.Contradiction.{Pair, AreOfGroups, IsContradiction, IsFirstContradiction, IsNoLater, HasContradiction}
-use Rattle.courses.specs.Cover.{group_of, HasImpossible, Contradicts}
-use Rattle.courses.specs.GroupMarks.{IsSound}
-use Rattle.courses.specs.PairMarks.{is_of_either, low_of, high_of, lowest_mark, highest_mark, IsImpossibleAt, IsFirstImpossible}
-use Rattle.courses.proofs.GroupMarks.{sound_isnt_broken}
+use Rattle.courses.specs.Contradiction.{Pair, IsContradiction, IsNoLater}
+use Rattle.courses.specs.Cover.{group_of}
+use Rattle.courses.specs.GroupMarks.{group_exchanges, group_lows, group_highs}
+use Rattle.courses.specs.NumberedMarks.{group_numbers, IsFirstApart, AreNumberedOf, IsFirstIfAny}
+use Rattle.courses.specs.PairMarks.{IsImpossibleAt, IsFirstImpossible, pair_of, is_no_later, earlier, twice}
+use Rattle.courses.specs.declared.contradiction.Contradiction.{Contradiction}
+use Rattle.courses.specs.declared.numbered_marks.NumberedMarks.{NumberedMarks}
+use Rattle.courses.proofs.GroupMarks.{equal_from, equal_to, never_both}
+use Rattle.courses.proofs.PassingNumbers.{Found, exchange_at, found, no_less, one_there, placed, rising}
 use Rattle.courses.proofs.TrueExchanges.{by_test}
-
--- ---- marks that ask for nothing
-
-least : (m : Mark) → IsWithinRange m → lowest_mark.error ≤ℤ m.error
-least m range = let size = range.error in omega (arith, ints, size)
-
-greatest : (m : Mark) → IsWithinRange m → m.error ≤ℤ highest_mark.error
-greatest m range = let size = range.error in omega (arith, ints, size)
-
--- ---- numbers
-
-exchange_at : (xs : List Exchange) (k : ℕ) → k < length xs → (x : Exchange) × (slice_get xs k ≡ Some x)
-exchange_at [] k below = absurd (omega arith)
-exchange_at (x ∷ xs) zero below = (x, refl)
-exchange_at (x ∷ xs) (suc k) below = exchange_at xs k (omega arith)
-
-either_from : (g a b : ℕ) → ((g == a) || (g == b)) ≡ true → (g ≡ a) ⊎ (g ≡ b)
-either_from g a b is = grind (arith, nat_tests)
-
-either_first : (g a b : ℕ) → g ≡ a → ((g == a) || (g == b)) ≡ true
-either_first g a b is = grind (arith, nat_tests)
-
-either_second : (g a b : ℕ) → g ≡ b → ((g == a) || (g == b)) ≡ true
-either_second g a b is = grind (arith, nat_tests)
-
-same_or_apart : (a b : ℕ) → (a ≡ b) ⊎ (a ≢ b)
-same_or_apart a b = by_test (a == b) (λ t. inl (grind (arith, nat_tests))) (λ t. inr (grind (arith, nat_tests)))
-
-pub no_later_through : (p q r : Pair) → IsNoLater p q → IsNoLater q r → IsNoLater p r
-no_later_through p q r h k = ⊎_elim
-    (λ (lt : p.low < q.low). ⊎_elim (λ (lt' : q.low < r.low). inl (omega arith))
-    (λ same. let eq = same.0 in inl (omega (arith, eq))) k)
-    (λ same. let eq = same.0 in let le = same.1 in ⊎_elim (λ (lt' : q.low < r.low). inl (omega (arith, eq)))
-    (λ same'. let eq' = same'.0 in let le' = same'.1 in inr (eq ∙ eq', omega (arith, le, le'))) k) h
 
 -- ---- one exchange after another
 
@@ -63,9 +30,6 @@ last_of k n h = ⊎_elim (λ (lt : k < n). inl lt) (λ (le : n ≤ k). inr (omeg
 past_end : (k n m : ℕ) → k < m → m ≡ n → n ≤ k → ⊥
 past_end k n m below same past = omega arith
 
-one_of_one : (g a : ℕ) → (g ≡ a) ⊎ (g ≡ a) → g ≡ a
-one_of_one g a = ⊎_elim (λ h. h) (λ h. h)
-
 is_twice : (b : Bool) → b ≡ true → b ≡ false → ⊥
 is_twice b t f = true≢false (sym t ∙ f)
 
@@ -73,19 +37,19 @@ module _ (claim : ClaimData) (xs : List Exchange) (group : ℕ) where
   one_exchange : (k : ℕ) (x y : Exchange) → slice_get xs k ≡ Some x → slice_get xs k ≡ Some y → x ≡ y
   one_exchange k x y at_x at_y = let is : Some x ≡ Some y = sym at_x ∙ at_y in cc
 
-  pub impossible_here : (k : ℕ) (x : Exchange) → slice_get xs k ≡ Some x → is_of_either claim group group x ≡ true
+  pub impossible_here : (k : ℕ) (x : Exchange) → slice_get xs k ≡ Some x → (group_of claim x == group) ≡ true
       → (IsPossible claim.reading x → ⊥) → IsImpossibleAt claim xs group k
   impossible_here k x at is cannot = record {
     exchange = x;
     stands = at;
-    in_group = one_of_one (group_of claim x) group (either_from (group_of claim x) group group is);
+    in_group = equal_from (group_of claim x) group is;
     impossible = cannot;
   }
 
-  pub not_of_group : (k : ℕ) (x : Exchange) → slice_get xs k ≡ Some x → is_of_either claim group group x ≡ false
+  pub not_of_group : (k : ℕ) (x : Exchange) → slice_get xs k ≡ Some x → (group_of claim x == group) ≡ false
       → IsImpossibleAt claim xs group k → ⊥
   not_of_group k x at isnt h =
-      is_twice (is_of_either claim group group x) (either_first (group_of claim x) group group
+      is_twice (group_of claim x == group) (equal_to (group_of claim x) group
       (ap (group_of claim) (one_exchange k x h.exchange at h.stands) ∙ h.in_group)) isnt
 
   pub possible_here : (k : ℕ) (x : Exchange) → slice_get xs k ≡ Some x → IsPossible claim.reading x
@@ -104,280 +68,378 @@ module _ (claim : ClaimData) (xs : List Exchange) (group : ℕ) where
       (λ (le : n ≤ k). let below = slice_get_within xs k h.exchange h.stands in absurd (omega (arith, below, same)))
       (cases_lt k n)
 
+-- ---- pairs, in their order
+
+pub no_later_through : (p q r : Pair) → IsNoLater p q → IsNoLater q r → IsNoLater p r
+no_later_through p q r h k = ⊎_elim
+    (λ (lt : p.low < q.low). ⊎_elim (λ (lt' : q.low < r.low). inl (omega arith))
+    (λ same. let eq = same.0 in inl (omega (arith, eq))) k)
+    (λ same. let eq = same.0 in let le = same.1 in ⊎_elim (λ (lt' : q.low < r.low). inl (omega (arith, eq)))
+    (λ same'. let eq' = same'.0 in let le' = same'.1 in inr (eq ∙ eq', omega (arith, le, le'))) k) h
+
+no_later_by_test : (a b : Contradiction) → is_no_later a b ≡ true → IsNoLater (pair_of a) (pair_of b)
+no_later_by_test a b t = grind (arith, nat_tests)
+
+later_by_test : (a b : Contradiction) → is_no_later a b ≡ false → IsNoLater (pair_of b) (pair_of a)
+later_by_test a b t = grind (arith, nat_tests)
+
+-- a pair that is one of these, and no later than any
+abbrev IsFirstOf : (Pair → Type 0) → Pair → Type 0
+IsFirstOf P pair = P pair × ((other : Pair) → P other → IsNoLater pair other)
+
+abbrev Answers : (Pair → Type 0) → Option Contradiction → Type 0
+Answers P found = MatchOption found ((pair : Pair) → P pair → ⊥) (λ c. IsFirstOf P (pair_of c))
+
+module _ (P Q R : Pair → Type 0) (one_is : (pair : Pair) → P pair → R pair) (other_is : (pair : Pair) → Q pair → R pair)
+    (split : (pair : Pair) → R pair → P pair ⊎ Q pair) where
+  first_of_one : (a : Pair) → IsFirstOf P a → ((pair : Pair) → Q pair → IsNoLater a pair) → IsFirstOf R a
+  first_of_one a first no_later =
+      (one_is a first.0, λ pair h. ⊎_elim (λ p. first.1 pair p) (λ q. no_later pair q) (split pair h))
+
+  first_of_other : (b : Pair) → IsFirstOf Q b → ((pair : Pair) → P pair → IsNoLater b pair) → IsFirstOf R b
+  first_of_other b first no_later =
+      (other_is b first.0, λ pair h. ⊎_elim (λ p. no_later pair p) (λ q. first.1 pair q) (split pair h))
+
+  first_of_both : (one other : Option Contradiction) → Answers P one → Answers Q other → Answers R (earlier one other)
+  first_of_both None None none none' = λ pair h. ⊎_elim (λ p. none pair p) (λ q. none' pair q) (split pair h)
+  first_of_both None (Some b) none first = first_of_other (pair_of b) first (λ pair p. absurd (none pair p))
+  first_of_both (Some a) None first none = first_of_one (pair_of a) first (λ pair q. absurd (none pair q))
+  first_of_both (Some a) (Some b) first first' = by_test (is_no_later a b)
+      (λ t. subst (Answers R) (sym (cond-true (is_no_later a b) (Some a) (Some b) t))
+      (first_of_one (pair_of a) first
+      (λ pair q. no_later_through (pair_of a) (pair_of b) pair (no_later_by_test a b t) (first'.1 pair q))))
+      (λ t. subst (Answers R) (sym (cond-false (is_no_later a b) (Some a) (Some b) t))
+      (first_of_other (pair_of b) first'
+      (λ pair p. no_later_through (pair_of b) (pair_of a) pair (later_by_test a b t) (first.1 pair p))))
+
+-- ---- marks that aren't compatible
+
+pub some_mark : Mark
+some_mark = record { place = pos 0; error = pos 0 }
+
+-- the low mark of an exchange of the one group and the high mark of one of the other
+record IsApart (claim : ClaimData) (xs : List Exchange) (a b : ℕ) (pair : Pair) : Type 0 where
+  low : Exchange
+  high : Exchange
+  low_stands : slice_get xs pair.low ≡ Some low
+  high_stands : slice_get xs pair.high ≡ Some high
+  in_low : group_of claim low ≡ a
+  in_high : group_of claim high ≡ b
+  apart : AreCompatible claim.drift_ppb (low_mark claim.reading low) (high_mark claim.reading high) → ⊥
+
+at_map : (f : Exchange → Mark) (xs : List Exchange) (k : ℕ) (x : Exchange) (d : Mark) → slice_get xs k ≡ Some x
+    → get_or (map f xs) k d ≡ f x
+at_map f xs k x d at = get_or-map f xs k x d (slice_get_within xs k x at) ∙ ap f (get_or_from_slice_get xs k x x at)
+
+within_map : (f : Exchange → Mark) (xs : List Exchange) (k : ℕ) (x : Exchange) → slice_get xs k ≡ Some x
+    → k < length (map f xs)
+within_map f xs k x at = rw (length-map xs f) (slice_get_within xs k x at)
+
+mapped_at : (f : Exchange → Mark) (xs : List Exchange) (k : ℕ) → k < length (map f xs)
+    → (x : Exchange) × (slice_get xs k ≡ Some x)
+mapped_at f xs k below = exchange_at xs k (subst (λ (n : ℕ). k < n) (length-map xs f) below)
+
 module _ (claim : ClaimData) (xs : List Exchange) (a b : ℕ) where
-  abbrev lows : List Mark
-  lows = map (low_of claim a b) xs
+  abbrev is_of : ℕ → Exchange → Bool
+  is_of group x = group_of claim x == group
 
-  abbrev highs : List Mark
-  highs = map (high_of claim a b) xs
+  abbrev Compatible : Mark → Mark → Type 0
+  Compatible low high = AreCompatible claim.drift_ppb low high
 
-  at_map : (f : Exchange → Mark) (k : ℕ) (x : Exchange) (d : Mark) → slice_get xs k ≡ Some x
-      → get_or (map f xs) k d ≡ f x
-  at_map f k x d at = get_or-map f xs k x d (slice_get_within xs k x at) ∙ ap f (get_or_from_slice_get xs k x x at)
+  none_apart : AllCompatible claim.drift_ppb (group_lows claim xs a) (group_highs claim xs b) → (pair : Pair)
+      → IsApart claim xs a b pair → ⊥
+  none_apart all pair h = never_both claim xs a b all (record {
+    low_number = pair.low;
+    high_number = pair.high;
+    low = h.low;
+    high = h.high;
+    low_stands = h.low_stands;
+    high_stands = h.high_stands;
+    in_low_group = h.in_low;
+    in_high_group = h.in_high;
+    not_compatible = h.apart;
+  })
 
-  within_map : (f : Exchange → Mark) (k : ℕ) (x : Exchange) → slice_get xs k ≡ Some x → k < length (map f xs)
-  within_map f k x at = rw (length-map xs f) (slice_get_within xs k x at)
+  module _ (i j : ℕ) (first : IsFirstConflict claim.drift_ppb (group_lows claim xs a) (group_highs claim xs b) i j)
+      (pair : Pair) (low_is : pair.low ≡ slice_index (group_numbers claim xs a) i)
+      (high_is : pair.high ≡ slice_index (group_numbers claim xs b) j) (d : Mark) where
+    abbrev lows : List Mark
+    lows = group_lows claim xs a
 
-  mapped_at : (f : Exchange → Mark) (k : ℕ) → k < length (map f xs) → (x : Exchange) × (slice_get xs k ≡ Some x)
-  mapped_at f k below = exchange_at xs k (subst (λ (n : ℕ). k < n) (length-map xs f) below)
+    abbrev highs : List Mark
+    highs = group_highs claim xs b
 
-  real_low : (x : Exchange) → is_of_either claim a b x ≡ true → low_of claim a b x ≡ low_mark claim.reading x
-  real_low x is = cond-true (is_of_either claim a b x) (low_mark claim.reading x) lowest_mark is
+    not_fit : Compatible (get_or lows i d) (get_or highs j d) → ⊥
+    not_fit = (first.first_of_it d).conflicts d
 
-  real_high : (x : Exchange) → is_of_either claim a b x ≡ true → high_of claim a b x ≡ high_mark claim.reading x
-  real_high x is = cond-true (is_of_either claim a b x) (high_mark claim.reading x) highest_mark is
+    number_is : (group k n m : ℕ) → n ≡ slice_index (group_numbers claim xs group) k
+        → slice_get (group_numbers claim xs group) k ≡ Some (0 + m) → n ≡ m
+    number_is group k n m is at =
+        let read = get_or_from_slice_get (group_numbers claim xs group) k (0 + m) 0 at in
+        let same : 0 + m ≡ m = omega arith in
+        is ∙ read ∙ same
 
-  no_low : (x : Exchange) → is_of_either claim a b x ≡ false → low_of claim a b x ≡ lowest_mark
-  no_low x is = cond-false (is_of_either claim a b x) (low_mark claim.reading x) lowest_mark is
+    stands_there : (n m : ℕ) (x : Exchange) → n ≡ m → slice_get xs m ≡ Some x → slice_get xs n ≡ Some x
+    stands_there n m x same at = subst (λ (k : ℕ). slice_get xs k ≡ Some x) (sym same) at
 
-  no_high : (x : Exchange) → is_of_either claim a b x ≡ false → high_of claim a b x ≡ highest_mark
-  no_high x is = cond-false (is_of_either claim a b x) (high_mark claim.reading x) highest_mark is
+    module _ (x y : Exchange) (at_x : slice_get (group_exchanges claim xs a) i ≡ Some x)
+        (at_y : slice_get (group_exchanges claim xs b) j ≡ Some y) where
+      low_found : Found (is_of a) 0 xs i x
+      low_found = found (is_of a) 0 xs i x at_x
 
-  of_either : (x y : Exchange) → AreOfGroups claim a b x y
-      → (is_of_either claim a b x ≡ true) × (is_of_either claim a b y ≡ true)
-  of_either x y = ⊎_elim
-      (λ h. (either_first (group_of claim x) a b h.0, either_second (group_of claim y) a b h.1))
-      (λ h. (either_second (group_of claim x) a b h.0, either_first (group_of claim y) a b h.1))
+      high_found : Found (is_of b) 0 xs j y
+      high_found = found (is_of b) 0 xs j y at_y
 
-  -- two exchanges that contradict each other by their marks have marks in the lists that aren't compatible
-  marks_apart : (pair : Pair) (h : IsContradiction claim xs a b pair)
-      → (AreCompatible claim.drift_ppb (low_mark claim.reading h.low) (high_mark claim.reading h.high) → ⊥)
-      → (d e : Mark) → AreCompatible claim.drift_ppb (get_or lows pair.low d) (get_or highs pair.high e) → ⊥
-  marks_apart pair h apart d e fits =
-      let groups = of_either h.low h.high h.of_groups in
-      apart (subst (λ (m : Mark). AreCompatible claim.drift_ppb m (high_mark claim.reading h.high))
-      (at_map (low_of claim a b) pair.low h.low d h.low_stands ∙ real_low h.low groups.0)
-      (subst (λ (m : Mark). AreCompatible claim.drift_ppb (get_or lows pair.low d) m)
-      (at_map (high_of claim a b) pair.high h.high e h.high_stands ∙ real_high h.high groups.1) fits))
+      these_apart : IsApart claim xs a b pair
+      these_apart = record {
+        low = x;
+        high = y;
+        low_stands = stands_there pair.low low_found.number x (number_is a i pair.low low_found.number low_is low_found.is)
+            low_found.stands;
+        high_stands =
+            stands_there pair.high high_found.number y (number_is b j pair.high high_found.number high_is high_found.is)
+            high_found.stands;
+        in_low = equal_from (group_of claim x) a low_found.passes;
+        in_high = equal_from (group_of claim y) b high_found.passes;
+        apart = λ fits. not_fit
+            (subst (λ (m : Mark). Compatible m (get_or highs j d))
+            (sym (at_map (low_mark claim.reading) (group_exchanges claim xs a) i x d at_x))
+            (subst (λ (m : Mark). Compatible (low_mark claim.reading x) m)
+            (sym (at_map (high_mark claim.reading) (group_exchanges claim xs b) j y d at_y)) fits));
+      }
 
-  abbrev IsApart : Pair → Type 0
-  IsApart pair = (h : IsContradiction claim xs a b pair)
-      × (AreCompatible claim.drift_ppb (low_mark claim.reading h.low) (high_mark claim.reading h.high) → ⊥)
+      low_number : slice_get (group_numbers claim xs a) i ≡ Some pair.low
+      low_number = low_found.is
+          ∙ ap Some (let same = number_is a i pair.low low_found.number low_is low_found.is in omega (arith, same))
 
-  pub none_apart : AllCompatible claim.drift_ppb lows highs → (pair : Pair) → IsApart pair → ⊥
-  none_apart all pair (h, apart) =
-      marks_apart pair h apart lowest_mark lowest_mark
-      (all pair.low lowest_mark (within_map (low_of claim a b) pair.low h.low h.low_stands) pair.high lowest_mark
-      (within_map (high_of claim a b) pair.high h.high h.high_stands))
+      high_number : slice_get (group_numbers claim xs b) j ≡ Some pair.high
+      high_number = high_found.is
+          ∙ ap Some (let same = number_is b j pair.high high_found.number high_is high_found.is in omega (arith, same))
 
-  module _ (i j : ℕ) (first : IsFirstConflict claim.drift_ppb lows highs i j) where
-    abbrev here : Pair
-    here = record { low = i; high = j }
+      module _ (other : Pair) (h : IsApart claim xs a b other) (i' j' : ℕ)
+          (at_i : slice_get (group_exchanges claim xs a) i' ≡ Some h.low)
+          (at_j : slice_get (group_exchanges claim xs b) j' ≡ Some h.high)
+          (is_i : slice_get (group_numbers claim xs a) i' ≡ Some (0 + other.low))
+          (is_j : slice_get (group_numbers claim xs b) j' ≡ Some (0 + other.high)) where
+        others_apart : Compatible (get_or lows i' d) (get_or highs j' d) → ⊥
+        others_apart fits = h.apart
+            (subst (λ (m : Mark). Compatible m (high_mark claim.reading h.high))
+            (at_map (low_mark claim.reading) (group_exchanges claim xs a) i' h.low d at_i)
+            (subst (λ (m : Mark). Compatible (get_or lows i' d) m)
+            (at_map (high_mark claim.reading) (group_exchanges claim xs b) j' h.high d at_j) fits))
 
-    pub first_apart : (other : Pair) → IsApart other → IsNoLater here other
-    first_apart other (h, apart) = ⊎_elim
-        (λ (lt : other.low < i). absurd (marks_apart other h apart lowest_mark lowest_mark
-        (first.earlier other.low lowest_mark (omega arith) lt other.high lowest_mark
-        (within_map (high_of claim a b) other.high h.high h.high_stands))))
-        (λ (le : i ≤ other.low). ⊎_elim (λ (gt : i < other.low). inl gt)
-        (λ (le' : other.low ≤ i). let same : i ≡ other.low = omega arith in ⊎_elim
-        (λ (lt : other.high < j). absurd (marks_apart other h apart lowest_mark lowest_mark
-        (subst (λ (k : ℕ). AreCompatible claim.drift_ppb (get_or lows k lowest_mark)
-        (get_or highs other.high lowest_mark)) same
-        ((first.first_of_it lowest_mark).earlier other.high lowest_mark (omega arith) lt))))
-        (λ (le'' : j ≤ other.high). inr (same, le''))
-        (cases_lt other.high j))
-        (cases_lt i other.low))
-        (cases_lt other.low i)
+        high_below : j' < length highs
+        high_below = within_map (high_mark claim.reading) (group_exchanges claim xs b) j' h.high at_j
 
-    -- ---- the other way: the first pair of marks is a contradiction
-    module _ (low_range : All IsWithinRange lows) (high_range : All IsWithinRange highs)
-        (sound : a ≢ b → IsSound claim xs a × IsSound claim xs b) where
-      below_low : i < length lows
-      below_low = first.within
+        not_before : i' < i → ⊥
+        not_before lt = others_apart (first.earlier i' d (omega arith) lt j' d high_below)
 
-      below_high : j < length highs
-      below_high = (first.first_of_it lowest_mark).within
+        not_before_high : i ≡ i' → j' < j → ⊥
+        not_before_high same lt = others_apart
+            (subst (λ (k : ℕ). Compatible (get_or lows k d) (get_or highs j' d)) same
+            ((first.first_of_it d).earlier j' d (omega arith) lt))
 
-      not_fit : AreCompatible claim.drift_ppb (get_or lows i lowest_mark) (get_or highs j lowest_mark) → ⊥
-      not_fit = (first.first_of_it lowest_mark).conflicts lowest_mark
+        low_less : i < i' → pair.low < other.low
+        low_less lt =
+            let less = rising (is_of a) 0 xs i i' pair.low (0 + other.low) low_number is_i lt in omega (arith, less)
 
-      module _ (x y : Exchange) (at_x : slice_get xs i ≡ Some x) (at_y : slice_get xs j ≡ Some y) where
-        low_is : get_or lows i lowest_mark ≡ low_of claim a b x
-        low_is = at_map (low_of claim a b) i x lowest_mark at_x
+        low_same : i ≡ i' → pair.low ≡ other.low
+        low_same same =
+            let is = one_there (group_numbers claim xs a) i i' pair.low (0 + other.low) low_number is_i same in
+            omega (arith, is)
 
-        high_is : get_or highs j lowest_mark ≡ high_of claim a b y
-        high_is = at_map (high_of claim a b) j y lowest_mark at_y
+        high_no_more : j ≤ j' → pair.high ≤ other.high
+        high_no_more le =
+            let less = no_less (is_of b) xs j j' pair.high (0 + other.high) high_number is_j le in omega (arith, less)
 
-        x_of_either : is_of_either claim a b x ≡ true
-        x_of_either = by_test (is_of_either claim a b x) (λ is. is) (λ isnt. absurd (not_fit
-            (no_higher claim.drift_ppb (get_or lows i lowest_mark) (get_or highs j lowest_mark)
-            (subst (λ (m : Mark). m.error ≤ℤ (get_or highs j lowest_mark).error) (sym (low_is ∙ no_low x isnt))
-            (least (get_or highs j lowest_mark) (high_range j lowest_mark below_high))))))
+        these_no_later : IsNoLater pair other
+        these_no_later = ⊎_elim (λ (lt : i' < i). absurd (not_before lt))
+            (λ (le : i ≤ i'). ⊎_elim (λ (gt : i < i'). inl (low_less gt))
+            (λ (ge : i' ≤ i). let same : i ≡ i' = omega arith in
+            ⊎_elim (λ (lt : j' < j). absurd (not_before_high same lt))
+            (λ (no_less' : j ≤ j'). inr (low_same same, high_no_more no_less'))
+            (cases_lt j' j)) (cases_lt i i')) (cases_lt i' i)
 
-        y_of_either : is_of_either claim a b y ≡ true
-        y_of_either = by_test (is_of_either claim a b y) (λ is. is) (λ isnt. absurd (not_fit
-            (no_higher claim.drift_ppb (get_or lows i lowest_mark) (get_or highs j lowest_mark)
-            (subst (λ (m : Mark). (get_or lows i lowest_mark).error ≤ℤ m.error) (sym (high_is ∙ no_high y isnt))
-            (greatest (get_or lows i lowest_mark) (low_range i lowest_mark below_low))))))
+      no_later_than_others : (other : Pair) → IsApart claim xs a b other → IsNoLater pair other
+      no_later_than_others other h =
+          let (i', at_i, is_i) = placed (is_of a) 0 xs other.low h.low h.low_stands (equal_to (group_of claim h.low) a h.in_low) in
+          let (j', at_j, is_j) =
+          placed (is_of b) 0 xs other.high h.high h.high_stands (equal_to (group_of claim h.high) b h.in_high) in
+          these_no_later other h i' j' at_i at_j is_i is_j
 
-        apart : AreCompatible claim.drift_ppb (low_mark claim.reading x) (high_mark claim.reading y) → ⊥
-        apart fits = not_fit (subst (λ (m : Mark). AreCompatible claim.drift_ppb m (get_or highs j lowest_mark))
-            (sym (low_is ∙ real_low x x_of_either))
-            (subst (λ (m : Mark). AreCompatible claim.drift_ppb (low_mark claim.reading x) m)
-            (sym (high_is ∙ real_high y y_of_either)) fits))
+      these_first : IsFirstOf (IsApart claim xs a b) pair
+      these_first = (these_apart, no_later_than_others)
 
-        contradicts : (c d : ℕ) → group_of claim x ≡ c → group_of claim y ≡ d → Contradicts claim xs c d
-        contradicts c d is_c is_d = record {
-          low_number = i;
-          high_number = j;
-          low = x;
-          high = y;
-          low_stands = at_x;
-          high_stands = at_y;
-          in_low_group = is_c;
-          in_high_group = is_d;
-          not_compatible = apart;
-        }
+    first_apart : IsFirstOf (IsApart claim xs a b) pair
+    first_apart =
+        let (x, at_x) = mapped_at (low_mark claim.reading) (group_exchanges claim xs a) i first.within in
+        let (y, at_y) =
+        mapped_at (high_mark claim.reading) (group_exchanges claim xs b) j (first.first_of_it d).within in
+        these_first x y at_x at_y
 
-        -- in one of two different groups that are sound, no two marks are apart
-        of_groups : AreOfGroups claim a b x y
-        of_groups = ⊎_elim
-            (λ (x_a : group_of claim x ≡ a). ⊎_elim
-            (λ (y_a : group_of claim y ≡ a). ⊎_elim
-            (λ (same : a ≡ b). inl (x_a, y_a ∙ same))
-            (λ (differ : a ≢ b). absurd (sound_isnt_broken claim xs a (sound differ).0 (inr (contradicts a a x_a y_a))))
-            (same_or_apart a b))
-            (λ (y_b : group_of claim y ≡ b). inl (x_a, y_b))
-            (either_from (group_of claim y) a b y_of_either))
-            (λ (x_b : group_of claim x ≡ b). ⊎_elim
-            (λ (y_a : group_of claim y ≡ a). inr (x_b, y_a))
-            (λ (y_b : group_of claim y ≡ b). ⊎_elim
-            (λ (same : a ≡ b). inl (x_b ∙ sym same, y_b))
-            (λ (differ : a ≢ b). absurd (sound_isnt_broken claim xs b (sound differ).1 (inr (contradicts b b x_b y_b))))
-            (same_or_apart a b))
-            (either_from (group_of claim y) a b y_of_either))
-            (either_from (group_of claim x) a b x_of_either)
+  -- what a search says of the marks that were gathered
+  module _ (one other : NumberedMarks) (of_a : AreNumberedOf claim xs a one) (of_b : AreNumberedOf claim xs b other) where
+    all_there : AllCompatible claim.drift_ppb one.lows.items other.highs.items
+        → AllCompatible claim.drift_ppb (group_lows claim xs a) (group_highs claim xs b)
+    all_there all = subst (λ (ms : List Mark). AllCompatible claim.drift_ppb (group_lows claim xs a) ms) of_b.highs
+        (subst (λ (ms : List Mark). AllCompatible claim.drift_ppb ms other.highs.items) of_a.lows all)
 
-        as_contradiction : IsContradiction claim xs a b here
-        as_contradiction = record {
-          low = x;
-          high = y;
-          low_stands = at_x;
-          high_stands = at_y;
-          of_groups = of_groups;
-          impossible = inl apart;
-        }
+    first_there : (pair : Pair) → IsFirstApart claim.drift_ppb one other pair → IsFirstOf (IsApart claim xs a b) pair
+    first_there pair h = first_apart h.i h.j
+        (subst (λ (ms : List Mark). IsFirstConflict claim.drift_ppb (group_lows claim xs a) ms h.i h.j) of_b.highs
+        (subst (λ (ms : List Mark). IsFirstConflict claim.drift_ppb ms other.highs.items h.i h.j) of_a.lows h.first))
+        pair (h.low ∙ ap (λ (ns : List ℕ). slice_index ns h.i) of_a.numbers)
+        (h.high ∙ ap (λ (ns : List ℕ). slice_index ns h.j) of_b.numbers) some_mark
 
-      pub is_contradiction : IsContradiction claim xs a b here
-      is_contradiction =
-          let (x, at_x) = mapped_at (low_of claim a b) i below_low in
-          let (y, at_y) = mapped_at (high_of claim a b) j below_high in
-          as_contradiction x y at_x at_y
+    answers : (found : Option Contradiction) → MatchOption found
+        (AllCompatible claim.drift_ppb one.lows.items other.highs.items)
+        (λ c. IsFirstApart claim.drift_ppb one other (pair_of c)) → Answers (IsApart claim xs a b) found
+    answers None all = none_apart (all_there all)
+    answers (Some c) first = first_there (pair_of c) first
 
-  -- ---- exchanges that are impossible by themselves
-  module _ (sound : a ≢ b → IsSound claim xs a × IsSound claim xs b) where
-    has_impossible : (group k : ℕ) → IsImpossibleAt claim xs group k → HasImpossible claim xs group
-    has_impossible group k h = record {
-      number = k;
-      exchange = h.exchange;
-      stands = h.stands;
-      in_group = h.in_group;
-      impossible = h.impossible;
-    }
+  if_any : (found : Option Contradiction) → Answers (IsContradiction claim xs a b) found → IsFirstIfAny claim xs a b found
+  if_any None none = λ (pair, h). none pair h
+  if_any (Some c) first = record { is = first.0; first = first.1 }
 
-    one_group : (group k : ℕ) → (group ≡ a) ⊎ (group ≡ b) → IsImpossibleAt claim xs group k → a ≡ b
-    one_group group k which h = ⊎_elim (λ (same : a ≡ b). same)
-        (λ (differ : a ≢ b). absurd (⊎_elim
-        (λ (is : group ≡ a). sound_isnt_broken claim xs a (sound differ).0
-        (inl (has_impossible a k (subst (λ (g : ℕ). IsImpossibleAt claim xs g k) is h))))
-        (λ (is : group ≡ b). sound_isnt_broken claim xs b (sound differ).1
-        (inl (has_impossible b k (subst (λ (g : ℕ). IsImpossibleAt claim xs g k) is h)))) which))
-        (same_or_apart a b)
+  by_low : (pair : Pair) → IsApart claim xs a b pair → IsContradiction claim xs a b pair
+  by_low pair h = record {
+    low = h.low;
+    high = h.high;
+    low_stands = h.low_stands;
+    high_stands = h.high_stands;
+    of_groups = inl (h.in_low, h.in_high);
+    impossible = inl h.apart;
+  }
 
-    pub alone_is_contradiction : (k : ℕ) → IsImpossibleAt claim xs a k
-        → IsContradiction claim xs a b record { low = k; high = k }
-    alone_is_contradiction k h = record {
-      low = h.exchange;
-      high = h.exchange;
-      low_stands = h.stands;
-      high_stands = h.stands;
-      of_groups = inl (h.in_group, h.in_group ∙ one_group a k (inl refl) h);
-      impossible = inr (refl, h.impossible);
-    }
+  by_high : (pair : Pair) → IsApart claim xs b a pair → IsContradiction claim xs a b pair
+  by_high pair h = record {
+    low = h.low;
+    high = h.high;
+    low_stands = h.low_stands;
+    high_stands = h.high_stands;
+    of_groups = inr (h.in_low, h.in_high);
+    impossible = inl h.apart;
+  }
 
-    impossible_at : (pair : Pair) (h : IsContradiction claim xs a b pair) → (IsPossible claim.reading h.low → ⊥)
-        → IsImpossibleAt claim xs a pair.low
-    impossible_at pair h cannot =
-        let at : (g : ℕ) → group_of claim h.low ≡ g → IsImpossibleAt claim xs g pair.low =
-        (λ g is. record { exchange = h.low; stands = h.low_stands; in_group = is; impossible = cannot }) in
-        ⊎_elim (λ straight. at a straight.0)
-        (λ crossed. at a (crossed.0 ∙ sym (one_group b pair.low (inr refl) (at b crossed.0)))) h.of_groups
+  one_exchange_of : (pair : Pair) (h : IsContradiction claim xs a b pair) → pair.low ≡ pair.high
+      → group_of claim h.low ≡ group_of claim h.high
+  one_exchange_of pair h same =
+      ap (group_of claim) (one_there xs pair.low pair.high h.low h.high h.low_stands h.high_stands same)
 
-    -- no later than every pair of either kind
-    pub first_of_both : (pair : Pair) → IsContradiction claim xs a b pair
-        → ((other : Pair) → IsApart other → IsNoLater pair other)
-        → ((k : ℕ) → IsImpossibleAt claim xs a k → IsNoLater pair record { low = k; high = k })
-        → IsFirstContradiction claim xs a b pair
-    first_of_both pair is no_apart no_alone = record {
-      is = is;
-      first = λ other h. ⊎_elim
-          (λ apart. no_apart other (h, apart))
-          (λ one. subst (λ (n : ℕ). IsNoLater pair record { low = other.low; high = n }) one.0
-          (no_alone other.low (impossible_at other h one.1))) h.impossible;
-    }
+  in_two_groups : a ≢ b → (x y : ℕ) → x ≡ y → ((x ≡ a) × (y ≡ b)) ⊎ ((x ≡ b) × (y ≡ a)) → ⊥
+  in_two_groups differ x y same = ⊎_elim (λ h. differ (sym h.0 ∙ same ∙ h.1)) (λ h. differ (sym h.1 ∙ sym same ∙ h.0))
 
-    pub none_of_both : ((other : Pair) → IsApart other → ⊥) → ((k : ℕ) → IsImpossibleAt claim xs a k → ⊥)
-        → HasContradiction claim xs a b → ⊥
-    none_of_both no_apart no_alone (other, h) = ⊎_elim
-        (λ apart. no_apart other (h, apart))
-        (λ one. no_alone other.low (impossible_at other h one.1)) h.impossible
+  either_way : a ≢ b → (pair : Pair) → IsContradiction claim xs a b pair
+      → IsApart claim xs a b pair ⊎ IsApart claim xs b a pair
+  either_way differ pair h = ⊎_elim
+      (λ apart. ⊎_elim
+      (λ straight. inl (record {
+        low = h.low;
+        high = h.high;
+        low_stands = h.low_stands;
+        high_stands = h.high_stands;
+        in_low = straight.0;
+        in_high = straight.1;
+        apart = apart;
+      }))
+      (λ crossed. inr (record {
+        low = h.low;
+        high = h.high;
+        low_stands = h.low_stands;
+        high_stands = h.high_stands;
+        in_low = crossed.0;
+        in_high = crossed.1;
+        apart = apart;
+      })) h.of_groups)
+      (λ one. absurd (in_two_groups differ _ _ (one_exchange_of pair h one.0) h.of_groups)) h.impossible
 
-  pub first_alone : (k other : ℕ) → IsFirstImpossible claim xs a k → IsImpossibleAt claim xs a other
-      → IsNoLater record { low = k; high = k } record { low = other; high = other }
-  first_alone k other first h = ⊎_elim
-      (λ (lt : other < k). absurd (first.first other lt h))
-      (λ (le : k ≤ other). ⊎_elim (λ (gt : k < other). inl gt)
-      (λ (le' : other ≤ k). inr (omega arith, le)) (cases_lt k other))
-      (cases_lt other k)
+-- ---- of two groups
 
-  -- ---- of both kinds the first
-  module _ (sound : a ≢ b → IsSound claim xs a × IsSound claim xs b) where
-    pub none : AllCompatible claim.drift_ppb lows highs → ((k : ℕ) → IsImpossibleAt claim xs a k → ⊥)
-        → HasContradiction claim xs a b → ⊥
-    none all no_alone = none_of_both sound (none_apart all) no_alone
+abbrev IsSearched : ℕ → NumberedMarks → NumberedMarks → Option Contradiction → Type 0
+IsSearched ppb one other found = MatchOption found (AllCompatible ppb one.lows.items other.highs.items)
+    (λ c. IsFirstApart ppb one other (pair_of c))
 
-    pub alone_only : (n : ℕ) → AllCompatible claim.drift_ppb lows highs → IsFirstImpossible claim xs a n
-        → IsFirstContradiction claim xs a b record { low = n; high = n }
-    alone_only n all alone = first_of_both sound record { low = n; high = n } (alone_is_contradiction sound n alone.is)
-        (λ other h. absurd (none_apart all other h)) (λ k h. first_alone n k alone h)
+module _ (claim : ClaimData) (xs : List Exchange) (ppb : ℕ) (rate : claim.drift_ppb ≡ ppb) where
+  at_rate : (one other : NumberedMarks) (found' : Option Contradiction) → IsSearched ppb one other found'
+      → IsSearched claim.drift_ppb one other found'
+  at_rate one other found' h = subst (λ (p : ℕ). IsSearched p one other found') (sym rate) h
 
-    module _ (low_range : All IsWithinRange lows) (high_range : All IsWithinRange highs)
-        (i j : ℕ) (first : IsFirstConflict claim.drift_ppb lows highs i j) where
-      pub apart_only : ((k : ℕ) → IsImpossibleAt claim xs a k → ⊥)
-          → IsFirstContradiction claim xs a b record { low = i; high = j }
-      apart_only no_alone = first_of_both sound record { low = i; high = j }
-          (is_contradiction i j first low_range high_range sound) (first_apart i j first)
-          (λ k h. absurd (no_alone k h))
+  pub first_of_two : (a b : ℕ) (one other : NumberedMarks) (forth back : Option Contradiction) → a ≢ b
+      → AreNumberedOf claim xs a one → AreNumberedOf claim xs b other → IsSearched ppb one other forth
+      → IsSearched ppb other one back → IsFirstIfAny claim xs a b (earlier forth back)
+  first_of_two a b one other forth back differ of_a of_b is_forth is_back =
+      if_any claim xs a b (earlier forth back)
+      (first_of_both (IsApart claim xs a b) (IsApart claim xs b a) (IsContradiction claim xs a b)
+      (by_low claim xs a b) (by_high claim xs a b) (either_way claim xs a b differ) forth back
+      (answers claim xs a b one other of_a of_b forth (at_rate one other forth is_forth))
+      (answers claim xs b a other one of_b of_a back (at_rate other one back is_back)))
 
-      module _ (n : ℕ) (alone : IsFirstImpossible claim xs a n) where
-        pub apart_before : IsNoLater record { low = i; high = j } record { low = n; high = n }
-            → IsFirstContradiction claim xs a b record { low = i; high = j }
-        apart_before no_later = first_of_both sound record { low = i; high = j }
-            (is_contradiction i j first low_range high_range sound) (first_apart i j first)
-            (λ k h. no_later_through record { low = i; high = j } record { low = n; high = n }
-            record { low = k; high = k } no_later (first_alone n k alone h))
+-- ---- of one group
 
-        pub alone_before : IsNoLater record { low = n; high = n } record { low = i; high = j }
-            → IsFirstContradiction claim xs a b record { low = n; high = n }
-        alone_before no_later = first_of_both sound record { low = n; high = n }
-            (alone_is_contradiction sound n alone.is)
-            (λ other h. no_later_through record { low = n; high = n } record { low = i; high = j } other no_later
-            (first_apart i j first other h))
-            (λ k h. first_alone n k alone h)
+-- an exchange of the group that is impossible by itself, in place of two
+record IsAlone (claim : ClaimData) (xs : List Exchange) (group : ℕ) (pair : Pair) : Type 0 where
+  same : pair.low ≡ pair.high
+  at : IsImpossibleAt claim xs group pair.low
+
+module _ (claim : ClaimData) (xs : List Exchange) (a : ℕ) where
+  alone_first : (k : ℕ) (pair : Pair) → IsFirstImpossible claim xs a k → IsAlone claim xs a pair
+      → IsNoLater record { low = k; high = k } pair
+  alone_first k pair first h = let same = h.same in ⊎_elim
+      (λ (lt : pair.low < k). absurd (first.first pair.low lt h.at))
+      (λ (le : k ≤ pair.low). ⊎_elim (λ (gt : k < pair.low). inl gt)
+      (λ (ge : pair.low ≤ k). inr (omega arith, omega (arith, same))) (cases_lt k pair.low))
+      (cases_lt pair.low k)
+
+  alone_answers : (alone : Option ℕ) → MatchOption alone ((k : ℕ) → IsImpossibleAt claim xs a k → ⊥)
+      (λ k. IsFirstImpossible claim xs a k) → Answers (IsAlone claim xs a) (twice alone)
+  alone_answers None none = λ pair h. none pair.low h.at
+  alone_answers (Some k) first = (record { same = refl; at = first.is }, λ pair h. alone_first k pair first h)
+
+  alone_is : (pair : Pair) → IsAlone claim xs a pair → IsContradiction claim xs a a pair
+  alone_is pair h = record {
+    low = h.at.exchange;
+    high = h.at.exchange;
+    low_stands = h.at.stands;
+    high_stands = subst (λ (k : ℕ). slice_get xs k ≡ Some h.at.exchange) h.same h.at.stands;
+    of_groups = inl (h.at.in_group, h.at.in_group);
+    impossible = inr (h.same, h.at.impossible);
+  }
+
+  in_one_group : (x y : ℕ) → ((x ≡ a) × (y ≡ a)) ⊎ ((x ≡ a) × (y ≡ a)) → (x ≡ a) × (y ≡ a)
+  in_one_group x y = ⊎_elim (λ h. h) (λ h. h)
+
+  apart_or_alone : (pair : Pair) → IsContradiction claim xs a a pair → IsApart claim xs a a pair ⊎ IsAlone claim xs a pair
+  apart_or_alone pair h =
+      let groups = in_one_group (group_of claim h.low) (group_of claim h.high) h.of_groups in
+      ⊎_elim
+      (λ apart. inl (record {
+        low = h.low;
+        high = h.high;
+        low_stands = h.low_stands;
+        high_stands = h.high_stands;
+        in_low = groups.0;
+        in_high = groups.1;
+        apart = apart;
+      }))
+      (λ one. inr (record {
+        same = one.0;
+        at = record { exchange = h.low; stands = h.low_stands; in_group = groups.0; impossible = one.1 };
+      })) h.impossible
+
+  pub first_of_own : (ppb : ℕ) → claim.drift_ppb ≡ ppb → (marks : NumberedMarks) (apart : Option Contradiction)
+      → AreNumberedOf claim xs a marks → IsSearched ppb marks marks apart
+      → IsFirstIfAny claim xs a a (earlier apart (twice marks.alone))
+  first_of_own ppb rate marks apart of_a searched =
+      if_any claim xs a a (earlier apart (twice marks.alone))
+      (first_of_both (IsApart claim xs a a) (IsAlone claim xs a) (IsContradiction claim xs a a)
+      (by_low claim xs a a) alone_is apart_or_alone apart (twice marks.alone)
+      (answers claim xs a a marks marks of_a of_a apart (at_rate claim xs ppb rate marks marks apart searched))
+      (alone_answers marks.alone of_a.alone))
 
 -- ---- the same of equal lists
 
-module _ (ppb : ℕ) (ls ls' hs hs' : List Mark) (same_lows : ls ≡ ls') (same_highs : hs ≡ hs') where
-  pub all_same : AllCompatible ppb ls hs → AllCompatible ppb ls' hs'
-  all_same h = subst (λ ms. AllCompatible ppb ls' ms) same_highs (subst (λ ms. AllCompatible ppb ms hs) same_lows h)
-
-  pub first_same : (i j : ℕ) → IsFirstConflict ppb ls hs i j → IsFirstConflict ppb ls' hs' i j
-  first_same i j h = subst (λ ms. IsFirstConflict ppb ls' ms i j) same_highs
-      (subst (λ ms. IsFirstConflict ppb ms hs i j) same_lows h)
-
-pub same_number : (a b : ℕ) → a ≤ b → b ≤ a → a ≡ b
-same_number a b le le' = omega arith
-
-pub lt_le : (a b : ℕ) → a < b → a ≤ b
-lt_le a b lt = omega arith
+pub first_same : (ppb : ℕ) (ls ls' hs hs' : List Mark) → ls ≡ ls' → hs ≡ hs' → (i j : ℕ)
+    → IsFirstConflict ppb ls hs i j → IsFirstConflict ppb ls' hs' i j
+first_same ppb ls ls' hs hs' same_lows same_highs i j h =
+    subst (λ (ms : List Mark). IsFirstConflict ppb ls' ms i j) same_highs
+    (subst (λ (ms : List Mark). IsFirstConflict ppb ms hs i j) same_lows h)

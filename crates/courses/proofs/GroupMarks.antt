@@ -44,10 +44,10 @@ module _ {X : Type 0} (p : X → Bool) (P F : X → Type 0) (decide : (x : X) �
       }))
       (search_passing ys)
 
-equal_from : (a b : ℕ) → (a == b) ≡ true → a ≡ b
+pub equal_from : (a b : ℕ) → (a == b) ≡ true → a ≡ b
 equal_from a b test = grind (arith, nat_tests)
 
-equal_to : (a b : ℕ) → a ≡ b → (a == b) ≡ true
+pub equal_to : (a b : ℕ) → a ≡ b → (a == b) ≡ true
 equal_to a b same = grind (arith, nat_tests)
 
 -- ---- groups
@@ -100,7 +100,7 @@ module _ (claim : ClaimData) (xs : List Exchange) where
       (search_passing (is_of group) (IsPossible claim.reading) (λ x. ¬ (IsPossible claim.reading x))
       (is_possible_or_not claim.reading) xs)
 
-  never_both : (a b : ℕ) → AreAllCompatible claim.drift_ppb (group_lows claim xs a) (group_highs claim xs b)
+  pub never_both : (a b : ℕ) → AreAllCompatible claim.drift_ppb (group_lows claim xs a) (group_highs claim xs b)
       → Contradicts claim xs a b → ⊥
   never_both a b all h =
       let of_low = All-unmap (λ low. All (AreCompatible claim.drift_ppb low) (group_highs claim xs b))

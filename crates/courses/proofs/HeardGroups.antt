@@ -1,16 +1,16 @@
 -- Where no more groups have an exchange than may be false: every server of theirs may be false, no
 -- mark is left, and the lowest course of one mark of its own fits.
 use Rattle.std.proofs.Common.{◌≡◌, ℕ, zero, suc, ◌≤◌, ◌==◌, ℤ, pos, ◌+ℤ◌, ◌*ℤ◌, ◌≤ℤ◌, ◌<ℤ◌, unsigned_abs, Bool, true, false, ◌||◌, List, [], ◌∷◌, length, Some, refl, sym, ap, ◌∙◌, true≢false, eq-eqb, arith}
-use Rattle.std.specs.Prelude.{All, AllPairs, slice_get, slice_index}
+use Rattle.std.specs.Prelude.{All, slice_get, slice_index}
 use Rattle.std.specs.List.{list_any}
 use Rattle.std.proofs.lemmas.Int.{ints}
 use Rattle.claim_file.specs.Claim.{ClaimData, IsLawful}
 use Rattle.intersection.specs.Fineness.{times_le}
-use Rattle.pairing.specs.Exchange.{IsLawful as IsLawfulExchange, SameRequest}
+use Rattle.pairing.specs.Exchange.{IsLawful as IsLawfulExchange}
 use Rattle.pairing.specs.declared.exchange.Exchange.{Exchange}
 use Rattle.marks.specs.declared.mark.Mark.{Mark}
 use Rattle.marks.specs.Mark.{low_mark, high_mark, IsPossible, AreCompatible}
-use Rattle.checker.specs.Course.{Course, Fits}
+use Rattle.checker.specs.Course.{Course}
 use Rattle.checker.specs.Traceability.{IsObservedIn, IsTraceable, samples_of}
 use Rattle.sample_interval.specs.Moment.{error_of}
 use Rattle.courses.specs.Cover.{group_of}

@@ -34,4 +34,6 @@ pub mod SortedMarks
 pub mod TableCovers
 pub mod ConflictList
 pub mod FirstPairs
+pub mod PassingNumbers
+pub mod Numbering
 pub mod HeardGroups

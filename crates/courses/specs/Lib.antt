@@ -18,4 +18,5 @@ pub mod SortedMarks
 pub mod PartialTable
 pub mod PairMarks
 pub mod ToldConflicts
+pub mod NumberedMarks
 pub mod Evidence

@@ -39,6 +39,7 @@ mod groups;
 mod kept_marks;
 pub mod laws;
 mod members;
+mod numbered_marks;
 mod refutation;
 mod refutation_laws;
 mod sorted_marks;

@@ -1,17 +1,20 @@
 //! All conflicts, each with what shows it.
 
-ghost use Rattle.std.specs.Prelude.{◌≡◌, ◌<◌, ◌+◌, IfOk, length, map, All};
+ghost use Rattle.std.specs.Prelude.{◌≡◌, ◌<◌, ◌+◌, IfOk, length, map, List, All};
 ghost use Rattle.claim_file.specs.Claim.{IsLawful, data_of as claim_data};
 ghost use Rattle.courses.specs.ConflictTable.{IsConflictTable};
 ghost use Rattle.courses.specs.ConflictsView.{data_of};
-ghost use Rattle.courses.specs.Contradiction.{AreAllConflicts, AreToTell};
+ghost use Rattle.courses.specs.Contradiction.{AreAllConflicts};
+ghost use Rattle.courses.specs.NumberedMarks.{IsNumbered, AreGrounds};
 ghost use Rattle.courses.specs.PairMarks.{conflict_data};
 ghost use Rattle.courses.specs.ToldConflicts as spec;
-ghost use Rattle.courses.specs.ToldConflicts.{AreToldTo, IsToldOf};
+ghost use Rattle.courses.specs.ToldConflicts.{AreToldTo};
 ghost use Rattle.pairing.specs.Exchange.{IsLawful as IsLawfulExchange};
+ghost use Rattle.pairing.specs.declared.exchange.Exchange.{Exchange};
 
 use crate::conflicts::Conflicts;
-use crate::contradiction::{Contradiction, first_contradiction};
+use crate::contradiction::Contradiction;
+use crate::numbered_marks::{NumberedMarks, first_of_groups, numbered_by_group};
 use claim_file::Claim;
 use pairing::ToExchange;
 use std::alloc::{AllocError, Global};
@@ -41,51 +44,31 @@ fn is_to_tell(conflicts: &Conflicts, a: u8, b: u8) -> bool
     }
 }
 
-/// A conflict with the first two exchanges that show it.
-fn shown_conflict<X: ToExchange>(
-    alloc: Global,
-    exchanges: &[X],
-    claim: &Claim,
-    a: u8,
-    b: u8,
-) -> Result<Conflict, AllocError>
-    requires claim { IsLawful (claim_data claim.now) }
-    requires exchanges { All (IsLawfulExchange (length claim.now.servers.items))
-        (map X.shown exchanges.now) }
-    requires to_tell { AreToTell (claim_data claim.now) (map X.shown exchanges.now) a b }
-    ensures { IfOk result (λ conflict. IsToldOf (claim_data claim.now) (map X.shown exchanges.now)
-        a b (conflict_data conflict)) }
-{
-    match first_contradiction(alloc, exchanges, claim, a, b)? {
-        Some(pair) => Ok(Conflict { a, b, pair }),
-        None => unreachable!(),
-    }
-}
-
 /// Adds the conflicts of which a group has the lesser number, or is broken.
-fn add_conflicts<X: ToExchange>(
+fn add_conflicts(
     alloc: Global,
-    exchanges: &[X],
     claim: &Claim,
     conflicts: &Conflicts,
+    marks: &[NumberedMarks],
     a: u8,
     told: &mut Vec<Conflict>,
 ) -> Result<(), AllocError>
     requires claim { IsLawful (claim_data claim.now) }
-    requires exchanges { All (IsLawfulExchange (length claim.now.servers.items))
-        (map X.shown exchanges.now) }
     requires groups { (data_of conflicts.now).groups ≡ length claim.now.groups.items }
-    requires table { IsConflictTable (claim_data claim.now) (map X.shown exchanges.now)
-        (data_of conflicts.now).is_broken (data_of conflicts.now).is_edge }
+    requires numbered { All IsNumbered marks.now }
+    requires count { length marks.now ≡ length claim.now.groups.items }
     requires within { a < (data_of conflicts.now).groups }
-    requires told { AreToldTo (claim_data claim.now) (map X.shown exchanges.now) a 0
-        (map conflict_data told.old.items) }
-    ensures { IfOk result (λ _. AreToldTo (claim_data claim.now) (map X.shown exchanges.now)
-        (a + 1) 0 (map conflict_data told.new.items)) }
+    ensures { IfOk result (λ _. (xs : List Exchange) →
+        AreGrounds (claim_data claim.now) xs (data_of conflicts.now) marks.now →
+        AreToldTo (claim_data claim.now) xs a 0 (map conflict_data told.old.items) →
+        AreToldTo (claim_data claim.now) xs (a + 1) 0 (map conflict_data told.new.items)) }
 {
     for b in 0..conflicts.groups() {
         if is_to_tell(conflicts, a, b) {
-            told.push(shown_conflict(alloc, exchanges, claim, a, b)?)?;
+            let found = first_of_groups(alloc, claim.drift_ppb, marks, a, b)?;
+            if let Some(pair) = found {
+                told.push(Conflict { a, b, pair })?;
+            }
         }
     }
     Ok(())
@@ -94,8 +77,9 @@ fn add_conflicts<X: ToExchange>(
 /// All conflicts, each with the first two exchanges that show it, in the order of the groups'
 /// numbers: those that are broken, and each two of the others that conflict.
 ///
-/// `conflicts` is what [`conflicts_of`](crate::conflicts_of) makes of the same exchanges. Memory is
-/// taken for four marks of each exchange, of 32 bytes each.
+/// `conflicts` is what [`conflicts_of`](crate::conflicts_of) makes of the same exchanges. The marks
+/// of each group are gathered once, and searched for each conflict that the group is in. Memory is
+/// taken for at most four marks of each exchange, of 32 bytes each.
 pub fn first_contradictions<X: ToExchange>(
     alloc: Global,
     exchanges: &[X],
@@ -111,9 +95,10 @@ pub fn first_contradictions<X: ToExchange>(
     ensures { IfOk result (λ told. AreAllConflicts (claim_data claim.now)
         (map X.shown exchanges.now) (map conflict_data told.items)) }
 {
+    let marks = numbered_by_group(alloc, exchanges, claim)?;
     let mut told = Vec::new(alloc);
     for a in 0..conflicts.groups() {
-        add_conflicts(alloc, exchanges, claim, conflicts, a, &mut told)?;
+        add_conflicts(alloc, claim, conflicts, &marks, a, &mut told)?;
     }
     Ok(told)
 }

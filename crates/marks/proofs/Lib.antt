@@ -1,5 +1,4 @@
 pub mod Bound
-pub mod Bounding
 pub mod Compatibility
 pub mod FrontMarks
 pub mod MarkLine

@@ -37,5 +37,5 @@ mod sweep;
 pub use bounds::{high_mark, is_possible, low_mark};
 pub use compatible::{all_compatible, all_compatible_in_order, sort_marks};
 pub use conflict::{first_against, first_conflict};
-pub use mark::{GREATEST_ERROR, Mark};
+pub use mark::Mark;
 pub use pair::are_compatible;

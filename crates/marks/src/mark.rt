@@ -1,8 +1,5 @@
 //! A mark.
 
-/// The greatest error that a mark may have, in ticks of 2^-32 s.
-pub const GREATEST_ERROR: i128 = 1 << 73;
-
 /// At a reading of the clock the error can't lie below a mark (or above it).
 ///
 /// Both numbers are ticks of 2^-32 s, the place a reading since 1970.

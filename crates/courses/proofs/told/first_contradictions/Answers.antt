@@ -1,5 +1,6 @@
 use Rattle.std.proofs.Common.{map, sym, ◌∙◌, subst, List}
 use Rattle.claim_file.specs.Claim.{data_of as claim_data}
+use Rattle.courses.specs.NumberedMarks.{AreNumberedInOrder}
 use Rattle.courses.specs.PairMarks.{conflict_data}
 use Rattle.courses.specs.ToldConflicts.{AreToldTo}
 use Rattle.courses.specs.declared.told.Conflict.{Conflict}
@@ -15,7 +16,16 @@ loop-a-init g c =
     (nothing_told claim xs)
 
 pub loop-a-preserved : goal.loop-a-preserved
-loop-a-preserved g c = c.in_ok-add_conflicts.ensures
+loop-a-preserved g c =
+    let claim = claim_data c.args.claim.now in
+    let xs = map g.X.ToExchange.shown c.args.exchanges.now in
+    c.in_ok-add_conflicts.ensures xs
+    record {
+      each = c.requires.exchanges;
+      table_tells = c.requires.table;
+      in_order = subst (AreNumberedInOrder claim xs) (sym c.deref.ensures.value) c.in_ok-marks.ensures.each;
+    }
+    c.loop-a.invariant
 
 pub returns : goal.returns
 returns g c =

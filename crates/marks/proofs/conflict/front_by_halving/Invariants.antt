@@ -1,4 +1,4 @@
-use Rattle.std.proofs.Common.{◌+◌, ◌-◌, ◌<◌, ◌≤◌, length, IsPermutation}
+use Rattle.std.proofs.Common.{◌+◌, ◌-◌, ◌<◌, ◌≤◌, length}
 use Rattle.std.specs.List.{AllWithin}
 use Rattle.marks.specs.Conflict.{FitsAll}
 use Rattle.marks.proofs.conflict.front_by_halving.Given as goal
@@ -7,9 +7,8 @@ abbrev pub invariant-loop-least : goal.invariant-loop-least
 invariant-loop-least l = record {
   in_order : l.least ≤ l.most;
   within : l.most ≤ length l.lows;
-  moved : IsPermutation l.fn.highs l.highs;
-  fit : AllWithin (FitsAll l.drift_ppb l.fn.highs) l.lows 0 l.least;
-  no_more : l.most < length l.lows → ¬ (AllWithin (FitsAll l.drift_ppb l.fn.highs) l.lows 0 (l.most + 1));
+  fit : AllWithin (FitsAll l.drift_ppb l.highs) l.lows 0 l.least;
+  no_more : l.most < length l.lows → ¬ (AllWithin (FitsAll l.drift_ppb l.highs) l.lows 0 (l.most + 1));
 }
 
 abbrev pub decreases-loop-least : goal.decreases-loop-least

@@ -1,7 +1,7 @@
 use Rattle.std.proofs.Common.{ℕ, ◌<◌, map}
 use Rattle.claim_file.specs.Claim.{data_of as claim_data}
 use Rattle.courses.specs.PairMarks.{IsImpossibleAt}
-use Rattle.courses.proofs.contradiction.first_impossible.Given as goal
+use Rattle.courses.proofs.numbered_marks.first_impossible.Given as goal
 
 abbrev pub invariant-loop-number : goal.invariant-loop-number
 invariant-loop-number g l =

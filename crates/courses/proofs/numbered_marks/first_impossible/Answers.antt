@@ -6,11 +6,11 @@ use Rattle.claim_file.specs.Claim.{data_of as claim_data}
 use Rattle.marks.specs.Mark.{IsPossible}
 use Rattle.courses.proofs.FirstPairs.{impossible_here, none_at_all, none_so_far, not_of_group, possible_here}
 use Rattle.courses.proofs.KeptMarkLists.{lawful_shown, shown_at}
-use Rattle.courses.proofs.contradiction.first_impossible.Goals as goal
-use Rattle.courses.proofs.contradiction.first_impossible.Goals.{else-is_of_either-via-then-is_of_either+else-not-is_possible, else-is_of_either-via-else-is_of_either}
+use Rattle.courses.proofs.numbered_marks.first_impossible.Goals as goal
+use Rattle.courses.proofs.numbered_marks.first_impossible.Goals.{else-is_of-via-then-is_of+else-not-is_possible, else-is_of-via-else-is_of}
 
-pub is_of_either-requires-clause-exchange : goal.is_of_either-requires-clause-exchange
-is_of_either-requires-clause-exchange g c =
+pub is_of-requires-clause-exchange : goal.is_of-requires-clause-exchange
+is_of-requires-clause-exchange g c =
     lawful_shown g.X.ToExchange.shown c.args.exchanges.now c.loop-number.number c.index-exchanges-number.result
     (slice_get-get_or c.args.exchanges.now _ c.index-exchanges-number.result c.loop-number-test.true
     ∙ ap Some (sym c.index-exchanges-number.is))
@@ -38,7 +38,7 @@ returns-then-not-is_possible g c =
           (shown_at g.X.ToExchange.shown c.args.exchanges.now c.loop-number.number c.index-exchanges-number.result
           (slice_get-get_or c.args.exchanges.now _ c.index-exchanges-number.result c.loop-number-test.true
           ∙ ap Some (sym c.index-exchanges-number.is)) x c.to_exchange-exchange.ensures)
-          (sym c.is_of_either.ensures ∙ c.if-is_of_either.true)
+          (sym c.is_of.ensures ∙ c.if-is_of.true)
           (λ can. true≢false (sym (c.is_possible.ensures.1
           (subst (λ allowance. IsPossible allowance x) (sym reading) can)) ∙ c.if-not-is_possible.true));
       first = c.loop-number.invariant;
@@ -54,13 +54,13 @@ loop-number-preserved g c =
     (slice_get-get_or c.args.exchanges.now _ c.index-exchanges-number.result c.loop-number-test.true
     ∙ ap Some (sym c.index-exchanges-number.is)) x c.to_exchange-exchange.ensures in
     none_so_far claim xs c.args.group k c.loop-number.invariant
-    (elim c.else-is_of_either.branch [
-      | else-is_of_either-via-then-is_of_either+else-not-is_possible w ↦
+    (elim c.else-is_of.branch [
+      | else-is_of-via-then-is_of+else-not-is_possible w ↦
           let reading : to_z w128 (of_z w128 c.args.claim.now.reading) ≡ c.args.claim.now.reading = search rules in
           possible_here claim xs c.args.group k x at
           (subst (λ allowance. IsPossible allowance x) reading (w.is_possible.ensures.0 w.if-not-is_possible.false))
-      | else-is_of_either-via-else-is_of_either w ↦
-          not_of_group claim xs c.args.group k x at (sym c.is_of_either.ensures ∙ w.if-is_of_either.false)
+      | else-is_of-via-else-is_of w ↦
+          not_of_group claim xs c.args.group k x at (sym c.is_of.ensures ∙ w.if-is_of.false)
     ])
 
 pub returns : goal.returns

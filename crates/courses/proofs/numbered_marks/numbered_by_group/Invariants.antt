@@ -1,0 +1,12 @@
+use Rattle.std.proofs.Common.{◌≡◌, length, map}
+use Rattle.std.specs.Prelude.{All}
+use Rattle.claim_file.specs.Claim.{data_of as claim_data}
+use Rattle.courses.specs.NumberedMarks.{IsNumbered, AreNumberedInOrder}
+use Rattle.courses.proofs.numbered_marks.numbered_by_group.Given as goal
+
+abbrev pub invariant-loop-group : goal.invariant-loop-group
+invariant-loop-group g l = record {
+  count : length l.marks.items ≡ l.group;
+  numbered : All IsNumbered l.marks.items;
+  each : AreNumberedInOrder (claim_data l.claim) (map g.X.ToExchange.shown l.exchanges) l.marks.items;
+}
