@@ -22,52 +22,6 @@ use Rattle.courses.proofs.GroupMarks.{equal_from, equal_to, never_both}
 use Rattle.courses.proofs.PassingNumbers.{Found, exchange_at, found, no_less, one_there, placed, rising}
 use Rattle.courses.proofs.TrueExchanges.{by_test}
 
--- ---- one exchange after another
-
-last_of : (k n : ℕ) → k < n + 1 → (k < n) ⊎ (k ≡ n)
-last_of k n h = ⊎_elim (λ (lt : k < n). inl lt) (λ (le : n ≤ k). inr (omega arith)) (cases_lt k n)
-
-past_end : (k n m : ℕ) → k < m → m ≡ n → n ≤ k → ⊥
-past_end k n m below same past = omega arith
-
-is_twice : (b : Bool) → b ≡ true → b ≡ false → ⊥
-is_twice b t f = true≢false (sym t ∙ f)
-
-module _ (claim : ClaimData) (xs : List Exchange) (group : ℕ) where
-  one_exchange : (k : ℕ) (x y : Exchange) → slice_get xs k ≡ Some x → slice_get xs k ≡ Some y → x ≡ y
-  one_exchange k x y at_x at_y = let is : Some x ≡ Some y = sym at_x ∙ at_y in cc
-
-  pub impossible_here : (k : ℕ) (x : Exchange) → slice_get xs k ≡ Some x → (group_of claim x == group) ≡ true
-      → (IsPossible claim.reading x → ⊥) → IsImpossibleAt claim xs group k
-  impossible_here k x at is cannot = record {
-    exchange = x;
-    stands = at;
-    in_group = equal_from (group_of claim x) group is;
-    impossible = cannot;
-  }
-
-  pub not_of_group : (k : ℕ) (x : Exchange) → slice_get xs k ≡ Some x → (group_of claim x == group) ≡ false
-      → IsImpossibleAt claim xs group k → ⊥
-  not_of_group k x at isnt h =
-      is_twice (group_of claim x == group) (equal_to (group_of claim x) group
-      (ap (group_of claim) (one_exchange k x h.exchange at h.stands) ∙ h.in_group)) isnt
-
-  pub possible_here : (k : ℕ) (x : Exchange) → slice_get xs k ≡ Some x → IsPossible claim.reading x
-      → IsImpossibleAt claim xs group k → ⊥
-  possible_here k x at can h =
-      h.impossible (subst (IsPossible claim.reading) (one_exchange k x h.exchange at h.stands) can)
-
-  pub none_so_far : (n : ℕ) → ((k : ℕ) → k < n → IsImpossibleAt claim xs group k → ⊥)
-      → (IsImpossibleAt claim xs group n → ⊥) → (k : ℕ) → k < n + 1 → IsImpossibleAt claim xs group k → ⊥
-  none_so_far n before not_this k below h = ⊎_elim (λ (lt : k < n). before k lt h)
-      (λ (same : k ≡ n). not_this (subst (IsImpossibleAt claim xs group) same h)) (last_of k n below)
-
-  pub none_at_all : (n m : ℕ) → ((k : ℕ) → k < n → IsImpossibleAt claim xs group k → ⊥) → length xs ≡ m → m ≤ n
-      → (k : ℕ) → IsImpossibleAt claim xs group k → ⊥
-  none_at_all n m before same past k h = ⊎_elim (λ (lt : k < n). before k lt h)
-      (λ (le : n ≤ k). let below = slice_get_within xs k h.exchange h.stands in absurd (omega (arith, below, same)))
-      (cases_lt k n)
-
 -- ---- pairs, in their order
 
 pub no_later_through : (p q r : Pair) → IsNoLater p q → IsNoLater q r → IsNoLater p r
@@ -194,7 +148,8 @@ module _ (claim : ClaimData) (xs : List Exchange) (a b : ℕ) where
       these_apart = record {
         low = x;
         high = y;
-        low_stands = stands_there pair.low low_found.number x (number_is a i pair.low low_found.number low_is low_found.is)
+        low_stands =
+            stands_there pair.low low_found.number x (number_is a i pair.low low_found.number low_is low_found.is)
             low_found.stands;
         high_stands =
             stands_there pair.high high_found.number y (number_is b j pair.high high_found.number high_is high_found.is)
@@ -262,7 +217,8 @@ module _ (claim : ClaimData) (xs : List Exchange) (a b : ℕ) where
 
       no_later_than_others : (other : Pair) → IsApart claim xs a b other → IsNoLater pair other
       no_later_than_others other h =
-          let (i', at_i, is_i) = placed (is_of a) 0 xs other.low h.low h.low_stands (equal_to (group_of claim h.low) a h.in_low) in
+          let (i', at_i, is_i) =
+          placed (is_of a) 0 xs other.low h.low h.low_stands (equal_to (group_of claim h.low) a h.in_low) in
           let (j', at_j, is_j) =
           placed (is_of b) 0 xs other.high h.high h.high_stands (equal_to (group_of claim h.high) b h.in_high) in
           these_no_later other h i' j' at_i at_j is_i is_j
@@ -278,7 +234,8 @@ module _ (claim : ClaimData) (xs : List Exchange) (a b : ℕ) where
         these_first x y at_x at_y
 
   -- what a search says of the marks that were gathered
-  module _ (one other : NumberedMarks) (of_a : AreNumberedOf claim xs a one) (of_b : AreNumberedOf claim xs b other) where
+  module _ (one other : NumberedMarks) (of_a : AreNumberedOf claim xs a one)
+      (of_b : AreNumberedOf claim xs b other) where
     all_there : AllCompatible claim.drift_ppb one.lows.items other.highs.items
         → AllCompatible claim.drift_ppb (group_lows claim xs a) (group_highs claim xs b)
     all_there all = subst (λ (ms : List Mark). AllCompatible claim.drift_ppb (group_lows claim xs a) ms) of_b.highs
@@ -297,7 +254,8 @@ module _ (claim : ClaimData) (xs : List Exchange) (a b : ℕ) where
     answers None all = none_apart (all_there all)
     answers (Some c) first = first_there (pair_of c) first
 
-  if_any : (found : Option Contradiction) → Answers (IsContradiction claim xs a b) found → IsFirstIfAny claim xs a b found
+  if_any : (found : Option Contradiction) → Answers (IsContradiction claim xs a b) found
+      → IsFirstIfAny claim xs a b found
   if_any None none = λ (pair, h). none pair h
   if_any (Some c) first = record { is = first.0; first = first.1 }
 
@@ -408,7 +366,8 @@ module _ (claim : ClaimData) (xs : List Exchange) (a : ℕ) where
   in_one_group : (x y : ℕ) → ((x ≡ a) × (y ≡ a)) ⊎ ((x ≡ a) × (y ≡ a)) → (x ≡ a) × (y ≡ a)
   in_one_group x y = ⊎_elim (λ h. h) (λ h. h)
 
-  apart_or_alone : (pair : Pair) → IsContradiction claim xs a a pair → IsApart claim xs a a pair ⊎ IsAlone claim xs a pair
+  apart_or_alone : (pair : Pair) → IsContradiction claim xs a a pair
+      → IsApart claim xs a a pair ⊎ IsAlone claim xs a pair
   apart_or_alone pair h =
       let groups = in_one_group (group_of claim h.low) (group_of claim h.high) h.of_groups in
       ⊎_elim

@@ -34,6 +34,7 @@ pub mod SortedMarks
 pub mod TableCovers
 pub mod ConflictList
 pub mod FirstPairs
+pub mod FirstImpossible
 pub mod PassingNumbers
 pub mod Numbering
 pub mod HeardGroups

@@ -10,11 +10,12 @@ exchange_at [] k below = absurd (omega arith)
 exchange_at (x ∷ xs) zero below = (x, refl)
 exchange_at (x ∷ xs) (suc k) below = exchange_at xs k (omega arith)
 
-pub at_same : {X : Type 0} (xs ys : List X) (k : ℕ) (x : X) → xs ≡ ys → slice_get ys k ≡ Some x → slice_get xs k ≡ Some x
+pub at_same : {X : Type 0} (xs ys : List X) (k : ℕ) (x : X) → xs ≡ ys → slice_get ys k ≡ Some x
+    → slice_get xs k ≡ Some x
 at_same xs ys k x same at = subst (λ (zs : List _). slice_get zs k ≡ Some x) (sym same) at
 
-pub one_there : {X : Type 0} (xs : List X) (i j : ℕ) (x y : X) → slice_get xs i ≡ Some x → slice_get xs j ≡ Some y → i ≡ j
-    → x ≡ y
+pub one_there : {X : Type 0} (xs : List X) (i j : ℕ) (x y : X) → slice_get xs i ≡ Some x → slice_get xs j ≡ Some y
+    → i ≡ j → x ≡ y
 one_there xs i j x y at_x at_y same =
     let at : slice_get xs i ≡ Some y = subst (λ (k : ℕ). slice_get xs k ≡ Some y) (sym same) at_y in
     let is : Some x ≡ Some y = sym at_x ∙ at in
@@ -120,7 +121,8 @@ module _ {X : Type 0} (p : X → Bool) where
   at_least : (k : ℕ) (xs : List X) (i n : ℕ) → slice_get (numbers_from p k xs) i ≡ Some n → k ≤ n
   at_least k [] i n is = absurd cc
   at_least k (y ∷ ys) zero n is = by_test (p y)
-      (λ first. let same = one_number k n (at_same (k ∷ numbers_from p (k + 1) ys) _ zero n (sym (counted k y ys first)) is) in
+      (λ first.
+      let same = one_number k n (at_same (k ∷ numbers_from p (k + 1) ys) _ zero n (sym (counted k y ys first)) is) in
       omega (arith, same))
       (λ first. let more = at_least (k + 1) ys zero n
       (at_same (numbers_from p (k + 1) ys) _ zero n (sym (not_counted k y ys first)) is) in omega (arith, more))
@@ -155,5 +157,6 @@ module _ {X : Type 0} (p : X → Bool) where
       → slice_get (numbers_from p 0 xs) j ≡ Some m → i ≤ j → n ≤ m
   no_less xs i j n m is_n is_m le = ⊎_elim
       (λ (lt : i < j). let less = rising 0 xs i j n m is_n is_m lt in omega (arith, less))
-      (λ (ge : j ≤ i). let same = one_there (numbers_from p 0 xs) i j n m is_n is_m (omega arith) in omega (arith, same))
+      (λ (ge : j ≤ i).
+      let same = one_there (numbers_from p 0 xs) i j n m is_n is_m (omega arith) in omega (arith, same))
       (cases_lt i j)

@@ -1,8 +1,8 @@
 -- Exchanges that are no evidence: no more groups have one than may be false.
 --
--- Then every server that was heard may be false, and nothing that it says has to be so. Whatever the
--- error, at any reading of the clock, there is a course of events that fits, so the exchanges say
--- nothing about the clock.
+-- Then every server that was heard may be false, and nothing that it says has to be so. Whatever
+-- the error, at any reading of the clock, there is a course of events that fits, so the exchanges
+-- say nothing about the clock.
 use Rattle.std.specs.Prelude.{◌≡◌, ℕ, ◌≤◌, ◌==◌, ℤ, pos, ◌*ℤ◌, Bool, List, slice_index, AllPairs}
 use Rattle.std.specs.List.{list_any}
 use Rattle.checker.specs.Course.{Course, Fits}

@@ -32,7 +32,7 @@ pub record IsNumbered (marks : NumberedMarks) : Type 0 where
   pub low_range : All IsWithinRange marks.lows.items
   pub high_range : All IsWithinRange marks.highs.items
 
--- these are a group's numbers and marks, and the first of its exchanges that is impossible by itself
+-- these are a group's numbers and marks, and the first of its exchanges that is impossible alone
 pub record AreNumberedOf (claim : ClaimData) (xs : List Exchange) (group : ℕ)
     (marks : NumberedMarks) : Type 0 where
   pub numbers : marks.numbers.items ≡ group_numbers claim xs group

@@ -18,7 +18,8 @@ within_both X P xs low middle high front rest k d from lt =
 
 -- what the sweeps say of a copy of a part of the low marks, in another order
 module _ (ppb : ℕ) (lows highs part sorted : List Mark) (least middle : ℕ) (forward : least ≤ middle)
-    (le : middle ≤ length lows) (is : part ≡ take (middle - least) (drop least lows)) (p : IsPermutation part sorted) where
+    (le : middle ≤ length lows) (is : part ≡ take (middle - least) (drop least lows))
+    (p : IsPermutation part sorted) where
   part_length : length part ≡ middle - least
   part_length =
       let rest : length (drop least lows) ≡ length lows - least = length-drop least lows in

@@ -94,8 +94,8 @@ fn front_by_halving(
 ///
 /// It takes memory for a copy of the high marks and of half the low ones. Each list is sorted once,
 /// the low marks part by part, and the high marks are gone through twice for each halving: some
-/// forty times at most. The rate is up to 500,000,000 parts in 10^9 of true time, and each number of
-/// ticks lies from -2^73 to 2^73.
+/// forty times at most. The rate is up to 500,000,000 parts in 10^9 of true time, and each number
+/// of ticks lies from -2^73 to 2^73.
 pub fn first_conflict(
     alloc: Global,
     drift_ppb: u32,

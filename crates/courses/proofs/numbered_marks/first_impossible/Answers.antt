@@ -4,7 +4,7 @@ use Rattle.std.proofs.lemmas.Option.{slice_get-get_or}
 use Rattle.std.proofs.lemmas.List.{length-map}
 use Rattle.claim_file.specs.Claim.{data_of as claim_data}
 use Rattle.marks.specs.Mark.{IsPossible}
-use Rattle.courses.proofs.FirstPairs.{impossible_here, none_at_all, none_so_far, not_of_group, possible_here}
+use Rattle.courses.proofs.FirstImpossible.{impossible_here, none_at_all, none_so_far, not_of_group, possible_here}
 use Rattle.courses.proofs.KeptMarkLists.{lawful_shown, shown_at}
 use Rattle.courses.proofs.numbered_marks.first_impossible.Goals as goal
 use Rattle.courses.proofs.numbered_marks.first_impossible.Goals.{else-is_of-via-then-is_of+else-not-is_possible, else-is_of-via-else-is_of}

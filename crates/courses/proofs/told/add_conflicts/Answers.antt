@@ -39,7 +39,8 @@ loop-b-preserved c =
                 (w.in_ok-found.ensures claim xs refl grounds.in_order));
           })
       | then-is_to_tell+in_ok-found+in_default w ↦
-          absurd (subst (IsFirstIfAny claim xs a b) w.in_default.is (w.in_ok-found.ensures claim xs refl grounds.in_order)
+          absurd (subst (IsFirstIfAny claim xs a b) w.in_default.is
+          (w.in_ok-found.ensures claim xs refl grounds.in_order)
           (has_pair claim xs a b
           (tells claim xs c.requires.claim grounds.each table grounds.table_tells a b a_in b_in
           (sym c.is_to_tell.ensures ∙ w.if-is_to_tell.true))))

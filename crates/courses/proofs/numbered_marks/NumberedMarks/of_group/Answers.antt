@@ -66,7 +66,8 @@ loop-number-preserved g c =
       | then-is_of+in_ok-push+in_ok-push-2+in_ok-push-3 w ↦
           let low_is = w.low_mark.ensures.exact ∙ ap (λ (allowance : ℤ). low_mark allowance x) reading in
           let high_is = w.high_mark.ensures.exact ∙ ap (λ (allowance : ℤ). high_mark allowance x) reading in
-          lists w.push.new.self w.push-then-is_of.new.self w.push-then-is_of-2.new.self w.numbers-is w.lows-is w.highs-is
+          lists w.push.new.self w.push-then-is_of.new.self w.push-then-is_of-2.new.self w.numbers-is w.lows-is
+          w.highs-is
           (past_own claim c.args.group xs k x numbers lows highs split c.loop-number.invariant w.push.new.self.items
           w.push-then-is_of.new.self.items w.push-then-is_of-2.new.self.items w.in_ok-push.ensures.items
           (w.in_ok-push-2.ensures.items ∙ ap (λ (m : Mark). lows ++ m ∷ []) low_is)
