@@ -132,7 +132,7 @@ fn level_over(peaks: &Peaks, near: &mut Near, stretch: Stretch, drift_ppb: u32) 
 }
 
 /// The level that an extreme reaches which stands so far above what it falls. Mostly it's less than
-/// two seconds from zero, and then 64 bits are divided, which takes a third of the time.
+/// two seconds from zero, and then 64 bits are divided, which takes a fifth of the time.
 fn level_of(rise: u128, drift_ppb: u32) -> u128
     requires { IsRate drift_ppb }
     ensures { result ≡ rise / (billion - drift_ppb) }
