@@ -37,8 +37,8 @@ pub record ArePeaksOf (ppb : ℕ) (extremes : List Extreme) (peaks : List Peak) 
       IsTopped peaks (extreme.from + extreme.to) (height ppb extreme)
   pub rise : PeaksRise peaks
 
--- the last peak before low comes no later than the place, the one at high later. So, as places rise,
--- low is at most the count of those that come no later, and high at least
+-- the last peak before low comes no later than the place, the one at high later. So, as places
+-- rise, low is at most the count of those that come no later, and high at least
 pub record IsBracket (peaks : List Peak) (place low high : ℕ) : Type 0 where
   pub in_order : low ≤ high
   pub within : high ≤ length peaks
