@@ -13,6 +13,7 @@ ghost use Rattle.finder.specs.Samples.{AreSamplesOf};
 use crate::laws::{
     best_entries_show_as_much, best_hulls_hold_the_error, pieces_within_have_no_wider_hulls,
 };
+use crate::trial::trial;
 use checker::laws::pieces_give_the_verdict;
 use claim_file::Claim;
 use intersection::kinds::Hull;
@@ -74,8 +75,14 @@ pub(crate) fn tick_after(begin: u64, last: u64) -> u64
 
 /// Where the longest piece from `begin` ends, if the piece from there to `next`, the next tick,
 /// shows that the error is within the bound. What a piece shows each shorter one shows too, so that
-/// the end is found by halving.
-pub(crate) fn longest_end(tables: &[BestTable], claim: &Claim, begin: u64, next: u64) -> u64
+/// the end is found by halving; it is looked for first where a piece of the length `likely` ends.
+pub(crate) fn longest_end(
+    tables: &[BestTable],
+    claim: &Claim,
+    begin: u64,
+    next: u64,
+    likely: u64,
+) -> u64
     requires claim { IsLawful (data_of claim.now) }
     requires tables { IsTabled (data_of claim.now) tables.now }
     requires in_span { pos begin ≤ℤ claim.now.last }
@@ -93,7 +100,7 @@ pub(crate) fn longest_end(tables: &[BestTable], claim: &Claim, begin: u64, next:
     let mut low = next;
     let mut high = claim.last as u64;
     while low < high {
-        let middle = high - (high - low) / 2;
+        let middle = trial(low, high, begin.saturating_add(likely), likely / 16) + 1;
         if is_shown(tables, claim, begin, middle) {
             low = middle;
         } else {

@@ -21,11 +21,12 @@ pub(crate) enum Reach {
     /// To a tick after which the error isn't shown to be within the bound: the piece of one tick,
     /// and its hull.
     Stuck { begin: u64, end: u64, hull: Hull },
-    /// Not to the span's end, by as many as a certificate may have.
-    TooLong,
+    /// To this tick before the span's end, by as many as a certificate may have.
+    TooLong { begin: u64 },
 }
 
-/// Takes one longest piece after another, by the tables of the servers.
+/// Takes one longest piece after another, by the tables of the servers. Each is looked for first
+/// at the length of the one before.
 pub(crate) fn longest_ends(
     alloc: Global,
     tables: &[BestTable],
@@ -39,6 +40,7 @@ pub(crate) fn longest_ends(
 {
     let last = claim.last as u64;
     let mut begin = claim.first as u64;
+    let mut likely = last;
     let mut ends: Vec<i128> = Vec::new(alloc);
     while ends.len() < MAX_PIECES {
         let end = tick_after(begin, last);
@@ -46,11 +48,13 @@ pub(crate) fn longest_ends(
         if !is_inside(claim.bound, hull) {
             return Ok(Reach::Stuck { begin, end, hull });
         }
-        begin = longest_end(tables, claim, begin, end);
+        let reached = longest_end(tables, claim, begin, end, likely);
+        likely = reached.saturating_sub(begin);
+        begin = reached;
         ends.push(i128::from(begin))?;
         if begin == last {
             return Ok(Reach::End(ends));
         }
     }
-    Ok(Reach::TooLong)
+    Ok(Reach::TooLong { begin })
 }
