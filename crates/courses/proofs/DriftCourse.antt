@@ -20,7 +20,7 @@ use Rattle.courses.proofs.LowestCourse.{Needs, lowest_fits, lowest_shares}
 
 -- ---- the claim is broken
 
-beyond : (bound error found : ℤ) (n : ℕ) → 0 < n → bound <ℤ pos (unsigned_abs error)
+pub beyond : (bound error found : ℤ) (n : ℕ) → 0 < n → bound <ℤ pos (unsigned_abs error)
     → found ≡ error *ℤ pos n → pos (unsigned_abs found) ≤ℤ (bound *ℤ pos n) → ⊥
 beyond bound error found n some far off within =
     let size : unsigned_abs found ≡ unsigned_abs error * n = rw off (unsigned_abs-mul error (pos n)) in

@@ -125,7 +125,7 @@ other_number a b differ = grind (arith, nat_tests)
 
 module _ (groups : List ℕ) (group server read : ℕ) (below : server < length groups)
     (is : read ≡ slice_index_or groups server read) where
-  read_is : slice_index groups server ≡ read
+  pub read_is : slice_index groups server ≡ read
   read_is = sym (is ∙ get_or_default_zero groups server read below)
 
   pub is_inside : read ≡ group → is_outside groups group server ≡ false

@@ -34,3 +34,4 @@ pub mod SortedMarks
 pub mod TableCovers
 pub mod ConflictList
 pub mod FirstPairs
+pub mod HeardGroups

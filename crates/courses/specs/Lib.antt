@@ -18,3 +18,4 @@ pub mod SortedMarks
 pub mod PartialTable
 pub mod PairMarks
 pub mod ToldConflicts
+pub mod Evidence

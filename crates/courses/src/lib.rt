@@ -15,6 +15,9 @@
 //! it if they are false (specs/Conflicts). [`conflicts_of`] makes it of the exchanges, and by it
 //! [`course_fits`] settles whether any course fits.
 //!
+//! Where no more groups have an exchange than may be false, exchanges are no evidence: every error
+//! is possible (specs/Evidence). [`groups_with_exchanges`] tells which have one.
+//!
 //! Whether any course fits, as [`course_fits`] of `courses/src/fits.rt` asks it, with its proof:
 //!
 //! ```text
@@ -29,6 +32,8 @@ mod conflicts;
 mod contradiction;
 pub mod cover_laws;
 mod cover_search;
+mod evidence;
+mod evidence_laws;
 mod fits;
 mod groups;
 mod kept_marks;
@@ -42,6 +47,7 @@ mod told;
 
 pub use conflicts::Conflicts;
 pub use contradiction::{Contradiction, first_contradiction};
+pub use evidence::groups_with_exchanges;
 pub use fits::course_fits;
 pub use groups::Groups;
 pub use refutation::check_refutation_with_drift;
