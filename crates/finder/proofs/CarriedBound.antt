@@ -1,15 +1,16 @@
 -- The least bound that a certificate carries.
-use Rattle.std.proofs.Common.{◌≡◌, ◌⊎◌, inl, inr, ⊎_elim, ℕ, suc, ◌+◌, ◌*◌, ◌<◌, ◌≤◌, ◌^◌, ℤ, pos, ◌≤ℤ◌, ◌<ℤ◌, Bool, cond, ◌||◌, int_lt, List, [], ◌∷◌, ◌++◌, length, Option, Some, None, Result, Ok, Err, refl, sym, ap, ◌∙◌, subst, arith}
+use Rattle.std.proofs.Common.{◌≡◌, ◌⊎◌, inl, inr, ⊎_elim, ℕ, ◌+◌, ◌*◌, ◌<◌, ◌≤◌, ◌^◌, ℤ, pos, ◌≤ℤ◌, ◌<ℤ◌, false, cond, is_some, ◌||◌, int_lt, List, [], ◌∷◌, ◌++◌, length, Option, Some, None, Result, Ok, Err, refl, sym, ap, ◌∙◌, subst, arith}
 use Rattle.std.proofs.lemmas.Int.{ints, clamps}
+use Rattle.std.specs.Prelude.{MatchOption}
 use Rattle.std.specs.declared.alloc.AllocError.{AllocError}
 use Rattle.era_unfold.specs.Nanoseconds.{nanoseconds_per_second, ticks_down}
 use Rattle.era_unfold.specs.Window.{ticks_per_second}
-use Rattle.certificate.specs.Certificate.{CertificateData, PieceData, max_pieces}
+use Rattle.certificate.specs.Certificate.{CertificateData, PieceData}
 use Rattle.claim_file.specs.Claim.{ClaimData, IsLawful, max_bound_ns}
-use Rattle.intersection.specs.declared.kinds.Hull.TheVariants.{Empty}
 use Rattle.sample_interval.specs.declared.kinds.Sample.{Sample}
 use Rattle.span_cover.specs.declared.part.Part.{Part}
 use Rattle.span_cover.specs.declared.stretch.Stretch.{Stretch}
+use Rattle.sweep.specs.declared.table.BestTable.{BestTable}
 use Rattle.checker.specs.Verdict.{parts_after, parts_fault, piece_fault, verdict_after, verdict_from, verdict_of}
 use Rattle.checker.specs.declared.verdict.Verdict.{Verdict}
 use Rattle.checker.specs.declared.verdict.Verdict.TheVariants.{Yes}
@@ -18,15 +19,15 @@ use Rattle.checker.specs.declared.verdict.Why.TheVariants.{Cut}
 use Rattle.finder.specs.Carried.{AlwaysFinds, FindsLeastBound, IsCarried, IsFirst, IsNeverEmpty, IsTick, StopsAt}
 use Rattle.finder.specs.Entry.{best_hull}
 use Rattle.finder.specs.Envelope.{with_bound}
-use Rattle.finder.specs.Fewest.{AreLongest, IsOfLongest, NoneOfFewIsAccepted, end_after, hull_over, next_tick, stretch_over}
-use Rattle.finder.specs.FewestAnswer.{FindsFewest}
+use Rattle.finder.specs.Fewest.{AreLongest, IsOfLongest, NoneOfFewIsAccepted, end_after, hull_over, next_tick, pieces_over, stretch_over}
+use Rattle.finder.specs.Reach.{AreEnds, AreTablesFor, IsReach}
 use Rattle.finder.specs.Samples.{AreSamplesOf}
 use Rattle.finder.specs.declared.carried.LeastCarried.{LeastCarried}
-use Rattle.finder.specs.declared.fault.FindFault.{FindFault}
 use Rattle.finder.specs.declared.fault.FindFault.TheVariants.{Memory, TooManyPieces}
 use Rattle.finder.specs.declared.fewest.Fewest.TheVariants as found
+use Rattle.finder.specs.declared.reach.Reach.{Reach}
 use Rattle.finder.proofs.FewestAnswer.{finds_nothing, finds_too_long}
-use Rattle.finder.proofs.FewestPieces.{Laws, first_in_span, yes_from}
+use Rattle.finder.proofs.FewestPieces.{Laws, as_many_pieces, first_in_span, one_more_end, yes_from}
 
 -- ---- what a claimed bound has no part in
 
@@ -64,6 +65,13 @@ lawful_with down claim m small lawful =
       reading_ns_in_range = lawful.reading_ns_in_range;
     }
 
+-- a tick ends no earlier than it begins
+pub tick_forward : (samples : List Sample) (claim : ClaimData) → IsLawful claim → (p : ℤ) → IsTick claim p
+    → p ≤ℤ next_tick samples claim p
+tick_forward samples claim lawful p tick =
+    let forward = lawful.span_forward in
+    ⊎_elim (λ first. omega (arith, ints, clamps)) (λ before. omega (arith, ints, clamps)) tick.begins
+
 -- ---- the verdict has no part in how the bound is spelled in nanoseconds
 
 module _ (samples : List Sample) (claim : ClaimData) (n : ℕ) where
@@ -88,6 +96,42 @@ module _ (samples : List Sample) (claim : ClaimData) (n : ℕ) where
       (same_fault p piece)
       ∙ ap (λ (v : Verdict). verdict_after (piece_fault samples claim p piece) k v)
       (same_verdict (k + 1) (pos piece.upto) pieces)
+
+-- ---- of tables and of the pieces that they give
+
+pub tables_for_other : (samples : List Sample) (claim : ClaimData) (m : ℕ) (tables : List BestTable)
+    → AreTablesFor samples claim tables → AreTablesFor samples (with_bound claim m) tables
+tables_for_other samples claim m tables tabled = record {
+  of_claim = samples_of_other samples claim m tabled.of_claim;
+  few = tabled.few;
+  are = tabled.are;
+}
+
+pub reached_by : (samples : List Sample) (a b : ClaimData) (tables : List BestTable) (reach : Reach) → a ≡ b
+    → (AreTablesFor samples a tables → IsReach samples a reach) → AreTablesFor samples b tables
+    → IsReach samples b reach
+reached_by samples a b tables reach same reaches tabled =
+    subst (λ (x : ClaimData). IsReach samples x reach) same
+    (reaches (subst (λ (x : ClaimData). AreTablesFor samples x tables) (sym same) tabled))
+
+pub carried_by_ends : (laws : Laws) (samples : List Sample) (claim : ClaimData) → IsLawful claim
+    → AreSamplesOf claim samples → (ends : List ℤ) → AreEnds samples claim ends → IsCarried samples claim
+carried_by_ends laws samples claim lawful are ends is =
+    let all = is.earlier ++ claim.last ∷ [] in
+    let few = is.few in
+    let count : length (pieces_over samples claim claim.first all) ≡ length is.earlier + 1 =
+    as_many_pieces laws samples claim lawful are claim.first all
+    ∙ one_more_end laws samples claim lawful are is.earlier claim.last in
+    (
+      record { pieces = pieces_over samples claim claim.first all },
+      record { earlier = is.earlier; longest = is.longest; last = is.last; pieces = refl },
+      omega (arith, count, few),
+    )
+
+-- what holds of no answer, if there is none
+pub none_of : {A : Type 0} (P : Type 0) (Q : A → Type 0) (o : Option A) → is_some o ≡ false → MatchOption o P Q → P
+none_of P Q None e is = is
+none_of P Q (Some a) e is = absurd cc
 
 -- ---- what is known
 
@@ -181,7 +225,7 @@ module _ (laws : BoundLaws) (samples : List Sample) (claim : ClaimData) (lawful 
 
   enough_over : (n : ℕ) → n ≤ max_bound_ns → IsCarried samples (with_bound claim n) → IsNeverEmpty samples claim
       → (m : ℕ) → n ≤ m → m ≤ max_bound_ns → AlwaysFinds samples (with_bound claim m)
-  enough_over n small (certificate, longest, few) never m le small' (Ok (found.Certificate other)) finds = (tt, tt)
+  enough_over n small (certificate, longest, few) never m le small' (Ok (found.Certificate _)) finds = (tt, tt)
   enough_over n small (certificate, longest, few) never m le small' (Ok (found.Nothing begin end hull)) finds =
       absurd (none_where_stopped m begin small' never (inl (end, hull, finds.stuck)) certificate few
       (accepted_wider n m certificate le (accepted_if_carried n small certificate longest)))
@@ -191,17 +235,17 @@ module _ (laws : BoundLaws) (samples : List Sample) (claim : ClaimData) (lawful 
       (accepted_wider n m certificate le (accepted_if_carried n small certificate longest)))
 
   pub finds_least : (least : LeastCarried) → least.bound_ns ≤ max_bound_ns
-      → IsCarried samples (with_bound claim least.bound_ns) → IsFirst samples claim least.bound_ns least.tick
+      → IsCarried samples (with_bound claim least.bound_ns) → IsFirst samples claim least.bound_ns (pos least.tick)
       → IsCarried samples (with_bound claim max_bound_ns) → FindsLeastBound samples claim (Ok (Some least))
   finds_least least small carried first at_most = record {
     found = carried;
     not_below = first;
-    least = λ never m less. least_under least.bound_ns least.tick small first never m less;
+    least = λ never m less. least_under least.bound_ns (pos least.tick) small first never m less;
     enough = λ never m le small'. enough_over least.bound_ns small carried never m le small';
     none = at_most;
     lawful = (small, ⊎_elim
         (λ at. record { from_first = rw at.1 (omega (arith, ints)); begins = inl at.1 })
-        (λ below. stop_is_tick below.0 least.tick below.2.1) first);
+        (λ below. stop_is_tick below.0 (pos least.tick) below.2) first);
   }
 
   pub finds_none : (tick : ℤ) → StopsAt samples (with_bound claim max_bound_ns) tick

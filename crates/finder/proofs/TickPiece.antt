@@ -72,6 +72,5 @@ module _ (samples : List Sample) (claim : ClaimData) (lawful : IsLawful claim) (
       let some_length : 0 < length = omega arith in
       let parts = quotient distance length some_length in (
         of_span (distance / length) parts.from,
-        begins_before (distance / length) parts.from,
-        ends_after (distance / length) parts.to,
+        (begins_before (distance / length) parts.from, ends_after (distance / length) parts.to),
       )

@@ -4,7 +4,7 @@
 -- The least bound is one with which it finds a certificate, and with a nanosecond less it doesn't.
 -- Where some course of events fits, no tick's hull is empty, and then no certificate that may be
 -- written carries a lesser bound, and each wider one has a certificate too.
-use Rattle.std.specs.Prelude.{◌≡◌, ◌≢◌, ◌⊎◌, ℕ, suc, ◌*◌, ◌/◌, ◌<◌, ◌≤◌, ℤ, ◌-ℤ◌, ◌≤ℤ◌, ◌<ℤ◌, unsigned_abs}
+use Rattle.std.specs.Prelude.{◌≡◌, ◌≢◌, ◌⊎◌, ℕ, pos, ◌+◌, ◌*◌, ◌/◌, ◌<◌, ◌≤◌, ℤ, ◌-ℤ◌, ◌≤ℤ◌, ◌<ℤ◌, unsigned_abs}
 use Rattle.std.specs.Prelude.{List, length, Option, Result, IfOk, IfErr, IfSome, MatchOption}
 use Rattle.std.specs.declared.alloc.AllocError.{AllocError}
 use Rattle.era_unfold.specs.Window.{ticks_per_second}
@@ -55,7 +55,7 @@ module _ (samples : List Sample) (claim : ClaimData) where
 -- search stops at this tick, and a bound of 0 has no lesser one
 abbrev pub IsFirst : List Sample → ClaimData → ℕ → ℤ → Type 0
 IsFirst samples claim n tick = ((n ≡ 0) × (tick ≡ claim.first))
-    ⊎ ((m : ℕ) × (n ≡ suc m) × StopsAt samples (with_bound claim m) tick)
+    ⊎ ((m : ℕ) × (n ≡ m + 1) × StopsAt samples (with_bound claim m) tick)
 
 -- what a search for the least bound answers
 pub record FindsLeastBound (samples : List Sample) (claim : ClaimData)
@@ -65,7 +65,7 @@ pub record FindsLeastBound (samples : List Sample) (claim : ClaimData)
       IsCarried samples (with_bound claim least.bound_ns)))
   -- with a nanosecond less none is
   pub not_below : IfOk result (λ some. IfSome some (λ least.
-      IsFirst samples claim least.bound_ns least.tick))
+      IsFirst samples claim least.bound_ns (pos least.tick)))
   -- unless the samples contradict each other at a tick, with no lesser bound is any certificate
   -- accepted that may be written
   pub least : IfOk result (λ some. IfSome some (λ least. IsNeverEmpty samples claim →
@@ -80,7 +80,7 @@ pub record FindsLeastBound (samples : List Sample) (claim : ClaimData)
       (λ least. IsCarried samples (with_bound claim max_bound_ns)))
   -- the bound is one that a claim may have, and the tick is of the span
   pub lawful : IfOk result (λ some. IfSome some (λ least.
-      (least.bound_ns ≤ max_bound_ns) × IsTick claim least.tick))
+      (least.bound_ns ≤ max_bound_ns) × IsTick claim (pos least.tick)))
 
 -- ---- of the pieces that are cut every so many seconds
 

@@ -1,6 +1,6 @@
 //! The least bound that a certificate carries.
 
-ghost use Rattle.std.specs.Prelude.{◌≡◌, ◌<◌, ◌≤◌, ◌≤ℤ◌, List, length, Option, IfOk, MatchOption};
+ghost use Rattle.std.specs.Prelude.{◌≡◌, ◌≤◌, pos, ◌≤ℤ◌, List, length, Option, IfOk, MatchOption};
 ghost use Rattle.claim_file.specs.Claim.{IsLawful, data_of as claim_data, max_bound_ns};
 ghost use Rattle.pairing.specs.Exchange.{most_exchanges};
 ghost use Rattle.sample_interval.specs.declared.kinds.Sample.{Sample as TheSample};
@@ -39,7 +39,7 @@ pub struct LeastCarried {
     /// The Unix tick of 2^-32 s at which the search stops with a nanosecond less: the one that the
     /// longest pieces come to, and the next one isn't shown, or 100,000 pieces come no further. With
     /// a bound of 0 it is the span's first.
-    pub tick: i128,
+    pub tick: u64,
 }
 
 /// The least bound with which a certificate of fewest pieces is found, whatever the claim's own
@@ -88,13 +88,14 @@ fn least_bound_by(
     pieces_give_the_verdict();
     best_hulls_hold_the_error();
     wider_bounds_hold_too();
+    nanoseconds_lie_between_their_ticks();
     more_nanoseconds_have_no_fewer_ticks();
     if stop_under(alloc, tables, claim, MOST_BOUND_NS)?.is_some() {
         return Ok(None);
     }
     let mut least = 0;
     let mut bound_ns = MOST_BOUND_NS;
-    let mut tick = claim.first;
+    let mut tick = claim.first as u64;
     while least < bound_ns {
         let tried = trial(least, bound_ns, near, 0);
         match stop_under(alloc, tables, claim, tried)? {
@@ -108,21 +109,21 @@ fn least_bound_by(
     Ok(Some(LeastCarried { bound_ns, tick }))
 }
 
-/// Where the longest pieces stop with a bound of this many nanoseconds, in Unix ticks; none if they
-/// reach the span's end.
+/// The Unix tick at which the longest pieces stop with a bound of this many nanoseconds; none if
+/// they reach the span's end.
 fn stop_under(
     alloc: Global,
     tables: &[BestTable],
     claim: &Claim,
     bound_ns: u64,
-) -> Result<Option<i128>, AllocError>
+) -> Result<Option<u64>, AllocError>
     requires claim { IsLawful (claim_data claim.now) }
     requires tables { IsTabled (claim_data claim.now) tables.now }
     requires in_range { bound_ns ≤ max_bound_ns }
     ensures { IfOk result (λ stop. (samples : List TheSample) →
         AreTablesFor samples (claim_data claim.now) tables.now →
         MatchOption stop (IsCarried samples (with_bound (claim_data claim.now) bound_ns))
-        (StopsAt samples (with_bound (claim_data claim.now) bound_ns))) }
+        (λ tick. StopsAt samples (with_bound (claim_data claim.now) bound_ns) (pos tick))) }
 {
     best_samples_are_the_first_best();
     best_entries_show_as_much();
@@ -133,18 +134,20 @@ fn stop_under(
     let claim = claim_with(alloc, claim, bound_ns)?;
     match longest_ends(alloc, tables, &claim)? {
         Reach::End(_) => Ok(None),
-        Reach::Stuck { begin, .. } | Reach::TooLong { begin } => Ok(Some(i128::from(begin))),
+        Reach::Stuck { begin, .. } => Ok(Some(begin)),
+        Reach::TooLong { begin } => Ok(Some(begin)),
     }
 }
 
 /// The same claim with a bound of this many nanoseconds.
 fn claim_with(alloc: Global, claim: &Claim, bound_ns: u64) -> Result<Claim, AllocError>
+    requires { IsLawful (claim_data claim.now) }
     ensures { IfOk result (λ other. claim_data other ≡ with_bound (claim_data claim.now) bound_ns) }
 {
     Ok(Claim {
         client: claim.client,
-        servers: claim.servers.clone()?,
-        groups: claim.groups.clone()?,
+        servers: Vec::from_slice(alloc, claim.servers.as_slice())?,
+        groups: Vec::from_slice(alloc, claim.groups.as_slice())?,
         false_max: claim.false_max,
         first: claim.first,
         last: claim.last,
@@ -158,14 +161,14 @@ fn claim_with(alloc: Global, claim: &Claim, bound_ns: u64) -> Result<Claim, Allo
 
 /// The number of the piece that holds a tick of the span, from 0, if the span is cut every `step_s`
 /// seconds. The tick is one of Unix time, of 2^-32 s.
-pub fn piece_holding(claim: &Claim, step_s: u32, tick: i128) -> u64
+pub fn piece_holding(claim: &Claim, step_s: u32, tick: u64) -> u64
     requires claim { IsLawful (claim_data claim.now) }
     requires step { IsStep step_s }
-    requires from_first { claim.now.first ≤ℤ tick }
-    requires to_last { tick ≤ℤ claim.now.last }
-    ensures exact { result ≡ spec.piece_holding (claim_data claim.now) step_s tick }
+    requires from_first { claim.now.first ≤ℤ pos tick }
+    requires to_last { pos tick ≤ℤ claim.now.last }
+    ensures exact { result ≡ spec.piece_holding (claim_data claim.now) step_s (pos tick) }
 {
     let step = u128::from(step_s) * TICKS_PER_SECOND;
-    let distance = (tick - claim.first) as u128;
+    let distance = (i128::from(tick) - claim.first) as u128;
     (distance / step) as u64
 }

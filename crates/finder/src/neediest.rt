@@ -5,7 +5,7 @@
 //! most finds the neediest tick by some two hulls for each exchange. Nothing rests on it but where
 //! other searches begin.
 
-ghost use Rattle.std.specs.Prelude.{◌≤◌, IfOk, length, All};
+ghost use Rattle.std.specs.Prelude.{◌<◌, ◌≤◌, IfOk, length, All};
 ghost use Rattle.claim_file.specs.Claim.{IsLawful, data_of as claim_data, max_bound_ns};
 ghost use Rattle.finder.specs.Reach.{IsTabled};
 
@@ -142,12 +142,22 @@ fn hull_without(
 {
     best_samples_are_the_first_best();
     let all = parts_over(tables, i128::from(begin), i128::from(end), claim.drift_ppb);
-    let mut parts: ArrayVec<Part, 32> = ArrayVec::new();
-    for part in &all {
+    let parts = parts_without(all.as_slice(), claim, cover);
+    let false_max = claim.false_max.saturating_sub(cover.count(32));
+    piece_hull(parts.as_slice(), claim.groups.as_slice(), false_max)
+}
+
+/// The parts of the groups outside a cover.
+fn parts_without(all: &[Part], claim: &Claim, cover: Groups) -> ArrayVec<Part, 32>
+    requires claim { IsLawful (claim_data claim.now) }
+    requires listed { All (λ part. part.server < length claim.now.groups.items) all.now }
+    ensures listed { All (λ part. part.server < length claim.now.groups.items) result.items }
+{
+    let mut parts = ArrayVec::new();
+    for part in all {
         if !cover.contains(group_of(claim, part.server)) && !parts.is_full() {
             parts.push(*part);
         }
     }
-    let false_max = claim.false_max.saturating_sub(cover.count(32));
-    piece_hull(parts.as_slice(), claim.groups.as_slice(), false_max)
+    parts
 }

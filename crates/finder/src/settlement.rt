@@ -19,17 +19,19 @@ use crate::neediest::{most_stretches, neediest_tick};
 use certificate::{Certificate, Refutation};
 use claim_file::Claim;
 use courses::laws::{
-    ends_of_all_conflicts_are_a_cover, some_course_fits_where_a_cover_is_small,
-    some_course_is_observed_at_any_reading,
+    ends_of_all_conflicts_are_a_cover, few_groups_are_no_evidence, no_evidence_gives_no_yes,
+    some_course_fits_where_a_cover_is_small, some_course_is_observed_at_any_reading,
 };
-use courses::{Conflict, Conflicts, conflicts_of, first_contradictions};
+use courses::{
+    Conflict, Conflicts, conflicts_of, first_contradictions, groups_with_exchanges,
+};
 use intersection::kinds::Hull;
 use pairing::ToExchange;
 use sample_interval::{ExchangeSamples, SampleSource};
 use std::alloc::{AllocError, Global};
 use sweep::BestTable;
 
-/// One of four answers to a claim, with what proves it.
+/// One of five answers to a claim, with what proves it.
 #[derive(Drop)]
 pub enum Settled {
     /// The claim is shown: by a certificate that the checker accepts, of as few pieces as can be.
@@ -38,6 +40,11 @@ pub enum Settled {
     Refuted(Refutation),
     /// No course of events fits the exchanges: these are all conflicts, in the order of the groups.
     NothingFits(Vec<Conflict>),
+    /// The capture says nothing about the clock: no more groups have a sample than may be false.
+    NoEvidence {
+        /// How many groups have a sample.
+        groups: u8,
+    },
     /// Neither was found, and no certificate is accepted.
     Open {
         /// Where the first tick begins that isn't shown, in Unix ticks of 2^-32 s.
@@ -108,7 +115,8 @@ fn refutation_of<X: ToExchange>(
 }
 
 /// Settles a claim: by a certificate if there is one, or else by a refutation with drift if one is
-/// found. If no course of events fits the exchanges, neither is looked for.
+/// found. If no course of events fits the exchanges, or no more groups have a sample than may be
+/// false, neither is looked for.
 ///
 /// There are at most 1,000,000 exchanges. `TooManyPieces` comes if a course fits, 100,000 of the
 /// longest pieces don't reach the span's end and no refutation is found, and `Memory` if none is
@@ -127,10 +135,16 @@ pub fn settle<X: ToExchange>(
     some_course_fits_where_a_cover_is_small();
     some_course_is_observed_at_any_reading();
     ends_of_all_conflicts_are_a_cover();
+    few_groups_are_no_evidence();
+    no_evidence_gives_no_yes();
     let conflicts = conflicts_of(alloc, exchanges, claim)?;
     if !conflicts.has_cover(claim.false_max) {
         let told = first_contradictions(alloc, exchanges, claim, &conflicts)?;
         return Ok(Settled::NothingFits(told));
+    }
+    let groups = groups_with_exchanges(exchanges, claim).count(claim.servers.len() as u8);
+    if groups <= claim.false_max {
+        return Ok(Settled::NoEvidence { groups });
     }
     let samples = exchange_samples(exchanges, claim);
     let tables = tables_for(alloc, samples, claim)?;

@@ -1,5 +1,7 @@
 //! Which number to try next, where an answer changes between two.
 
+ghost use Rattle.std.specs.Prelude.{◌<◌, ◌≤◌};
+
 /// The number to try next of those from `low` to below `high`, if the answer changes among them,
 /// and most likely at `near`.
 ///
