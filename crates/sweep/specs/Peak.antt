@@ -3,7 +3,7 @@
 -- Which extremes are early for a stretch is decided by twice the middle of their windows, their
 -- place. So it's enough to keep, in the order of places, the extremes that are higher than all that
 -- come before them: the last of these that is early for a stretch is the highest that is.
-use Rattle.std.specs.Prelude.{◌≡◌, ℕ, ◌+◌, ◌≤◌, ◌⊎◌, List, Some, slice_get}
+use Rattle.std.specs.Prelude.{◌≡◌, ℕ, ◌+◌, ◌-◌, ◌<◌, ◌≤◌, ◌⊎◌, List, length, Some, slice_get}
 use Rattle.sweep.specs.Top.{IsEarlyAtLeast, height}
 use Rattle.sweep.specs.declared.extreme.Extreme.{Extreme}
 use Rattle.sweep.specs.declared.peak.Peak.{Peak}
@@ -36,6 +36,14 @@ pub record ArePeaksOf (ppb : ℕ) (extremes : List Extreme) (peaks : List Peak) 
   pub all : (index : ℕ) (extreme : Extreme) → slice_get extremes index ≡ Some extreme →
       IsTopped peaks (extreme.from + extreme.to) (height ppb extreme)
   pub rise : PeaksRise peaks
+
+-- the last peak before low comes no later than the place, the one at high later. So, as places
+-- rise, low is at most the count of those that come no later, and high at least
+pub record IsBracket (peaks : List Peak) (place low high : ℕ) : Type 0 where
+  pub in_order : low ≤ high
+  pub within : high ≤ length peaks
+  pub upto : (peak : Peak) → 0 < low → slice_get peaks (low - 1) ≡ Some peak → peak.place ≤ place
+  pub beyond : (peak : Peak) → slice_get peaks high ≡ Some peak → place < peak.place
 
 -- an extreme that comes no later than the place has this height
 pub record HasHeightUpto (ppb : ℕ) (extremes : List Extreme) (place height_is : ℕ) : Type 0 where

@@ -4,7 +4,7 @@ ghost use Rattle.std.specs.Prelude.{◌≡◌, ℕ, ◌<◌, ◌≤◌, ◌-◌,
 ghost use Rattle.std.specs.Prelude.{All, IfOk, Some, slice_get};
 ghost use Rattle.sample_interval.specs.Widening.{IsRate, billion};
 ghost use Rattle.sweep.specs.Extreme.{IsLawfulExtreme, seen};
-ghost use Rattle.sweep.specs.Peak.{ArePeaksOf, IsHeightUpto, IsEarlyLevel};
+ghost use Rattle.sweep.specs.Peak.{ArePeaksOf, IsBracket, IsHeightUpto, IsEarlyLevel};
 ghost use Rattle.sweep.specs.Stretch.{IsLawfulStretch};
 ghost use Rattle.sweep.specs.declared.extreme.Extreme.{Extreme as TheExtreme};
 
@@ -59,15 +59,33 @@ fn is_higher(height: u128, peaks: &[Peak]) -> bool
     peaks.is_empty() || peaks[peaks.len() - 1].height < height
 }
 
-/// How many of the peaks come no later than a place.
-fn count_upto(peaks: &[Peak], place: u128) -> usize
-    ensures within { result ≤ length peaks.now }
-    ensures upto { (peak : Peak) → 0 < result →
-        slice_get peaks.now (result - 1) ≡ Some peak → peak.place ≤ place }
-    ensures beyond { (peak : Peak) → slice_get peaks.now result ≡ Some peak → place < peak.place }
+/// Indices between which the count of the peaks that come no later than a place lies. They are
+/// looked for from `near` on, by steps that double; all are taken if there are fewer peaks.
+fn bracket(peaks: &[Peak], place: u128, near: usize) -> (usize, usize)
+    ensures { IsBracket peaks.now place result.0 result.1 }
 {
-    let mut low = 0;
-    let mut high = peaks.len();
+    if peaks.len() < near {
+        return (0, peaks.len());
+    }
+    let mut low = near;
+    let mut high = near;
+    while high < peaks.len() && peaks[high].place <= place {
+        low = high + 1;
+        high = low + low.abs_diff(near).min(peaks.len() - low);
+    }
+    'back: while 0 < low && place < peaks[low - 1].place {
+        high = low - 1;
+        low = high.saturating_sub(high.abs_diff(near));
+    }
+    (low, high)
+}
+
+/// How many of the peaks come no later than a place. It's looked for from `near` on, and in at most
+/// twice the steps of a search among all.
+fn count_upto(peaks: &[Peak], place: u128, near: usize) -> usize
+    ensures { IsBracket peaks.now place result result }
+{
+    let (mut low, mut high) = bracket(peaks, place, near);
     while low < high {
         let middle = low + (high - low) / 2;
         if peaks[middle].place <= place {
@@ -80,11 +98,12 @@ fn count_upto(peaks: &[Peak], place: u128) -> usize
 }
 
 /// The greatest height of the extremes that come no later than a place, 0 if there is none.
-fn height_upto(peaks: &[Peak], place: u128) -> u128
+fn height_upto(peaks: &[Peak], place: u128, near: &mut usize) -> u128
     ensures { (ppb : ℕ) (extremes : List TheExtreme) → ArePeaksOf ppb extremes peaks.now →
         IsHeightUpto ppb extremes place result }
 {
-    let count = count_upto(peaks, place);
+    let count = count_upto(peaks, place, *near);
+    *near = count;
     if count == 0 {
         return 0;
     }
@@ -93,13 +112,13 @@ fn height_upto(peaks: &[Peak], place: u128) -> u128
 
 /// How far the highest early extreme stands above what it falls by a stretch's end, 0 if none does.
 /// The level that it reaches there is this over 10^9 less the rate.
-pub fn early_rise(peaks: &[Peak], stretch: Stretch, drift_ppb: u32) -> u128
+pub fn early_rise(peaks: &[Peak], near: &mut usize, stretch: Stretch, drift_ppb: u32) -> u128
     requires stretch { IsLawfulStretch stretch }
     requires rate { IsRate drift_ppb }
     ensures { (extremes : List TheExtreme) → ArePeaksOf drift_ppb extremes peaks.now →
         IsEarlyLevel drift_ppb extremes stretch (result / (billion - drift_ppb)) }
 {
     let rate = u128::from(drift_ppb);
-    let height = height_upto(peaks, stretch.begin + stretch.end);
+    let height = height_upto(peaks, stretch.begin + stretch.end, near);
     height.saturating_sub(rate * stretch.end)
 }

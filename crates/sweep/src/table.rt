@@ -1,9 +1,9 @@
 //! Tables of the best samples, which are asked for any piece.
 
-ghost use Rattle.std.specs.Prelude.{◌≡◌, ℕ, ◌<◌, ◌≤◌, ◌^◌, ◌↔◌, List, length, map, All, Some};
-ghost use Rattle.std.specs.Prelude.{IfOk, IfSome, IsNone, pos, ◌-ℤ◌, neg_ℤ};
+ghost use Rattle.std.specs.Prelude.{◌≡◌, ℕ, ◌<◌, ◌≤◌, ◌-◌, ◌/◌, ◌^◌, ◌↔◌, List, length, map, All};
+ghost use Rattle.std.specs.Prelude.{Some, IfOk, IfSome, IsNone, pos, ◌-ℤ◌, neg_ℤ};
 ghost use Rattle.sample_interval.specs.Sample.{IsLawfulSample};
-ghost use Rattle.sample_interval.specs.Widening.{IsRate};
+ghost use Rattle.sample_interval.specs.Widening.{IsRate, billion};
 ghost use Rattle.sample_interval.specs.declared.kinds.Sample.{Sample};
 ghost use Rattle.span_cover.specs.Best.{HasNoSample};
 ghost use Rattle.span_cover.specs.Piece.{IsPiece};
@@ -15,8 +15,9 @@ ghost use Rattle.sweep.specs.declared.extreme.Extreme.{Extreme as TheExtreme};
 
 use crate::extreme::{Extreme, extremes_of, servers_of};
 use crate::peak::{Peak, early_rise, peaks_of};
+use crate::places::{Near, NearTable, Places};
 use crate::stretch::Stretch;
-use crate::tick::{from_origin, from_zero, mirrored_tick};
+use crate::tick::{NEAR_ZERO, from_origin, from_zero, mirrored_tick};
 use arrayvec::ArrayVec;
 use intersection::kinds::Interval;
 use sample_interval::laws::widening_is_one_number;
@@ -111,7 +112,7 @@ fn both_ways(alloc: Global, extremes: &[Extreme], drift_ppb: u32) -> Result<Peak
 }
 
 /// The highest level that an extreme reaches over a stretch.
-fn level_over(peaks: &Peaks, stretch: Stretch, drift_ppb: u32) -> u128
+fn level_over(peaks: &Peaks, near: &mut Near, stretch: Stretch, drift_ppb: u32) -> u128
     requires stretch { IsLawfulStretch stretch }
     requires rate { IsRate drift_ppb }
     ensures small { result ≤ 2 ^ 100 }
@@ -121,17 +122,38 @@ fn level_over(peaks: &Peaks, stretch: Stretch, drift_ppb: u32) -> u128
 {
     // What the proof knows of widenings.
     widening_is_one_number();
-    let early = early_rise(peaks.early.as_slice(), stretch, drift_ppb);
+    let early = early_rise(peaks.early.as_slice(), &mut near.early, stretch, drift_ppb);
     let mirrored = Stretch {
         begin: mirrored_tick(stretch.end),
         end: mirrored_tick(stretch.begin),
     };
-    let late = early_rise(peaks.late.as_slice(), mirrored, drift_ppb);
-    early.max(late) / (PARTS - u128::from(drift_ppb))
+    let late = early_rise(peaks.late.as_slice(), &mut near.late, mirrored, drift_ppb);
+    level_of(early.max(late), drift_ppb)
+}
+
+/// The level that an extreme reaches which stands so far above what it falls. Mostly it's less than
+/// two seconds from zero, and then 64 bits are divided, which takes a fifth of the time.
+fn level_of(rise: u128, drift_ppb: u32) -> u128
+    requires { IsRate drift_ppb }
+    ensures { result ≡ rise / (billion - drift_ppb) }
+{
+    let parts = PARTS - u128::from(drift_ppb);
+    if let Some(rest) = rise.checked_sub(parts * NEAR_ZERO)
+        && let Ok(rest) = u64::try_from(rest)
+    {
+        return NEAR_ZERO + u128::from(rest / parts as u64);
+    }
+    rise / parts
 }
 
 /// What a server says over a piece.
-fn part_over(table: &BestTable, begin: i128, end: i128, drift_ppb: u32) -> Part
+fn part_over(
+    table: &BestTable,
+    near: &mut NearTable,
+    begin: i128,
+    end: i128,
+    drift_ppb: u32,
+) -> Part
     requires piece { IsPiece begin end }
     requires rate { IsRate drift_ppb }
     ensures { (samples : List Sample) → IsTableOf samples drift_ppb table.now →
@@ -142,8 +164,8 @@ fn part_over(table: &BestTable, begin: i128, end: i128, drift_ppb: u32) -> Part
         begin: from_origin(begin),
         end: from_origin(end),
     };
-    let low = level_over(&table.lows, stretch, drift_ppb);
-    let high = level_over(&table.highs, stretch, drift_ppb);
+    let low = level_over(&table.lows, &mut near.lows, stretch, drift_ppb);
+    let high = level_over(&table.highs, &mut near.highs, stretch, drift_ppb);
     Part {
         server: table.server,
         interval: interval_between(low, high),
@@ -182,10 +204,31 @@ pub fn parts_over(
         AreTablesOf samples count drift_ppb tables.now →
         result.items ≡ best_parts samples count begin end drift_ppb }
 {
+    parts_near(tables, &mut Places::new(), begin, end, drift_ppb)
+}
+
+/// The same, found in the fewer steps the nearer the piece lies to the last one that was asked for
+/// with these places, and in at most twice as many where it lies far. What is found doesn't depend
+/// on the places. They say afterwards where it was found.
+pub fn parts_near(
+    tables: &[BestTable],
+    places: &mut Places,
+    begin: i128,
+    end: i128,
+    drift_ppb: u32,
+) -> ArrayVec<Part, 32>
+    requires few { length tables.now ≤ 32 }
+    requires piece { IsPiece begin end }
+    requires rate { IsRate drift_ppb }
+    ensures { (samples : List Sample) (count : ℕ) →
+        AreTablesOf samples count drift_ppb tables.now →
+        result.items ≡ best_parts samples count begin end drift_ppb }
+{
     first_best_of_both_ends_are_the_best();
     let mut parts = ArrayVec::new();
-    for table in tables {
-        parts.push(part_over(table, begin, end, drift_ppb));
+    for (index, table) in tables.iter().enumerate() {
+        let near = &mut places.near[index];
+        parts.push(part_over(table, near, begin, end, drift_ppb));
     }
     parts
 }

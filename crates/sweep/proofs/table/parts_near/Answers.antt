@@ -7,27 +7,27 @@ use mir.Syntax.{w128}
 use Rattle.sweep.specs.Table.{IsTableOf, best_part, best_parts}
 use Rattle.sweep.specs.declared.table.BestTable.{BestTable}
 use Rattle.sweep.proofs.TableList.{filter_map_more, parts_are}
-use Rattle.sweep.proofs.table.parts_over.Goals as goal
+use Rattle.sweep.proofs.table.parts_near.Goals as goal
 
-pub loop-table-preserved : goal.loop-table-preserved
-loop-table-preserved c =
+pub loop-index-preserved : goal.loop-index-preserved
+loop-index-preserved c =
     let ppb = c.args.drift_ppb in
     let begin : ℤ = to_z w128 (of_z w128 c.args.begin) in
     let end : ℤ = to_z w128 (of_z w128 c.args.end) in
     let tables = c.args.tables.now in
-    let index = c.loop-table.table-index in
-    let table = c.table-item.result in
-    let within : index < length tables = c.loop-table-test.true in
+    let index = c.loop-index.index in
+    let table = c.index-tables-index.result in
+    let within : index < length tables = c.loop-index-test.true in
     record {
       few = grind (arith, common_steps);
       so_far = λ samples each.
           c.push.ensures.items
           ∙ filter_map_more (λ (t : BestTable). best_part samples begin end ppb t.server) tables index table
-          c.part_over.result c.loop-table.parts.items (c.loop-table.invariant.so_far samples each) within
+          c.part_over.result c.loop-index.parts.items (c.loop-index.invariant.so_far samples each) within
           (subst (λ (t : BestTable). best_part samples begin end ppb t.server ≡ Some c.part_over.result)
-          c.table-item.is
+          c.index-tables-index.is
           (c.part_over.ensures samples
-          (subst (IsTableOf samples ppb) (sym c.table-item.is) (each index table within))));
+          (subst (IsTableOf samples ppb) (sym c.index-tables-index.is) (each index table within))));
     }
 
 pub returns : goal.returns
@@ -36,9 +36,9 @@ returns c samples count are =
     let begin : ℤ = to_z w128 (of_z w128 c.args.begin) in
     let end : ℤ = to_z w128 (of_z w128 c.args.end) in
     let tables = c.args.tables.now in
-    c.loop-table.invariant.so_far samples are.each
+    c.loop-index.invariant.so_far samples are.each
     ∙ ap (filter_map (λ (t : BestTable). best_part samples begin end ppb t.server))
-    (take_all c.loop-table.table-index tables c.loop-table-test.false)
+    (take_all c.loop-index.index tables c.loop-index-test.false)
     ∙ parts_are c.first_best_of_both_ends_are_the_best.ensures.none samples count begin end ppb tables are
     ∙ ap (λ (x : ℤ). best_parts samples count x end ppb) (to_z-of_z w128 c.args.begin c.ranges.begin)
     ∙ ap (λ (y : ℤ). best_parts samples count c.args.begin y ppb) (to_z-of_z w128 c.args.end c.ranges.end)

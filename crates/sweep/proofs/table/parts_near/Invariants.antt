@@ -2,11 +2,11 @@ use Rattle.std.proofs.Common.{◌≡◌, ◌≤◌, List, length, take}
 use Rattle.std.specs.List.{All, filter_map}
 use Rattle.sample_interval.specs.declared.kinds.Sample.{Sample}
 use Rattle.sweep.specs.Table.{IsTableOf, best_part}
-use Rattle.sweep.proofs.table.parts_over.Given as goal
+use Rattle.sweep.proofs.table.parts_near.Given as goal
 
-abbrev pub invariant-loop-table : goal.invariant-loop-table
-invariant-loop-table l = record {
-  few : length l.parts.items ≤ l.table-index;
+abbrev pub invariant-loop-index : goal.invariant-loop-index
+invariant-loop-index l = record {
+  few : length l.parts.items ≤ l.index;
   so_far : (samples : List Sample) → All (IsTableOf samples l.drift_ppb) l.tables → l.parts.items
-      ≡ filter_map (λ table. best_part samples l.begin l.end l.drift_ppb table.server) (take l.table-index l.tables);
+      ≡ filter_map (λ table. best_part samples l.begin l.end l.drift_ppb table.server) (take l.index l.tables);
 }
