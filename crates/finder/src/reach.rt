@@ -11,7 +11,7 @@ use claim_file::Claim;
 use intersection::kinds::Hull;
 use span_cover::is_inside;
 use std::alloc::{AllocError, Global};
-use sweep::BestTable;
+use sweep::{BestTable, Places};
 
 /// How far the longest pieces of a span reach, one after another.
 #[derive(Drop)]
@@ -26,7 +26,7 @@ pub(crate) enum Reach {
 }
 
 /// Takes one longest piece after another, by the tables of the servers. Each is looked for first
-/// at the length of the one before.
+/// at the length of the one before, and each look-up goes on from where the last one ended.
 pub(crate) fn longest_ends(
     alloc: Global,
     tables: &[BestTable],
@@ -41,14 +41,15 @@ pub(crate) fn longest_ends(
     let last = claim.last as u64;
     let mut begin = claim.first as u64;
     let mut likely = last;
+    let mut places = Places::new();
     let mut ends: Vec<i128> = Vec::new(alloc);
     while ends.len() < MAX_PIECES {
         let end = tick_after(begin, last);
-        let hull = hull_over(tables, claim, begin, end);
+        let hull = hull_over(tables, &mut places, claim, begin, end);
         if !is_inside(claim.bound, hull) {
             return Ok(Reach::Stuck { begin, end, hull });
         }
-        let reached = longest_end(tables, claim, begin, end, likely);
+        let reached = longest_end(tables, &mut places, claim, begin, end, likely);
         likely = reached.saturating_sub(begin);
         begin = reached;
         ends.push(i128::from(begin))?;
