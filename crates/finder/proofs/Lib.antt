@@ -20,11 +20,8 @@ pub mod LongestPiece
 pub mod FewestAnswer
 pub mod Bound
 pub mod SettlementAnswer
-pub mod UnboundedHulls
-pub mod Needs
-pub mod Search
-pub mod Undercut
-pub mod NeediestPiece
+pub mod CarriedBound
+pub mod TickPiece
 pub mod EnvelopePieces
 pub mod OtherBounds
 pub mod Finer

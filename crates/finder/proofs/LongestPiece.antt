@@ -180,14 +180,17 @@ end_kept p q is =
     let in_range = is.in_range in
     kept q (omega (arith, ints))
 
-pub end_fits : (p q : ℤ) → IsPiece p q
-    → T (non_neg (to_z w128 (of_z w128 q))) × Fits w64 (unsigned_abs (to_z w128 (of_z w128 q)))
-end_fits p q is =
+pub fits_64 : (p q : ℤ) → IsPiece p q → T (non_neg q) × Fits w64 (unsigned_abs q)
+fits_64 p q is =
     let from_zero = is.from_zero in
     let in_order = is.in_order in
     let in_range = is.in_range in
     let from : pos 0 ≤ℤ q = omega (arith, ints) in
-    rw (end_kept p q is) (yes_non_neg from, record { fits = omega (arith, ints) })
+    (yes_non_neg from, record { fits = omega (arith, ints) })
+
+pub end_fits : (p q : ℤ) → IsPiece p q
+    → T (non_neg (to_z w128 (of_z w128 q))) × Fits w64 (unsigned_abs (to_z w128 (of_z w128 q)))
+end_fits p q is = rw (end_kept p q is) (fits_64 p q is)
 
 pub first_is : (claim : ClaimData) → IsLawful claim
     → pos (unsigned_abs (to_z w128 (of_z w128 claim.first))) ≡ claim.first

@@ -1,12 +1,14 @@
 -- What settles a claim.
-use Rattle.std.proofs.Common.{◌≡◌, ℕ, ◌≤◌, ℤ, pos, ◌*ℤ◌, ◌≤ℤ◌, ◌⊎◌, inl, inr, ⊎_elim, true, false, true≢false, List, [], ◌∷◌, Ok, Err, refl, sym, ◌∙◌, to_z, of_z, arith}
+use Rattle.std.proofs.Common.{◌≡◌, ℕ, ◌≤◌, ℤ, pos, ◌*ℤ◌, ◌≤ℤ◌, ◌⊎◌, inl, inr, ⊎_elim, true, false, true≢false, List, [], ◌∷◌, Ok, Err, refl, sym, ◌∙◌, subst, to_z, of_z, Fits, w64, unsigned_abs, arith}
+use Rattle.std.proofs.Math.Dec.{T}
+use Rattle.std.specs.Int.Signed.{non_neg}
 use mir.Syntax.{w128}
-use Rattle.std.specs.Prelude.{◌↔◌, Bool, IsTrue}
+use Rattle.std.specs.Prelude.{◌↔◌, All, Bool, IsTrue, length}
 use Rattle.std.proofs.lemmas.Int.{ints, clamps}
 use Rattle.claim_file.specs.Claim.{ClaimData, IsLawful}
 use Rattle.pairing.specs.Exchange.{IsLawful as IsLawfulExchange}
 use Rattle.pairing.specs.declared.exchange.Exchange.{Exchange}
-use Rattle.certificate.specs.Certificate.{data_of as certificate_data}
+use Rattle.certificate.specs.Certificate.{CertificateData, data_of as certificate_data}
 use Rattle.certificate.specs.Refutation.{RefutationData}
 use Rattle.certificate.specs.declared.certificate.Certificate.{Certificate}
 use Rattle.intersection.specs.Fineness.{times_le}
@@ -15,18 +17,19 @@ use Rattle.sample_interval.specs.declared.kinds.Sample.{Sample}
 use Rattle.span_cover.specs.Piece.{IsPiece}
 use Rattle.checker.specs.Course.{Course}
 use Rattle.checker.specs.Traceability.{IsObservedIn, samples_of}
+use Rattle.checker.specs.Verdict.{verdict_of}
+use Rattle.checker.specs.declared.verdict.Verdict.TheVariants.{Yes}
 use Rattle.courses.specs.Contradiction.{AreAllConflicts, HoldsAnEnd, ShownConflict}
 use Rattle.courses.specs.Cover.{HasSmallCover, IsCover, SomeCourse, SomeCourseAt}
 use Rattle.courses.specs.DriftSettlement.{SettlesWithDrift}
+use Rattle.courses.specs.Evidence.{IsNoEvidence, count_with_exchange}
 use Rattle.finder.specs.Fewest.{AreLongest, IsStuck, end_after}
 use Rattle.finder.specs.FewestAnswer.{FindsFewest}
-use Rattle.finder.specs.Need.{IsLawfulNeed, IsLeastNeed}
-use Rattle.finder.specs.Settlement.{HasTooManyPieces, IsContestedBy, IsFittedByNone, IsLeftOpen, IsShownBy}
+use Rattle.finder.specs.Settlement.{HasTooManyPieces, IsContestedBy, IsFittedByNone, IsLeftOpen, IsShownBy, IsUnheard}
 use Rattle.finder.specs.declared.fault.FindFault.{FindFault}
 use Rattle.finder.specs.declared.fault.FindFault.TheVariants as finds
 use Rattle.finder.specs.declared.fewest.Fewest.TheVariants as found
-use Rattle.finder.specs.declared.need.LeastNeed.{LeastNeed}
-use Rattle.finder.proofs.LongestPiece.{end_kept}
+use Rattle.finder.proofs.LongestPiece.{end_kept, fits_64}
 
 -- ---- limits
 
@@ -56,14 +59,6 @@ module _ (claim : ClaimData) (lawful : IsLawful claim) (samples : List Sample) w
       let ends = lawful.span_ends in
       record { from_zero = omega (arith, ints); in_order = forward; in_range = omega (arith, ints) }
 
-  -- so is the tick that needs most
-  pub need_piece : (need : LeastNeed) → IsLawfulNeed claim need → IsLeastNeed samples claim need → IsPiece need.begin need.end
-  need_piece need limits is =
-      let from = limits.from_first in
-      let to = limits.to_last in
-      let ends = is.ends in
-      piece_within need.begin need.end from (omega (arith, ints, clamps)) (omega (arith, ints, clamps))
-
   in_span_after : (p : ℤ) (earlier : List ℤ) → claim.first ≤ℤ p → p ≤ℤ claim.last → AreLongest samples claim p earlier
       → (claim.first ≤ℤ end_after p earlier) × (end_after p earlier ≤ℤ claim.last)
   in_span_after p [] from to longest = (from, to)
@@ -78,6 +73,8 @@ module _ (claim : ClaimData) (lawful : IsLawful claim) (samples : List Sample) w
     pub to_last : end ≤ℤ claim.last
     pub begin_kept : to_z w128 (of_z w128 begin) ≡ begin
     pub end_kept : to_z w128 (of_z w128 end) ≡ end
+    pub begin_fits : T (non_neg begin) × Fits w64 (unsigned_abs begin)
+    pub end_fits : T (non_neg end) × Fits w64 (unsigned_abs end)
 
   tick_within : (begin end : ℤ) → claim.first ≤ℤ begin → begin ≤ℤ end → end ≤ℤ claim.last → IsTickWithin begin end
   tick_within begin end from forward to =
@@ -88,6 +85,8 @@ module _ (claim : ClaimData) (lawful : IsLawful claim) (samples : List Sample) w
         to_last = to;
         begin_kept = end_kept begin begin (piece_within begin begin from (omega (arith, ints)) (omega (arith, ints)));
         end_kept = end_kept begin end piece;
+        begin_fits = fits_64 begin begin (piece_within begin begin from (omega (arith, ints)) (omega (arith, ints)));
+        end_fits = fits_64 begin end piece;
       }
 
   pub stuck_within : (begin end : ℤ) (hull : Hull) → IsStuck samples claim begin end hull → IsTickWithin begin end
@@ -119,6 +118,22 @@ module _ (claim : ClaimData) (xs : List Exchange) where
     unaccounted = λ is_in small ends. no_course (from (is_in, covers is_in ends, small));
   }
 
+  -- no more groups have an exchange than may be false
+  pub unheard : (each : All (IsLawfulExchange (length claim.servers)) xs) → IsLawful claim
+      → (IsLawful claim → All (IsLawfulExchange (length claim.servers)) xs
+      → count_with_exchange claim xs ≤ claim.false_max → IsNoEvidence claim xs (count_with_exchange claim xs))
+      → ((groups : ℕ) (certificate : CertificateData) → IsLawful claim
+      → All (IsLawfulExchange (length claim.servers)) xs → IsNoEvidence claim xs groups
+      → ¬ (verdict_of (samples_of xs claim) claim certificate ≡ Yes))
+      → (groups : ℕ) → groups ≡ count_with_exchange claim xs → groups ≤ claim.false_max → IsUnheard claim xs groups
+  unheard each lawful few_are_none none_is_accepted groups is few =
+      let nothing_said : IsNoEvidence claim xs groups =
+      subst (IsNoEvidence claim xs) (sym is) (few_are_none lawful each (omega (arith, is, few))) in
+      record {
+        nothing_said = nothing_said;
+        none_accepted = λ other. none_is_accepted groups other lawful each nothing_said;
+      }
+
   -- a certificate that shows the claim
   pub shown_by : (certificate : Certificate) → SomeCourse claim xs
       → FindsFewest (samples_of xs claim) claim (Ok (found.Certificate certificate))
@@ -141,7 +156,7 @@ module _ (claim : ClaimData) (xs : List Exchange) where
   }
 
   -- the reading at which a course is observed lies in the tick that begins there
-  observed : (begin end : ℤ) (course : Course) → begin ≤ℤ end
+  pub observed : (begin end : ℤ) (course : Course) → begin ≤ℤ end
       → course.observation.reading ≡ (begin *ℤ pos course.fineness) → IsObservedIn course begin end
   observed begin end course forward is =
       let n = course.fineness in

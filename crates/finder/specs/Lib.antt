@@ -10,10 +10,7 @@ pub mod Fewest
 pub mod Reach
 pub mod Answer
 pub mod FewestAnswer
-pub mod Need
-pub mod NeedSearch
-pub mod Neediest
-pub mod NeedAnswer
+pub mod Carried
 pub mod Settlement
 pub mod Room
 pub mod Sought

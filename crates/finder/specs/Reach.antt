@@ -33,4 +33,9 @@ pub record AreEnds (samples : List Sample) (claim : ClaimData) (ends : List ℤ)
 abbrev pub IsReach : List Sample → ClaimData → Reach → Type 0
 IsReach samples claim (End ends) = AreEnds samples claim ends.items
 IsReach samples claim (Stuck begin end hull) = IsStuck samples claim (pos begin) (pos end) hull
-IsReach samples claim TooLong = IsTooLong samples claim
+IsReach samples claim (TooLong begin) =
+    (long : IsTooLong samples claim) × (pos begin ≡ end_after claim.first long.earlier)
+
+-- this holds of whatever samples these are the tables of
+abbrev pub OfTables : ClaimData → List BestTable → (List Sample → Type 0) → Type 0
+OfTables claim tables P = (samples : List Sample) → AreTablesFor samples claim tables → P samples

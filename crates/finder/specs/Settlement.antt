@@ -1,9 +1,10 @@
--- What settles a claim: one of four answers, each with what proves it.
+-- What settles a claim: one of five answers, each with what proves it.
 --
 -- If no course of events fits the exchanges, something that the claim grants isn't true in this
--- capture, and no more is asked. If one fits, a certificate shows the claim, or a refutation
--- contests it, or neither was found, and no certificate is accepted.
-use Rattle.std.specs.Prelude.{◌≡◌, ◌⊎◌, ◌≤◌, ℤ, List, length, map, AllPairs, Result, IfOk, IfErr}
+-- capture, and no more is asked. If no more groups have a sample than may be false, the capture says
+-- nothing about the clock. Otherwise a certificate shows the claim, or a refutation contests it, or
+-- neither was found, and no certificate is accepted.
+use Rattle.std.specs.Prelude.{◌≡◌, ◌⊎◌, ◌≤◌, ℕ, ℤ, List, length, map, AllPairs, Result, IfOk, IfErr}
 use Rattle.certificate.specs.Certificate.{CertificateData, data_of as certificate_data, max_pieces}
 use Rattle.certificate.specs.Refutation.{RefutationData, data_of as refutation_data}
 use Rattle.claim_file.specs.Claim.{ClaimData}
@@ -16,6 +17,7 @@ use Rattle.checker.specs.declared.verdict.Verdict.TheVariants.{Yes}
 use Rattle.courses.specs.Contradiction.{ShownConflict, AreAllConflicts, NoFewHoldAnEnd}
 use Rattle.courses.specs.Cover.{SomeCourse}
 use Rattle.courses.specs.DriftRefutation.{IsRefutedWithDrift, HasDriftCourse}
+use Rattle.courses.specs.Evidence.{IsNoEvidence}
 use Rattle.courses.specs.PairMarks.{conflict_data}
 use Rattle.finder.specs.Fewest.{HasFewest, IsOfLongest, IsStuck, IsTooLong, NoneIsAccepted, NoneOfFewIsAccepted, stretch_over}
 use Rattle.finder.specs.declared.fault.FindFault.{FindFault}
@@ -23,12 +25,13 @@ use Rattle.finder.specs.declared.fault.FindFault.TheVariants.{TooManyPieces, Mem
 use Rattle.finder.specs.declared.settlement.Settled.{Settled}
 use Rattle.finder.specs.declared.settlement.Settled.TheVariants as the
 
--- a certificate, a refutation, all conflicts, or the tick at which the certificate of fewest pieces
+-- a certificate, a refutation, all conflicts, how few groups have a sample, or the tick at which the certificate of fewest pieces
 -- stops, with its hull
 pub data SettledData : Type 0 where
   shown : CertificateData → SettledData
   refuted : RefutationData → SettledData
   fitted_by_none : List ShownConflict → SettledData
+  no_evidence : ℕ → SettledData
   left_open : ℤ → ℤ → Hull → SettledData
 
 -- what a value of the program says
@@ -36,6 +39,7 @@ abbrev pub settled_data : Settled → SettledData
 settled_data (the.Shown certificate) = shown (certificate_data certificate)
 settled_data (the.Refuted refutation) = refuted (refutation_data refutation)
 settled_data (the.NothingFits conflicts) = fitted_by_none (map conflict_data conflicts.items)
+settled_data (the.NoEvidence groups) = no_evidence groups
 settled_data (the.Open begin end hull) = left_open begin end hull
 
 module _ (claim : ClaimData) (xs : List Exchange) where
@@ -62,6 +66,12 @@ module _ (claim : ClaimData) (xs : List Exchange) where
     pub all : AreAllConflicts claim xs conflicts
     pub unaccounted : NoFewHoldAnEnd claim conflicts
 
+  -- This many groups have a sample, and no more than may be false: at every reading the error may be
+  -- anything, and no certificate is accepted.
+  pub record IsUnheard (groups : ℕ) : Type 0 where
+    pub nothing_said : IsNoEvidence claim xs groups
+    pub none_accepted : NoneIsAccepted (samples_of xs claim) claim
+
   -- A course fits, and no certificate is accepted. Where the longest pieces have come to, the next
   -- tick isn't shown; in every course that fits, the error lies in its hull at every moment whose
   -- reading lies there.
@@ -75,10 +85,11 @@ module _ (claim : ClaimData) (xs : List Exchange) where
   IsSettledAs (shown certificate) = IsShownBy certificate
   IsSettledAs (refuted refutation) = IsContestedBy refutation
   IsSettledAs (fitted_by_none conflicts) = IsFittedByNone conflicts
+  IsSettledAs (no_evidence groups) = IsUnheard groups
   IsSettledAs (left_open begin end hull) = IsLeftOpen begin end hull
 
   -- A course fits, and as many pieces as a certificate may have don't reach the span's end: none
-  -- that may be written is accepted.
+  -- that may be written is accepted. No refutation was found either.
   pub record HasTooManyPieces : Type 0 where
     pub course : SomeCourse claim xs
     pub too_long : IsTooLong (samples_of xs claim) claim

@@ -105,7 +105,7 @@ pub(crate) fn fewest_by<S: SampleSource>(
             end: i128::from(end),
             hull,
         }),
-        Reach::TooLong => Err(FindFault::TooManyPieces),
+        Reach::TooLong { .. } => Err(FindFault::TooManyPieces),
     }
 }
 

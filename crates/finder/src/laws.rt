@@ -1,7 +1,7 @@
 //! What holds of the definitions. A law is a function that does nothing: its contract is the law,
 //! for every number.
 
-ghost use Rattle.std.specs.Prelude.{◌≡◌, ◌⊎◌, ℕ, ◌<◌, ◌≤◌, ◌*◌, ℤ, ◌≤ℤ◌, pos, true, List, [], Ok, All, length, Option, slice_get};
+ghost use Rattle.std.specs.Prelude.{◌≡◌, ◌⊎◌, ℕ, ◌<◌, ◌≤◌, ◌*◌, ℤ, ◌≤ℤ◌, pos, true, List, [], Ok, All, length, slice_get};
 ghost use Rattle.certificate.specs.Certificate.{CertificateData, PieceData};
 ghost use Rattle.claim_file.specs.Claim.{ClaimData, IsLawful, max_drift_ppb};
 ghost use Rattle.pairing.specs.Exchange.{IsLawful as IsLawfulExchange};
@@ -11,24 +11,25 @@ ghost use Rattle.sample_interval.specs.declared.kinds.Sample.{Sample};
 ghost use Rattle.checker.specs.Traceability.{HoldsError, samples_of};
 ghost use Rattle.checker.specs.Verdict.{parts_after, parts_fault, hull_fault, verdict_of};
 ghost use Rattle.checker.specs.declared.verdict.Verdict.{Verdict};
+ghost use Rattle.courses.specs.Cover.{SomeCourse};
 ghost use Rattle.span_cover.specs.Group.{is_inside, piece_hull};
 ghost use Rattle.span_cover.specs.Piece.{IsPiece};
 ghost use Rattle.span_cover.specs.declared.stretch.Stretch.{Stretch};
+ghost use Rattle.finder.specs.Carried.{HoldsTick, IsNeverEmpty, IsTick, piece_holding};
 ghost use Rattle.finder.specs.Entry.{best_entries, best_hull, parts_named};
 ghost use Rattle.finder.specs.Envelope.{EnvelopeData, IsCertified, IsLeast, IsNotCertified, envelope_of, least_of, with_bound};
 ghost use Rattle.finder.specs.Fewest.{AreLongest, IsNoWider, stretch_over};
 ghost use Rattle.finder.specs.Found.{found_of, hull_at};
-ghost use Rattle.finder.specs.Need.{IsFirstOfNeed, IsLeastNeedIfAny, IsNeediest, piece_holding};
-ghost use Rattle.finder.specs.Piece.{IsPieceCount, piece_count_of};
+ghost use Rattle.finder.specs.Piece.{IsPieceCount, count_of, piece_count_of};
 ghost use Rattle.finder.specs.Refusal.{HoldsWhole};
 ghost use Rattle.finder.specs.Samples.{AreSamplesOf};
 ghost use Rattle.finder.specs.TickParts.{best_parts};
 ghost use Rattle.finder.specs.declared.least.LeastBound.{LeastBound};
-ghost use Rattle.finder.specs.declared.need.LeastNeed.{LeastNeed};
 
 use checker::laws::{
     hulls_hold_the_error, narrower_parts_narrow, parts_are_of_samples, pieces_give_the_verdict,
 };
+use courses::laws::some_course_is_observed_at_any_reading;
 use era_unfold::laws::{
     nanoseconds_lie_between_their_ticks, ratios_are_rounded_as_little_as_can_be,
 };
@@ -147,17 +148,6 @@ pub fn accepted_pieces_end_no_later()
     best_hulls_hold_the_error();
 }
 
-/// A hull is unbounded if no more groups have a sample than may be false. The readings of a piece
-/// have no part in that, so that the hull over any other stretch is unbounded too.
-pub fn unbounded_hulls_are_so_everywhere()
-    ensures { (samples : List Sample) (claim : ClaimData) (one other : Stretch) →
-        best_hull samples claim one ≡ Hull.Unbounded →
-        best_hull samples claim other ≡ Hull.Unbounded }
-{
-    best_samples_are_the_first_best();
-    every_list_has_a_hull();
-}
-
 /// The least bound of hulls is the least inside which all of them lie, with the first piece that
 /// needs it; and no other answer is.
 pub fn least_bound_is_the_least()
@@ -211,18 +201,24 @@ pub fn finer_pieces_need_no_wider_bound()
     nanoseconds_lie_between_their_ticks();
 }
 
-/// No other tick is the first of those that need the widest bound, so that there is one answer.
-pub fn least_need_is_one()
-    ensures { (samples : List Sample) (claim : ClaimData) (a b : Option LeastNeed) →
-        IsLeastNeedIfAny samples claim a → IsLeastNeedIfAny samples claim b → a ≡ b }
-{}
+/// If some course of events fits the exchanges, their samples contradict each other at no tick: in
+/// each of them the clock can be read.
+pub fn courses_leave_no_hull_empty()
+    ensures { (claim : ClaimData) (xs : List Exchange) → IsLawful claim →
+        All (IsLawfulExchange (length claim.servers)) xs → SomeCourse claim xs →
+        IsNeverEmpty (samples_of xs claim) claim }
+{
+    best_hulls_hold_the_error();
+    some_course_is_observed_at_any_reading();
+    samples_of_exchanges_keep_limits();
+}
 
-/// If the span is cut at equal steps, the piece that holds the neediest tick is the first that holds
-/// a tick needing as much.
-pub fn piece_with_the_tick_is_the_first()
-    ensures { (samples : List Sample) (claim : ClaimData) (step n : ℕ) (p : ℤ) → IsLawful claim →
-        0 < step → IsNeediest samples claim p n →
-        IsFirstOfNeed samples claim step n (piece_holding claim step p) }
+/// If the span is cut at equal steps, each tick of it lies whole in the piece that holds its begin.
+pub fn pieces_hold_their_ticks()
+    ensures { (samples : List Sample) (claim : ClaimData) (step : ℕ) (p : ℤ) → IsLawful claim →
+        0 < step → IsTick claim p →
+        (piece_holding claim step p < count_of claim step)
+        × HoldsTick samples claim step (piece_holding claim step p) p }
 {
     last_piece_ends_with_the_span();
 }

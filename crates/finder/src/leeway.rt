@@ -14,7 +14,7 @@ use pairing::ToExchange;
 use sample_interval::PARTS;
 
 /// What a group without an exchange lets the error be, in ticks.
-pub(crate) const NO_LIMIT: i128 = i128::MAX;
+const NO_LIMIT: i128 = i128::MAX;
 
 /// How much the error can change while the clock advances, in whole ticks: by `rate` parts in
 /// `parts` of the distance.
@@ -54,34 +54,25 @@ pub(crate) fn group_of(claim: &Claim, server: u8) -> u8
     claim.groups[usize::from(server)]
 }
 
-/// No less than the greatest whole error, in ticks, that the exchanges of each group let be at a
-/// reading from `begin` to `end`, on this side of zero. If both are one reading, it is that error.
-/// It looks once at each exchange, and takes no memory.
-///
-/// What a mark lets be is least at its place, and so greatest at one end or the other.
-pub(crate) fn leeways_over<X: ToExchange>(
+/// The greatest whole error, in ticks, that the exchanges of each group let be at a reading, on this
+/// side of zero. It looks once at each exchange, and takes no memory.
+pub(crate) fn leeways_at<X: ToExchange>(
     exchanges: &[X],
     claim: &Claim,
     side: Side,
-    begin: u64,
-    end: u64,
+    reading: u64,
 ) -> [i128; 32]
     requires claim { IsLawful (claim_data claim.now) }
     requires exchanges { All (IsLawfulExchange (length claim.now.servers.items))
         (map X.shown exchanges.now) }
 {
-    let begin = side.turned(i128::from(begin));
-    let end = side.turned(i128::from(end));
+    let reading = side.turned(i128::from(reading));
     let mut leeways = [NO_LIMIT; 32];
     for held in exchanges {
         let exchange = held.to_exchange();
         let mark = side.mark_of(&exchange, claim.reading);
-        let mut most = most_under(claim.drift_ppb, mark, begin);
-        if begin != end {
-            most = most.max(most_under(claim.drift_ppb, mark, end));
-        }
         let group = usize::from(group_of(claim, exchange.server));
-        leeways[group] = leeways[group].min(most);
+        leeways[group] = leeways[group].min(most_under(claim.drift_ppb, mark, reading));
     }
     leeways
 }

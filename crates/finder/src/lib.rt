@@ -8,13 +8,13 @@
 //! the samples contradict each other. [`find_envelope`] takes the pieces of [`find`], and gives the
 //! hull of each and the least bound that holds over all of them. [`find_over`],
 //! [`find_fewest_over`] and [`find_envelope_over`] do so over samples from any source.
-//! [`least_bound`] gives the least bound that every tick of the span allows: no certificate has a
-//! lesser one. [`best_parts`] gives what each server says at one tick. [`find_refutation`] gives a
-//! refutation, which the checker accepts, unless it accepts none, and
-//! [`find_refutation_with_drift`] one whose error may drift, if it finds one with the groups of
-//! one of the given covers false. [`settle`] gives a certificate of fewest pieces or a refutation
-//! with drift; or else the tick where such pieces stop, or all conflicts if no course of events
-//! fits. [`laws`] has what holds of the definitions.
+//! [`least_bound`] gives the least bound with which a certificate of fewest pieces is found: where a
+//! course of events fits, no certificate carries a lesser one. [`best_parts`] gives what each server
+//! says at one tick. [`find_refutation`] gives a refutation, which the checker accepts, unless it
+//! accepts none, and [`find_refutation_with_drift`] one whose error may drift, if it finds one at
+//! the given places. [`settle`] gives a certificate of fewest pieces or a refutation with drift; or
+//! else the tick where such pieces stop, all conflicts if no course of events fits, or how few
+//! groups have a sample if no more do than may be false. [`laws`] has what holds of the definitions.
 //!
 //! What is found of a sample, as `finds` of `worked_examples/src/checking/finds.rt` asks for it,
 //! which the gate runs:
@@ -26,19 +26,18 @@
 
 #![tactic(auto)]
 
+mod carried;
 mod drift_refutation;
 mod entry;
 mod envelope;
 mod fault;
 mod fewest;
 mod found;
-mod halving;
 mod hull;
 pub mod laws;
 mod least;
 mod leeway;
 mod longest;
-mod need;
 mod neediest;
 mod piece;
 mod piece_hull;
@@ -49,15 +48,16 @@ mod side;
 mod sought;
 mod table;
 mod tick_parts;
+mod trial;
 
-pub use drift_refutation::find_refutation_with_drift;
+pub use carried::{LeastCarried, least_bound, piece_holding};
+pub use drift_refutation::{Place, find_refutation_with_drift};
 pub use envelope::{Envelope, find_envelope, find_envelope_over};
 pub use fault::FindFault;
 pub use fewest::{Fewest, find_fewest, find_fewest_over};
 pub use found::{Found, find, find_over};
 pub use hull::parts;
 pub use least::LeastBound;
-pub use need::{LeastNeed, least_bound, least_bound_over, piece_holding};
 pub use piece_hull::PieceHull;
 pub use settlement::{Settled, exchange_samples, settle};
 pub use sought::find_refutation;

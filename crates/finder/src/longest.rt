@@ -13,6 +13,7 @@ ghost use Rattle.finder.specs.Samples.{AreSamplesOf};
 use crate::laws::{
     best_entries_show_as_much, best_hulls_hold_the_error, pieces_within_have_no_wider_hulls,
 };
+use crate::trial::trial;
 use checker::laws::pieces_give_the_verdict;
 use claim_file::Claim;
 use intersection::kinds::Hull;
@@ -20,7 +21,7 @@ use sample_interval::SampleSource;
 use span_cover::laws::best_samples_are_the_first_best;
 use span_cover::{is_inside, piece_hull};
 use std::alloc::{AllocError, Global};
-use sweep::{BestTable, parts_over, tables_of};
+use sweep::{BestTable, Places, parts_near, tables_of};
 
 /// The tables of the servers that have a sample. Once they are made, a hull is found by a search.
 pub(crate) fn tables_for<S: SampleSource>(
@@ -39,8 +40,15 @@ pub(crate) fn tables_for<S: SampleSource>(
     Ok(tables)
 }
 
-/// The hull of the best entries of a stretch, by the tables of the servers.
-pub(crate) fn hull_over(tables: &[BestTable], claim: &Claim, begin: u64, end: u64) -> Hull
+/// The hull of the best entries of a stretch, by the tables of the servers. The places are hints:
+/// what lies near the last stretch that was asked for with them is found in the fewer steps.
+pub(crate) fn hull_over(
+    tables: &[BestTable],
+    places: &mut Places,
+    claim: &Claim,
+    begin: u64,
+    end: u64,
+) -> Hull
     requires claim { IsLawful (data_of claim.now) }
     requires tables { IsTabled (data_of claim.now) tables.now }
     requires in_order { begin ≤ end }
@@ -48,19 +56,25 @@ pub(crate) fn hull_over(tables: &[BestTable], claim: &Claim, begin: u64, end: u6
         result ≡ best_hull samples (data_of claim.now) (stretch_over (pos begin) (pos end)) }
 {
     best_samples_are_the_first_best();
-    let parts = parts_over(tables, i128::from(begin), i128::from(end), claim.drift_ppb);
+    let parts = parts_near(
+        tables,
+        places,
+        i128::from(begin),
+        i128::from(end),
+        claim.drift_ppb,
+    );
     piece_hull(parts.as_slice(), claim.groups.as_slice(), claim.false_max)
 }
 
 /// Whether the hull over a stretch shows that the error is within the bound there.
-fn is_shown(tables: &[BestTable], claim: &Claim, begin: u64, end: u64) -> bool
+fn is_shown(tables: &[BestTable], places: &mut Places, claim: &Claim, begin: u64, end: u64) -> bool
     requires claim { IsLawful (data_of claim.now) }
     requires tables { IsTabled (data_of claim.now) tables.now }
     requires in_order { begin ≤ end }
     ensures { (samples : List Sample) → AreTablesFor samples (data_of claim.now) tables.now →
         result ≡ shows samples (data_of claim.now) (pos begin) (pos end) }
 {
-    let hull = hull_over(tables, claim, begin, end);
+    let hull = hull_over(tables, places, claim, begin, end);
     is_inside(claim.bound, hull)
 }
 
@@ -74,8 +88,15 @@ pub(crate) fn tick_after(begin: u64, last: u64) -> u64
 
 /// Where the longest piece from `begin` ends, if the piece from there to `next`, the next tick,
 /// shows that the error is within the bound. What a piece shows each shorter one shows too, so that
-/// the end is found by halving.
-pub(crate) fn longest_end(tables: &[BestTable], claim: &Claim, begin: u64, next: u64) -> u64
+/// the end is found by halving; it is looked for first where a piece of the length `likely` ends.
+pub(crate) fn longest_end(
+    tables: &[BestTable],
+    places: &mut Places,
+    claim: &Claim,
+    begin: u64,
+    next: u64,
+    likely: u64,
+) -> u64
     requires claim { IsLawful (data_of claim.now) }
     requires tables { IsTabled (data_of claim.now) tables.now }
     requires in_span { pos begin ≤ℤ claim.now.last }
@@ -93,8 +114,8 @@ pub(crate) fn longest_end(tables: &[BestTable], claim: &Claim, begin: u64, next:
     let mut low = next;
     let mut high = claim.last as u64;
     while low < high {
-        let middle = high - (high - low) / 2;
-        if is_shown(tables, claim, begin, middle) {
+        let middle = trial(low, high, begin.saturating_add(likely), likely / 16) + 1;
+        if is_shown(tables, places, claim, begin, middle) {
             low = middle;
         } else {
             high = middle - 1;

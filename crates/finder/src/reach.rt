@@ -11,7 +11,7 @@ use claim_file::Claim;
 use intersection::kinds::Hull;
 use span_cover::is_inside;
 use std::alloc::{AllocError, Global};
-use sweep::BestTable;
+use sweep::{BestTable, Places};
 
 /// How far the longest pieces of a span reach, one after another.
 #[derive(Drop)]
@@ -21,11 +21,12 @@ pub(crate) enum Reach {
     /// To a tick after which the error isn't shown to be within the bound: the piece of one tick,
     /// and its hull.
     Stuck { begin: u64, end: u64, hull: Hull },
-    /// Not to the span's end, by as many as a certificate may have.
-    TooLong,
+    /// To this tick before the span's end, by as many as a certificate may have.
+    TooLong { begin: u64 },
 }
 
-/// Takes one longest piece after another, by the tables of the servers.
+/// Takes one longest piece after another, by the tables of the servers. Each is looked for first
+/// at the length of the one before, and each look-up goes on from where the last one ended.
 pub(crate) fn longest_ends(
     alloc: Global,
     tables: &[BestTable],
@@ -39,18 +40,22 @@ pub(crate) fn longest_ends(
 {
     let last = claim.last as u64;
     let mut begin = claim.first as u64;
+    let mut likely = last;
+    let mut places = Places::new();
     let mut ends: Vec<i128> = Vec::new(alloc);
     while ends.len() < MAX_PIECES {
         let end = tick_after(begin, last);
-        let hull = hull_over(tables, claim, begin, end);
+        let hull = hull_over(tables, &mut places, claim, begin, end);
         if !is_inside(claim.bound, hull) {
             return Ok(Reach::Stuck { begin, end, hull });
         }
-        begin = longest_end(tables, claim, begin, end);
+        let reached = longest_end(tables, &mut places, claim, begin, end, likely);
+        likely = reached.saturating_sub(begin);
+        begin = reached;
         ends.push(i128::from(begin))?;
         if begin == last {
             return Ok(Reach::End(ends));
         }
     }
-    Ok(Reach::TooLong)
+    Ok(Reach::TooLong { begin })
 }

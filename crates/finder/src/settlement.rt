@@ -1,34 +1,35 @@
 //! What settles a claim.
 
-ghost use Rattle.std.specs.Prelude.{◌≡◌, ◌≤◌, ◌≤ℤ◌, length, map, All};
+ghost use Rattle.std.specs.Prelude.{◌≡◌, ◌≤◌, true, length, map, All, IfOk, IfSome};
+ghost use Rattle.certificate.specs.Refutation.{data_of as refutation_data};
 ghost use Rattle.claim_file.specs.Claim.{IsLawful, data_of as claim_data};
 ghost use Rattle.checker.specs.Traceability.{samples_of};
+ghost use Rattle.courses.specs.DriftSettlement.{SettlesWithDrift};
 ghost use Rattle.finder.specs.Reach.{IsTabled};
 ghost use Rattle.finder.specs.Samples.{AreSamplesOf};
 ghost use Rattle.finder.specs.Settlement.{Settles};
 ghost use Rattle.pairing.specs.Exchange.{IsLawful as IsLawfulExchange, most_exchanges};
 
-use crate::drift_refutation::find_refutation_with_drift;
+use crate::drift_refutation::{Place, find_refutation_with_drift};
 use crate::fault::FindFault;
 use crate::fewest::{Fewest, fewest_by};
 use crate::laws::samples_of_exchanges_keep_limits;
 use crate::longest::tables_for;
-use crate::need::least_bound_by;
-use arrayvec::ArrayVec;
+use crate::neediest::{most_stretches, neediest_tick};
 use certificate::{Certificate, Refutation};
 use claim_file::Claim;
 use courses::laws::{
-    ends_of_all_conflicts_are_a_cover, some_course_fits_where_a_cover_is_small,
-    some_course_is_observed_at_any_reading,
+    ends_of_all_conflicts_are_a_cover, few_groups_are_no_evidence, no_evidence_gives_no_yes,
+    some_course_fits_where_a_cover_is_small, some_course_is_observed_at_any_reading,
 };
-use courses::{Conflict, conflicts_of, first_contradictions};
+use courses::{Conflict, Conflicts, conflicts_of, first_contradictions, groups_with_exchanges};
 use intersection::kinds::Hull;
 use pairing::ToExchange;
 use sample_interval::{ExchangeSamples, SampleSource};
-use std::alloc::Global;
+use std::alloc::{AllocError, Global};
 use sweep::BestTable;
 
-/// One of four answers to a claim, with what proves it.
+/// One of five answers to a claim, with what proves it.
 #[derive(Drop)]
 pub enum Settled {
     /// The claim is shown: by a certificate that the checker accepts, of as few pieces as can be.
@@ -37,6 +38,11 @@ pub enum Settled {
     Refuted(Refutation),
     /// No course of events fits the exchanges: these are all conflicts, in the order of the groups.
     NothingFits(Vec<Conflict>),
+    /// The capture says nothing about the clock: no more groups have a sample than may be false.
+    NoEvidence {
+        /// How many groups have a sample.
+        groups: u8,
+    },
     /// Neither was found, and no certificate is accepted.
     Open {
         /// Where the first tick begins that isn't shown, in Unix ticks of 2^-32 s.
@@ -71,30 +77,48 @@ pub fn exchange_samples<'a, X: ToExchange>(
     }
 }
 
-/// The readings at which a refutation is looked for: the ends of the tick that needs most, and
-/// those of the tick where the certificate of fewest pieces stops.
-fn readings_of(claim: &Claim, tables: &[BestTable], begin: i128, end: i128) -> ArrayVec<u64, 4>
+/// A refutation with drift, if one is found: for each cover at both ends of the tick that needs most
+/// without it, and at these readings.
+fn refutation_of<X: ToExchange>(
+    alloc: Global,
+    exchanges: &[X],
+    claim: &Claim,
+    conflicts: &Conflicts,
+    tables: &[BestTable],
+    readings: &[u64],
+) -> Result<Option<Refutation>, AllocError>
     requires claim { IsLawful (claim_data claim.now) }
+    requires exchanges { All (IsLawfulExchange (length claim.now.servers.items))
+        (map X.shown exchanges.now) }
     requires tables { IsTabled (claim_data claim.now) tables.now }
-    requires from_first { claim.now.first ≤ℤ begin }
-    requires in_order { begin ≤ℤ end }
-    requires to_last { end ≤ℤ claim.now.last }
+    ensures { IfOk result (λ sought. IfSome sought (λ found. SettlesWithDrift
+        (claim_data claim.now) (map X.shown exchanges.now) (refutation_data found) true)) }
 {
-    let mut readings = ArrayVec::new();
-    if let Some(need) = least_bound_by(tables, claim) {
-        readings.push(need.begin as u64);
-        readings.push(need.end as u64);
+    let covers = conflicts.covers(claim.false_max);
+    let most = most_stretches(exchanges.len(), covers.len());
+    let mut places = Vec::new(alloc);
+    for cover in &covers {
+        let cover = *cover;
+        for reading in readings {
+            let reading = *reading;
+            places.push(Place { cover, reading })?;
+        }
+        if let Some(tick) = neediest_tick(alloc, tables, claim, cover, most)? {
+            for reading in [tick.begin, tick.begin.saturating_add(tick.reach)] {
+                places.push(Place { cover, reading })?;
+            }
+        }
     }
-    readings.push(begin as u64);
-    readings.push(end as u64);
-    readings
+    find_refutation_with_drift(alloc, exchanges, claim, &places)
 }
 
 /// Settles a claim: by a certificate if there is one, or else by a refutation with drift if one is
-/// found. If no course of events fits the exchanges, neither is looked for.
+/// found. If no course of events fits the exchanges, or no more groups have a sample than may be
+/// false, neither is looked for.
 ///
-/// There are at most 1,000,000 exchanges. `TooManyPieces` comes if a course fits and 100,000 of the
-/// longest pieces don't reach the span's end, and `Memory` if none is left.
+/// There are at most 1,000,000 exchanges. `TooManyPieces` comes if a course fits, 100,000 of the
+/// longest pieces don't reach the span's end and no refutation is found, and `Memory` if none is
+/// left.
 pub fn settle<X: ToExchange>(
     alloc: Global,
     exchanges: &[X],
@@ -109,22 +133,34 @@ pub fn settle<X: ToExchange>(
     some_course_fits_where_a_cover_is_small();
     some_course_is_observed_at_any_reading();
     ends_of_all_conflicts_are_a_cover();
+    few_groups_are_no_evidence();
+    no_evidence_gives_no_yes();
     let conflicts = conflicts_of(alloc, exchanges, claim)?;
     if !conflicts.has_cover(claim.false_max) {
         let told = first_contradictions(alloc, exchanges, claim, &conflicts)?;
         return Ok(Settled::NothingFits(told));
     }
+    let groups = groups_with_exchanges(exchanges, claim).count(claim.servers.len() as u8);
+    if groups <= claim.false_max {
+        return Ok(Settled::NoEvidence { groups });
+    }
     let samples = exchange_samples(exchanges, claim);
     let tables = tables_for(alloc, samples, claim)?;
-    match fewest_by(alloc, samples, claim, &tables)? {
-        Fewest::Certificate(certificate) => Ok(Settled::Shown(certificate)),
-        Fewest::Nothing { begin, end, hull } => {
-            let readings = readings_of(claim, &tables, begin, end);
-            let covers = conflicts.covers(claim.false_max);
-            match find_refutation_with_drift(alloc, exchanges, claim, &covers, &readings)? {
+    match fewest_by(alloc, samples, claim, &tables) {
+        Ok(Fewest::Certificate(certificate)) => Ok(Settled::Shown(certificate)),
+        Ok(Fewest::Nothing { begin, end, hull }) => {
+            let ends = [begin as u64, end as u64];
+            match refutation_of(alloc, exchanges, claim, &conflicts, &tables, &ends)? {
                 Some(refutation) => Ok(Settled::Refuted(refutation)),
                 None => Ok(Settled::Open { begin, end, hull }),
             }
         }
+        Err(FindFault::TooManyPieces) => {
+            match refutation_of(alloc, exchanges, claim, &conflicts, &tables, &[])? {
+                Some(refutation) => Ok(Settled::Refuted(refutation)),
+                None => Err(FindFault::TooManyPieces),
+            }
+        }
+        Err(fault) => Err(fault),
     }
 }

@@ -41,7 +41,7 @@ returns-in-TooLong g c =
       covers = c.pieces_give_the_verdict.ensures.covers;
       held = c.best_hulls_hold_the_error.ensures;
     }) (g.S.SampleSource.samples c.args.samples) (claim_data c.args.claim.now) c.requires.claim c.requires.samples
-    (rw c.in-TooLong.is at c.in_ok-ends.ensures (g.S.SampleSource.samples c.args.samples) c.requires.tables)
+    (rw c.in-TooLong.is at c.in_ok-ends.ensures (g.S.SampleSource.samples c.args.samples) c.requires.tables).0
 
 pub certificate_over-requires-clause-pieces : goal.certificate_over-requires-clause-pieces
 certificate_over-requires-clause-pieces g c =

@@ -4,8 +4,8 @@ use Rattle.finder.proofs.LongestPiece.{tick_kept}
 use Rattle.finder.proofs.Part.{hull_said, listed_said}
 use Rattle.finder.proofs.longest.hull_over.Goals as goal
 
-pub parts_over-parts-requires-clause-few : goal.parts_over-parts-requires-clause-few
-parts_over-parts-requires-clause-few c = c.requires.tables.1.few
+pub parts_near-parts-requires-clause-few : goal.parts_near-parts-requires-clause-few
+parts_near-parts-requires-clause-few c = c.requires.tables.1.few
 
 pub piece_hull-requires-clause-listed : goal.piece_hull-requires-clause-listed
 piece_hull-requires-clause-listed c =
@@ -13,7 +13,7 @@ piece_hull-requires-clause-listed c =
     let samples = c.requires.tables.0 in
     let tabled = c.requires.tables.1 in
     let count = ap (λ xs. length xs) c.as_slice-2.ensures.value ∙ c.requires.claim.group_for_each in
-    rw (c.as_slice.ensures.value, count, c.parts_over-parts.ensures samples (length claim.servers) tabled.are)
+    rw (c.as_slice.ensures.value, count, c.parts_near-parts.ensures samples (length claim.servers) tabled.are)
     (listed_said c.best_samples_are_the_first_best.ensures samples claim _ _ tabled.of_claim)
 
 pub returns : goal.returns
@@ -24,5 +24,5 @@ returns c samples tabled =
     hull_said c.best_samples_are_the_first_best.ensures samples claim _ _ _ _ _ _
     (tick_kept c.args.begin c.from.result begin c.from.ensures)
     (tick_kept c.args.end c.from-2.result end c.from-2.ensures)
-    (c.parts_over-parts.ensures samples (length claim.servers) tabled.are)
+    (c.parts_near-parts.ensures samples (length claim.servers) tabled.are)
     (rw (sym c.as_slice-2.ensures.value, sym c.as_slice.ensures.value) c.piece_hull.ensures)

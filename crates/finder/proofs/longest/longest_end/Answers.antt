@@ -1,4 +1,4 @@
-use Rattle.std.proofs.Common.{◌-◌, ◌/◌, ◌∙◌, sym, arith}
+use Rattle.std.proofs.Common.{◌+◌, ◌∙◌, sym, arith}
 use Rattle.claim_file.specs.Claim.{data_of}
 use Rattle.finder.proofs.LongestPiece.{halved_down, halved_end, halved_first, halved_up, last_is, next_not_before}
 use Rattle.finder.proofs.longest.longest_end.Goals as goal
@@ -51,7 +51,7 @@ loop-low-preserved c samples tabled =
       held = c.best_hulls_hold_the_error.ensures;
     }) samples (data_of c.args.claim.now) c.requires.claim tabled.of_claim
     c.args.begin c.args.next c.requires.in_span c.requires.next c.loop-low.low c.loop-low.high
-    (c.loop-low.high - (c.loop-low.high - c.loop-low.low) / 2)
+    (c.trial-middle.result + 1)
     (c.loop-low.invariant samples tabled) (omega arith) (omega arith) (c.requires.shown samples tabled)
     (sym (c.is_shown.ensures samples tabled) ∙ c.if-is_shown.false)
 

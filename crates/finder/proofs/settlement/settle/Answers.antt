@@ -1,9 +1,12 @@
-use Rattle.std.proofs.Common.{Ok, List, map, subst}
+use Rattle.std.proofs.Common.{Ok, List, map, ap, subst, sym, ◌∙◌}
+use Rattle.std.specs.Prelude.{count_by}
 use Rattle.claim_file.specs.Claim.{data_of as claim_data}
+use Rattle.courses.specs.Groups.{holds}
 use Rattle.sample_interval.specs.declared.kinds.Sample.{Sample}
+use Rattle.span_cover.specs.Group.{numbers_below}
 use Rattle.finder.specs.FewestAnswer.{FindsFewest}
 use Rattle.finder.specs.declared.fewest.Fewest.TheVariants as found
-use Rattle.finder.proofs.SettlementAnswer.{contested_by, fits_if, fits_not, left_open, none_fits, shown_by, stuck_within}
+use Rattle.finder.proofs.SettlementAnswer.{contested_by, fits_if, fits_not, left_open, none_fits, shown_by, stuck_within, unheard}
 use Rattle.finder.proofs.settlement.settle.Goals as goal
 
 -- no course fits
@@ -19,61 +22,77 @@ returns-then-not-has_cover g c =
       refused = tt;
     }
 
--- the tick where the longest pieces stop lies in the span
-pub readings_of-readings-requires-clause-from_first : goal.readings_of-readings-requires-clause-from_first
-readings_of-readings-requires-clause-from_first g c =
-    let stuck = rw c.in-Nothing.is at c.in_ok-certificate.ensures.stuck in
-    let tick = stuck_within (claim_data c.args.claim.now) c.requires.claim _ c.in-Nothing.begin c.in-Nothing.end
-    c.in-Nothing.hull stuck in
-    rw tick.begin_kept tick.from_first
-
-pub readings_of-readings-requires-clause-in_order : goal.readings_of-readings-requires-clause-in_order
-readings_of-readings-requires-clause-in_order g c =
-    let stuck = rw c.in-Nothing.is at c.in_ok-certificate.ensures.stuck in
-    let tick = stuck_within (claim_data c.args.claim.now) c.requires.claim _ c.in-Nothing.begin c.in-Nothing.end
-    c.in-Nothing.hull stuck in
-    rw (tick.begin_kept, tick.end_kept) tick.forward
-
-pub readings_of-readings-requires-clause-to_last : goal.readings_of-readings-requires-clause-to_last
-readings_of-readings-requires-clause-to_last g c =
-    let stuck = rw c.in-Nothing.is at c.in_ok-certificate.ensures.stuck in
-    let tick = stuck_within (claim_data c.args.claim.now) c.requires.claim _ c.in-Nothing.begin c.in-Nothing.end
-    c.in-Nothing.hull stuck in
-    rw tick.end_kept tick.to_last
+-- no more groups have a sample than may be false
+pub returns-then-groups-claim : goal.returns-then-groups-claim
+returns-then-groups-claim g c =
+    let claim = claim_data c.args.claim.now in
+    let xs = map g.X.ToExchange.shown c.args.exchanges.now in
+    let servers = c.len.ensures ∙ c.args.claim.now.servers.ok.0 ∙ sym c.requires.claim.group_for_each in
+    record {
+      settled = unheard claim xs c.requires.exchanges c.requires.claim
+          (c.few_groups_are_no_evidence.ensures claim xs)
+          (c.no_evidence_gives_no_yes.ensures claim xs) c.count-groups.result
+          (c.count-groups.ensures.exact
+          ∙ ap (λ n. count_by (holds c.groups_with_exchanges.result) (numbers_below n)) servers
+          ∙ c.groups_with_exchanges.ensures.count) c.if-groups-claim.true;
+      refused = tt;
+    }
 
 -- a course fits
-pub returns-in-Certificate : goal.returns-in-Certificate
-returns-in-Certificate g c =
+pub returns-in-Ok-Certificate : goal.returns-in-Ok-Certificate
+returns-in-Ok-Certificate g c =
     let claim = claim_data c.args.claim.now in
     let xs = map g.X.ToExchange.shown c.args.exchanges.now in
     record {
-      settled = shown_by claim xs c.in-Certificate.certificate
+      settled = shown_by claim xs c.in-Ok-Certificate.certificate
           (fits_if c.has_cover.result c.if-not-has_cover.false c.has_cover.ensures.exact c.in_ok-conflicts.ensures.covers)
-          (subst (λ (samples : List Sample). FindsFewest samples claim (Ok (found.Certificate c.in-Certificate.certificate)))
-          c.exchange_samples-samples.ensures.samples (rw c.in-Certificate.is at c.in_ok-certificate.ensures));
+          (subst (λ (samples : List Sample). FindsFewest samples claim (Ok (found.Certificate c.in-Ok-Certificate.certificate)))
+          c.exchange_samples-samples.ensures.samples (rw (c.in-Ok-Certificate.is, c.in-Ok-Certificate.field-0-is) at c.fewest_by.ensures));
       refused = tt;
     }
+
+-- the tick where the longest pieces stop lies in the span
+pub overflow_cast-ends : goal.overflow_cast-ends
+overflow_cast-ends g c =
+    let claim = claim_data c.args.claim.now in
+    let stuck = rw (c.in-Ok-Nothing.is, c.in-Ok-Nothing.field-0-is) at c.fewest_by.ensures.stuck in
+    let tick = stuck_within claim c.requires.claim _ c.in-Ok-Nothing.begin c.in-Ok-Nothing.end c.in-Ok-Nothing.hull stuck in
+    rw tick.begin_kept (tick.begin_fits)
+
+pub overflow_cast-ends-in-Ok-Nothing : goal.overflow_cast-ends-in-Ok-Nothing
+overflow_cast-ends-in-Ok-Nothing g c =
+    let claim = claim_data c.args.claim.now in
+    let stuck = rw (c.in-Ok-Nothing.is, c.in-Ok-Nothing.field-0-is) at c.fewest_by.ensures.stuck in
+    let tick = stuck_within claim c.requires.claim _ c.in-Ok-Nothing.begin c.in-Ok-Nothing.end c.in-Ok-Nothing.hull stuck in
+    rw tick.end_kept (tick.end_fits)
 
 pub returns-in-Some : goal.returns-in-Some
 returns-in-Some g c = record {
   settled = contested_by (claim_data c.args.claim.now) (map g.X.ToExchange.shown c.args.exchanges.now) _
-      (rw c.in-Some.is at c.in_ok-refutation-in-Nothing.ensures.settles);
+      (rw c.in-Some.is at c.in_ok-refutation-in-Ok-Nothing.ensures);
   refused = tt;
 }
 
-pub returns : goal.returns
-returns g c =
+pub returns-in-Some-2 : goal.returns-in-Some-2
+returns-in-Some-2 g c = record {
+  settled = contested_by (claim_data c.args.claim.now) (map g.X.ToExchange.shown c.args.exchanges.now) _
+      (rw c.in-Some-2.is at c.in_ok-refutation-in-Err-TooManyPieces.ensures);
+  refused = tt;
+}
+
+pub returns-in-Ok-Nothing : goal.returns-in-Ok-Nothing
+returns-in-Ok-Nothing g c =
     let claim = claim_data c.args.claim.now in
     let xs = map g.X.ToExchange.shown c.args.exchanges.now in
-    let begin = c.in-Nothing.begin in
-    let end = c.in-Nothing.end in
+    let begin = c.in-Ok-Nothing.begin in
+    let end = c.in-Ok-Nothing.end in
     let course = fits_if c.has_cover.result c.if-not-has_cover.false c.has_cover.ensures.exact
     c.in_ok-conflicts.ensures.covers in
-    let finds = subst (λ (samples : List Sample). FindsFewest samples claim (Ok (found.Nothing begin end c.in-Nothing.hull)))
-    c.exchange_samples-samples.ensures.samples (rw c.in-Nothing.is at c.in_ok-certificate.ensures) in
-    let tick = stuck_within claim c.requires.claim _ begin end c.in-Nothing.hull finds.stuck in
+    let finds = subst (λ (samples : List Sample). FindsFewest samples claim (Ok (found.Nothing begin end c.in-Ok-Nothing.hull)))
+    c.exchange_samples-samples.ensures.samples (rw (c.in-Ok-Nothing.is, c.in-Ok-Nothing.field-0-is) at c.fewest_by.ensures) in
+    let tick = stuck_within claim c.requires.claim _ begin end c.in-Ok-Nothing.hull finds.stuck in
     record {
-      settled = rw (tick.begin_kept, tick.end_kept) (left_open claim xs begin end c.in-Nothing.hull tick.forward course
+      settled = rw (tick.begin_kept, tick.end_kept) (left_open claim xs begin end c.in-Ok-Nothing.hull tick.forward course
           (c.some_course_is_observed_at_any_reading.ensures claim xs begin c.requires.claim c.requires.exchanges course)
           finds);
       refused = tt;

@@ -1,5 +1,5 @@
--- The piece with the neediest tick.
-use Rattle.std.proofs.Common.{◌≡◌, ◌≢◌, ℕ, zero, suc, ◌+◌, ◌-◌, ◌*◌, ◌/◌, ◌<◌, ◌≤◌, ℤ, pos, ◌+ℤ◌, ◌-ℤ◌, ◌≤ℤ◌, ◌<ℤ◌, unsigned_abs, List, Some, ap, ◌∙◌, ⊎_elim, arith}
+-- The piece that holds a tick.
+use Rattle.std.proofs.Common.{◌≡◌, ℕ, zero, suc, ◌+◌, ◌-◌, ◌*◌, ◌/◌, ◌<◌, ◌≤◌, ℤ, pos, ◌+ℤ◌, ◌-ℤ◌, ◌≤ℤ◌, unsigned_abs, List, ap, ◌∙◌, ⊎_elim, arith}
 use Rattle.std.proofs.Math.Nat.{mul-le-mul_right}
 use Rattle.std.proofs.lemmas.Bool.{cases_lt}
 use Rattle.std.proofs.lemmas.Int.{ints, clamps}
@@ -7,8 +7,8 @@ use Rattle.era_unfold.specs.Window.{ticks_per_second}
 use Rattle.claim_file.specs.Claim.{ClaimData, IsLawful}
 use Rattle.sample_interval.specs.declared.kinds.Sample.{Sample}
 use Rattle.span_cover.specs.Step.{piece_end_of}
+use Rattle.finder.specs.Carried.{HoldsTick, IsTick, piece_holding}
 use Rattle.finder.specs.Fewest.{next_tick}
-use Rattle.finder.specs.Need.{HoldsTick, IsFirstOfNeed, IsNeediest, IsTick, need_at, piece_holding}
 use Rattle.finder.specs.Piece.{IsPieceCount, count_of, piece_begin_of}
 
 -- a quotient, by its bounds
@@ -20,8 +20,7 @@ quotient : (n d : ℕ) → 0 < d → Quotient n d (n / d)
 quotient n d some = record { from = omega arith; to = omega arith }
 
 module _ (samples : List Sample) (claim : ClaimData) (lawful : IsLawful claim) (step : ℕ) (some : 0 < step)
-    (counts : IsPieceCount claim.first claim.last step (count_of claim step)) (p : ℤ) (n : ℕ)
-    (neediest : IsNeediest samples claim p n) where
+    (counts : IsPieceCount claim.first claim.last step (count_of claim step)) (p : ℤ) (tick : IsTick claim p) where
   abbrev length : ℕ
   length = step * ticks_per_second
 
@@ -29,10 +28,10 @@ module _ (samples : List Sample) (claim : ClaimData) (lawful : IsLawful claim) (
   distance = unsigned_abs (p -ℤ claim.first)
 
   away : p ≡ (claim.first +ℤ pos distance)
-  away = let from = neediest.tick.from_first in omega (arith, ints)
+  away = let from = tick.from_first in omega (arith, ints)
 
   begins_before : (k : ℕ) → k * length ≤ distance → piece_begin_of claim.first claim.last step k ≤ℤ p
-  begins_before zero from = neediest.tick.from_first
+  begins_before zero from = tick.from_first
   begins_before (suc k) from =
       let is = away in
       let same : (k + 1) * step * ticks_per_second ≡ suc k * length = omega arith in
@@ -64,36 +63,14 @@ module _ (samples : List Sample) (claim : ClaimData) (lawful : IsLawful claim) (
       let positive : 1 * length ≤ count_of claim step * length = mul-le-mul_right length one in
       let some_length : 0 < length = omega arith in
       let to : claim.last ≤ℤ p = omega (arith, ints, clamps) in
-      ⊎_elim (λ first. omega (arith, ints)) (λ before. omega (arith, ints)) neediest.tick.begins))
+      ⊎_elim (λ first. omega (arith, ints)) (λ before. omega (arith, ints)) tick.begins))
       (cases_lt k (count_of claim step))
 
-  -- an earlier piece ends no later than this tick begins
-  none_earlier : (k j : ℕ) (r : ℤ) → k * length ≤ distance → j < k → IsTick claim r
-      → HoldsTick samples claim step j r → need_at samples claim r ≢ Some n
-  none_earlier k j r from before tick holds needs =
-      let is = away in
-      let to = holds.1 in
-      let same : (j + 1) * step * ticks_per_second ≡ (j + 1) * length = omega arith in
-      let scaled : (j + 1) * length ≤ k * length = mul-le-mul_right length (omega arith) in
-      let positive : 1 * length ≤ k * length = mul-le-mul_right length (omega arith) in
+  pub held_whole : (piece_holding claim step p < count_of claim step)
+      × HoldsTick samples claim step (piece_holding claim step p) p
+  held_whole =
       let some_length : 0 < length = omega arith in
-      let next : next_tick samples claim r ≤ℤ p = omega (arith, ints, clamps) in
-      let first = tick.from_first in
-      let earlier : r <ℤ p =
-      ⊎_elim (λ begins. omega (arith, ints)) (λ less. omega (arith, ints, clamps)) tick.begins in
-      absurd (let less = neediest.first r n tick earlier needs in omega arith)
-
-  pub first_of_need : IsFirstOfNeed samples claim step n (piece_holding claim step p)
-  first_of_need =
-      let some_length : 0 < length = omega arith in
-      let k : ℕ = distance / length in
-      let parts = quotient distance length some_length in
-      record {
-        of_span = of_span (distance / length) parts.from;
-        reading = p;
-        tick = neediest.tick;
-        holds = (begins_before (distance / length) parts.from, ends_after (distance / length) parts.to);
-        needs = neediest.needs;
-        others_hold_none = λ j r before tick holds.
-            none_earlier (distance / length) j r parts.from before tick holds;
-      }
+      let parts = quotient distance length some_length in (
+        of_span (distance / length) parts.from,
+        (begins_before (distance / length) parts.from, ends_after (distance / length) parts.to),
+      )

@@ -1,6 +1,6 @@
 use Rattle.std.proofs.Common.{length}
 use Rattle.finder.proofs.HeldExchange.{lawful_of}
-use Rattle.finder.proofs.leeway.leeways_over.Goals as goal
+use Rattle.finder.proofs.leeway.leeways_at.Goals as goal
 
 pub mark_of-mark-requires-clause-exchange : goal.mark_of-mark-requires-clause-exchange
 mark_of-mark-requires-clause-exchange g c = record {

@@ -1,0 +1,259 @@
+-- The least bound that a certificate carries.
+use Rattle.std.proofs.Common.{◌≡◌, ◌⊎◌, inl, inr, ⊎_elim, ℕ, ◌+◌, ◌*◌, ◌<◌, ◌≤◌, ◌^◌, ℤ, pos, ◌≤ℤ◌, ◌<ℤ◌, false, cond, is_some, ◌||◌, int_lt, List, [], ◌∷◌, ◌++◌, length, Option, Some, None, Result, Ok, Err, refl, sym, ap, ◌∙◌, subst, arith}
+use Rattle.std.proofs.lemmas.Int.{ints, clamps}
+use Rattle.std.specs.Prelude.{MatchOption}
+use Rattle.std.specs.declared.alloc.AllocError.{AllocError}
+use Rattle.era_unfold.specs.Nanoseconds.{nanoseconds_per_second, ticks_down}
+use Rattle.era_unfold.specs.Window.{ticks_per_second}
+use Rattle.certificate.specs.Certificate.{CertificateData, PieceData}
+use Rattle.claim_file.specs.Claim.{ClaimData, IsLawful, max_bound_ns}
+use Rattle.sample_interval.specs.declared.kinds.Sample.{Sample}
+use Rattle.span_cover.specs.declared.part.Part.{Part}
+use Rattle.span_cover.specs.declared.stretch.Stretch.{Stretch}
+use Rattle.sweep.specs.declared.table.BestTable.{BestTable}
+use Rattle.checker.specs.Verdict.{parts_after, parts_fault, piece_fault, verdict_after, verdict_from, verdict_of}
+use Rattle.checker.specs.declared.verdict.Verdict.{Verdict}
+use Rattle.checker.specs.declared.verdict.Verdict.TheVariants.{Yes}
+use Rattle.checker.specs.declared.verdict.Why.{Why}
+use Rattle.checker.specs.declared.verdict.Why.TheVariants.{Cut}
+use Rattle.finder.specs.Carried.{AlwaysFinds, FindsLeastBound, IsCarried, IsFirst, IsNeverEmpty, IsTick, StopsAt}
+use Rattle.finder.specs.Entry.{best_hull}
+use Rattle.finder.specs.Envelope.{with_bound}
+use Rattle.finder.specs.Fewest.{AreLongest, IsOfLongest, NoneOfFewIsAccepted, end_after, hull_over, next_tick, pieces_over, stretch_over}
+use Rattle.finder.specs.Reach.{AreEnds, AreTablesFor, IsReach}
+use Rattle.finder.specs.Samples.{AreSamplesOf}
+use Rattle.finder.specs.declared.carried.LeastCarried.{LeastCarried}
+use Rattle.finder.specs.declared.fault.FindFault.TheVariants.{Memory, TooManyPieces}
+use Rattle.finder.specs.declared.fewest.Fewest.TheVariants as found
+use Rattle.finder.specs.declared.reach.Reach.{Reach}
+use Rattle.finder.proofs.FewestAnswer.{finds_nothing, finds_too_long}
+use Rattle.finder.proofs.FewestPieces.{Laws, as_many_pieces, first_in_span, one_more_end, yes_from}
+
+-- ---- what a claimed bound has no part in
+
+same_hull : (samples : List Sample) (claim : ClaimData) (m : ℕ) (stretch : Stretch)
+    → best_hull samples (with_bound claim m) stretch ≡ best_hull samples claim stretch
+unfolding best_hull
+same_hull samples claim m stretch = refl
+
+pub samples_of_other : (samples : List Sample) (claim : ClaimData) (m : ℕ) → AreSamplesOf claim samples
+    → AreSamplesOf (with_bound claim m) samples
+samples_of_other samples claim m are = record { lawful = are.lawful; listed = are.listed }
+
+pub lawful_with : (down : (n : ℕ) → ticks_down n * nanoseconds_per_second ≤ n * ticks_per_second)
+    → (claim : ClaimData) (m : ℕ) → m ≤ max_bound_ns → IsLawful claim → IsLawful (with_bound claim m)
+lawful_with down claim m small lawful =
+    let le = down m in
+    let ticks : ticks_down m ≤ 1000000 * 2 ^ 32 = omega arith in
+    record {
+      some_server = lawful.some_server;
+      few_servers = lawful.few_servers;
+      addresses_differ = lawful.addresses_differ;
+      client_is_no_server = lawful.client_is_no_server;
+      group_for_each = lawful.group_for_each;
+      groups_in_range = lawful.groups_in_range;
+      few_false = lawful.few_false;
+      span_begins = lawful.span_begins;
+      span_forward = lawful.span_forward;
+      span_ends = lawful.span_ends;
+      bound_not_negative = omega (arith, ints);
+      bound_in_range = omega (arith, ints);
+      bound_ns_in_range = small;
+      drift_in_range = lawful.drift_in_range;
+      reading_not_negative = lawful.reading_not_negative;
+      reading_in_range = lawful.reading_in_range;
+      reading_ns_in_range = lawful.reading_ns_in_range;
+    }
+
+-- a tick ends no earlier than it begins
+pub tick_forward : (samples : List Sample) (claim : ClaimData) → IsLawful claim → (p : ℤ) → IsTick claim p
+    → p ≤ℤ next_tick samples claim p
+tick_forward samples claim lawful p tick =
+    let forward = lawful.span_forward in
+    ⊎_elim (λ first. omega (arith, ints, clamps)) (λ before. omega (arith, ints, clamps)) tick.begins
+
+-- ---- the verdict has no part in how the bound is spelled in nanoseconds
+
+module _ (samples : List Sample) (claim : ClaimData) (n : ℕ) where
+  abbrev other : ClaimData
+  other = record claim { bound_ns = n }
+
+  same_parts : (said : Result (List Part) Why) → parts_fault other said ≡ parts_fault claim said
+  same_parts (Err why) = refl
+  same_parts (Ok parts) = refl
+
+  same_fault : (p : ℤ) (piece : PieceData) → piece_fault samples other p piece ≡ piece_fault samples claim p piece
+  same_fault p piece =
+      let stretch : Stretch = stretch_over p (pos piece.upto) in
+      ap (λ (f : Option Why). cond (int_lt (pos piece.upto) p || int_lt claim.last (pos piece.upto)) (Some Cut) f)
+      (same_parts (parts_after samples stretch claim.drift_ppb [] piece.entries))
+
+  same_verdict : (k : ℕ) (p : ℤ) (pieces : List PieceData)
+      → verdict_from samples other k p pieces ≡ verdict_from samples claim k p pieces
+  same_verdict k p [] = refl
+  same_verdict k p (piece ∷ pieces) =
+      ap (λ (f : Option Why). verdict_after f k (verdict_from samples other (k + 1) (pos piece.upto) pieces))
+      (same_fault p piece)
+      ∙ ap (λ (v : Verdict). verdict_after (piece_fault samples claim p piece) k v)
+      (same_verdict (k + 1) (pos piece.upto) pieces)
+
+-- ---- of tables and of the pieces that they give
+
+pub tables_for_other : (samples : List Sample) (claim : ClaimData) (m : ℕ) (tables : List BestTable)
+    → AreTablesFor samples claim tables → AreTablesFor samples (with_bound claim m) tables
+tables_for_other samples claim m tables tabled = record {
+  of_claim = samples_of_other samples claim m tabled.of_claim;
+  few = tabled.few;
+  are = tabled.are;
+}
+
+pub reached_by : (samples : List Sample) (a b : ClaimData) (tables : List BestTable) (reach : Reach) → a ≡ b
+    → (AreTablesFor samples a tables → IsReach samples a reach) → AreTablesFor samples b tables
+    → IsReach samples b reach
+reached_by samples a b tables reach same reaches tabled =
+    subst (λ (x : ClaimData). IsReach samples x reach) same
+    (reaches (subst (λ (x : ClaimData). AreTablesFor samples x tables) (sym same) tabled))
+
+pub carried_by_ends : (laws : Laws) (samples : List Sample) (claim : ClaimData) → IsLawful claim
+    → AreSamplesOf claim samples → (ends : List ℤ) → AreEnds samples claim ends → IsCarried samples claim
+carried_by_ends laws samples claim lawful are ends is =
+    let all = is.earlier ++ claim.last ∷ [] in
+    let few = is.few in
+    let count : length (pieces_over samples claim claim.first all) ≡ length is.earlier + 1 =
+    as_many_pieces laws samples claim lawful are claim.first all
+    ∙ one_more_end laws samples claim lawful are is.earlier claim.last in (
+      record { pieces = pieces_over samples claim claim.first all },
+      record { earlier = is.earlier; longest = is.longest; last = is.last; pieces = refl },
+      omega (arith, count, few),
+    )
+
+-- what holds of no answer, if there is none
+pub none_of : {A : Type 0} (P : Type 0) (Q : A → Type 0) (o : Option A) → is_some o ≡ false → MatchOption o P Q → P
+none_of P Q None e is = is
+none_of P Q (Some a) e is = absurd cc
+
+-- ---- what is known
+
+pub record BoundLaws : Type 0 where
+  pub fewest : Laws
+  pub wider : (samples : List Sample) (claim : ClaimData) (wider : ℤ) (certificate : CertificateData)
+      → claim.bound ≤ℤ wider → verdict_of samples claim certificate ≡ Yes
+      → verdict_of samples (record claim { bound = wider }) certificate ≡ Yes
+  pub down : (n : ℕ) → ticks_down n * nanoseconds_per_second ≤ n * ticks_per_second
+  pub more : (m n : ℕ) → m ≤ n → ticks_down m ≤ ticks_down n
+
+module _ (laws : BoundLaws) (samples : List Sample) (claim : ClaimData) (lawful : IsLawful claim)
+    (are : AreSamplesOf claim samples) where
+  -- what is accepted under a bound is accepted under a wider one
+  accepted_wider : (m n : ℕ) (certificate : CertificateData) → m ≤ n
+      → verdict_of samples (with_bound claim m) certificate ≡ Yes
+      → verdict_of samples (with_bound claim n) certificate ≡ Yes
+  accepted_wider m n certificate le accepted =
+      let ticks = laws.more m n le in
+      let spelled : ClaimData = record (with_bound claim m) { bound = pos (ticks_down n) } in
+      same_verdict samples spelled n 0 claim.first certificate.pieces
+      ∙ laws.wider samples (with_bound claim m) (pos (ticks_down n)) certificate (omega (arith, ints)) accepted
+
+  -- ---- where the longest pieces have come to, a piece of one tick begins
+
+  record Reaches (p q : ℤ) : Type 0 where
+    pub later : p ≤ℤ q
+    pub begins : (q ≡ p) ⊎ (q <ℤ claim.last)
+
+  reached : (m : ℕ) (p : ℤ) (earlier : List ℤ) → p ≤ℤ claim.last
+      → AreLongest samples (with_bound claim m) p earlier → Reaches p (end_after p earlier)
+  reached m p [] within longest = record { later = omega (arith, ints); begins = inl refl }
+  reached m p (q ∷ earlier) within longest =
+      let some = longest.0.some_tick in
+      let before = longest.1 in
+      let rest = reached m q earlier (omega (arith, ints)) longest.2 in
+      let later = rest.later in
+      record {
+        later = omega (arith, ints, clamps);
+        begins = ⊎_elim (λ same. inr (omega (arith, ints))) (λ less. inr less) rest.begins;
+      }
+
+  tick_after : (m : ℕ) (earlier : List ℤ) (tick : ℤ) → AreLongest samples (with_bound claim m) claim.first earlier
+      → tick ≡ end_after claim.first earlier → IsTick claim tick
+  tick_after m earlier tick longest is =
+      let reach = reached m claim.first earlier lawful.span_forward longest in
+      record { from_first = rw is reach.later; begins = rw is reach.begins }
+
+  pub stop_is_tick : (m : ℕ) (tick : ℤ) → StopsAt samples (with_bound claim m) tick → IsTick claim tick
+  stop_is_tick m tick (inl (end, hull, stuck)) = tick_after m stuck.earlier tick stuck.longest stuck.begins
+  stop_is_tick m tick (inr (long, is)) = tick_after m long.earlier tick long.longest is
+
+  -- ---- where it stops, no certificate is accepted that may be written
+
+  none_where_stopped : (m : ℕ) (tick : ℤ) → m ≤ max_bound_ns → IsNeverEmpty samples claim
+      → StopsAt samples (with_bound claim m) tick → NoneOfFewIsAccepted samples (with_bound claim m)
+  none_where_stopped m tick small never (inl (end, hull, stuck)) certificate few accepted =
+      let bounded = with_bound claim m in
+      let finds = finds_nothing laws.fewest samples bounded (lawful_with laws.down claim m small lawful)
+      (samples_of_other samples claim m are) tick end hull stuck in
+      let its_hull : hull_over samples claim tick (next_tick samples claim tick) ≡ hull =
+      sym (stuck.its_hull ∙ ap (hull_over samples bounded tick) stuck.ends
+      ∙ same_hull samples claim m (stretch_over tick (next_tick samples claim tick))) in
+      finds.none_accepted
+      (λ empty. never tick (stop_is_tick m tick (inl (end, hull, stuck))) (its_hull ∙ empty)) certificate accepted
+  none_where_stopped m tick small never (inr (long, is)) certificate few accepted =
+      (finds_too_long laws.fewest samples (with_bound claim m) (lawful_with laws.down claim m small lawful)
+      (samples_of_other samples claim m are) long).too_many refl certificate few accepted
+
+  -- ---- a certificate of longest pieces is accepted
+
+  accepted_if_carried : (m : ℕ) → m ≤ max_bound_ns → (certificate : CertificateData)
+      → (is : IsOfLongest samples (with_bound claim m) certificate)
+      → verdict_of samples (with_bound claim m) certificate ≡ Yes
+  accepted_if_carried m small certificate is =
+      let bounded = with_bound claim m in
+      let lawful' = lawful_with laws.down claim m small lawful in
+      let are' = samples_of_other samples claim m are in
+      ap (verdict_from samples bounded 0 claim.first) is.pieces
+      ∙ yes_from laws.fewest samples bounded lawful' are' 0 claim.first is.earlier
+      (first_in_span laws.fewest samples bounded lawful' are') is.longest is.last
+
+  -- ---- the answers
+
+  least_under : (n : ℕ) (tick : ℤ) → n ≤ max_bound_ns → IsFirst samples claim n tick → IsNeverEmpty samples claim
+      → (m : ℕ) → m < n → NoneOfFewIsAccepted samples (with_bound claim m)
+  least_under n tick small (inl (zero_is, at)) never m less certificate few accepted = absurd (omega arith)
+  least_under n tick small (inr (below, is, stops)) never m less certificate few accepted =
+      none_where_stopped below tick (omega arith) never stops certificate few
+      (accepted_wider m below certificate (omega arith) accepted)
+
+  enough_over : (n : ℕ) → n ≤ max_bound_ns → IsCarried samples (with_bound claim n) → IsNeverEmpty samples claim
+      → (m : ℕ) → n ≤ m → m ≤ max_bound_ns → AlwaysFinds samples (with_bound claim m)
+  enough_over n small (certificate, longest, few) never m le small' (Ok (found.Certificate _)) finds = (tt, tt)
+  enough_over n small (certificate, longest, few) never m le small' (Ok (found.Nothing begin end hull)) finds =
+      absurd (none_where_stopped m begin small' never (inl (end, hull, finds.stuck)) certificate few
+      (accepted_wider n m certificate le (accepted_if_carried n small certificate longest)))
+  enough_over n small (certificate, longest, few) never m le small' (Err Memory) finds = (tt, refl)
+  enough_over n small (certificate, longest, few) never m le small' (Err TooManyPieces) finds =
+      absurd (finds.too_many refl certificate few
+      (accepted_wider n m certificate le (accepted_if_carried n small certificate longest)))
+
+  pub finds_least : (least : LeastCarried) → least.bound_ns ≤ max_bound_ns
+      → IsCarried samples (with_bound claim least.bound_ns) → IsFirst samples claim least.bound_ns (pos least.tick)
+      → IsCarried samples (with_bound claim max_bound_ns) → FindsLeastBound samples claim (Ok (Some least))
+  finds_least least small carried first at_most = record {
+    found = carried;
+    not_below = first;
+    least = λ never m less. least_under least.bound_ns (pos least.tick) small first never m less;
+    enough = λ never m le small'. enough_over least.bound_ns small carried never m le small';
+    none = at_most;
+    lawful = (
+      small,
+      ⊎_elim
+          (λ at. record { from_first = rw at.1 (omega (arith, ints)); begins = inl at.1 })
+          (λ below. stop_is_tick below.0 (pos least.tick) below.2) first,
+    );
+  }
+
+  pub finds_none : (tick : ℤ) → StopsAt samples (with_bound claim max_bound_ns) tick
+      → FindsLeastBound samples claim (Ok None)
+  finds_none tick stops =
+      record { found = tt; not_below = tt; least = tt; enough = tt; none = (tick, stops); lawful = tt }
+
+  pub finds_no_memory : (e : AllocError) → FindsLeastBound samples claim (Err e)
+  finds_no_memory e = record { found = tt; not_below = tt; least = tt; enough = tt; none = tt; lawful = tt }

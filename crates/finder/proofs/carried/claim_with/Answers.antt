@@ -1,0 +1,21 @@
+use Rattle.std.proofs.Common.{◌∙◌, refl, arith}
+use Rattle.std.proofs.lemmas.Int.{ints}
+use Rattle.claim_file.specs.Claim.{data_of}
+use Rattle.finder.proofs.Claim.{first_kept, last_kept, reading_kept}
+use Rattle.finder.proofs.Kept.{kept}
+use Rattle.finder.proofs.carried.claim_with.Goals as goal
+
+pub returns : goal.returns
+returns c =
+    let claim = data_of c.args.claim.now in
+    let ticks = c.ns_down.ensures.ticks in
+    let small = c.ns_down.ensures.in_range in
+    rw (
+      first_kept claim c.requires,
+      last_kept claim c.requires,
+      reading_kept claim c.requires,
+      kept c.ns_down.result (omega (arith, ints, ticks, small)),
+      c.in_ok-from_slice.ensures.items ∙ c.as_slice.ensures.value,
+      c.in_ok-from_slice-2.ensures.items ∙ c.as_slice-2.ensures.value,
+      ticks,
+    ) refl

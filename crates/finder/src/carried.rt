@@ -1,0 +1,174 @@
+//! The least bound that a certificate carries.
+
+ghost use Rattle.std.specs.Prelude.{◌≡◌, ◌≤◌, pos, ◌≤ℤ◌, List, length, Option, IfOk, MatchOption};
+ghost use Rattle.claim_file.specs.Claim.{IsLawful, data_of as claim_data, max_bound_ns};
+ghost use Rattle.pairing.specs.Exchange.{most_exchanges};
+ghost use Rattle.sample_interval.specs.declared.kinds.Sample.{Sample as TheSample};
+ghost use Rattle.finder.specs.Carried as spec;
+ghost use Rattle.finder.specs.Carried.{FindsLeastBound, IsCarried, StopsAt};
+ghost use Rattle.finder.specs.Envelope.{with_bound};
+ghost use Rattle.finder.specs.Piece.{IsStep};
+ghost use Rattle.finder.specs.Reach.{AreTablesFor, IsTabled};
+ghost use Rattle.finder.specs.Samples.{AreSamplesOf};
+
+use crate::laws::{
+    best_entries_show_as_much, best_hulls_hold_the_error, pieces_within_have_no_wider_hulls,
+};
+use crate::longest::tables_for;
+use crate::neediest::likely_bound;
+use crate::reach::{Reach, longest_ends};
+use crate::trial::trial;
+use checker::laws::{pieces_give_the_verdict, wider_bounds_hold_too};
+use claim_file::Claim;
+use courses::Groups;
+use era_unfold::laws::{more_nanoseconds_have_no_fewer_ticks, nanoseconds_lie_between_their_ticks};
+use era_unfold::{TICKS_PER_SECOND, ns_down};
+use sample_interval::SampleSource;
+use span_cover::laws::best_samples_are_the_first_best;
+use std::alloc::{AllocError, Global};
+use sweep::BestTable;
+
+/// The greatest bound that a claim may have, in nanoseconds: a million seconds.
+pub(crate) const MOST_BOUND_NS: u64 = 1_000_000_000_000_000;
+
+/// The least bound with which a certificate is found.
+#[derive(Clone, Copy, Debug, PartialEq, Eq)]
+pub struct LeastCarried {
+    /// The bound in nanoseconds, at most 10^15.
+    pub bound_ns: u64,
+    /// The Unix tick of 2^-32 s at which the search stops with a nanosecond less: the one that the
+    /// longest pieces come to, and the next one isn't shown, or 100,000 pieces come no further. With
+    /// a bound of 0 it is the span's first.
+    pub tick: u64,
+}
+
+/// The least bound with which a certificate of fewest pieces is found, whatever the claim's own
+/// bound is; none if there is none with the greatest that a claim may have, 10^15 ns.
+///
+/// The samples are those of all exchanges, in their order, at most 1,000,000. The search begins at
+/// the bound that the neediest tick needs where the groups of one of the covers have no say; which
+/// covers are given changes nothing but the time.
+///
+/// The only error is that memory has run out.
+pub fn least_bound<S: SampleSource>(
+    alloc: Global,
+    samples: S,
+    claim: &Claim,
+    covers: &[Groups],
+) -> Result<Option<LeastCarried>, AllocError>
+    requires claim { IsLawful (claim_data claim.now) }
+    requires samples { AreSamplesOf (claim_data claim.now) (S.samples samples) }
+    requires few { length (S.samples samples) ≤ most_exchanges }
+    ensures { FindsLeastBound (S.samples samples) (claim_data claim.now) result }
+{
+    let tables = tables_for(alloc, samples, claim)?;
+    let near = likely_bound(alloc, &tables, claim, covers, samples.count())?;
+    let found = least_bound_by(alloc, &tables, claim, near)?;
+    Ok(found)
+}
+
+/// The least bound, by the tables of the servers, looked for near a number of nanoseconds.
+///
+/// Each turn of the loop either doubles the distance from there or halves what is left, so that
+/// there are at most some hundred.
+fn least_bound_by(
+    alloc: Global,
+    tables: &[BestTable],
+    claim: &Claim,
+    near: u64,
+) -> Result<Option<LeastCarried>, AllocError>
+    requires claim { IsLawful (claim_data claim.now) }
+    requires tables { IsTabled (claim_data claim.now) tables.now }
+    ensures { (samples : List TheSample) → AreTablesFor samples (claim_data claim.now) tables.now →
+        FindsLeastBound samples (claim_data claim.now) result }
+{
+    best_samples_are_the_first_best();
+    best_entries_show_as_much();
+    pieces_within_have_no_wider_hulls();
+    pieces_give_the_verdict();
+    best_hulls_hold_the_error();
+    wider_bounds_hold_too();
+    nanoseconds_lie_between_their_ticks();
+    more_nanoseconds_have_no_fewer_ticks();
+    if stop_under(alloc, tables, claim, MOST_BOUND_NS)?.is_some() {
+        return Ok(None);
+    }
+    let mut least = 0;
+    let mut bound_ns = MOST_BOUND_NS;
+    let mut tick = claim.first as u64;
+    while least < bound_ns {
+        let tried = trial(least, bound_ns, near, 0);
+        match stop_under(alloc, tables, claim, tried)? {
+            None => bound_ns = tried,
+            Some(stop) => {
+                least = tried + 1;
+                tick = stop;
+            }
+        }
+    }
+    Ok(Some(LeastCarried { bound_ns, tick }))
+}
+
+/// The Unix tick at which the longest pieces stop with a bound of this many nanoseconds; none if
+/// they reach the span's end.
+fn stop_under(
+    alloc: Global,
+    tables: &[BestTable],
+    claim: &Claim,
+    bound_ns: u64,
+) -> Result<Option<u64>, AllocError>
+    requires claim { IsLawful (claim_data claim.now) }
+    requires tables { IsTabled (claim_data claim.now) tables.now }
+    requires in_range { bound_ns ≤ max_bound_ns }
+    ensures { IfOk result (λ stop. (samples : List TheSample) →
+        AreTablesFor samples (claim_data claim.now) tables.now →
+        MatchOption stop (IsCarried samples (with_bound (claim_data claim.now) bound_ns))
+        (λ tick. StopsAt samples (with_bound (claim_data claim.now) bound_ns) (pos tick))) }
+{
+    best_samples_are_the_first_best();
+    best_entries_show_as_much();
+    pieces_within_have_no_wider_hulls();
+    pieces_give_the_verdict();
+    best_hulls_hold_the_error();
+    nanoseconds_lie_between_their_ticks();
+    let claim = claim_with(alloc, claim, bound_ns)?;
+    match longest_ends(alloc, tables, &claim)? {
+        Reach::End(_) => Ok(None),
+        Reach::Stuck { begin, .. } => Ok(Some(begin)),
+        Reach::TooLong { begin } => Ok(Some(begin)),
+    }
+}
+
+/// The same claim with a bound of this many nanoseconds.
+fn claim_with(alloc: Global, claim: &Claim, bound_ns: u64) -> Result<Claim, AllocError>
+    requires { IsLawful (claim_data claim.now) }
+    ensures { IfOk result (λ other. claim_data other ≡ with_bound (claim_data claim.now) bound_ns) }
+{
+    Ok(Claim {
+        client: claim.client,
+        servers: Vec::from_slice(alloc, claim.servers.as_slice())?,
+        groups: Vec::from_slice(alloc, claim.groups.as_slice())?,
+        false_max: claim.false_max,
+        first: claim.first,
+        last: claim.last,
+        bound: ns_down(bound_ns),
+        bound_ns,
+        drift_ppb: claim.drift_ppb,
+        reading: claim.reading,
+        reading_ns: claim.reading_ns,
+    })
+}
+
+/// The number of the piece that holds a tick of the span, from 0, if the span is cut every `step_s`
+/// seconds. The tick is one of Unix time, of 2^-32 s.
+pub fn piece_holding(claim: &Claim, step_s: u32, tick: u64) -> u64
+    requires claim { IsLawful (claim_data claim.now) }
+    requires step { IsStep step_s }
+    requires from_first { claim.now.first ≤ℤ pos tick }
+    requires to_last { pos tick ≤ℤ claim.now.last }
+    ensures exact { result ≡ spec.piece_holding (claim_data claim.now) step_s (pos tick) }
+{
+    let step = u128::from(step_s) * TICKS_PER_SECOND;
+    let distance = (i128::from(tick) - claim.first) as u128;
+    (distance / step) as u64
+}
