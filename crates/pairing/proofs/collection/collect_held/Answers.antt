@@ -1,5 +1,5 @@
 use Rattle.claim_file.specs.Claim.{data_of}
-use Rattle.pairing.proofs.Completion.{answer-whole, few_kept, joining-room, lawful-whole, leaves-whole}
+use Rattle.pairing.proofs.Completion.{answer-whole, joining-room, lawful-whole, leaves-whole}
 use Rattle.pairing.proofs.collection.collect_held.Goals as goal
 
 pub finish-requires : goal.finish-requires
@@ -7,12 +7,8 @@ finish-requires g c =
     let whole = c.in-Ok.ensures.whole in
     let gathering = c.gather.new.gathering in
     let claim = data_of c.args.claim.now in
-    record {
-      room = rw gathering.exchanges.ok.0 (joining-room claim whole.records gathering.requests.items
-          gathering.exchanges.items gathering.counts whole.given.few whole.gathered);
-      few = few_kept claim whole.records gathering.requests.items gathering.exchanges.items gathering.counts
-          whole.given.few whole.gathered;
-    }
+    rw gathering.exchanges.ok.0 (joining-room claim whole.records gathering.requests.items
+    gathering.exchanges.items gathering.counts whole.given.few whole.gathered)
 
 pub returns-in-Ok : goal.returns-in-Ok
 returns-in-Ok g c =
