@@ -85,9 +85,7 @@ impl Gathering {
             (λ held. collection_of claim records ≡ Ok (held_data held))
             (λ fault. (fault ≡ PairFault.Memory) ⊎ (collection_of claim records ≡ Err fault)) }
     {
-        let Ok(index) = Index::new(alloc, &self.requests, hasher) else {
-            return Err(PairFault::Memory);
-        };
+        let index = Index::new(alloc, &self.requests, hasher)?;
         let kept = join(&index, &mut self.exchanges, &mut self.counts)?;
         self.exchanges.truncate(kept);
         Ok(Held {

@@ -32,11 +32,11 @@ returns-in_err-kept c claim records gathered =
     let requests = c.args.self.requests.items in
     let same = subst (λ (hs : List HeldExchange). IsGatheredFrom claim records requests hs c.args.self.counts)
     (sym c.deref_mut.ensures.value) gathered in
-    let look_up = same_look_up (get same_key c.in-Ok.index.places) _ requests c.deref.ensures.value c.in-Ok.ensures in
+    let look_up = same_look_up (get same_key c.in_ok-index.index.places) _ requests c.deref.ensures.value c.in_ok-index.ensures in
     let fault = c.in_err-kept.ensures.fault in
     let many = subst (λ (l : Key → Option Place). most_exchanges < length (filter_map result_ok
     (outcomes_by l c.deref_mut.result.now))) look_up fault.1 in
-    let p = err_from_is_err_and c.from_residual.result c.from_residual.ensures.1 in
+    let p = err_from_is_err_and c.from_residual-in_err-kept.result c.from_residual-in_err-kept.ensures.1 in
     rw (p.1, p.2, fault.0) (inr (collection-many claim records same many))
 
 pub returns : goal.returns
@@ -44,7 +44,7 @@ returns c claim records gathered =
     let requests = c.args.self.requests.items in
     let same = subst (λ (hs : List HeldExchange). IsGatheredFrom claim records requests hs c.args.self.counts)
     (sym c.deref_mut.ensures.value) gathered in
-    let look_up = same_look_up (get same_key c.in-Ok.index.places) _ requests c.deref.ensures.value c.in-Ok.ensures in
+    let look_up = same_look_up (get same_key c.in_ok-index.index.places) _ requests c.deref.ensures.value c.in_ok-index.ensures in
     let kept = c.in_ok-kept.kept in
     let joined = c.in_ok-kept.ensures in
     let all = subst (λ (l : Key → Option Place). IsJoined c.args.self.counts (outcomes_by l c.deref_mut.result.now)
