@@ -7,7 +7,7 @@ use Rattle.std.proofs.lemmas.Str.{IsAscii-append, IsUtf8-from_ascii, is_utf8-fro
 use lib.Signed.{mag}
 use Rattle.std.specs.Fmt.{signed_decimal}
 use Rattle.std.specs.List.{join_with_byte}
-use Rattle.std.specs.Prelude.{All, codes, if◌then◌else◌}
+use Rattle.std.specs.Prelude.{All, codes, false, if◌then◌else◌}
 use Rattle.std.specs.Str.{IsAscii}
 use Rattle.json.specs.Lex.{tokens}
 use Rattle.json.specs.Print.{print}
@@ -20,10 +20,10 @@ use Rattle.serde_json.proofs.Numbers.{number_of-negative}
 use Rattle.serde_json.proofs.OnLiterals.{serde_json_on_literals}
 use Rattle.serde_json.proofs.Texts.{print-outline, unless_float-number_of}
 use Rattle.serde_json.specs.Data.{number, negative, depth}
-use Rattle.serde_json.specs.Find.{of_integer, as_i64}
+use Rattle.serde_json.specs.Find.{of_integer, as_i64, is_float}
 use Rattle.serde_json.specs.Read.{read}
 use Rattle.serde_json.specs.View.{items_of}
-use Rattle.serde_json.specs.Written.{outline, compact_text, number_text}
+use Rattle.serde_json.specs.Written.{outline, compact_text, number_text, has_float, items_have_float}
 use Rattle.certificate.specs.declared.refutation_fault.RefutationFault.TheVariants.{Json}
 use Rattle.certificate.specs.Refutation.{RefutationData, IsHeldRefutation, max_liars}
 use Rattle.certificate.specs.RefutationReading.{server_of, servers_of, refutation_from, refutation_of}
@@ -134,8 +134,19 @@ outlined_refutation refutation held =
       shallow = omega (arith, liars.shallow, error.shallow, reading.shallow);
     }
 
--- the text is that of the value
-text-value : (refutation : RefutationData) → compact_text (refutation_value refutation) ≡ refutation_text refutation
+-- the text is that of the value, which has no float
+error-no_float : (error : ℤ) → is_float (of_integer error) ≡ false
+error-no_float (pos n) = refl
+error-no_float (negsuc n) = refl
+
+servers-no_float : (servers : List ℕ) → items_have_float (items_of (map number_value servers)) ≡ false
+servers-no_float [] = refl
+servers-no_float (s ∷ ss) = servers-no_float ss
+
+pub refutation-no_float : (refutation : RefutationData) → has_float (refutation_value refutation) ≡ false
+refutation-no_float refutation = rw (error-no_float refutation.error, servers-no_float refutation.liars) refl
+
+pub text-value : (refutation : RefutationData) → compact_text (refutation_value refutation) ≡ refutation_text refutation
 unfolding serde_json_on_literals
 text-value refutation =
     rw (error_text-value refutation.error, items_text-map number_value decimal (λ n. refl) refutation.liars)

@@ -47,20 +47,6 @@ joining-room claim records kept held counts few g =
     HasRoom-weaker counts most_records (length held) (omega (arith, fewer, few))
     (gathered-room claim records kept held counts g few)
 
--- there are no more requests than records
-pub few_kept : (claim : ClaimData) (records : List Record) (kept : List Kept) (held : List HeldExchange)
-    (counts : Counts) → length records ≤ most_records → IsGatheredFrom claim records kept held counts →
-    length kept < 2 ^ 31
-unfolding requests_of
-few_kept claim records kept held counts few g =
-    omega (
-      arith,
-      ap length g.keeps,
-      length-map (requests_of claim records) kept_of,
-      length-filter_map (request_of claim) records,
-      few,
-    )
-
 -- what is joined of the records of a whole capture is what is collected of them
 abbrev IsCollected : ClaimData → List Record → Result Held PairFault → Type 0
 IsCollected claim records r =

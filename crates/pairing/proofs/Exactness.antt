@@ -27,7 +27,7 @@ use Rattle.pairing.specs.Join.{exchange_by, outcome_by, outcomes_by, request_at}
 use Rattle.pairing.specs.Message.{Request, Reply}
 use Rattle.pairing.specs.Pairing.{Collection, collection_of, requests_of, replies_of, requests_for, outcome_of, outcomes_of, paired, unless_refused, distance_of, exchange_of, is_refused, refused_for, is_warning, exchanges_of, counts_of}
 use Rattle.pairing.specs.Refusal.{refusal_of}
-use Rattle.pairing.proofs.TwinSteps.{kept_indexes}
+use Rattle.pairing.proofs.Kept.{kept_indexes}
 use Rattle.pairing.proofs.Windows.{last_tick}
 
 -- the first counts apart

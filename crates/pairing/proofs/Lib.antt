@@ -12,7 +12,6 @@ pub mod Servers
 pub mod Windows
 pub mod Words
 pub mod Keys
-pub mod ChainSteps
-pub mod TwinSteps
+pub mod Kept
 pub mod Parts
 pub mod SourceSteps

@@ -56,3 +56,7 @@ place_at (x ∷ other ∷ others) = Some Several
 -- the look-up among these
 abbrev pub found_in : List Kept → Key → Option Place
 found_in items k = place_at (kept_with k items)
+
+-- A look-up at any key is none, one or several as these have it.
+abbrev pub Finds : (Key → Option Place) → List Kept → Type 0
+Finds look_up items = (k : Key) → look_up k ≡ found_in items k

@@ -1,5 +1,4 @@
 pub mod Answer
-pub mod Chains
 pub mod Counts
 pub mod Exchange
 pub mod Fault

@@ -44,9 +44,7 @@ fn gather<S: RecordSource>(
         match source.next_record() {
             Ok(Some(head)) => {
                 let message = read_message(claim, &head, source.bytes());
-                let Ok(()) = gathering.take(&head, message) else {
-                    return Err(PairFault::Memory);
-                };
+                gathering.take(&head, message)?;
             }
             Ok(None) => return Ok(()),
             Err(fault) => return Err(PairFault::Capture(fault)),
@@ -75,10 +73,8 @@ pub fn collect_held<S: RecordSource, H: BuildHasher + Drop>(
 {
     exchanges_keep_their_limits();
     let mut gathering = Gathering::new(alloc);
-    match gather(source, claim, &mut gathering) {
-        Ok(()) => gathering.finish(alloc, KeyHasher::keyed_by(&hasher)),
-        Err(fault) => Err(fault),
-    }
+    gather(source, claim, &mut gathering)?;
+    gathering.finish(alloc, KeyHasher::keyed_by(&hasher))
 }
 
 /// Collects the exchanges and counts of a whole capture, as `collect_held` does, with std's hasher
@@ -96,8 +92,5 @@ pub fn collect<S: RecordSource>(
 {
     let hasher = BuildHasherDefault::<FoldHasher>::new();
     let held = collect_held(alloc, source, claim, hasher)?;
-    let Ok(collected) = Collected::new(alloc, &held) else {
-        return Err(PairFault::Memory);
-    };
-    Ok(collected)
+    Ok(Collected::new(alloc, &held)?)
 }

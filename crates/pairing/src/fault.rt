@@ -2,8 +2,10 @@
 
 ghost use Rattle.std.specs.Prelude.{◌≡◌};
 ghost use Rattle.pairing.specs.Fault.{number_of};
+ghost use Rattle.pairing.specs.declared.fault.PairFault.TheVariants.{Memory};
 
 use pcap_reader::CaptureFault;
+use std::alloc::AllocError;
 use thiserror::Error;
 
 /// Why exchanges can't be collected.
@@ -30,5 +32,13 @@ impl PairFault {
             PairFault::TooManyExchanges => 2,
             PairFault::Memory => 3,
         }
+    }
+}
+
+impl From<AllocError> for PairFault {
+    ghost from_gives = { λ _ fault. fault ≡ Memory };
+
+    fn from(_error: AllocError) -> PairFault {
+        PairFault::Memory
     }
 }

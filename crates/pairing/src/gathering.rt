@@ -77,8 +77,7 @@ impl Gathering {
 
     /// What is collected, once the whole capture is gathered.
     pub(crate) fn finish(mut self, alloc: Global, hasher: KeyHasher) -> Result<Held, PairFault>
-        requires room { HasRoom self.counts (vec_len self.exchanges) }
-        requires few { length self.requests.items < 2 ^ 31 }
+        requires { HasRoom self.counts (vec_len self.exchanges) }
         ensures { (claim : ClaimData) (records : List Record) →
             IsGatheredFrom claim records self.requests.items
             self.exchanges.items self.counts →
@@ -86,9 +85,7 @@ impl Gathering {
             (λ held. collection_of claim records ≡ Ok (held_data held))
             (λ fault. (fault ≡ PairFault.Memory) ⊎ (collection_of claim records ≡ Err fault)) }
     {
-        let Ok(index) = Index::new(alloc, self.requests, hasher) else {
-            return Err(PairFault::Memory);
-        };
+        let index = Index::new(alloc, &self.requests, hasher)?;
         let kept = join(&index, &mut self.exchanges, &mut self.counts)?;
         self.exchanges.truncate(kept);
         Ok(Held {

@@ -4,16 +4,15 @@
 //! of the index. So the hash depends on two numbers that the caller's hasher gives, and that nobody
 //! else knows: one is hashed before the key, and the last step multiplies by the other.
 
-ghost use Rattle.std.specs.Prelude.{◌≡◌, ◌^◌, ◌%◌, ◌<◌};
-ghost use Rattle.pairing.specs.Hashing.{hash_of, keyed, slot_of};
+ghost use Rattle.std.specs.Prelude.{◌≡◌, ◌%◌};
+ghost use Rattle.pairing.specs.Hashing.{hash_of, keyed};
 
-use crate::index::Key;
 use std::hash::{BuildHasher, FoldHasher, Hasher};
 
-/// A hasher of keys: it starts from two numbers.
+/// A hasher of keys, and what makes one: it starts from two numbers.
 #[derive(Clone, Copy)]
 pub(crate) struct KeyHasher {
-    /// What was hashed so far: the first number.
+    /// What was hashed so far, the first number at the start.
     folded: FoldHasher,
     /// The second number, which is odd.
     multiplier: u64,
@@ -34,20 +33,38 @@ impl KeyHasher {
             multiplier: hasher.hash_one(1_u64) | 1,
         }
     }
+}
 
-    /// The slot of a key among this many. The product's high bits depend on every bit of both
-    /// numbers, so they choose it.
+impl Hasher for KeyHasher {
+    ghost use Rattle.pairing.specs.Hashing.{finished, written};
+
+    ghost write = { written };
+
+    ghost finish = { finished };
+
+    /// The last byte of the product depends on every bit of both numbers, and the index looks at
+    /// the first ones, so they change places.
     #[inline(always)]
-    pub(crate) fn slot(&self, key: Key, slots: usize) -> usize
-        requires some_slot { 0 < slots }
-        requires few_slots { slots < 2 ^ 32 }
-        ensures slot { result ≡ slot_of self.now slots key }
-        ensures within { result < slots }
-    {
-        let mut folded = self.folded;
-        folded.write_u64(u64::from(key.server) * 65_536 + u64::from(key.port));
-        folded.write_u64(key.stamp);
-        let high = folded.finish().wrapping_mul(self.multiplier) >> 32;
-        ((high * slots as u64) >> 32) as usize
+    fn finish(&self) -> u64 {
+        self.folded
+            .finish()
+            .wrapping_mul(self.multiplier)
+            .swap_bytes()
+    }
+
+    #[inline(always)]
+    fn write(&mut self, bytes: &[u8]) {
+        self.folded.write(bytes);
+    }
+}
+
+impl BuildHasher for KeyHasher {
+    type Hasher = KeyHasher;
+
+    ghost build_hasher = { λ start. start };
+
+    #[inline(always)]
+    fn build_hasher(&self) -> KeyHasher {
+        *self
     }
 }

@@ -1,18 +1,19 @@
 //! The index of requests.
 
-ghost use Rattle.std.specs.Prelude.{◌≡◌, ◌^◌, ◌<◌, [], true, length, IfNone, IfOk, IfSome};
+ghost use Rattle.std.specs.Prelude.{◌≡◌, ◌<◌, [], ◌∷◌, ◌++◌, List, IfOk, OnOk};
+ghost use Rattle.indexmap.specs.IndexMap.{get};
 ghost use Rattle.era_unfold.specs.Window.{per_second};
-ghost use Rattle.pairing.specs.Chains.{IsIndexed, has_key};
-ghost use Rattle.pairing.specs.Index.{found_in, kept_of, kept_with, request_at};
+ghost use Rattle.pairing.specs.Index.{Finds, kept_of, request_at, same_key};
+ghost use Rattle.pairing.specs.declared.index.Kept.{Kept as Request};
 
-use crate::chains::{link, mark, newest};
 use crate::hashing::KeyHasher;
 use crate::window::Window;
+use indexmap::IndexMap;
 use pcap_reader::RecordHead;
 use std::alloc::{AllocError, Global};
 
 /// What a request and its replies share.
-#[derive(Clone, Copy, PartialEq, Eq)]
+#[derive(Clone, Copy, PartialEq, Eq, Hash)]
 pub(crate) struct Key {
     /// The server's number.
     pub server: u8,
@@ -35,7 +36,7 @@ pub(crate) struct Kept {
     pub low: u64,
 }
 
-const _: () = prove!(size_of::<Kept>() == 32);
+const _: () = prove!(size_of::<Kept>() == 32 && size_of::<Place>() == 16);
 
 impl Kept {
     /// The request with this key that a record holds.
@@ -70,85 +71,65 @@ pub(crate) enum Place {
     Several,
 }
 
-/// The requests of a whole capture by their keys. Nothing is added to it, so that it never grows.
+/// The requests of a whole capture by their keys, in the order of each key's first request.
 #[derive(Drop)]
 pub(crate) struct Index {
-    /// The requests in their order.
-    requests: Vec<Kept>,
-    /// Whether another request has the key of the one at the same place.
-    twins: Vec<bool>,
-    /// The place of each slot's last request, counted from 1, or 0.
-    heads: Vec<u32>,
-    /// For each request that of the last one before it that has its slot.
-    links: Vec<u32>,
-    hasher: KeyHasher,
+    places: IndexMap<Key, Place, KeyHasher>,
 }
 
 impl Index {
-    /// The index of these requests: 13 bytes beside each.
+    /// The index of these requests. Its room is made once, so that it never grows.
     pub(crate) fn new(
         alloc: Global,
-        requests: Vec<Kept>,
+        requests: &[Kept],
         hasher: KeyHasher,
     ) -> Result<Index, AllocError>
-        requires { length requests.items < 2 ^ 31 }
-        ensures indexed { IfOk result (λ index. IsIndexed index) }
-        ensures same { IfOk result (λ index. index.requests.items ≡ requests.items) }
+        ensures { IfOk result (λ index. Finds (get same_key index.places) requests.now) }
     {
-        let count = requests.len();
-        let mut heads = vec![in alloc; 0_u32; 2 * count + 1]?;
-        let mut links = vec![in alloc; 0_u32; count]?;
-        let mut twins = vec![in alloc; false; count]?;
-        link(&requests, &hasher, &mut heads, &mut links);
-        mark(&requests, &links, &mut twins);
-        Ok(Index {
-            requests,
-            twins,
-            heads,
-            links,
-            hasher,
-        })
+        let places = IndexMap::with_capacity_and_hasher(alloc, requests.len(), hasher)?;
+        let mut index = Index { places };
+        for request in requests {
+            index.note(request)?;
+        }
+        Ok(index)
     }
 
-    /// Where a request with this key stands: at `guess`, or else where its hash says.
+    /// Notes one more request.
     #[inline(always)]
-    fn find(&self, key: Key, guess: usize) -> Option<usize>
-        requires { IsIndexed self.now }
-        ensures found { IfSome result (λ j. (j < length self.now.requests.items)
-            × (has_key key self.now.requests.items j ≡ true)) }
-        ensures none { IfNone result (kept_with key self.now.requests.items ≡ []) }
+    fn note(&mut self, request: &Kept) -> Result<(), AllocError>
+        ensures { (before : List Request) → Finds (get same_key self.old.places) before →
+            OnOk result (Finds (get same_key self.new.places) (before ++ request.now ∷ [])) }
     {
-        if guess < self.requests.len() && key == self.requests[guess].key {
-            return Some(guess);
-        }
-        let slot = self.hasher.slot(key, self.heads.len());
-        let place = newest(&self.requests, &self.links, self.heads[slot], key);
-        if place == 0 {
-            return None;
-        }
-        Some(place as usize - 1)
-    }
-
-    /// What the requests with a key are. `guess` is where the key is looked for first, and then the
-    /// place after the key, if it was found.
-    ///
-    /// Replies mostly come in the order of their requests, so the next reply's key is mostly the
-    /// next one: with no hash, and no jump to a far place in memory.
-    pub(crate) fn find_near(&self, key: Key, guess: &mut usize) -> Option<Place>
-        requires { IsIndexed self.now }
-        ensures { result ≡ found_in self.now.requests.items key }
-    {
-        let found = self.find(key, *guess)?;
-        *guess = found + 1;
-        if self.twins[found] {
-            return Some(Place::Several);
-        }
         let Kept {
+            key,
             width,
             number,
             low,
-            ..
-        } = self.requests[found];
-        Some(Place::One { width, number, low })
+        } = *request;
+        let before = self.places.insert(key, Place::One { width, number, low })?;
+        if before.is_some() {
+            self.places.insert(key, Place::Several)?;
+        }
+        Ok(())
+    }
+
+    /// What the requests with a key are. `guess` is the place where the key is looked for first,
+    /// and then the one after the key, if it was found.
+    ///
+    /// Replies mostly come in the order of their requests, so the next reply's key is mostly the
+    /// next one: with no hash, and no jump to a far place in memory.
+    #[inline(always)]
+    pub(crate) fn find_near(&self, key: Key, guess: &mut usize) -> Option<Place>
+        ensures { result ≡ get same_key self.now.places key }
+    {
+        let (found, place) = match self.places.get_index(*guess) {
+            Some((noted, place)) if *noted == key => (*guess, place),
+            _ => {
+                let (found, _, place) = self.places.get_full(&key)?;
+                (found, place)
+            }
+        };
+        *guess = found.saturating_add(1);
+        Some(*place)
     }
 }

@@ -3,11 +3,11 @@
 ghost use Rattle.std.specs.Prelude.{◌≡◌, ◌<◌, ◌≤◌, length, map, take, IfErr, IfOk};
 ghost use Rattle.std.specs.List.{filter_map};
 ghost use Rattle.std.specs.Result.{result_ok};
-ghost use Rattle.pairing.specs.Chains.{IsIndexed};
+ghost use Rattle.indexmap.specs.IndexMap.{get};
 ghost use Rattle.pairing.specs.Counts.{HasRoom, IsJoined};
 ghost use Rattle.pairing.specs.Exchange.{most_exchanges};
 ghost use Rattle.pairing.specs.Held.{exchange_shown};
-ghost use Rattle.pairing.specs.Index.{found_in};
+ghost use Rattle.pairing.specs.Index.{same_key};
 ghost use Rattle.pairing.specs.Join.{outcomes_by, request_by};
 
 use crate::counts::Counts;
@@ -28,8 +28,7 @@ fn find_request(
     request: HeldRequest,
     guess: &mut usize,
 ) -> Result<HeldRequest, Refusal>
-    requires { IsIndexed index.now }
-    ensures { result ≡ request_by (found_in index.now.requests.items) server request }
+    ensures { result ≡ request_by (get same_key index.now.places) server request }
 {
     let HeldRequest::Named { port, stamp } = request else {
         return Ok(request);
@@ -57,16 +56,15 @@ pub(crate) fn join(
     exchanges: &mut [HeldExchange],
     counts: &mut Counts,
 ) -> Result<usize, PairFault>
-    requires indexed { IsIndexed index.now }
-    requires room { HasRoom counts.old (length exchanges.old) }
+    requires { HasRoom counts.old (length exchanges.old) }
     ensures joined { IfOk result (λ kept. IsJoined counts.old
-        (outcomes_by (found_in index.now.requests.items) exchanges.old)
+        (outcomes_by (get same_key index.now.places) exchanges.old)
         (map exchange_shown (take kept exchanges.new)) counts.new) }
     ensures within { IfOk result (λ kept. kept ≤ length exchanges.new) }
     ensures few { IfOk result (λ kept. kept ≤ most_exchanges) }
     ensures fault { IfErr result (λ fault. (fault ≡ PairFault.TooManyExchanges)
         × (most_exchanges < length (filter_map result_ok
-        (outcomes_by (found_in index.now.requests.items) exchanges.old)))) }
+        (outcomes_by (get same_key index.now.places) exchanges.old)))) }
 {
     let mut guess = 0;
     let mut kept = 0;

@@ -17,7 +17,6 @@
 
 #![tactic(auto)]
 
-mod chains;
 mod collected;
 mod collection;
 mod counts;

@@ -11,7 +11,7 @@ returns g c =
     let claim = claim_data c.args.claim.now in
     let remaining = (g.S.RecordSource.state c.args.source.now).remaining in
     let held = c.in_ok-held.ensures in
-    let same = sym c.in-Ok.ensures in
+    let same = sym c.in_ok-new.ensures in
     record {
       exact = subst (λ (d : Collection). IfSome remaining (λ coming. answer_of claim coming ≡ Ok d)) same held.exact;
       lawful = subst (λ (d : Collection). AreLawful (length claim.servers) d.exchanges) same held.lawful;

@@ -1,4 +1,5 @@
 use Rattle.std.proofs.Common.{◌≡◌, ◌∙◌, ap, subst, Option, Ok, Some, None, refl, ℕ, List, [], ◌∷◌, ◌++◌, arith}
+use Rattle.std.proofs.lemmas.Result.{err_from_is_err_and}
 use Rattle.pcap_reader.specs.declared.format.RecordHead.{RecordHead}
 use Rattle.pcap_reader.specs.Capture.{most_records}
 use Rattle.pcap_reader.specs.Source.{IsStep}
@@ -37,7 +38,7 @@ records-preserved g c =
       records = done ++ record { head = head; bytes = now.lent } ∷ [];
       read = read-push (g.S.RecordSource.state c.args.source.now) before now done head c.records.invariant.read step
           bytes;
-      gathered = rw (c.in-Ok.ensures.keeps, c.in-Ok.ensures.holds, c.in-Ok.ensures.counted, said)
+      gathered = rw (c.in_ok-take-in-Ok-Some.ensures.keeps, c.in_ok-take-in-Ok-Some.ensures.holds, c.in_ok-take-in-Ok-Some.ensures.counted, said)
           (gathered-push claim done (record {
             head = head;
             bytes =
@@ -46,14 +47,15 @@ records-preserved g c =
           c.records.gathering.exchanges.items c.records.gathering.counts c.records.invariant.gathered);
     }
 
-pub returns-in_default-clause-leaves : goal.returns-in_default-clause-leaves
-returns-in_default-clause-leaves g c =
+pub returns-in_err-take-in-Ok-Some-clause-leaves : goal.returns-in_err-take-in-Ok-Some-clause-leaves
+returns-in_err-take-in-Ok-Some-clause-leaves g c =
     let before = g.S.RecordSource.state c.records.source in
     let now = g.S.RecordSource.state c.next_record.new.self in
     let step = subst (λ (o : Option RecordHead). IsStep before
     (Ok o) now) c.in-Ok-Some.field-0-is c.in-Ok-Some.ensures in
-    leaves-unfailed (g.S.RecordSource.state c.args.source.now) before now c.records.invariant.records
-    (Some c.in-Ok-Some.head) _ c.records.invariant.read step tt refl refl
+    let p = err_from_is_err_and c.from_residual.result c.from_residual.ensures.1 in
+    rw (p.1, p.2) (leaves-unfailed (g.S.RecordSource.state c.args.source.now) before now c.records.invariant.records
+    (Some c.in-Ok-Some.head) _ c.records.invariant.read step tt refl refl)
 
 pub returns-in-Ok-None-clause-leaves : goal.returns-in-Ok-None-clause-leaves
 returns-in-Ok-None-clause-leaves g c =

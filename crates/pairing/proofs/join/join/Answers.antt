@@ -1,8 +1,9 @@
 use Rattle.std.proofs.Common.{◌<◌, ◌+◌, arith, refl}
 use Rattle.std.proofs.lemmas.Grind.{drop_more_same}
 use Rattle.std.proofs.lemmas.List.{drop-set-lt}
+use Rattle.indexmap.specs.IndexMap.{get}
 use Rattle.pairing.specs.Exchange.{most_exchanges}
-use Rattle.pairing.specs.Index.{found_in}
+use Rattle.pairing.specs.Index.{same_key}
 use Rattle.pairing.proofs.JoinInPlace.{found_beyond, joined-found, joined-refused}
 use Rattle.pairing.proofs.join.join.Goals as goal
 use Rattle.pairing.proofs.join.join.Goals.{in-Ok+else-kept-eq-MOST_EXCHANGES, in-Err}
@@ -10,7 +11,7 @@ use Rattle.pairing.proofs.join.join.Goals.{in-Ok+else-kept-eq-MOST_EXCHANGES, in
 pub returns-then-kept-eq-MOST_EXCHANGES-clause-fault :
     goal.returns-then-kept-eq-MOST_EXCHANGES-clause-fault
 returns-then-kept-eq-MOST_EXCHANGES-clause-fault c =
-    let look_up = found_in c.args.index.now.requests.items in
+    let look_up = get same_key c.args.index.now.places in
     let l = c.loop-number in (
       refl,
       found_beyond look_up c.args.counts.now l.counts c.args.exchanges.now l.exchanges l.number l.kept
@@ -21,7 +22,7 @@ returns-then-kept-eq-MOST_EXCHANGES-clause-fault c =
 
 pub loop-number-preserved : goal.loop-number-preserved
 loop-number-preserved c =
-    let look_up = found_in c.args.index.now.requests.items in
+    let look_up = get same_key c.args.index.now.places in
     let l = c.loop-number in
     let within : l.kept < l.number + 1 = omega (arith, l.invariant.within) in
     let rest = drop_more_same l.exchanges c.args.exchanges.now l.number l.invariant.rest in

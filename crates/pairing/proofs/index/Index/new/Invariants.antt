@@ -1,0 +1,7 @@
+use Rattle.std.proofs.Common.{take}
+use Rattle.indexmap.specs.IndexMap.{get}
+use Rattle.pairing.specs.Index.{Finds, same_key}
+use Rattle.pairing.proofs.index.Index.new.Given as goal
+
+abbrev pub invariant-loop-request : goal.invariant-loop-request
+invariant-loop-request l = Finds (get same_key l.index.places) (take l.request-index l.requests)
