@@ -152,7 +152,7 @@ def hairs(setting: Setting, count: int, gaps: tuple[int, ...]) -> Hostile:
     ticks are given each holds for some places, and where it's below zero the two meet. Two of the four servers may be wrong.
     As soon as a piece is so long that the two meet its hull reaches to them."""
     places = max(1, count // 4)
-    spacing, begin = setting.spacing(places), setting.begin * BILLION
+    spacing, begin = setting.spacing(places - 1), setting.begin * BILLION
     period = spacing * max(1, places // 16)
     base = TICKS + 4 * setting.drifted(spacing * TICKS // BILLION)
 
@@ -171,7 +171,7 @@ def hairs(setting: Setting, count: int, gaps: tuple[int, ...]) -> Hostile:
             else:
                 yield server, moment - WAY_NS, moment, ahead - WIDTH, ahead
     far = 2 * (base + setting.drifted(period * TICKS // BILLION)) * BILLION // TICKS + 10
-    return Hostile(Exchanges(rows()), {"zero": setting.claim(0), "middle": setting.claim(setting.need(places)), "far": setting.claim(far)})
+    return Hostile(Exchanges(rows()), {"zero": setting.claim(0), "middle": setting.claim(setting.need(places - 1)), "far": setting.claim(far)})
 
 
 def four(ppb: int, seconds: int = DAY, begin: int = BEGIN) -> Setting:
@@ -300,14 +300,13 @@ def last_conflicts(setting: Setting, count: int) -> Hostile:
 
 
 def many_pieces(count: int) -> Hostile:
-    """Hairs so wide that a day and some minutes take 100,000 pieces: one claim needs a few less, the others need more."""
-    setting = four(100_000)
-    gap = setting.drifted(DAY * TICKS) // 100_000
-    exchanges, claims = hairs(setting, count, (gap,))
-    middle = claims["middle"]["bound_ns"]
-    return Hostile(exchanges, {
-        "fit": setting.claim(middle, to=spelled(BEGIN + DAY * 98 // 100)), "over": setting.claim(middle, to=spelled(BEGIN + DAY * 102 // 100)),
-        "refuted": setting.claim(WIDTH * BILLION // TICKS // 2, to=spelled(BEGIN + DAY * 102 // 100))})
+    """Hairs so wide that some day takes 100,000 pieces: one claim needs a few less, the others need more."""
+    setting = four(100_000, DAY * 11 // 10)
+    exchanges, claims = hairs(setting, count, (setting.drifted(DAY * TICKS) // 100_000,))
+    to = {part: spelled(BEGIN + DAY * part // 100) for part in (98, 102)}
+    middle, small = claims["middle"]["bound_ns"], WIDTH * BILLION // TICKS // 2
+    return Hostile(exchanges, {"fit": setting.claim(middle, to=to[98]), "over": setting.claim(middle, to=to[102]),
+                               "refuted": setting.claim(small, to=to[102])})
 
 
 # ---- the families
