@@ -7,7 +7,6 @@ end could be. tests/tools/samples_from_list applies it to what `list` prints, an
 A claim is the value of its file, and servers and samples go by their numbers. Times are in ticks of 2^-32 s.
 """
 import datetime
-import heapq
 import json
 
 TICKS = 1 << 32
@@ -194,103 +193,14 @@ def envelope(claim, samples, step):
     return pieces, max(needs), needs.index(max(needs))
 
 
-def envelope_lines(claim, samples, step, with_servers, with_least=False):
-    """The lines of `envelope`."""
+def envelope_lines(claim, samples, step, with_servers):
+    """The lines of `envelope`, without that of `--least`."""
     (pieces, bound, worst), lines = envelope(claim, samples, step), []
     for k, (begin, end, of_servers, found) in enumerate(pieces):
         if with_servers:
             lines += [f"{k} {claim['servers'][server]} {low} {high}" for server, (low, high) in of_servers.items()]
         lines.append(f"{k} {begin // TICKS} {end // TICKS} {hull_words(found)}")
-    lines.append(f"bound_ns {'none' if bound is None else bound} piece {worst}")
-    return lines + ([least_line(claim, samples, step)] if with_least else [])
-
-
-# ---- the certificate of fewest pieces, and the least bound
-
-
-def best_hull(claim, samples, begin, end):
-    return hull(claim, samples, best_entries(claim, samples, begin, end), begin, end)
-
-
-def is_inside(claim, found):
-    """Whether a hull lies inside the bound."""
-    return bool(found) and max(-found[0], found[1]) <= bound_of(claim)
-
-
-def longest_end(claim, samples, begin, last):
-    """The greatest end of a piece from here whose hull lies inside the bound: None where a piece of one tick's doesn't.
-    A longer piece has a wider hull, so it is sought by doubling and halving."""
-    def reaches(length):
-        return is_inside(claim, best_hull(claim, samples, begin, min(begin + length, last)))
-    if not reaches(1):
-        return None
-    length = 1
-    while begin + length < last and reaches(2 * length):
-        length *= 2
-    below, over = length, 2 * length           # (the first reaches, and the other doesn't or is past the span)
-    while over - below > 1:
-        middle = (below + over) // 2
-        below, over = (middle, over) if begin + middle <= last and reaches(middle) else (below, middle)
-    return min(begin + below, last)
-
-
-def fewest(claim, samples):
-    """The certificate of fewest pieces: each as long as it can be. Where there is none, the piece of one tick at which it
-    stops, as its begin, its end and its hull."""
-    (begin, last), pieces = span_of(claim), []
-    while not pieces or begin < last:
-        end = longest_end(claim, samples, begin, last)
-        if end is None:
-            end = min(begin + 1, last)
-            return None, (begin, end, best_hull(claim, samples, begin, end))
-        pieces.append({"entries": best_entries(claim, samples, begin, end), "upto": end})
-        begin = end
-    return {"pieces": pieces}, None
-
-
-def need_of(found):
-    """The least bound in ticks inside which a hull lies: None where it has no ends."""
-    return max(0, -found[0], found[1]) if found else None
-
-
-def neediest(claim, samples, begin, end, above=-1):
-    """The piece of one tick from begin to end that needs most, of those with a hull, if that is above this much: what it
-    needs, and its ends; else None. A piece within a piece needs no more, so the one that needs most is halved until it
-    has one tick."""
-    def need(piece):
-        return need_of(best_hull(claim, samples, *piece))
-    waiting = [(-most, piece) for piece in [(begin, end)] if (most := need(piece)) is not None]
-    while waiting and -waiting[0][0] > above:
-        most, (begin, end) = heapq.heappop(waiting)
-        if end - begin <= 1:
-            return -most, begin, end
-        middle = (begin + end) // 2
-        for piece in (begin, middle), (middle, end):
-            if (most := need(piece)) is not None:
-                heapq.heappush(waiting, (-most, piece))
-    return None
-
-
-def greatest_need(claim, samples, begin, end, above=-1):
-    """The greatest need of the pieces of one tick from begin to end, of those with a hull, if it is above this much."""
-    found = neediest(claim, samples, begin, end, above)
-    return found and found[0]
-
-
-def least(claim, samples, step):
-    """The least bound in nanoseconds that any certificate carries, and the first piece of so many seconds that holds a
-    tick which needs as many ticks as any: None where no tick has a hull."""
-    found = None
-    for k, (begin, end) in enumerate(pieces_of(claim, step)):
-        need = greatest_need(claim, samples, begin, end, found[0] if found else -1)
-        found = found if need is None else (need, k)
-    return found and (ceiling(found[0] * BILLION, TICKS), found[1])
-
-
-def least_line(claim, samples, step):
-    """The last line of `envelope --least`."""
-    found = least(claim, samples, step)
-    return f"least_ns {found[0]} piece {found[1]}" if found else "least_ns none"
+    return [*lines, f"bound_ns {'none' if bound is None else bound} piece {worst}"]
 
 
 # ---- refutations

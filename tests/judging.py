@@ -1,0 +1,313 @@
+"""What commands answer about a claim and a capture, held to the second reading of tests/pieces.py, tests/marks.py and
+tests/settlement.py: for tests/hostile and tests/large, whose captures are made by tests/families.py.
+
+A question is a claim on a capture. Of each there are cases: what was tried, and what is wrong with it.
+"""
+import json
+import time
+from collections.abc import Callable, Iterator
+from functools import cached_property
+from pathlib import Path
+from typing import NamedTuple
+
+import families
+import marks
+import pieces
+import rules
+import settlement
+from pieces import Claim, Hulls, Stop
+from rules import TICKS, Sample
+from tally import run, short
+
+SOME = 3000
+"""As many pieces are made by the reading where not all of them have to be."""
+
+LOOKED_AT = 300_000
+"""Pieces times samples that the reading looks at one by one, to name the best ones."""
+
+FEW_COVERS = 4
+FAST_REFUTATION = 200
+KINDS = {b'{"pieces"': "shown", b'{"error"': "refuted", b"open ": "open", b"no evidence ": "no evidence", b"conflict ": "nothing fits"}
+
+Ran = tuple[int | str, bytes, bytes]
+Case = tuple[str, str]
+"""What was tried, and what is wrong with it: nothing where that's an empty text."""
+
+
+def kind_of(ran: Ran) -> str:
+    if ran == (2, b"", f"ntpaudit: {settlement.OVER}\n".encode()):
+        return "over"
+    return next((kind for start, kind in KINDS.items() if ran[1].startswith(start)), f"no answer: {short(ran)}")
+
+
+def text_of(lines: list[str]) -> bytes:
+    return "".join(f"{line}\n" for line in lines).encode()
+
+
+def differs(ran: Ran, status: int, lines: list[str], error: bytes = b"") -> str:
+    """What is wrong with a run that has to end with this status and these lines."""
+    wanted = status, text_of(lines), error
+    return "" if ran == wanted else f"{short(ran)}, wanted {short(wanted)}"
+
+
+# ---- a claim and its capture
+
+
+class Way(NamedTuple):
+    """How questions are asked: of which program, in which folder (with the capture in capture.pcap), how many seconds a call
+    may take, and whether the reading makes all pieces, where there are many."""
+    program: str
+    folder: Path
+    limit: float
+    is_whole: bool
+
+
+class Question:
+    """A claim on a capture, and what the reading says of it."""
+
+    def __init__(self, name: str, claim: Claim, samples: list[Sample], records: list[tuple[int, int]], conflicts: dict,
+                 way: Way) -> None:
+        self.name, self.claim, self.samples, self.records, self.conflicts = name, claim, samples, records, conflicts
+        self.way, folder = way, way.folder
+        self.file, self.capture = folder / "claim.json", folder / "capture.pcap"
+        self.file.write_text(json.dumps(claim))
+        self.times: list[tuple[float, str]] = []
+        seconds = (self.span[1] - self.span[0]) // TICKS
+        self.step = min(86_400, max(1, seconds // 24))
+
+    @property
+    def span(self) -> tuple[int, int]:
+        return rules.span_of(self.claim)
+
+    @cached_property
+    def hulls(self) -> Hulls:
+        return Hulls(self.claim, self.samples)
+
+    @cached_property
+    def covers(self) -> list[set[int]]:
+        return marks.smallest_covers(self.claim, self.conflicts)
+
+    def call(self, command: str, *words: object, claim: Path | None = None, given: bytes = b"") -> Ran:
+        """Runs a command on the claim and the capture."""
+        began = time.monotonic()
+        ran = run([self.way.program, command, claim or self.file, self.capture, *words], given, timeout=self.way.limit)
+        self.times.append((time.monotonic() - began, f"{self.name}: {command} {' '.join(map(str, words))}"))
+        return ran
+
+    def ends(self, bound_ns: int, is_needed: Callable[[Stop], bool] = lambda stop: False) -> tuple[list[int], Stop | None]:
+        """The ends of the pieces under a bound and where they stop. Where some thousands aren't enough and the rest isn't
+        needed, as many."""
+        bound = pieces.bound_in_ticks(bound_ns)
+        ends, stop = pieces.ends_of(self.span, self.hulls, bound, SOME)
+        if stop and stop.is_over and (self.way.is_whole or is_needed(stop)):
+            return pieces.ends_of(self.span, self.hulls, bound)
+        return ends, stop
+
+
+# ---- settle
+
+
+def settle_case(question: Question) -> Iterator[Case]:
+    """`settle`, and `check` or `refute --drift` of what it printed."""
+    ran = question.call("settle")
+    kind = kind_of(ran)
+    yield f"settle: {kind}", settle_wrong(question, ran, kind)
+    if kind == "shown":
+        status, report, _ = question.call("check", "/dev/stdin", given=ran[1])
+        yield "check of what settle printed", "" if (status, report[-12:]) == (0, b"verdict yes\n") else short((status, report))
+    if kind == "refuted":
+        judged = question.call("refute", "/dev/stdin", "--drift", given=ran[1])
+        yield "refute --drift of what settle printed", differs(judged, 0, ["refuted yes"])
+
+
+def settle_wrong(question: Question, ran: Ran, kind: str) -> str:
+    claim, samples = question.claim, question.samples
+    if not question.covers:
+        lines = settlement.conflict_lines(claim, samples, question.records, question.conflicts)
+        return differs(ran, 1, [*lines, "nothing fits"])
+    if settlement.is_without_evidence(claim, samples):
+        return differs(ran, 1, [settlement.no_evidence_line(claim, samples)])
+    if kind == "shown":
+        return certificate_wrong(question, claim, ran)
+    if kind == "refuted":
+        is_right = ran[0] == 1 and ran[2] == b"" and marks.stands_with_drift(claim, samples, json.loads(ran[1]))
+        return "" if is_right else f"{short(ran)}, which doesn't stand"
+    if kind not in ("open", "over"):
+        return kind
+    _, stop = question.ends(claim["bound_ns"], lambda _: kind == "open")
+    if stop is None:
+        return f"{kind}, and there is a certificate"
+    wanted = (2, [], f"ntpaudit: {settlement.OVER}\n".encode()) if stop.is_over else (1, [settlement.open_line(stop)])
+    return differs(ran, *wanted) or refutable(question, stop)
+
+
+def refutable(question: Question, stop: Stop) -> str:
+    """What is wrong where no refutation was found: that the reading has one."""
+    most = settlement.COVERS if len(question.samples) <= FAST_REFUTATION else FEW_COVERS
+    if len(question.covers) > settlement.COVERS:
+        return ""                              # (which of them are tried, nobody says)
+    found = settlement.refutation(question.claim, question.samples, question.covers[:most], stop)
+    return f"it isn't refuted, and there is {found}" if found else ""
+
+
+def certificate_wrong(question: Question, claim: Claim, ran: Ran) -> str:
+    """What is wrong with a certificate of fewest pieces: each lies inside the bound, and with one more tick doesn't."""
+    begin, last = question.span
+    bound, printed = rules.bound_of(claim), json.loads(ran[1])["pieces"]
+    if ran[0] or ran[2] or not 0 < len(printed) <= pieces.MOST_PIECES or printed[-1]["upto"] != last:
+        return f"{short(ran)}, which doesn't reach to {last}"
+    for number, piece in enumerate(printed):
+        end = piece["upto"]
+        if not begin < end <= last and not begin == end == last:
+            return f"piece {number} ends at {end}"
+        if not pieces.is_inside(bound, question.hulls.over(begin, end)):
+            return f"piece {number} isn't inside the bound"
+        if end < last and pieces.is_inside(bound, question.hulls.over(begin, end + 1)):
+            return f"piece {number} may be longer"
+        begin = end
+    is_compact = ran[1] == text_of([rules.compact({"pieces": printed})])
+    return named_wrong(question, printed) if is_compact else "another spelling of a certificate"
+
+
+def named_wrong(question: Question, printed: list[dict]) -> str:
+    """What is wrong with the samples that a certificate names. Of each piece they have the best ends, and where it isn't too
+    much to look at, and in three pieces always, they are the first that have."""
+    begins = [question.span[0], *(piece["upto"] for piece in printed)]
+    is_little = len(printed) * len(question.samples) <= LOOKED_AT
+    for number, (begin, piece) in enumerate(zip(begins, printed)):
+        entries, end = piece["entries"], piece["upto"]
+        if is_little or number in (0, len(printed) // 2, len(printed) - 1):
+            if entries != rules.best_entries(question.claim, question.samples, begin, end):
+                return f"piece {number} names other samples"
+        elif rules.intervals(question.claim, question.samples, entries, begin, end) != question.hulls.intervals(begin, end):
+            return f"piece {number} names samples with other ends"
+    return ""
+
+
+# ---- envelope
+
+
+def envelope_lines(question: Question) -> list[str]:
+    lines, needs = [], []
+    for number, (begin, end) in enumerate(rules.pieces_of(question.claim, question.step)):
+        found = question.hulls.over(begin, end)
+        needs.append(pieces.need_of(found))
+        lines.append(f"{number} {begin // TICKS} {end // TICKS} {rules.hull_words(found)}")
+    if None in needs:
+        return [*lines, f"bound_ns none piece {needs.index(None)}"]
+    in_ns = [rules.ceiling(need * rules.BILLION, TICKS) for need in needs]
+    return [*lines, f"bound_ns {max(in_ns)} piece {in_ns.index(max(in_ns))}"]
+
+
+def envelope_case(question: Question) -> Iterator[Case]:
+    """`envelope --least`, and with `--servers`."""
+    words = "--step", question.step
+    ran, lines = question.call("envelope", *words, "--least"), envelope_lines(question)
+    status = int(lines[-1].startswith("bound_ns none"))
+    plain = question.call("envelope", *words)
+    yield "envelope", differs(plain, status, lines)
+    *rest, line = ran[1].decode().splitlines() or [""]
+    yield "envelope --least", differs((ran[0], text_of(rest), ran[2]), status, lines) or least_wrong(question, line)
+
+
+def least_wrong(question: Question, line: str) -> str:
+    """What is wrong with the line of the least bound."""
+    words = line.split()
+    if words[:1] != ["least_ns"] or len(words) not in (2, 4):
+        return f"the line {line!r}"
+    told = pieces.told_least(line)
+    if told is None:
+        return "" if question.ends(pieces.MOST_BOUND_NS)[1] else "none, and the greatest bound has a certificate"
+    bound_ns, piece = told
+    if not 0 <= bound_ns <= pieces.MOST_BOUND_NS:
+        return f"{line}, which isn't lawful"
+    return carried_wrong(question, bound_ns) or below_wrong(question, bound_ns, piece)
+
+
+def carried_wrong(question: Question, bound_ns: int) -> str:
+    """What is wrong with the certificate at the least bound. Where it has too many pieces for the reading to make, and some
+    course fits, the program's own is held to it piece by piece."""
+    _, stop = question.ends(bound_ns)
+    if stop is None:
+        return ""
+    if not stop.is_over or question.way.is_whole or not question.covers:
+        return "" if stop.is_over and not question.way.is_whole else f"least_ns {bound_ns}, and the pieces stop at {stop}"
+    claim = {**question.claim, "bound_ns": bound_ns}
+    file = question.way.folder / "least.json"
+    file.write_text(json.dumps(claim))
+    ran = question.call("settle", claim=file)
+    return certificate_wrong(question, claim, ran) if kind_of(ran) == "shown" else f"settle at the least bound {bound_ns}: {short(ran)}"
+
+
+def below_wrong(question: Question, bound_ns: int, piece: int) -> str:
+    """What is wrong one nanosecond below the least bound, and with the piece that is told."""
+    if bound_ns == 0:
+        return "" if piece == 0 else f"piece {piece} of a least bound of 0"
+    _, stop = question.ends(bound_ns - 1)
+    if stop is None:
+        return f"least_ns {bound_ns}, and a nanosecond less has a certificate"
+    first = (stop.begin - question.span[0]) // (question.step * TICKS)
+    if stop.is_over and not question.way.is_whole:
+        return "" if piece >= first else f"piece {piece}, before {stop}"
+    return "" if piece == first else f"piece {piece}, and the pieces stop in piece {first}, at {stop.begin}"
+
+
+# ---- find, at, samples, refute
+
+
+def find_case(question: Question, step: int | None = None) -> Iterator[Case]:
+    """`find`, and `check` of what it found."""
+    step = step or question.step
+    ran, bound = question.call("find", "--step", step), rules.bound_of(question.claim)
+    cut = rules.pieces_of(question.claim, step)
+    for number, (begin, end) in enumerate(cut):
+        found = question.hulls.over(begin, end)
+        if not pieces.is_inside(bound, found):
+            yield "find", differs(ran, 1, [f"nothing piece {number} hull {rules.hull_words(found)}"])
+            return
+    is_right = kind_of(ran) == "shown" and ran[0] == 0 and pieces.ends_in(ran[1]) == [end for _, end in cut]
+    yield "find", named_wrong(question, json.loads(ran[1])["pieces"]) if is_right else short(ran)
+    status, report, _ = question.call("check", "/dev/stdin", given=ran[1])
+    yield "check of what find printed", "" if (status, report[-12:]) == (0, b"verdict yes\n") else short((status, report))
+
+
+def at_case(question: Question) -> Iterator[Case]:
+    """`at` of the first and the last moment, and one between them."""
+    begin, last = (place // TICKS for place in question.span)
+    for second in sorted({begin, (begin + last) // 2, last}):
+        place = second * TICKS
+        found = [f"{question.claim['servers'][server]} {low} {high}"
+                 for server, (low, high) in question.hulls.intervals(place, place).items()]
+        ran = question.call("at", families.spelled(second))
+        yield f"at {second}", differs(ran, 0, [*found, f"hull {rules.hull_words(question.hulls.over(place, place))}"])
+
+
+def samples_case(question: Question) -> Iterator[Case]:
+    lines = []
+    for number, (sample, records) in enumerate(zip(question.samples, question.records)):
+        fields = (number, question.claim["servers"][sample.server], *records, "offset", *sample.offset, "delay", *sample.delay,
+                  "low", sample.low, "high", sample.high)
+        lines.append(" ".join(map(str, fields)))
+    known = len(lines)
+    lines.append(f"records {2 * known} requests {known} replies {known} samples {known} version 0 leap 0 stratum 0 precision 0 "
+                 "zero 0 norequest 0 ambiguous 0 warnings 0")
+    yield "samples", differs(question.call("samples"), 0, lines)
+
+
+def refute_case(question: Question) -> Iterator[Case]:
+    """`refute --drift` of the greatest error that all servers but those of a cover let be, and of one tick more."""
+    if not question.covers:
+        return
+    claim, reading = question.claim, sum(question.span) // 2
+    named = settlement.servers_of(claim, question.covers[0])
+    greatest = marks.greatest_error(claim, question.samples, named, reading)
+    for error in (greatest, greatest + 1) if greatest is not None and abs(greatest) < 2**62 else ():
+        tried = {"error": error, "false": named, "reading": reading}
+        wanted = marks.stands_with_drift(claim, question.samples, tried)
+        ran = question.call("refute", "/dev/stdin", "--drift", given=json.dumps(tried).encode())
+        yield f"refute --drift of {tried}", differs(ran, int(not wanted), ["refuted yes" if wanted else "refuted no"])
+    ran = question.call("find", "--refutation")
+    yield "find --refutation", "" if ran[0] in (0, 1) and not ran[2] else short(ran)
+
+
+CASES = settle_case, envelope_case, find_case, at_case, samples_case, refute_case

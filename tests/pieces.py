@@ -1,0 +1,263 @@
+"""The certificate of fewest pieces and the least bound, restated: section 11 of docs/DEFINITIONS.md on pieces that are as
+long as they can be.
+
+This shares nothing with the program. A certificate may have 100,000 pieces, each of them sought by some hulls, so a hull is
+made here of two sorted lists a server (`Hulls`), and not by looking at every sample: tests/courses holds such hulls to those
+of tests/rules.py. What is sought is what the rules say, by doubling and halving, and nothing more. Times are in ticks of
+2^-32 s.
+"""
+import heapq
+import json
+from bisect import bisect_right
+from collections.abc import Callable, Iterable
+from itertools import accumulate
+from typing import NamedTuple
+
+import rules
+from rules import BILLION, TICKS, Sample
+
+MOST_PIECES = 100_000
+MOST_BOUND_NS = 10**15
+"""The greatest lawful bound."""
+
+Claim = dict
+Hull = tuple[int, int] | tuple[()] | None
+
+
+# ---- hulls of any piece
+
+
+class Side:
+    """The greatest of a server's low ends over any piece. A window moves to the piece's farther end: the last one, where
+    twice its middle is at most twice the piece's, and else the first."""
+
+    def __init__(self, ppb: int, windows: Iterable[tuple[tuple[int, int], int]]) -> None:
+        by_middle = sorted(windows, key=lambda pair: sum(pair[0]))
+        self.ppb, self.rest = ppb, BILLION - ppb
+        self.middles = [begin + end for (begin, end), _ in by_middle]
+        to_last = [self.rest * low + ppb * begin for (begin, _), low in by_middle]
+        to_first = [self.rest * low - ppb * end for (_, end), low in by_middle]
+        self.to_last = list(accumulate(to_last, max))
+        self.to_first = list(accumulate(reversed(to_first), max))[::-1]
+
+    def greatest(self, begin: int, end: int) -> int:
+        at = bisect_right(self.middles, begin + end)
+        found = self.to_last[at - 1] - self.ppb * end if at else None
+        if at < len(self.middles):
+            other = self.to_first[at] + self.ppb * begin
+            found = other if found is None or other > found else found
+        return found // self.rest
+
+
+class Hulls:
+    """The intervals and the hull of any piece, of the groups outside of some."""
+
+    def __init__(self, claim: Claim, samples: list[Sample], without: Iterable[int] = ()) -> None:
+        left = [group for number, group in enumerate(rules.groups_of(claim)) if number not in set(without)]
+        ppb, self.false_max = claim["drift_ppb"], claim["false_max"] - len(set(without))
+        self.sides = {}
+        for server in sorted({sample.server for sample in samples} & {server for group in left for server in group}):
+            own = [sample for sample in samples if sample.server == server]
+            self.sides[server] = (Side(ppb, [(s.sent, s.low) for s in own]), Side(ppb, [(s.received, -s.high) for s in own]))
+        self.groups = [known for group in left if (known := [server for server in group if server in self.sides])]
+
+    def intervals(self, begin: int, end: int) -> dict[int, tuple[int, int]]:
+        """The interval of each server that has a sample."""
+        return {server: (low.greatest(begin, end), -high.greatest(begin, end)) for server, (low, high) in self.sides.items()}
+
+    def over(self, begin: int, end: int) -> Hull:
+        """The hull: None where it's unbounded, () where it's empty."""
+        wanted = len(self.groups) - self.false_max
+        if wanted <= 0:
+            return None
+        found = self.intervals(begin, end)
+        of_groups = [(max(found[server][0] for server in group), min(found[server][1] for server in group))
+                     for group in self.groups]
+        return meeting(of_groups, wanted)
+
+
+def meeting(intervals: list[tuple[int, int]], wanted: int) -> Hull:
+    """The first and the last point that lie in so many of these intervals."""
+    ends = sorted([(low, 0) for low, high in intervals if low <= high] + [(high, 1) for low, high in intervals if low <= high])
+    count, first, last = 0, None, None
+    for point, is_high in ends:
+        if is_high:
+            last = point if count >= wanted else last
+            count -= 1
+        else:
+            count += 1
+            first = point if count == wanted and first is None else first
+    return () if first is None else (first, last)
+
+
+def need_of(found: Hull) -> int | None:
+    """The least bound in ticks inside which a hull lies: None where it has no ends."""
+    return max(0, -found[0], found[1]) if found else None
+
+
+def is_inside(bound: int, found: Hull) -> bool:
+    """Whether a hull lies inside a bound in ticks."""
+    return bool(found) and -bound <= found[0] and found[1] <= bound
+
+
+def bound_in_ticks(bound_ns: int) -> int:
+    return bound_ns * TICKS // BILLION
+
+
+# ---- the certificate of fewest pieces
+
+
+class Stop(NamedTuple):
+    """The tick at which pieces stop: no piece that begins here lies inside the bound, or there would be too many."""
+    begin: int
+    end: int
+    hull: Hull
+    is_over: bool
+
+
+def farthest(is_good: Callable[[int], bool], known: int, last: int, guess: int) -> int:
+    """The greatest good number up to a last one, where `known` is good, and all after the first bad one are bad. It's sought
+    from a guess by doubling steps, and then by halving."""
+    below, over, way = known, last + 1, 1
+    if below < guess < over and not is_good(guess):
+        over = guess
+        while over - way > below and not is_good(over - way):
+            over, way = over - way, 2 * way
+        below = max(below, over - way)
+    else:
+        below = guess if below < guess < over else below
+        while below + way < over and is_good(below + way):
+            below, way = below + way, 2 * way
+        over = min(over, below + way)
+    while over - below > 1:
+        middle = (below + over) // 2
+        below, over = (middle, over) if is_good(middle) else (below, middle)
+    return below
+
+
+def ends_of(span: tuple[int, int], hulls: Hulls, bound: int, most: int = MOST_PIECES) -> tuple[list[int], Stop | None]:
+    """The ends of the pieces, each of which is as long as it can be; and where they stop, if they do."""
+    (begin, last), ends, length = span, [], 1
+    while not ends or begin < last:
+        tick = min(begin + 1, last)
+        found = hulls.over(begin, tick)
+        if not is_inside(bound, found) or len(ends) == most:
+            return ends, Stop(begin, tick, found, is_inside(bound, found))
+        end = farthest(lambda end: is_inside(bound, hulls.over(begin, end)), tick, last, begin + length)
+        ends.append(end)
+        begin, length = end, max(1, end - begin)
+    return ends, None
+
+
+def fewest(claim: Claim, samples: list[Sample]) -> tuple[dict | None, Stop | None]:
+    """The certificate of fewest pieces, or the tick at which its pieces stop."""
+    span = rules.span_of(claim)
+    ends, stop = ends_of(span, Hulls(claim, samples), rules.bound_of(claim))
+    if stop:
+        return None, stop
+    begins = [span[0], *ends[:-1]]
+    return {"pieces": [{"entries": rules.best_entries(claim, samples, begin, end), "upto": end}
+                       for begin, end in zip(begins, ends)]}, None
+
+
+# ---- the tick that needs most
+
+
+def neediest(hulls: Hulls, begin: int, end: int, most: int) -> tuple[int, int, int] | None:
+    """The piece of one tick that needs most, of those with a hull: what it needs, and its ends; None where none has one.
+    A piece within a piece needs no more, so the one that needs most is halved until it has one tick. After so many turns it
+    is the neediest of those in the middle of what was halved."""
+    def with_need(*piece: int) -> list[tuple[int, tuple[int, ...]]]:
+        need = need_of(hulls.over(*piece))
+        return [] if need is None else [(-need, piece)]
+    waiting, seen = with_need(begin, end), []
+    for _ in range(most):
+        if not waiting:
+            break
+        need, (begin, end) = heapq.heappop(waiting)
+        if end - begin <= 1:
+            return -need, begin, end
+        middle = (begin + end) // 2
+        for found in with_need(begin, middle) + with_need(middle, end):
+            heapq.heappush(waiting, found)
+        seen = sorted([*seen, *with_need(middle, middle + 1)])[:1]
+    return (-seen[0][0], *seen[0][1]) if seen else None
+
+
+# ---- the least bound
+
+
+def least(claim: Claim, samples: list[Sample], step: int) -> tuple[int, int] | None:
+    """The least bound in nanoseconds, and the piece of so many seconds that it is told for. Where no course fits there may
+    be several such bounds, and this is one."""
+    hulls, span = Hulls(claim, samples), rules.span_of(claim)
+
+    def is_carried(bound_ns: int) -> bool:
+        return ends_of(span, hulls, bound_in_ticks(bound_ns))[1] is None
+    if not is_carried(MOST_BOUND_NS):
+        return None
+    found = neediest(hulls, *span, 4 * len(samples) + 100)
+    limit = min(rules.ceiling(found[0] * BILLION, TICKS), MOST_BOUND_NS) if found else 0
+    bound_ns = first_carried(is_carried, limit)
+    return bound_ns, piece_of(claim, hulls, bound_ns, step)
+
+
+def first_carried(is_carried: Callable[[int], bool], limit: int) -> int:
+    """A bound that is carried where one less isn't, from a limit on below which none is: the greatest is carried."""
+    below, over, way = limit - 1, limit, 1
+    while over < MOST_BOUND_NS and not is_carried(over):
+        below, over, way = over, min(over + way, MOST_BOUND_NS), 2 * way
+    while over - below > 1:
+        middle = (below + over) // 2
+        below, over = (below, middle) if is_carried(middle) else (middle, over)
+    return over
+
+
+def piece_of(claim: Claim, hulls: Hulls, bound_ns: int, step: int) -> int:
+    """The piece of so many seconds that holds the tick at which the pieces stop one nanosecond below a bound."""
+    span = rules.span_of(claim)
+    if bound_ns == 0:
+        return 0
+    _, stop = ends_of(span, hulls, bound_in_ticks(bound_ns - 1))
+    return (stop.begin - span[0]) // (step * TICKS) if stop.begin < span[1] else last_piece(span, step)
+
+
+def last_piece(span: tuple[int, int], step: int) -> int:
+    return max(0, rules.ceiling(span[1] - span[0], step * TICKS) - 1)
+
+
+def has_property(claim: Claim, samples: list[Sample], told: tuple[int, int] | None, step: int) -> bool:
+    """Whether what is told of a least bound and its piece has the property that makes it one: at the bound a certificate,
+    one nanosecond below it none, and there the pieces stop in this piece."""
+    hulls, span = Hulls(claim, samples), rules.span_of(claim)
+    if told is None:
+        return ends_of(span, hulls, bound_in_ticks(MOST_BOUND_NS))[1] is not None
+    bound_ns, piece = told
+    if not 0 <= bound_ns <= MOST_BOUND_NS or ends_of(span, hulls, bound_in_ticks(bound_ns))[1]:
+        return False
+    if bound_ns and not ends_of(span, hulls, bound_in_ticks(bound_ns - 1))[1]:
+        return False
+    return piece == piece_of(claim, hulls, bound_ns, step)
+
+
+def told_least(line: str) -> tuple[int, int] | None:
+    """The bound and the piece of a line `least_ns`."""
+    words = line.split()
+    return None if words[1] == "none" else (int(words[1]), int(words[3]))
+
+
+def least_line(claim: Claim, samples: list[Sample], step: int) -> str:
+    """The last line of `envelope --least`."""
+    found = least(claim, samples, step)
+    return f"least_ns {found[0]} piece {found[1]}" if found else "least_ns none"
+
+
+def envelope_lines(claim: Claim, samples: list[Sample], step: int, with_servers: bool, with_least: bool = False) -> list[str]:
+    """The lines of `envelope`."""
+    lines = rules.envelope_lines(claim, samples, step, with_servers)
+    return lines + ([least_line(claim, samples, step)] if with_least else [])
+
+
+def ends_in(text: bytes) -> list[int]:
+    """The ends of a certificate's pieces."""
+    return [piece["upto"] for piece in json.loads(text)["pieces"]]
