@@ -50,19 +50,20 @@ Example:  ntpaudit check claim.json recording.pcap certificate.json
 More:     man ntpaudit, which says what a yes means";
 
 const SETTLE_HELP: &str = "\
-Prints:   one of four answers. A certificate, which `check` accepts: the claim is shown. A refutation,
+Prints:   one of five answers. A certificate, which `check` accepts: the claim is shown. A refutation,
           which `refute --drift` accepts. Lines `conflict SERVER REQUEST SERVER REPLY`, and then
-          `nothing fits`: what the claim grants isn't true in this capture. Or `open P Q hull LO HI`:
-          neither is found, and no certificate is accepted. With --human the lines of the last two
-          have milliseconds and times as 2026-11-22T06:46:09Z
-Status:   0 shown; 1 any other answer; 2 an input is refused, or there would be over 100000 pieces;
+          `nothing fits`: what the claim grants isn't true in this capture. `no evidence groups K of
+          G false_max F`: no more groups of servers have a sample than may be wrong. Or `open P Q
+          hull LO HI`: neither is found, and no certificate is accepted. With --human the lines of
+          conflicts and of what is open have milliseconds and times as 2026-11-22T06:46:09Z
+Status:   0 shown; 1 any other answer; 2 an input is refused, or over 100000 pieces are needed;
           3 out of memory; 4 a file or the output failed; 5 the command line is refused
 Example:  ntpaudit settle claim.json recording.pcap > certificate.json
 More:     man ntpaudit, which says what each answer means";
 
 const FIND_HELP: &str = "\
 Prints:   a certificate, or `nothing piece K` and the hull of the first piece that shows too little.
-          Only `check` settles the claim. With --refutation: a refutation, or `nothing refutation`.
+          `check` judges a certificate. With --refutation: a refutation, or `nothing refutation`.
           With --human the hull is in milliseconds
 Status:   0 something is found; 1 nothing; 2 an input is refused, or there are over 100000 pieces;
           3 out of memory; 4 a file or the output failed; 5 the command line is refused
@@ -211,7 +212,7 @@ fn find_command<'a>(alloc: Global) -> Result<Command<'a>, AllocError> {
 fn envelope_command<'a>(alloc: Global) -> Result<Command<'a>, AllocError> {
     let step = "Seconds of each piece, 1 to 86400";
     let servers = "Print before each piece what each server says about it, `K SERVER LOW HIGH`";
-    let least = "Print last the least bound that any certificate carries, `least_ns N piece K`";
+    let least = "Print last the least bound that a certificate carries, `least_ns N piece K`";
     let about = "Print how far off the clock may have been, piece by piece";
     evidence_command(alloc, "envelope", about, ENVELOPE_HELP)?
         .arg(step_option(alloc, step))?
@@ -240,7 +241,7 @@ fn with_judgements<'a>(alloc: Global, program: Command<'a>) -> Result<Command<'a
 /// The program with its commands.
 pub(crate) fn program<'a>(alloc: Global) -> Result<Command<'a>, AllocError> {
     let program = Command::new(alloc, "ntpaudit")
-        .version("0.6.1 (logic dac8208d650f15bf)")
+        .version("0.7.0 (logic dac8208d650f15bf)")
         .about("What a packet capture of NTP shows about a clock")
         .after_help(PROGRAM_HELP)
         .subcommand_required(true);
