@@ -65,6 +65,7 @@ fn add_conflicts(
 {
     for b in 0..conflicts.groups() {
         if is_to_tell(conflicts, a, b) {
+            // Each conflict has one.
             let found = first_of_groups(alloc, claim.drift_ppb, marks, a, b)?;
             if let Some(pair) = found {
                 told.push(Conflict { a, b, pair })?;
