@@ -121,8 +121,7 @@ carried_by_ends laws samples claim lawful are ends is =
     let few = is.few in
     let count : length (pieces_over samples claim claim.first all) ≡ length is.earlier + 1 =
     as_many_pieces laws samples claim lawful are claim.first all
-    ∙ one_more_end laws samples claim lawful are is.earlier claim.last in
-    (
+    ∙ one_more_end laws samples claim lawful are is.earlier claim.last in (
       record { pieces = pieces_over samples claim claim.first all },
       record { earlier = is.earlier; longest = is.longest; last = is.last; pieces = refl },
       omega (arith, count, few),
@@ -243,9 +242,12 @@ module _ (laws : BoundLaws) (samples : List Sample) (claim : ClaimData) (lawful 
     least = λ never m less. least_under least.bound_ns (pos least.tick) small first never m less;
     enough = λ never m le small'. enough_over least.bound_ns small carried never m le small';
     none = at_most;
-    lawful = (small, ⊎_elim
-        (λ at. record { from_first = rw at.1 (omega (arith, ints)); begins = inl at.1 })
-        (λ below. stop_is_tick below.0 (pos least.tick) below.2) first);
+    lawful = (
+      small,
+      ⊎_elim
+          (λ at. record { from_first = rw at.1 (omega (arith, ints)); begins = inl at.1 })
+          (λ below. stop_is_tick below.0 (pos least.tick) below.2) first,
+    );
   }
 
   pub finds_none : (tick : ℤ) → StopsAt samples (with_bound claim max_bound_ns) tick

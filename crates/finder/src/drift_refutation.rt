@@ -87,12 +87,7 @@ fn find_at<X: ToExchange>(
 
 /// The refutation at a place with its cover's groups false, and those that let least be, if its
 /// error is beyond the bound.
-fn candidate(
-    claim: &Claim,
-    place: Place,
-    side: Side,
-    leeways: &[i128; 32],
-) -> Option<Refutation>
+fn candidate(claim: &Claim, place: Place, side: Side, leeways: &[i128; 32]) -> Option<Refutation>
     requires { IsLawful (claim_data claim.now) }
 {
     let false_groups = false_groups(claim, place.cover, leeways);

@@ -29,10 +29,10 @@ ghost use Rattle.finder.specs.declared.least.LeastBound.{LeastBound};
 use checker::laws::{
     hulls_hold_the_error, narrower_parts_narrow, parts_are_of_samples, pieces_give_the_verdict,
 };
+use courses::laws::some_course_is_observed_at_any_reading;
 use era_unfold::laws::{
     nanoseconds_lie_between_their_ticks, ratios_are_rounded_as_little_as_can_be,
 };
-use courses::laws::some_course_is_observed_at_any_reading;
 use intersection::kinds::Hull;
 use intersection::laws::every_list_has_a_hull;
 use span_cover::laws::{best_samples_are_the_first_best, piece_inside_another_is_narrower};

@@ -129,13 +129,7 @@ fn add_stretch(
 
 /// The hull over a stretch of what the groups outside a cover say, if as many of them may be false
 /// as are left.
-fn hull_without(
-    tables: &[BestTable],
-    claim: &Claim,
-    cover: Groups,
-    begin: u64,
-    end: u64,
-) -> Hull
+fn hull_without(tables: &[BestTable], claim: &Claim, cover: Groups, begin: u64, end: u64) -> Hull
     requires claim { IsLawful (claim_data claim.now) }
     requires tables { IsTabled (claim_data claim.now) tables.now }
     requires in_order { begin ≤ end }

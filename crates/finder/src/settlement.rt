@@ -22,9 +22,7 @@ use courses::laws::{
     ends_of_all_conflicts_are_a_cover, few_groups_are_no_evidence, no_evidence_gives_no_yes,
     some_course_fits_where_a_cover_is_small, some_course_is_observed_at_any_reading,
 };
-use courses::{
-    Conflict, Conflicts, conflicts_of, first_contradictions, groups_with_exchanges,
-};
+use courses::{Conflict, Conflicts, conflicts_of, first_contradictions, groups_with_exchanges};
 use intersection::kinds::Hull;
 use pairing::ToExchange;
 use sample_interval::{ExchangeSamples, SampleSource};

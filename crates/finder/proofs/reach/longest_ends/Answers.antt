@@ -38,8 +38,7 @@ loop-end-preserved c =
 
 pub returns : goal.returns
 returns c samples tabled =
-    let few = c.loop-end.invariant.few in
-    (
+    let few = c.loop-end.invariant.few in (
       record {
         earlier = c.loop-end.ends.items;
         longest = c.loop-end.invariant.longest samples tabled;
