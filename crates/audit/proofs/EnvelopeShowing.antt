@@ -1,5 +1,5 @@
 -- What an envelope shows.
-use Rattle.std.proofs.Common.{◌≡◌, ◌∙◌, ◌<◌, ◌≤◌, ℕ, List, length, Bool, true, false, Result, Ok, Err, refl, sym, ap, subst, arith}
+use Rattle.std.proofs.Common.{◌≡◌, ◌∙◌, ◌<◌, ◌≤◌, ℕ, List, length, Bool, true, false, Option, Some, None, Result, Ok, Err, ◌⊎◌, inl, inr, refl, sym, ap, subst, arith}
 use Rattle.std.proofs.lemmas.Bool.Decides.{nat_tests}
 use Rattle.std.proofs.lemmas.List.{length-map}
 use Rattle.std.proofs.lemmas.List.Elements.{All-map}
@@ -15,16 +15,23 @@ use Rattle.checker.specs.Traceability.{HoldsError, IsContradicted}
 use Rattle.span_cover.specs.declared.stretch.Stretch.{Stretch}
 use Rattle.finder.specs.declared.envelope.Envelope.{Envelope}
 use Rattle.finder.specs.declared.fault.FindFault.{FindFault}
-use Rattle.finder.specs.declared.fault.FindFault.TheVariants.{TooManyPieces}
+use Rattle.finder.specs.declared.fault.FindFault.TheVariants.{TooManyPieces, Memory}
 use Rattle.finder.specs.Answer.{FindsEnvelope}
 use Rattle.finder.specs.Entry.{best_hull}
 use Rattle.finder.specs.Envelope.{EnvelopeData, PieceHullData, data_of, envelope_of, envelope_to, piece_data, piece_hull_at}
 use Rattle.finder.specs.Piece.{count_of}
 use Rattle.finder.specs.Samples.{AreSamplesOf}
 use Rattle.report.specs.declared.fault.Outcome.{Outcome}
-use Rattle.audit.specs.Envelope.{IsEnvelopeOf, bound_outcome}
+use Rattle.report.specs.declared.fault.RunFault.{RunFault}
+use Rattle.report.specs.Publication.{IsMadeFor, Ready}
+use Rattle.line_writer.specs.declared.field.Style.{Style}
+use Rattle.finder.specs.declared.carried.LeastCarried.{LeastCarried}
+use Rattle.audit_text.specs.declared.least_line.LeastLine.{LeastLine}
+use Rattle.audit.specs.Envelope.{IsEnvelopeOf, bound_outcome, envelope_in, envelope_report, report_of, text_of}
+use Rattle.audit.specs.Find.{find_run_fault_of}
+use Rattle.audit.specs.Least.{least_line_of}
+use Rattle.audit.proofs.SettlementShowing.{refused_made}
 use Rattle.audit.specs.Evidence.{EvidenceData, samples_in}
-use Rattle.audit.specs.Least.{IsCarriedByNone}
 
 -- ---- the pieces
 
@@ -75,6 +82,33 @@ module _ (P : PieceHullData → Type 0) (at : ℕ → PieceHullData) (each : (k 
   all_pieces : (n : ℕ) → All P (map at (range_with_len 0 n))
   all_pieces n = All-map P at (range_with_len 0 n) (all_numbers (range_with_len 0 n))
 
+-- ---- what is made of an envelope, or of why there is none
+
+module _ (style : Style) (step : ℕ) (servers least : Bool) (found : Option (Option LeastCarried)) (e : EvidenceData)
+    (made : Result Ready RunFault) where
+  pub envelope_made : (envelope : EnvelopeData) (line : LeastLine) → envelope_in step e ≡ Ok envelope
+      → least_line_of e.claim step least found ≡ Some line → IsMadeFor (text_of style servers e envelope (Some line)) made
+      → IsMadeFor (envelope_report style step servers least found e) made
+  envelope_made envelope line is line_is h =
+      subst (λ (r : Result EnvelopeData FindFault). IsMadeFor (report_of style step servers least found e r) made) (sym is)
+      (subst (λ (l : Option LeastLine). IsMadeFor (text_of style servers e envelope l) made) (sym line_is) h)
+
+pub envelope_refused : (style : Style) (step : ℕ) (servers least : Bool) (e : EvidenceData) (fault : FindFault)
+    (told : RunFault) → told ≡ find_run_fault_of fault → (fault ≡ Memory) ⊎ (envelope_in step e ≡ Err fault)
+    → IsMadeFor (envelope_report style step servers least None e) (Err told)
+envelope_refused style step servers least e Memory told is why =
+    subst (λ (r : RunFault). IsMadeFor (envelope_report style step servers least None e) (Err r)) (sym is) tt
+envelope_refused style step servers least e TooManyPieces told is (inl memory) = absurd cc
+envelope_refused style step servers least e TooManyPieces told is (inr same) =
+    subst (λ (r : Result EnvelopeData FindFault). IsMadeFor (report_of style step servers least None e r) (Err told))
+    (sym same) (refused_made TooManyPieces told is)
+
+pub why_refused : (claim : ClaimData) (step : ℕ) (samples other : List Sample) → samples ≡ other → (fault : FindFault)
+    → (fault ≡ Memory) ⊎ (envelope_of samples claim step ≡ Err fault)
+    → (fault ≡ Memory) ⊎ (envelope_of other claim step ≡ Err fault)
+why_refused claim step samples other same fault why =
+    subst (λ (s : List Sample). (fault ≡ Memory) ⊎ (envelope_of s claim step ≡ Err fault)) same why
+
 -- ---- the whole
 
 -- the law that the hull of a piece holds the error
@@ -83,11 +117,10 @@ HullLaw = (claim : ClaimData) (samples : List Sample) (stretch : Stretch) → Is
     → All (λ sample. sample.server < length claim.servers) samples
     → HoldsError claim samples stretch (best_hull samples claim stretch)
 
-module _ (law : HullLaw) (step : ℕ) (least : Bool) (e : EvidenceData) (lawful : IsLawful e.claim)
-    (carried : least ≡ true → IsCarriedByNone e) where
+module _ (law : HullLaw) (step : ℕ) (e : EvidenceData) (lawful : IsLawful e.claim) where
   shown : AreSamplesOf e.claim (samples_in e) → (envelope : Envelope)
       → FindsEnvelope (samples_in e) e.claim step (Ok envelope)
-      → IsEnvelopeOf step least (bound_outcome envelope.least) e
+      → IsEnvelopeOf step (bound_outcome envelope.least) e
   shown are envelope finds =
       let samples = samples_in e in
       let is = whole samples e.claim step (data_of envelope) finds.exact in
@@ -103,14 +136,13 @@ module _ (law : HullLaw) (step : ℕ) (least : Bool) (e : EvidenceData) (lawful 
         empty = subst (λ (d : EnvelopeData). All Void d.pieces) (sym is.same) (all_pieces Void at
             (λ k. contradicted e.claim samples (at k).stretch (at k).hull (held_at k)) n);
         bound = finds.least;
-        carried_by_none = carried;
         outcome_is = refl;
       }
 
   -- what its outcome shows
   pub envelope_shows : AreSamplesOf e.claim (samples_in e) → (samples : List Sample) → samples ≡ samples_in e
       → (envelope : Envelope) (outcome : Outcome) → outcome ≡ bound_outcome envelope.least
-      → FindsEnvelope samples e.claim step (Ok envelope) → IsEnvelopeOf step least outcome e
+      → FindsEnvelope samples e.claim step (Ok envelope) → IsEnvelopeOf step outcome e
   envelope_shows are samples same envelope outcome is finds =
-      subst (λ (o : Outcome). IsEnvelopeOf step least o e) (sym is)
+      subst (λ (o : Outcome). IsEnvelopeOf step o e) (sym is)
       (shown are envelope (subst (λ (s : List Sample). FindsEnvelope s e.claim step (Ok envelope)) same finds))

@@ -5,10 +5,10 @@ pub mod Capture
 pub mod VerdictShowing
 pub mod SearchShowing
 pub mod RefutationShowing
-pub mod Least
+pub mod LeastShowing
+pub mod SettlementShowing
 pub mod EnvelopeShowing
 pub mod SeekShowing
-pub mod SettlementShowing
 pub mod RunSteps
 pub mod Showing
 pub mod Status

@@ -32,9 +32,9 @@ use Rattle.line_writer.specs.declared.field.Style.{Style}
 use Rattle.audit.specs.CaptureInput.{IsOfCapture, capture_read}
 use Rattle.audit.specs.Question as questions
 use Rattle.audit.specs.Evidence.{evidence_of}
-use Rattle.audit.specs.Question.{AskedData, HasSecond, IsFindingAfter, IsFindingFor, IsOfSecond, IsTaskOf, QuestionData, TaskData, most_second, report_on, task_data}
+use Rattle.audit.specs.Question.{AskedData, HasSecond, IsOfSecond, IsTaskOf, QuestionData, TaskData, most_second, report_on, task_data}
 use Rattle.audit.specs.Report.{IsMadeAfter, after_capture, after_claim, after_second, report_of_bytes, run_report}
-use Rattle.audit.specs.Settle.{Finding, no_finding}
+use Rattle.audit.specs.Finding.{Finding, IsFindingIn, IsFindingOf, no_finding}
 
 -- ---- the fault of an answer
 
@@ -303,25 +303,16 @@ module _ (style : Style) (finding : Finding) (claim : ClaimData) (task : Task) (
       (let same : task_data task ≡ known = cc in same) is)
 
 -- a finding on the evidence is one on the bytes of the capture
-pub finding_after : (question : QuestionData) (task : TaskData) (finding : Finding) (claim : ClaimData)
-    (collection : Collection) (capture : Option (List ℕ)) → IsTaskOf question task →
+pub finding_after : (finding : Finding) (claim : ClaimData) (collection : Collection) (capture : Option (List ℕ)) →
     IfSome capture (λ bytes. capture_read claim bytes ≡ Ok collection) →
-    IsFindingFor task (evidence_of claim collection) finding → IfSome capture (IsFindingAfter question finding claim)
-finding_after question task finding claim collection None is collected found = tt
-finding_after questions.settle task finding claim collection (Some bytes) is collected found =
-    inr (
-      collection,
-      collected,
-      subst (λ (t : TaskData). IsFindingFor t (evidence_of claim collection) finding) is found,
-    )
-finding_after question task finding claim collection (Some bytes) is collected found = tt
+    IsFindingOf (evidence_of claim collection) finding → IfSome capture (IsFindingIn finding claim)
+finding_after finding claim collection None collected found = tt
+finding_after finding claim collection (Some bytes) collected found = inr (collection, collected, found)
 
 -- nothing was looked for
-pub none_after : (question : QuestionData) (claim : ClaimData) (capture : Option (List ℕ)) →
-    IfSome capture (IsFindingAfter question no_finding claim)
-none_after question claim None = tt
-none_after questions.settle claim (Some bytes) = inl refl
-none_after question claim (Some bytes) = tt
+pub none_after : (claim : ClaimData) (capture : Option (List ℕ)) → IfSome capture (IsFindingIn no_finding claim)
+none_after claim None = tt
+none_after claim (Some bytes) = inl refl
 
 -- ---- from the claim's bytes
 

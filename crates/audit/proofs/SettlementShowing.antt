@@ -21,7 +21,8 @@ use Rattle.report.specs.Reports.{refused}
 use Rattle.audit.specs.Check.{verdict_on}
 use Rattle.audit.specs.Evidence.{EvidenceData, samples_in}
 use Rattle.audit.specs.Find.{find_run_fault_of}
-use Rattle.audit.specs.Settle.{IsFindingOf, IsSettledOf}
+use Rattle.audit.specs.Finding.{IsFindingOf, IsSettlementOf, no_finding}
+use Rattle.audit.specs.Settle.{IsSettledOf}
 
 module _ (e : EvidenceData) (agree : AllPairs SameRequest e.collection.exchanges)
     (traced : (certificate : CertificateData) → IsVerdictOn e.claim (samples_in e) certificate (verdict_on certificate e)) where
@@ -40,12 +41,17 @@ module _ (e : EvidenceData) (agree : AllPairs SameRequest e.collection.exchanges
     no_yes = h.none_accepted;
   }
   settled_of (settles.fitted_by_none conflicts) h = h
+  settled_of (settles.no_evidence groups) h = h
   settled_of (settles.left_open begin end hull) h = h
+
+-- nothing was looked for, and nothing is said
+pub nothing_found : (e : EvidenceData) → IsFindingOf e no_finding
+nothing_found e = record { settled = tt; least = tt }
 
 -- why nothing is known shows what it says
 pub fault_found : (e : EvidenceData) (fault : FindFault)
     → (fault ≡ finds.Memory) ⊎ ((fault ≡ finds.TooManyPieces) × HasTooManyPieces e.claim e.collection.exchanges)
-    → IsFindingOf e (Err fault)
+    → IsSettlementOf e (Err fault)
 fault_found e finds.Memory h = tt
 fault_found e finds.TooManyPieces h = ⊎_elim (λ memory. absurd cc) (λ too_many. too_many.1) h
 

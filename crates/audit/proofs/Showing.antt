@@ -9,6 +9,8 @@ use Rattle.claim_file.specs.declared.claim.Claim.{Claim}
 use Rattle.claim_file.specs.Claim.{ClaimData, data_of as claim_data}
 use Rattle.finder.specs.Settlement as settles
 use Rattle.finder.specs.Settlement.{SettledData}
+use Rattle.finder.specs.declared.carried.LeastCarried.{LeastCarried}
+use Rattle.finder.specs.declared.fault.FindFault.{FindFault}
 use Rattle.pairing.specs.Pairing.{Collection}
 use Rattle.report.specs.declared.fault.Outcome.{Outcome}
 use Rattle.report.specs.declared.fault.Outcome.TheVariants as outcomes
@@ -26,11 +28,13 @@ use Rattle.audit.specs.Find.{IsFoundOf, IsNotFoundOf}
 use Rattle.audit.specs.Contested.{CourseContests, ShowsContested}
 use Rattle.audit.specs.Headline.{IsShown, ShowsHeadline}
 use Rattle.audit.specs.Nanoseconds.{GivesNanoseconds}
-use Rattle.audit.specs.Question.{QuestionData, TaskData, samples, at, find, check, refute, envelope, seek, settle, IsFindingAfter, ShowsFinding, check_of, refute_by, check_read, refute_read, task_read, Shows, ShowsOf}
+use Rattle.audit.specs.Question.{QuestionData, TaskData, samples, at, find, check, refute, envelope, seek, settle, check_of, refute_by, check_read, refute_read, task_read, Shows, ShowsOf}
 use Rattle.audit.specs.Refute.{GiveRefutation, IsUncontestedOf, IsContestedOf}
 use Rattle.audit.specs.Report.{ShowsAfter}
 use Rattle.audit.specs.Seek.{IsIrrefutableOf, IsRefutableOf}
-use Rattle.audit.specs.Settle.{Finding, IsFindingFrom, IsFindingIn, IsFindingOf, IsSettledBy, IsSettledFrom, IsSettledOf, IsShownOf, no_finding}
+use Rattle.audit.specs.Finding.{Finding, IsFindingFrom, IsFindingIn, IsFindingOf, IsSettlementFrom, IsSettlementOf, ShowsFinding, no_finding}
+use Rattle.audit.specs.Least.{IsLeastBoundOf}
+use Rattle.audit.specs.Settle.{IsSettledBy, IsSettledFrom, IsSettledOf, IsShownOf}
 use Rattle.audit.proofs.Excess.{standing_beyond}
 
 -- the laws on bytes that a yes needs
@@ -63,7 +67,7 @@ refutation_of drift (Some bytes) task r is read = refutation_in (refutation_read
 
 -- nothing was found, and so nothing is said
 nothing_from : (finding : Finding) (b f : List ℕ) → finding ≡ no_finding → IsFindingFrom finding b f
-nothing_from finding b f is = subst (λ (found : Finding). IsFindingFrom found b f) (sym is) (inl refl)
+nothing_from finding b f is = subst (λ (found : Finding). IsFindingFrom found b f) (sym is) (record { settled = inl refl; least = tt })
 
 module _ (c : ClaimData) where
   abbrev Is : Option (List ℕ) → Type 0
@@ -138,12 +142,25 @@ module _ (c : ClaimData) where
     }
     settled_from (settles.fitted_by_none conflicts) h =
         give_of (λ evidence. IsSettledOf evidence (settles.fitted_by_none conflicts)) h
+    settled_from (settles.no_evidence groups) h =
+        give_of (λ evidence. IsSettledOf evidence (settles.no_evidence groups)) h
     settled_from (settles.left_open begin end hull) h =
         give_of (λ evidence. IsSettledOf evidence (settles.left_open begin end hull)) h
 
+    settlement_of : (settled : Result SettledData FindFault) → IsSettlementOf e settled → IsSettlementFrom settled b f
+    settlement_of (Ok settled) h = settled_from settled h
+    settlement_of (Err fault) h = inr (give_of (λ evidence. IsSettlementOf evidence (Err fault)) h)
+
+    least_of : (least : Option (Option LeastCarried)) → IfSome least (IsLeastBoundOf e)
+        → IfSome least (λ found. GiveEvidence (λ evidence. IsLeastBoundOf evidence found) b f)
+    least_of None h = tt
+    least_of (Some found) h = give_of (λ evidence. IsLeastBoundOf evidence found) h
+
     finding_of : (finding : Finding) → IsFindingOf e finding → IsFindingFrom finding b f
-    finding_of (Ok settled) h = settled_from settled h
-    finding_of (Err fault) h = inr (give_of (λ evidence. IsFindingOf evidence (Err fault)) h)
+    finding_of finding h = record {
+      settled = settlement_of finding.settled h.settled;
+      least = least_of finding.least h.least;
+    }
 
   finding_from : (laws : BytesLaws) (b f : List ℕ) (finding : Finding) → claim_read b ≡ Ok c → IsFindingIn finding c f
       → IsFindingFrom finding b f
@@ -287,7 +304,7 @@ module _ (laws : BytesLaws) (claim second capture : FeedState) (c : ClaimData) (
       refuted c drift (IsUncontestedOf drift) outcomes.No (λ r e shows. shows)
       claim.remaining second.remaining capture.remaining is after
   from_bytes (envelope step servers least) outcome after =
-      alone (IsEnvelopeOf step least outcome) (envelope step servers least) outcome after
+      alone (IsEnvelopeOf step outcome) (envelope step servers least) outcome after
       (of_task _ outcome after.task _ after.is_task after.shows)
   from_bytes seek outcomes.Yes after = record {
     found = alone IsRefutableOf seek outcomes.Yes after (of_task _ outcomes.Yes after.task _ after.is_task after.shows);
@@ -318,12 +335,11 @@ module _ (laws : BytesLaws) (finding : Finding) (read : Result Claim RunFault) w
     at (Ok c) is h = finding_from (claim_data c) laws b f finding is h
     at (Err fault) is h = nothing_from finding b f h
 
-  pub run_finds : (question : QuestionData) (claim capture : FeedState) →
+  pub run_finds : (claim capture : FeedState) →
       IfSome claim.remaining (λ bytes. Reads claim_data (claim_read bytes) read) →
-      MatchResult read (λ c. IfSome capture.remaining (IsFindingAfter question finding (claim_data c)))
-      (λ fault. finding ≡ no_finding) → ShowsFinding question finding claim capture
-  run_finds settle claim capture reads found = of_bytes claim.remaining capture.remaining reads found
-  run_finds question claim capture reads found = tt
+      MatchResult read (λ c. IfSome capture.remaining (IsFindingIn finding (claim_data c)))
+      (λ fault. finding ≡ no_finding) → ShowsFinding finding claim capture
+  run_finds claim capture reads found = of_bytes claim.remaining capture.remaining reads found
 
 module _ (laws : BytesLaws) (question : QuestionData) (claim second capture : FeedState) where
   -- what the outcome of a run shows

@@ -1,9 +1,10 @@
 -- The report of `envelope`: the hull of each piece, and the least bound that holds; and what it
 -- says about every course of events.
-use Rattle.std.specs.Prelude.{◌≡◌, ℕ, All, Bool, true, Result, Ok, Err}
+use Rattle.std.specs.Prelude.{◌≡◌, ℕ, All, Bool, Option, Some, None, Result, Ok, Err}
 use Rattle.byte_stream.specs.State.{FeedState}
 use Rattle.checker.specs.Traceability.{HoldsError, IsContradicted}
 use Rattle.intersection.specs.declared.kinds.Hull.TheVariants.{Empty}
+use Rattle.finder.specs.declared.carried.LeastCarried.{LeastCarried}
 use Rattle.finder.specs.declared.fault.FindFault.{FindFault}
 use Rattle.finder.specs.declared.least.LeastBound.{LeastBound}
 use Rattle.finder.specs.declared.least.LeastBound.TheVariants.{Holds, NoneHolds}
@@ -12,55 +13,61 @@ use Rattle.finder.specs.Found.{hull_at}
 use Rattle.finder.specs.Piece.{count_of}
 use Rattle.report.specs.declared.fault.Outcome.{Outcome}
 use Rattle.report.specs.declared.fault.Outcome.TheVariants.{Yes, No}
+use Rattle.report.specs.declared.fault.RunFault.TheVariants.{Memory}
 use Rattle.report.specs.Reports.{Report, refused, whole_text}
 use Rattle.line_writer.specs.declared.field.Style.{Style}
 use Rattle.audit_text.specs.Envelope.{envelope_text}
+use Rattle.audit_text.specs.declared.least_line.LeastLine.{LeastLine}
 use Rattle.audit.specs.Evidence.{EvidenceData, GiveEvidence, OfClaimAndCapture, samples_in}
 use Rattle.audit.specs.Find.{find_run_fault_of}
-use Rattle.audit.specs.Least.{IsCarriedByNone, least_line_of}
+use Rattle.audit.specs.Least.{least_line_of}
 
 -- the outcome: yes if a bound holds
 abbrev pub bound_outcome : LeastBound → Outcome
 bound_outcome (Holds n piece) = Yes
 bound_outcome (NoneHolds piece) = No
 
--- the report on an envelope in pieces of this many seconds: with what each server says, and with
--- the least bound that any certificate carries, if these are asked for
-abbrev pub report_of :
-    Style → ℕ → Bool → Bool → EvidenceData → Result EnvelopeData FindFault → Report
-report_of style step servers least e (Ok envelope) =
-    whole_text (envelope_text style (samples_in e) e.claim servers envelope
-    (least_line_of step least e)) (bound_outcome envelope.least)
-report_of style step servers least e (Err fault) = refused (find_run_fault_of fault)
+-- the report on an envelope: with what each server says, if that is asked for, and with this line of
+-- the least bound that a certificate carries; none if no bound was looked for
+abbrev pub text_of : Style → Bool → EvidenceData → EnvelopeData → Option LeastLine → Report
+text_of style servers e envelope None = refused Memory
+text_of style servers e envelope (Some line) =
+    whole_text (envelope_text style (samples_in e) e.claim servers envelope line)
+    (bound_outcome envelope.least)
+
+-- the same in pieces of this many seconds, on the least bound that was found if it is asked for
+abbrev pub report_of : Style → ℕ → Bool → Bool → Option (Option LeastCarried) →
+    EvidenceData → Result EnvelopeData FindFault → Report
+report_of style step servers least found e (Ok envelope) =
+    text_of style servers e envelope (least_line_of e.claim step least found)
+report_of style step servers least found e (Err fault) = refused (find_run_fault_of fault)
 
 -- the envelope of the samples of a capture, in pieces of this many seconds
 abbrev pub envelope_in : ℕ → EvidenceData → Result EnvelopeData FindFault
 envelope_in step e = envelope_of (samples_in e) e.claim step
 
 -- the report of `envelope` on a claim and the exchanges of a capture
-abbrev pub envelope_report : Style → ℕ → Bool → Bool → EvidenceData → Report
-envelope_report style step servers least e =
-    report_of style step servers least e (envelope_in step e)
+abbrev pub envelope_report : Style → ℕ → Bool → Bool → Option (Option LeastCarried) →
+    EvidenceData → Report
+envelope_report style step servers least found e =
+    report_of style step servers least found e (envelope_in step e)
 
 -- This evidence has an envelope, with this outcome. In every course of events that fits the
 -- exchanges, whenever the clock reads a time of a piece, its error lies in the piece's hull; if the
 -- hull is empty, then in no such course does it read a time of that piece. The least bound is the
--- least inside which every hull lies, or there is none. If it is asked which bound any certificate
--- carries at least, then under a lesser one than is shown none is accepted.
-pub record IsEnvelopeOf (step : ℕ) (least : Bool) (outcome : Outcome) (e : EvidenceData) : Type 0
-  where
-    pub envelope : EnvelopeData
-    pub envelope_is : envelope_in step e ≡ Ok envelope
-    pub holds_error : All
-        (λ piece. HoldsError e.claim (samples_in e) piece.stretch piece.hull) envelope.pieces
-    pub empty : All
-        (λ piece. piece.hull ≡ Empty → IsContradicted e.claim (samples_in e) piece.stretch)
-        envelope.pieces
-    pub bound : IsLeast (hull_at (samples_in e) e.claim step) (count_of e.claim step) envelope.least
-    pub carried_by_none : least ≡ true → IsCarriedByNone e
-    pub outcome_is : bound_outcome envelope.least ≡ outcome
+-- least inside which every hull lies, or there is none.
+pub record IsEnvelopeOf (step : ℕ) (outcome : Outcome) (e : EvidenceData) : Type 0 where
+  pub envelope : EnvelopeData
+  pub envelope_is : envelope_in step e ≡ Ok envelope
+  pub holds_error : All
+      (λ piece. HoldsError e.claim (samples_in e) piece.stretch piece.hull) envelope.pieces
+  pub empty : All
+      (λ piece. piece.hull ≡ Empty → IsContradicted e.claim (samples_in e) piece.stretch)
+      envelope.pieces
+  pub bound : IsLeast (hull_at (samples_in e) e.claim step) (count_of e.claim step) envelope.least
+  pub outcome_is : bound_outcome envelope.least ≡ outcome
 
 -- The bytes of claim and capture give evidence with such an envelope, if they are known.
-abbrev pub IsEnveloped : ℕ → Bool → Outcome → FeedState → FeedState → Type 0
-IsEnveloped step least outcome claim capture =
-    OfClaimAndCapture claim capture (GiveEvidence (IsEnvelopeOf step least outcome))
+abbrev pub IsEnveloped : ℕ → Outcome → FeedState → FeedState → Type 0
+IsEnveloped step outcome claim capture =
+    OfClaimAndCapture claim capture (GiveEvidence (IsEnvelopeOf step outcome))

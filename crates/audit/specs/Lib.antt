@@ -10,6 +10,7 @@ pub mod Envelope
 pub mod Refute
 pub mod Seek
 pub mod Settle
+pub mod Finding
 pub mod Question
 pub mod Report
 pub mod Nanoseconds

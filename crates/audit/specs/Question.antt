@@ -20,12 +20,13 @@ use Rattle.line_writer.specs.declared.field.Style.TheVariants.{Plain}
 use Rattle.audit.specs.At.{IsHeld, IsHeldAt, at_report}
 use Rattle.audit.specs.Check.{HasVerdictNo, HasVerdictYes, IsNotTraced, IsTraced, check_report}
 use Rattle.audit.specs.Envelope.{IsEnveloped, IsEnvelopeOf, envelope_report}
-use Rattle.audit.specs.Evidence.{EvidenceData, OfClaimAndCapture}
+use Rattle.audit.specs.Evidence.{EvidenceData}
+use Rattle.audit.specs.Finding.{Finding}
 use Rattle.audit.specs.Find.{IsFound, IsFoundOf, IsNotFound, IsNotFoundOf, find_report}
 use Rattle.audit.specs.Refute.{IsContested, IsUncontestedOf, IsContestedOf, IsUncontested, refute_report}
 use Rattle.audit.specs.Samples.{samples_report}
 use Rattle.audit.specs.Seek.{IsIrrefutable, IsRefutable, IsIrrefutableOf, IsRefutableOf, seek_report}
-use Rattle.audit.specs.Settle.{Finding, IsFindingFrom, IsFindingIn, IsFindingOf, IsSettled, IsSettledWith, settle_report}
+use Rattle.audit.specs.Settle.{IsSettled, IsSettledWith, settle_report}
 use Rattle.audit.specs.declared.question.Asked.{Asked}
 use Rattle.audit.specs.declared.question.Question.{Question}
 use Rattle.audit.specs.declared.question.Question.TheVariants as questions
@@ -163,8 +164,8 @@ AsksNoSecond _ = Unit {0}
 -- ---- the report, and what its outcome shows
 
 -- the report of each task on a claim and the exchanges of a capture, in this style: a certificate,
--- a refutation and the line of a refutation are for programs in any. Only `settle` reports a
--- finding.
+-- a refutation and the line of a refutation are for programs in any. `settle` and `envelope` report
+-- what was found.
 abbrev pub report_on : Style → Finding → TaskData → EvidenceData → Report
 report_on style finding show_samples e = samples_report style e
 report_on style finding (show_at second) e = at_report style second e
@@ -172,25 +173,9 @@ report_on style finding (find_with step) e = find_report style step e
 report_on style finding (check_of certificate) e = check_report style certificate e
 report_on style finding (refute_by drift refutation) e = refute_report drift refutation e
 report_on style finding (show_envelope step servers least) e =
-    envelope_report style step servers least e
+    envelope_report style step servers least finding.least e
 report_on style finding seek_refutation e = seek_report e
-report_on style finding settle_claim e = settle_report style finding e
-
--- what the finding shows of this evidence
-abbrev pub IsFindingFor : TaskData → EvidenceData → Finding → Type 0
-IsFindingFor settle_claim e finding = IsFindingOf e finding
-IsFindingFor _ e finding = Unit {0}
-
--- of a claim and the bytes of a capture
-abbrev pub IsFindingAfter : QuestionData → Finding → ClaimData → List ℕ → Type 0
-IsFindingAfter settle finding claim capture = IsFindingIn finding claim capture
-IsFindingAfter _ finding claim capture = Unit {0}
-
--- and of the inputs that a run begins with, if their bytes are known
-abbrev pub ShowsFinding : QuestionData → Finding → FeedState → FeedState → Type 0
-ShowsFinding settle finding claim capture =
-    OfClaimAndCapture claim capture (IsFindingFrom finding)
-ShowsFinding _ finding claim capture = Unit {0}
+report_on style finding settle_claim e = settle_report style finding.settled e
 
 -- what its outcome shows of them
 abbrev pub ShowsOf : TaskData → EvidenceData → Outcome → Type 0
@@ -201,7 +186,7 @@ ShowsOf (check_of certificate) e Yes = HasVerdictYes certificate e
 ShowsOf (check_of certificate) e No = HasVerdictNo certificate e
 ShowsOf (refute_by drift refutation) e Yes = IsContestedOf drift refutation e
 ShowsOf (refute_by drift refutation) e No = IsUncontestedOf drift refutation e
-ShowsOf (show_envelope step servers least) e outcome = IsEnvelopeOf step least outcome e
+ShowsOf (show_envelope step servers least) e outcome = IsEnvelopeOf step outcome e
 ShowsOf seek_refutation e Yes = IsRefutableOf e
 ShowsOf seek_refutation e No = IsIrrefutableOf e
 ShowsOf settle_claim e outcome = IsSettledWith e outcome
@@ -217,7 +202,7 @@ Shows check claim second capture No = IsNotTraced claim second capture
 Shows (refute drift) claim second capture Yes = IsContested drift claim second capture
 Shows (refute drift) claim second capture No = IsUncontested drift claim second capture
 Shows (envelope step servers least) claim second capture outcome =
-    IsEnveloped step least outcome claim capture
+    IsEnveloped step outcome claim capture
 Shows seek claim second capture Yes = IsRefutable claim capture
 Shows seek claim second capture No = IsIrrefutable claim capture
 Shows settle claim second capture outcome = IsSettled outcome claim capture

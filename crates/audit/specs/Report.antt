@@ -15,8 +15,8 @@ use Rattle.report.specs.Run.{RunState}
 use Rattle.line_writer.specs.declared.field.Style.{Style}
 use Rattle.audit.specs.CaptureInput.{capture_read}
 use Rattle.audit.specs.Evidence.{EvidenceData, evidence_of}
-use Rattle.audit.specs.Question.{AskedData, QuestionData, TaskData, IsFindingAfter, IsFindingFor, IsTaskOf, ShowsOf, report_on, task_read}
-use Rattle.audit.specs.Settle.{Finding, no_finding}
+use Rattle.audit.specs.Question.{AskedData, QuestionData, TaskData, IsTaskOf, ShowsOf, report_on, task_read}
+use Rattle.audit.specs.Finding.{Finding, IsFindingIn, IsFindingOf, no_finding}
 
 -- what a capture gives that is held against a claim
 abbrev pub after_capture : Style → Finding →
@@ -60,7 +60,7 @@ run_report asked finding before =
 pub record IsMadeOf (style : Style) (task : TaskData) (e : EvidenceData)
     (made : Result Ready RunFault) : Type 0 where
   pub finding : Finding
-  pub found : IsFindingFor task e finding
+  pub found : IsFindingOf e finding
   pub is_made : IsMadeFor (report_on style finding task e) made
 
 -- The same of a claim that was read, or refused, and the bytes of the other inputs.
@@ -68,7 +68,7 @@ pub record IsMadeAfter (asked : AskedData) (claim : Result Claim RunFault)
     (second capture : Option (List ℕ)) (made : Result Ready RunFault) : Type 0 where
   pub finding : Finding
   pub found : MatchResult claim
-      (λ c. IfSome capture (IsFindingAfter asked.question finding (claim_data c)))
+      (λ c. IfSome capture (IsFindingIn finding (claim_data c)))
       (λ fault. finding ≡ no_finding)
   pub is_made : (expected : Result ClaimData RunFault) → Reads claim_data expected claim →
       IfSome (after_claim asked finding expected second capture) (λ report. IsMadeFor report made)

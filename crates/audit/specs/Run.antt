@@ -7,9 +7,9 @@ use Rattle.report.specs.declared.fault.RunFault.{RunFault}
 use Rattle.report.specs.Run.{RunState}
 use Rattle.report.specs.Runs.{Runs}
 use Rattle.report.specs.Telling.{IsTold}
-use Rattle.audit.specs.Question.{AskedData, HasSecond, QuestionData, Shows, ShowsFinding, most_second, plainly}
+use Rattle.audit.specs.Question.{AskedData, HasSecond, QuestionData, Shows, most_second, plainly}
 use Rattle.audit.specs.Report.{run_report}
-use Rattle.audit.specs.Settle.{Finding}
+use Rattle.audit.specs.Finding.{Finding, ShowsFinding}
 
 -- A run may begin: each input may be pulled from, and its sink may be written to.
 pub record MayRun (before : RunState) : Type 0 where
@@ -19,11 +19,12 @@ pub record MayRun (before : RunState) : Type 0 where
   pub sink : IsWritable before.sink
 
 -- What a run promises that a question is asked of: the text and the answer are those that the
--- bytes of its inputs call for. Of `settle` they are those of a finding, which shows what it says.
+-- bytes of its inputs call for. Of `settle` and `envelope` they are those of a finding, which shows
+-- what it says.
 pub record RunsFor {T F : Type 0} (asked : AskedData) (before after : RunState)
     (second second' : T) (capture capture' : F) (answer : Result Outcome RunFault) : Type 0 where
   pub finding : Finding
-  pub found : ShowsFinding asked.question finding before.claim before.capture
+  pub found : ShowsFinding finding before.claim before.capture
   pub runs : Runs (run_report asked finding before) (most_second asked.question answer)
       (HasSecond asked.question) before after second second' capture capture' answer
 

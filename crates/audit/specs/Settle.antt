@@ -1,41 +1,27 @@
--- The report of `settle`, and what it shows: that the claim is shown, refuted or fitted by no course,
--- or that it stays open.
---
--- Which refutation is found has no definition of its own. So the report is one on a finding, and
--- what the finding shows is said of the evidence and of the bytes that give it.
-use Rattle.std.specs.Prelude.{◌≡◌, ◌⊎◌, ℕ, true, List, ◌++◌, codes, Result, Ok, Err}
+-- The report of `settle`, and what it shows: that the claim is shown, refuted, fitted by no course or
+-- without evidence, or that it stays open. Which refutation is found has no definition of its own,
+-- so the report is one on what was found.
+use Rattle.std.specs.Prelude.{◌≡◌, ℕ, true, List, ◌++◌, codes, Result, Ok, Err}
 use Rattle.byte_stream.specs.Bytes.{IsBytes}
 use Rattle.byte_stream.specs.State.{FeedState}
 use Rattle.certificate.specs.Certificate.{CertificateData}
 use Rattle.certificate.specs.RefutationWriting.{refutation_text}
 use Rattle.certificate.specs.Refutation.{RefutationData}
 use Rattle.certificate.specs.Writing.{certificate_text}
-use Rattle.claim_file.specs.Claim.{ClaimData}
-use Rattle.pairing.specs.Pairing.{Collection}
-use Rattle.finder.specs.Settlement.{SettledData, shown, refuted, fitted_by_none, left_open}
-use Rattle.finder.specs.Settlement.{HasTooManyPieces, IsFittedByNone, IsLeftOpen, IsShownBy}
+use Rattle.finder.specs.Settlement.{SettledData, shown, refuted, fitted_by_none, no_evidence, left_open}
+use Rattle.finder.specs.Settlement.{IsFittedByNone, IsLeftOpen, IsShownBy, IsUnheard}
 use Rattle.finder.specs.declared.fault.FindFault.{FindFault}
-use Rattle.finder.specs.declared.fault.FindFault.TheVariants.{TooManyPieces, Memory}
 use Rattle.report.specs.declared.fault.Outcome.{Outcome}
 use Rattle.report.specs.declared.fault.Outcome.TheVariants.{Yes, No}
 use Rattle.report.specs.Reports.{Report, refused, whole_text}
 use Rattle.line_writer.specs.declared.field.Style.{Style}
-use Rattle.audit_text.specs.Settlement.{conflicts_text, open_text}
-use Rattle.audit.specs.CaptureInput.{capture_read}
+use Rattle.audit_text.specs.Settlement.{conflicts_text, evidence_text, open_text}
 use Rattle.audit.specs.Check.{ArePiecesTraced, HasVerdictYes, IsTracedTo}
 use Rattle.audit.specs.Contested.{ShowsContested}
-use Rattle.audit.specs.Evidence.{EvidenceData, GiveEvidence, OfClaimAndCapture, evidence_of}
+use Rattle.audit.specs.Evidence.{EvidenceData, GiveEvidence, OfClaimAndCapture}
 use Rattle.audit.specs.Find.{find_run_fault_of}
 use Rattle.audit.specs.Headline.{IsShown}
 use Rattle.audit.specs.Refute.{IsContestedOf}
-
--- what settles a claim, or why it isn't known
-abbrev pub Finding : Type 0
-Finding = Result SettledData FindFault
-
--- nothing was found, for want of memory or because nothing was looked for
-abbrev pub no_finding : Finding
-no_finding = Err Memory
 
 -- in words: a certificate's or a refutation's compact text and a line feed, in any style, or lines
 unfoldable pub settled_text : Style → EvidenceData → SettledData → List ℕ
@@ -43,6 +29,7 @@ settled_text style e (shown certificate) = certificate_text certificate ++ codes
 settled_text style e (refuted refutation) = refutation_text refutation ++ codes "\n"
 settled_text style e (fitted_by_none conflicts) =
     conflicts_text style e.claim e.collection.exchanges conflicts
+settled_text style e (no_evidence groups) = evidence_text style e.claim groups
 settled_text style e (left_open begin end hull) = open_text style begin end hull
 
 -- the outcome: yes if the claim is shown
@@ -50,8 +37,8 @@ abbrev pub settled_outcome : SettledData → Outcome
 settled_outcome (shown certificate) = Yes
 settled_outcome settled = No
 
--- the report of `settle` on a finding, for a claim and the exchanges of a capture
-abbrev pub settle_report : Style → Finding → EvidenceData → Report
+-- the report of `settle` on what settles the claim, or why it isn't known
+abbrev pub settle_report : Style → Result SettledData FindFault → EvidenceData → Report
 settle_report style (Ok settled) e =
     whole_text (settled_text style e settled) (settled_outcome settled)
 settle_report style (Err fault) e = refused (find_run_fault_of fault)
@@ -64,32 +51,21 @@ pub record IsShownOf (certificate : CertificateData) (e : EvidenceData) : Type 0
   pub yes : HasVerdictYes certificate e
   pub shown_by : IsShownBy e.claim e.collection.exchanges certificate
 
--- one of four answers: a refutation is one for which `refute --drift` says yes
+-- one of five answers: a refutation is one for which `refute --drift` says yes
 abbrev pub IsSettledOf : EvidenceData → SettledData → Type 0
 IsSettledOf e (shown certificate) = IsShownOf certificate e
 IsSettledOf e (refuted refutation) = IsContestedOf true refutation e
 IsSettledOf e (fitted_by_none conflicts) =
     IsFittedByNone e.claim e.collection.exchanges conflicts
+IsSettledOf e (no_evidence groups) = IsUnheard e.claim e.collection.exchanges groups
 IsSettledOf e (left_open begin end hull) =
     IsLeftOpen e.claim e.collection.exchanges begin end hull
-
--- or a course fits, and there would be too many pieces
-abbrev pub IsFindingOf : EvidenceData → Finding → Type 0
-IsFindingOf e (Ok settled) = IsSettledOf e settled
-IsFindingOf e (Err TooManyPieces) = HasTooManyPieces e.claim e.collection.exchanges
-IsFindingOf e (Err Memory) = Unit {0}
 
 -- what an outcome shows of evidence
 pub record IsSettledWith (e : EvidenceData) (outcome : Outcome) : Type 0 where
   pub settled : SettledData
   pub outcome_is : outcome ≡ settled_outcome settled
   pub holds : IsSettledOf e settled
-
--- a finding on a claim and the bytes of a capture, if anything was looked for
-abbrev pub IsFindingIn : Finding → ClaimData → List ℕ → Type 0
-IsFindingIn finding claim capture = (finding ≡ no_finding)
-    ⊎ ((collection : Collection) × (capture_read claim capture ≡ Ok collection)
-    × IsFindingOf (evidence_of claim collection) finding)
 
 -- ---- what it shows of bytes
 
@@ -110,11 +86,6 @@ abbrev pub IsSettledFrom : SettledData → List ℕ → List ℕ → Type 0
 IsSettledFrom (shown certificate) claim capture = IsShownFrom certificate claim capture
 IsSettledFrom (refuted refutation) claim capture = IsRefutedFrom refutation claim capture
 IsSettledFrom settled claim capture = GiveEvidence (λ e. IsSettledOf e settled) claim capture
-
-abbrev pub IsFindingFrom : Finding → List ℕ → List ℕ → Type 0
-IsFindingFrom (Ok settled) claim capture = IsSettledFrom settled claim capture
-IsFindingFrom (Err fault) claim capture =
-    (fault ≡ Memory) ⊎ GiveEvidence (λ e. IsFindingOf e (Err fault)) claim capture
 
 -- what an outcome shows of them
 pub record IsSettledBy (outcome : Outcome) (claim capture : List ℕ) : Type 0 where

@@ -257,7 +257,7 @@ pub fn run_seek<C: Feed, F: Feed, S: Sink>(
 
 /// Shows how far off the clock of the claim's client may have been in each piece of `step_s`
 /// seconds, from 1 to 86,400, and the least bound in nanoseconds that holds over the span; with
-/// `servers` also what each server says about each piece, and with `least` the least bound that any
+/// `servers` also what each server says about each piece, and with `least` the least bound that a
 /// certificate carries. The answer is `Yes` if there is a bound that holds.
 ///
 /// `Pieces` comes if the span has over 100,000 pieces of that length, after every other refusal.
@@ -278,7 +278,7 @@ pub fn run_envelope<C: Feed, F: Feed, S: Sink>(
         (run_state (C.state claim.new) no_feed (F.state result.0) (S.state out.new))
         capture result.0 result.1 }
     ensures holds { IfOk result.1 (λ outcome.
-        IsEnveloped step_s least outcome (C.state claim.old) (F.state capture)) }
+        IsEnveloped step_s outcome (C.state claim.old) (F.state capture)) }
 {
     let hasher = BuildHasherDefault::<FoldHasher>::new();
     let mut none = ReadFeed::new(io::empty());

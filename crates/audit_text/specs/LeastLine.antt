@@ -1,4 +1,4 @@
--- The line of the least bound that any certificate carries.
+-- The line of the least bound that a certificate carries.
 use Rattle.std.specs.Prelude.{ℕ, List, [], ◌∷◌, codes}
 use Rattle.line_writer.specs.Field.{line_of, Named, Nanoseconds}
 use Rattle.line_writer.specs.declared.field.Style.{Style}
@@ -6,8 +6,8 @@ use Rattle.audit_text.specs.Heading.{word_for}
 use Rattle.audit_text.specs.declared.least_line.LeastLine.{LeastLine}
 use Rattle.audit_text.specs.declared.least_line.LeastLine.TheVariants.{NotAsked, NoneHolds, Holds}
 
--- no line if it isn't asked for; the bound in nanoseconds, and the first piece that holds a tick
--- which needs it; or that there is none
+-- no line if it isn't asked for; the bound in nanoseconds, and the piece that holds the tick at
+-- which the search stops with a nanosecond less; or that there is none
 unfoldable pub least_line : Style → LeastLine → List ℕ
 least_line style NotAsked = []
 least_line style NoneHolds =

@@ -1,14 +1,21 @@
 -- The texts of `settle` if it prints neither a certificate nor a refutation.
 use Rattle.std.specs.Prelude.{ℕ, ℤ, Option, Some, List, [], ◌∷◌, ◌++◌, codes, flat_map, slice_get}
-use Rattle.line_writer.specs.Field.{line_of, Word, Number, Address, TimeBelow, TimeAbove}
+use Rattle.line_writer.specs.Field.{line_of, Word, Named, Number, Address, TimeBelow, TimeAbove}
 use Rattle.line_writer.specs.declared.field.Style.{Style}
-use Rattle.claim_file.specs.Claim.{ClaimData}
+use Rattle.claim_file.specs.Claim.{ClaimData, group_count}
 use Rattle.courses.specs.Contradiction.{ShownConflict}
 use Rattle.intersection.specs.declared.kinds.Hull.{Hull}
 use Rattle.pairing.specs.declared.exchange.Exchange.{Exchange}
 use Rattle.audit_text.specs.Heading.{for_person}
 use Rattle.audit_text.specs.HullLine.{hull_low, hull_high}
 use Rattle.audit_text.specs.SampleLine.{server_of}
+
+-- how many of the groups have a sample, and how many may be false
+unfoldable pub evidence_text : Style → ClaimData → ℕ → List ℕ
+evidence_text style claim groups = line_of style (
+    Word (codes "no evidence") ∷ Named (codes "groups") groups ∷
+    Named (codes "of") (group_count claim.groups) ∷
+    Named (codes "false_max") claim.false_max ∷ [])
 
 -- the begin and the end of a piece that stays open, in ticks, rounded outward for a person, and the
 -- hull there

@@ -1,4 +1,4 @@
-//! The line of the least bound that any certificate carries.
+//! The line of the least bound that a certificate carries.
 
 ghost use Rattle.std.specs.Prelude.{◌≡◌, ◌++◌, IfOk};
 ghost use Rattle.audit_text.specs.LeastLine as spec;
@@ -7,7 +7,7 @@ use crate::heading::word_for;
 use line_writer::{Field, Style, add_line};
 use std::alloc::AllocError;
 
-/// What is said of the least bound that any certificate carries.
+/// What is said of the least bound that a certificate carries.
 #[derive(Clone, Copy, Debug)]
 pub enum LeastLine {
     /// It isn't asked for.
@@ -17,8 +17,9 @@ pub enum LeastLine {
     /// There is one.
     Holds {
         /// The bound in nanoseconds.
-        bound_ns: u128,
-        /// The first piece of the envelope that holds a tick which needs it, counted from 0.
+        bound_ns: u64,
+        /// The piece of the envelope that holds the tick at which the search for a certificate
+        /// stops with a nanosecond less, counted from 0.
         piece: u32,
     },
 }
@@ -44,7 +45,7 @@ pub(crate) fn add_least(
         LeastLine::Holds { bound_ns, piece } => {
             let fields = [
                 word_for(style, "least_ns", "least"),
-                Field::Nanoseconds(bound_ns),
+                Field::Nanoseconds(u128::from(bound_ns)),
                 Field::Named("piece", u64::from(piece)),
             ];
             add_line(text, style, &fields)

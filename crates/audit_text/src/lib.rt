@@ -44,4 +44,4 @@ pub use parts::parts_text;
 pub use refutation::{no_refutation_text, refuted_text};
 pub use sample_line::write_sample_line;
 pub use samples::samples_text;
-pub use settlement::{conflicts_text, open_text};
+pub use settlement::{conflicts_text, evidence_text, open_text};

@@ -10,12 +10,35 @@ ghost use Rattle.audit_text.specs.Settlement.{conflict_line, pair_line};
 use crate::heading::for_person;
 use crate::hull_line::{hull_high, hull_low};
 use crate::sample_line::server_of;
-use claim_file::Claim;
+use claim_file::{Claim, group_count};
 use courses::Conflict;
 use intersection::kinds::Hull;
 use line_writer::{Field, Style, add_line};
 use pairing::{Exchange, ToExchange};
 use std::alloc::{AllocError, Global};
+
+/// The text of `settle` if the capture says nothing about the clock: how many of the claim's groups
+/// have a sample, and how many may be false.
+#[tactic(auto, unfolding(crate::specs::Settlement::evidence_text))]
+pub fn evidence_text(
+    alloc: Global,
+    style: Style,
+    claim: &Claim,
+    groups: u8,
+) -> Result<Vec<u8>, AllocError>
+    ensures { IfOk result (λ text. text.items
+        ≡ spec.evidence_text style (data_of claim.now) groups) }
+{
+    let mut text = Vec::new(alloc);
+    let fields = [
+        Field::Word("no evidence"),
+        Field::Named("groups", u64::from(groups)),
+        Field::Named("of", u64::from(group_count(claim.groups.as_slice()))),
+        Field::Named("false_max", u64::from(claim.false_max)),
+    ];
+    add_line(&mut text, style, &fields)?;
+    Ok(text)
+}
 
 /// The text of `settle` if neither a certificate nor a refutation was found: the begin and the end
 /// of the piece that stays open, in ticks of 2^-32 s since 1970, and its hull.

@@ -18,7 +18,7 @@ use Rattle.audit.specs.CaptureInput.{capture_read}
 use Rattle.audit.specs.Question.{QuestionData, TaskData, check_of, check_read, refute_by, refute_read}
 use Rattle.audit.specs.Report.{after_capture, after_claim, after_second}
 use Rattle.audit.specs.Run.{AnswersFor, ShowsAt}
-use Rattle.audit.specs.Settle.{Finding, no_finding}
+use Rattle.audit.specs.Finding.{Finding, no_finding}
 use Rattle.judgement.specs.Holding.{Feeds, feeds}
 use Rattle.judgement.specs.Judgement.{IsAnsweredFor, NoShows, YesShows, in_memory}
 use Rattle.judgement.specs.Question.{asked_of, question_of}

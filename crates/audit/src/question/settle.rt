@@ -11,7 +11,7 @@ ghost use Rattle.audit.specs.Settle.{settled_outcome};
 use crate::evidence::Evidence;
 use crate::question::find::{certificate_line, run_fault_of};
 use crate::question::seek::refutation_line;
-use audit_text::{conflicts_text, open_text};
+use audit_text::{conflicts_text, evidence_text, open_text};
 use checker::laws::verdicts_are_traceable;
 use finder::laws::samples_of_exchanges_keep_limits;
 use finder::{Settled, settle};
@@ -25,7 +25,10 @@ fn outcome_of(settled: &Settled) -> Outcome
 {
     match settled {
         Settled::Shown(_) => Outcome::Yes,
-        Settled::Refuted(_) | Settled::NothingFits(_) | Settled::Open { .. } => Outcome::No,
+        Settled::Refuted(_)
+        | Settled::NothingFits(_)
+        | Settled::NoEvidence { .. }
+        | Settled::Open { .. } => Outcome::No,
     }
 }
 
@@ -50,12 +53,13 @@ fn settled_text(
             let exchanges = &evidence.held.exchanges;
             conflicts_text(alloc, style, &evidence.claim, exchanges, conflicts)
         }
+        Settled::NoEvidence { groups } => evidence_text(alloc, style, &evidence.claim, *groups),
         Settled::Open { begin, end, hull } => open_text(alloc, style, *begin, *end, *hull),
     }
 }
 
 /// Settles the claim: `Yes` with the certificate that shows it, or `No` with a refutation, the
-/// conflicts if no course fits, or the tick that stays open.
+/// conflicts if no course fits, how few groups have a sample, or the tick that stays open.
 pub(crate) fn make_settle(
     alloc: Global,
     style: Style,

@@ -4,9 +4,9 @@ use Rattle.claim_file.specs.Claim.{ClaimData, data_of as claim_data}
 use Rattle.report.specs.declared.fault.RunFault.{RunFault}
 use Rattle.report.specs.Publication.{IsMadeFor}
 use Rattle.pairing.specs.Held.{held_data}
-use Rattle.audit.specs.Question.{asked_of, data_of, task_data, task_read}
+use Rattle.audit.specs.Question.{asked_of, data_of, task_read}
 use Rattle.audit.specs.Report.{after_claim}
-use Rattle.audit.specs.Settle.{no_finding}
+use Rattle.audit.specs.Finding.{no_finding}
 use Rattle.audit.proofs.Capture.{header_was_read}
 use Rattle.audit.proofs.RunSteps.{capture_refusal, claim_refusal, evidence_made, finding_after, none_after, second_refusal, second_taken, second_was_read}
 use Rattle.audit.proofs.engine.make_report.Goals as goal
@@ -37,7 +37,7 @@ returns-in-Err-read_task-clause-made g c =
     let claim = claim_data c.in-Ok.claim in
     record {
       finding = no_finding;
-      found = rw c.in-Ok.is (none_after (data_of c.args.asked.question) claim (g.F.Feed.state c.args.capture).remaining);
+      found = rw c.in-Ok.is (none_after claim (g.F.Feed.state c.args.capture).remaining);
       is_made = λ expected reads.
           let is : expected ≡ Ok claim = rw c.in-Ok.is at reads in
           subst (λ (e : Result ClaimData RunFault). IfSome (after_claim (asked_of c.args.asked) no_finding e
@@ -58,8 +58,7 @@ returns-in-Ok-collected-clause-made g c =
     let capture = (g.F.Feed.state c.args.capture).remaining in
     record {
       finding = made.finding;
-      found = rw c.in-Ok.is (finding_after (data_of c.args.asked.question) (task_data c.in-Ok-read_task.task) made.finding
-          claim (held_data c.in-Ok-collected.held) capture (rw c.in-Ok-read_task.is at c.read_task.ensures.kind)
+      found = rw c.in-Ok.is (finding_after made.finding claim (held_data c.in-Ok-collected.held) capture
           (rw c.in-Ok-collected.is at c.read_capture_from-capture.ensures.known) made.found);
       is_made = λ expected reads.
           let is : expected ≡ Ok claim = rw c.in-Ok.is at reads in
@@ -80,7 +79,7 @@ returns-in-Err-collected-clause-made g c =
     let fault = c.in-Err-collected.fault in
     record {
       finding = no_finding;
-      found = rw c.in-Ok.is (none_after (data_of c.args.asked.question) claim capture);
+      found = rw c.in-Ok.is (none_after claim capture);
       is_made = λ expected reads.
           let is : expected ≡ Ok claim = rw c.in-Ok.is at reads in
           subst (λ (e : Result ClaimData RunFault). IfSome (after_claim (asked_of c.args.asked) no_finding e

@@ -13,7 +13,8 @@ returns-clause-runs g c =
         nanoseconds = c.bounds_of_bytes_hold_in_nanoseconds.ensures;
         headline = c.yes_shows_the_headline.ensures;
         contested = c.course_beyond_the_bound_contests_the_claim.ensures;
-      }) made.made.finding c.read_claim_from-claim.result (data_of c.args.asked.question) _ _ read.known made.made.found;
+      }) made.made.finding c.read_claim_from-claim.result (g.C.Feed.state c.args.claim.now)
+          (g.F.Feed.state c.args.capture) read.known made.made.found;
       runs = made_runs (asked_of c.args.asked) made.made.finding _ _ _ _ _ _ c.make_report-capture.result.1 _ (record {
         is_made = made_of_bytes _ _ _ _ c.read_claim_from-claim.result _ read.known made.made;
         unwritten = made.unwritten;

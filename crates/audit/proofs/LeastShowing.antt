@@ -1,0 +1,30 @@
+-- What the least bound that a certificate carries shows.
+use Rattle.std.proofs.Common.{◌≡◌, ◌≤◌, ◌<◌, ℕ, List, Option, Some, None, Result, Ok, Err, subst}
+use Rattle.std.specs.Prelude.{IfOk, IfSome}
+use Rattle.std.specs.declared.alloc.AllocError.{AllocError}
+use Rattle.claim_file.specs.Claim.{max_bound_ns}
+use Rattle.courses.specs.Cover.{SomeCourse}
+use Rattle.sample_interval.specs.declared.kinds.Sample.{Sample}
+use Rattle.finder.specs.Carried.{AlwaysFinds, FindsLeastBound, IsNeverEmpty}
+use Rattle.finder.specs.Envelope.{with_bound}
+use Rattle.finder.specs.Fewest.{NoneOfFewIsAccepted}
+use Rattle.finder.specs.declared.carried.LeastCarried.{LeastCarried}
+use Rattle.audit.specs.Evidence.{EvidenceData, samples_in}
+use Rattle.audit.specs.Least.{IsLeastBoundOf}
+
+module _ (e : EvidenceData) (never : SomeCourse e.claim e.collection.exchanges → IsNeverEmpty (samples_in e) e.claim)
+  where
+    least_bound_of : (found : Option LeastCarried) → FindsLeastBound (samples_in e) e.claim (Ok found)
+        → IsLeastBoundOf e found
+    least_bound_of None finds = record { finds = finds; none_below = λ some. tt; enough = λ some. tt }
+    least_bound_of (Some least) finds = record {
+      finds = finds;
+      none_below = λ some m less. finds.least (never some) m less;
+      enough = λ some m le small. finds.enough (never some) m le small;
+    }
+
+    pub least_shows : (samples : List Sample) → samples ≡ samples_in e → (r : Result (Option LeastCarried) AllocError)
+        → FindsLeastBound samples e.claim r → IfOk r (IsLeastBoundOf e)
+    least_shows samples same (Err fault) finds = tt
+    least_shows samples same (Ok found) finds =
+        least_bound_of found (subst (λ (s : List Sample). FindsLeastBound s e.claim (Ok found)) same finds)

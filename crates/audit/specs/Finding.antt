@@ -1,0 +1,59 @@
+-- What was found that has no definition of its own: what settles a claim, and the least bound that
+-- a certificate carries. A report may be one on a finding, and what the finding shows is said of the
+-- evidence and of the bytes that give it.
+use Rattle.std.specs.Prelude.{◌≡◌, ◌⊎◌, ℕ, List, Option, None, Result, Ok, Err, IfSome}
+use Rattle.byte_stream.specs.State.{FeedState}
+use Rattle.claim_file.specs.Claim.{ClaimData}
+use Rattle.pairing.specs.Pairing.{Collection}
+use Rattle.finder.specs.Settlement.{HasTooManyPieces, SettledData}
+use Rattle.finder.specs.declared.carried.LeastCarried.{LeastCarried}
+use Rattle.finder.specs.declared.fault.FindFault.{FindFault}
+use Rattle.finder.specs.declared.fault.FindFault.TheVariants.{TooManyPieces, Memory}
+use Rattle.audit.specs.CaptureInput.{capture_read}
+use Rattle.audit.specs.Evidence.{EvidenceData, GiveEvidence, OfClaimAndCapture, evidence_of}
+use Rattle.audit.specs.Least.{IsLeastBoundOf}
+use Rattle.audit.specs.Settle.{IsSettledFrom, IsSettledOf}
+
+pub record Finding : Type 0 where
+  -- what settles a claim, or why it isn't known
+  pub settled : Result SettledData FindFault
+  -- the least bound, if one was looked for
+  pub least : Option (Option LeastCarried)
+
+-- nothing was found, for want of memory or because nothing was looked for
+abbrev pub no_finding : Finding
+no_finding = record { settled = Err Memory; least = None }
+
+-- ---- what it shows of evidence
+
+-- what settles the claim; or a course fits, and there would be too many pieces
+abbrev pub IsSettlementOf : EvidenceData → Result SettledData FindFault → Type 0
+IsSettlementOf e (Ok settled) = IsSettledOf e settled
+IsSettlementOf e (Err TooManyPieces) = HasTooManyPieces e.claim e.collection.exchanges
+IsSettlementOf e (Err Memory) = Unit {0}
+
+pub record IsFindingOf (e : EvidenceData) (finding : Finding) : Type 0 where
+  pub settled : IsSettlementOf e finding.settled
+  pub least : IfSome finding.least (IsLeastBoundOf e)
+
+-- the same of a claim and the bytes of a capture, if anything was looked for
+abbrev pub IsFindingIn : Finding → ClaimData → List ℕ → Type 0
+IsFindingIn finding claim capture = (finding ≡ no_finding)
+    ⊎ ((collection : Collection) × (capture_read claim capture ≡ Ok collection)
+    × IsFindingOf (evidence_of claim collection) finding)
+
+-- ---- what it shows of bytes
+
+abbrev pub IsSettlementFrom : Result SettledData FindFault → List ℕ → List ℕ → Type 0
+IsSettlementFrom (Ok settled) claim capture = IsSettledFrom settled claim capture
+IsSettlementFrom (Err fault) claim capture =
+    (fault ≡ Memory) ⊎ GiveEvidence (λ e. IsSettlementOf e (Err fault)) claim capture
+
+pub record IsFindingFrom (finding : Finding) (claim capture : List ℕ) : Type 0 where
+  pub settled : IsSettlementFrom finding.settled claim capture
+  pub least : IfSome finding.least (λ found.
+      GiveEvidence (λ e. IsLeastBoundOf e found) claim capture)
+
+-- the same of inputs, if their bytes are known
+abbrev pub ShowsFinding : Finding → FeedState → FeedState → Type 0
+ShowsFinding finding claim capture = OfClaimAndCapture claim capture (IsFindingFrom finding)
