@@ -1,9 +1,9 @@
 -- What settles a claim: one of five answers, each with what proves it.
 --
 -- If no course of events fits the exchanges, something that the claim grants isn't true in this
--- capture, and no more is asked. If no more groups have a sample than may be false, the capture says
--- nothing about the clock. Otherwise a certificate shows the claim, or a refutation contests it, or
--- neither was found, and no certificate is accepted.
+-- capture, and no more is asked. If no more groups have a sample than may be false, the capture
+-- says nothing about the clock. Otherwise a certificate shows the claim, or a refutation contests
+-- it, or neither was found, and no certificate is accepted.
 use Rattle.std.specs.Prelude.{◌≡◌, ◌⊎◌, ◌<◌, ◌≤◌, ℕ, ℤ, List, length, map, AllPairs, Result, IfOk, IfErr}
 use Rattle.certificate.specs.Certificate.{CertificateData, data_of as certificate_data, max_pieces}
 use Rattle.certificate.specs.Refutation.{RefutationData, data_of as refutation_data}
@@ -25,8 +25,8 @@ use Rattle.finder.specs.declared.fault.FindFault.TheVariants.{TooManyPieces, Mem
 use Rattle.finder.specs.declared.settlement.Settled.{Settled}
 use Rattle.finder.specs.declared.settlement.Settled.TheVariants as the
 
--- a certificate, a refutation, all conflicts, how few groups have a sample, or the tick at which the
--- certificate of fewest pieces stops, with its hull
+-- a certificate, a refutation, all conflicts, how few groups have a sample, or the tick at which
+-- the certificate of fewest pieces stops, with its hull
 pub data SettledData : Type 0 where
   shown : CertificateData → SettledData
   refuted : RefutationData → SettledData
@@ -71,15 +71,15 @@ module _ (claim : ClaimData) (xs : List Exchange) where
     pub all : AreAllConflicts claim xs conflicts
     pub unaccounted : NoFewHoldAnEnd claim conflicts
 
-  -- This many groups have a sample, and no more than may be false: at every reading the error may be
-  -- anything, and no certificate is accepted.
+  -- This many groups have a sample, and no more than may be false: at every reading the error may
+  -- be anything, and no certificate is accepted.
   pub record IsUnheard (groups : ℕ) : Type 0 where
     pub nothing_said : IsNoEvidence claim xs groups
     pub none_accepted : NoneIsAccepted (samples_of xs claim) claim
 
-  -- A course fits, and no certificate is accepted, though the capture is evidence. Where the longest
-  -- pieces have come to, the next tick isn't shown; in every course that fits, the error lies in its
-  -- hull at every moment whose reading lies there.
+  -- A course fits, and no certificate is accepted, though the capture is evidence. Where the
+  -- longest pieces have come to, the next tick isn't shown; in every course that fits, the error
+  -- lies in its hull at every moment whose reading lies there.
   pub record IsLeftOpen (begin end : ℤ) (hull : Hull) : Type 0 where
     pub heard : IsHeard
     pub course : SomeCourse claim xs

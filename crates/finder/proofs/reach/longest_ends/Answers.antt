@@ -9,7 +9,8 @@ returns-then-begin-last c samples tabled =
     let long = c.longest_end-reached.ensures samples tabled in
     let kept = tick_kept c.longest_end-reached.result c.from.result (in_64_bits c.longest_end-reached.result
     c.args.claim.now.last long.in_span c.requires.claim.span_ends) c.from.ensures in
-    reach_ends samples claim c.loop-places.ends.items c.push.new.self.items c.loop-places.begin c.longest_end-reached.result _
+    reach_ends samples claim c.loop-places.ends.items c.push.new.self.items c.loop-places.begin
+    c.longest_end-reached.result _
     (c.loop-places.invariant.longest samples tabled) c.loop-places.invariant.begins long kept c.in_ok-push.ensures.items
     (ap pos c.if-begin-last.true ∙ last_is claim c.requires.claim)
     (room_left c.loop-places.ends c.len.result c.len.ensures c.loop-places-test.true)

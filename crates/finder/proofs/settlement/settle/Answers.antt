@@ -1,4 +1,4 @@
-use Rattle.std.proofs.Common.{Ok, List, map, ap, subst, sym, ◌∙◌}
+use Rattle.std.proofs.Common.{Ok, List, map, subst}
 use Rattle.claim_file.specs.Claim.{data_of as claim_data}
 use Rattle.sample_interval.specs.declared.kinds.Sample.{Sample}
 use Rattle.finder.specs.FewestAnswer.{FindsFewest}
@@ -13,7 +13,8 @@ returns-then-not-has_cover g c =
     let xs = map g.X.ToExchange.shown c.args.exchanges.now in
     record {
       settled = none_fits claim xs _ c.in_ok-told.ensures
-          (fits_not c.has_cover.result c.if-not-has_cover.true c.has_cover.ensures.exact c.in_ok-conflicts.ensures.covers)
+          (fits_not c.has_cover.result c.if-not-has_cover.true c.has_cover.ensures.exact
+          c.in_ok-conflicts.ensures.covers)
           (c.some_course_fits_where_a_cover_is_small.ensures claim xs c.requires.claim c.requires.exchanges)
           (λ is_in ends. c.ends_of_all_conflicts_are_a_cover.ensures claim xs _ is_in c.in_ok-told.ensures ends);
       refused = tt;
@@ -39,9 +40,12 @@ returns-in-Ok-Certificate g c =
     let xs = map g.X.ToExchange.shown c.args.exchanges.now in
     record {
       settled = shown_by claim xs c.in-Ok-Certificate.certificate
-          (fits_if c.has_cover.result c.if-not-has_cover.false c.has_cover.ensures.exact c.in_ok-conflicts.ensures.covers)
-          (subst (λ (samples : List Sample). FindsFewest samples claim (Ok (found.Certificate c.in-Ok-Certificate.certificate)))
-          c.exchange_samples-samples.ensures.samples (rw (c.in-Ok-Certificate.is, c.in-Ok-Certificate.field-0-is) at c.fewest_by.ensures));
+          (fits_if c.has_cover.result c.if-not-has_cover.false c.has_cover.ensures.exact
+          c.in_ok-conflicts.ensures.covers)
+          (subst (λ (samples : List Sample).
+          FindsFewest samples claim (Ok (found.Certificate c.in-Ok-Certificate.certificate)))
+          c.exchange_samples-samples.ensures.samples
+          (rw (c.in-Ok-Certificate.is, c.in-Ok-Certificate.field-0-is) at c.fewest_by.ensures));
       refused = tt;
     }
 
@@ -50,14 +54,16 @@ pub overflow_cast-ends : goal.overflow_cast-ends
 overflow_cast-ends g c =
     let claim = claim_data c.args.claim.now in
     let stuck = rw (c.in-Ok-Nothing.is, c.in-Ok-Nothing.field-0-is) at c.fewest_by.ensures.stuck in
-    let tick = stuck_within claim c.requires.claim _ c.in-Ok-Nothing.begin c.in-Ok-Nothing.end c.in-Ok-Nothing.hull stuck in
+    let tick = stuck_within claim c.requires.claim _ c.in-Ok-Nothing.begin c.in-Ok-Nothing.end
+    c.in-Ok-Nothing.hull stuck in
     rw tick.begin_kept (tick.begin_fits)
 
 pub overflow_cast-ends-in-Ok-Nothing : goal.overflow_cast-ends-in-Ok-Nothing
 overflow_cast-ends-in-Ok-Nothing g c =
     let claim = claim_data c.args.claim.now in
     let stuck = rw (c.in-Ok-Nothing.is, c.in-Ok-Nothing.field-0-is) at c.fewest_by.ensures.stuck in
-    let tick = stuck_within claim c.requires.claim _ c.in-Ok-Nothing.begin c.in-Ok-Nothing.end c.in-Ok-Nothing.hull stuck in
+    let tick = stuck_within claim c.requires.claim _ c.in-Ok-Nothing.begin c.in-Ok-Nothing.end
+    c.in-Ok-Nothing.hull stuck in
     rw tick.end_kept (tick.end_fits)
 
 pub returns-in-Some : goal.returns-in-Some
@@ -90,8 +96,10 @@ returns-in-Ok-Nothing g c =
     let end = c.in-Ok-Nothing.end in
     let course = fits_if c.has_cover.result c.if-not-has_cover.false c.has_cover.ensures.exact
     c.in_ok-conflicts.ensures.covers in
-    let finds = subst (λ (samples : List Sample). FindsFewest samples claim (Ok (found.Nothing begin end c.in-Ok-Nothing.hull)))
-    c.exchange_samples-samples.ensures.samples (rw (c.in-Ok-Nothing.is, c.in-Ok-Nothing.field-0-is) at c.fewest_by.ensures) in
+    let finds = subst (λ (samples : List Sample).
+    FindsFewest samples claim (Ok (found.Nothing begin end c.in-Ok-Nothing.hull)))
+    c.exchange_samples-samples.ensures.samples
+    (rw (c.in-Ok-Nothing.is, c.in-Ok-Nothing.field-0-is) at c.fewest_by.ensures) in
     let tick = stuck_within claim c.requires.claim _ begin end c.in-Ok-Nothing.hull finds.stuck in
     record {
       settled = rw (tick.begin_kept, tick.end_kept) (left_open claim xs begin end c.in-Ok-Nothing.hull tick.forward
