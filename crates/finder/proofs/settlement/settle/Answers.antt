@@ -1,4 +1,4 @@
-use Rattle.std.proofs.Common.{Ok, List, map, subst}
+use Rattle.std.proofs.Common.{◌≤◌, Ok, List, map, subst, arith}
 use Rattle.claim_file.specs.Claim.{data_of as claim_data}
 use Rattle.sample_interval.specs.declared.kinds.Sample.{Sample}
 use Rattle.finder.specs.FewestAnswer.{FindsFewest}
@@ -25,11 +25,13 @@ pub returns-then-groups-claim : goal.returns-then-groups-claim
 returns-then-groups-claim g c =
     let claim = claim_data c.args.claim.now in
     let xs = map g.X.ToExchange.shown c.args.exchanges.now in
+    let test = c.if-groups-claim.true in
+    let few : c.groups_heard-groups.result ≤ c.args.claim.now.false_max = omega arith in
     record {
       settled = unheard claim xs c.requires.exchanges c.requires.claim
           (c.few_groups_are_no_evidence.ensures claim xs)
           (c.no_evidence_gives_no_yes.ensures claim xs) c.groups_heard-groups.result
-          c.groups_heard-groups.ensures c.if-groups-claim.true;
+          c.groups_heard-groups.ensures few;
       refused = tt;
     }
 
