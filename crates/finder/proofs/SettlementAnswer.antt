@@ -1,5 +1,5 @@
 -- What settles a claim.
-use Rattle.std.proofs.Common.{◌≡◌, ℕ, ◌≤◌, ℤ, pos, ◌*ℤ◌, ◌≤ℤ◌, ◌⊎◌, inl, inr, ⊎_elim, true, false, true≢false, List, [], ◌∷◌, Ok, Err, refl, sym, ◌∙◌, subst, to_z, of_z, Fits, w64, unsigned_abs, arith}
+use Rattle.std.proofs.Common.{◌≡◌, ℕ, ◌<◌, ◌≤◌, ℤ, pos, ◌*ℤ◌, ◌≤ℤ◌, true, false, true≢false, List, [], ◌∷◌, Ok, refl, sym, ◌∙◌, subst, to_z, of_z, Fits, w64, unsigned_abs, arith}
 use Rattle.std.proofs.Math.Dec.{T}
 use Rattle.std.specs.Int.Signed.{non_neg}
 use mir.Syntax.{w128}
@@ -25,9 +25,7 @@ use Rattle.courses.specs.DriftSettlement.{SettlesWithDrift}
 use Rattle.courses.specs.Evidence.{IsNoEvidence, count_with_exchange}
 use Rattle.finder.specs.Fewest.{AreLongest, IsStuck, end_after}
 use Rattle.finder.specs.FewestAnswer.{FindsFewest}
-use Rattle.finder.specs.Settlement.{HasTooManyPieces, IsContestedBy, IsFittedByNone, IsLeftOpen, IsShownBy, IsUnheard}
-use Rattle.finder.specs.declared.fault.FindFault.{FindFault}
-use Rattle.finder.specs.declared.fault.FindFault.TheVariants as finds
+use Rattle.finder.specs.Settlement.{IsContestedBy, IsFittedByNone, IsHeard, IsLeftOpen, IsShownBy, IsUnheard}
 use Rattle.finder.specs.declared.fewest.Fewest.TheVariants as found
 use Rattle.finder.proofs.LongestPiece.{end_kept, fits_64}
 
@@ -134,6 +132,10 @@ module _ (claim : ClaimData) (xs : List Exchange) where
         none_accepted = λ other. none_is_accepted groups other lawful each nothing_said;
       }
 
+  -- more do
+  pub heard : (groups : ℕ) → groups ≡ count_with_exchange claim xs → claim.false_max < groups → IsHeard claim xs
+  heard groups is more = subst (λ n. claim.false_max < n) is more
+
   -- a certificate that shows the claim
   pub shown_by : (certificate : Certificate) → SomeCourse claim xs
       → FindsFewest (samples_of xs claim) claim (Ok (found.Certificate certificate))
@@ -147,9 +149,10 @@ module _ (claim : ClaimData) (xs : List Exchange) where
   }
 
   -- a refutation that stands
-  pub contested_by : (refutation : RefutationData) → SettlesWithDrift claim xs refutation true
+  pub contested_by : (refutation : RefutationData) → IsHeard claim xs → SettlesWithDrift claim xs refutation true
       → IsContestedBy claim xs refutation
-  contested_by refutation settles = record {
+  contested_by refutation is_heard settles = record {
+    heard = is_heard;
     accepted = settles.exact.0 refl;
     course = settles.course refl;
     none_accepted = settles.no_yes refl;
@@ -164,28 +167,15 @@ module _ (claim : ClaimData) (xs : List Exchange) where
       rw is (omega (arith, ints), further)
 
   -- as some course fits, the samples don't contradict each other there, and so no certificate is accepted
-  pub left_open : (begin end : ℤ) (hull : Hull) → begin ≤ℤ end → SomeCourse claim xs
+  pub left_open : (begin end : ℤ) (hull : Hull) → begin ≤ℤ end → IsHeard claim xs → SomeCourse claim xs
       → SomeCourseAt claim xs begin
       → FindsFewest (samples_of xs claim) claim (Ok (found.Nothing begin end hull))
       → IsLeftOpen claim xs begin end hull
-  left_open begin end hull forward some (course, fits, reads) finds = record {
+  left_open begin end hull forward is_heard some (course, fits, reads) finds = record {
+    heard = is_heard;
     course = some;
     stuck = finds.stuck;
     none_accepted = finds.none_accepted (λ empty.
         finds.contradiction empty xs course refl fits (observed begin end course forward reads));
     held = finds.held;
   }
-
-  -- too many pieces, if memory didn't run out
-  pub fault_of : (fault : FindFault) → SomeCourse claim xs → FindsFewest (samples_of xs claim) claim (Err fault)
-      → (fault ≡ finds.Memory) ⊎ ((fault ≡ finds.TooManyPieces) × HasTooManyPieces claim xs)
-  fault_of finds.Memory course answer = inl refl
-  fault_of finds.TooManyPieces course answer = ⊎_elim (λ memory. absurd cc)
-      (λ too_long. inr (
-        refl,
-        record {
-          course = course;
-          too_long = too_long.1;
-          none_accepted = answer.too_many refl;
-        },
-      )) answer.refused

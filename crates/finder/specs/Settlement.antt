@@ -1,10 +1,10 @@
 -- What settles a claim: one of five answers, each with what proves it.
 --
 -- If no course of events fits the exchanges, something that the claim grants isn't true in this
--- capture, and no more is asked. If no more groups have a sample than may be false, the capture says
--- nothing about the clock. Otherwise a certificate shows the claim, or a refutation contests it, or
--- neither was found, and no certificate is accepted.
-use Rattle.std.specs.Prelude.{◌≡◌, ◌⊎◌, ◌≤◌, ℕ, ℤ, List, length, map, AllPairs, Result, IfOk, IfErr}
+-- capture, and no more is asked. If no more groups have a sample than may be false, the capture
+-- says nothing about the clock. Otherwise a certificate shows the claim, or a refutation contests
+-- it, or neither was found, and no certificate is accepted.
+use Rattle.std.specs.Prelude.{◌≡◌, ◌⊎◌, ◌<◌, ◌≤◌, ℕ, ℤ, List, length, map, AllPairs, Result, IfOk, IfErr}
 use Rattle.certificate.specs.Certificate.{CertificateData, data_of as certificate_data, max_pieces}
 use Rattle.certificate.specs.Refutation.{RefutationData, data_of as refutation_data}
 use Rattle.claim_file.specs.Claim.{ClaimData}
@@ -17,7 +17,7 @@ use Rattle.checker.specs.declared.verdict.Verdict.TheVariants.{Yes}
 use Rattle.courses.specs.Contradiction.{ShownConflict, AreAllConflicts, NoFewHoldAnEnd}
 use Rattle.courses.specs.Cover.{SomeCourse}
 use Rattle.courses.specs.DriftRefutation.{IsRefutedWithDrift, HasDriftCourse}
-use Rattle.courses.specs.Evidence.{IsNoEvidence}
+use Rattle.courses.specs.Evidence.{IsNoEvidence, count_with_exchange}
 use Rattle.courses.specs.PairMarks.{conflict_data}
 use Rattle.finder.specs.Fewest.{HasFewest, IsOfLongest, IsStuck, IsTooLong, NoneIsAccepted, NoneOfFewIsAccepted, stretch_over}
 use Rattle.finder.specs.declared.fault.FindFault.{FindFault}
@@ -25,8 +25,8 @@ use Rattle.finder.specs.declared.fault.FindFault.TheVariants.{TooManyPieces, Mem
 use Rattle.finder.specs.declared.settlement.Settled.{Settled}
 use Rattle.finder.specs.declared.settlement.Settled.TheVariants as the
 
--- a certificate, a refutation, all conflicts, how few groups have a sample, or the tick at which the certificate of fewest pieces
--- stops, with its hull
+-- a certificate, a refutation, all conflicts, how few groups have a sample, or the tick at which
+-- the certificate of fewest pieces stops, with its hull
 pub data SettledData : Type 0 where
   shown : CertificateData → SettledData
   refuted : RefutationData → SettledData
@@ -43,6 +43,10 @@ settled_data (the.NoEvidence groups) = no_evidence groups
 settled_data (the.Open begin end hull) = left_open begin end hull
 
 module _ (claim : ClaimData) (xs : List Exchange) where
+  -- More groups have a sample than may be false, so that the capture is evidence.
+  abbrev pub IsHeard : Type 0
+  IsHeard = claim.false_max < count_with_exchange claim xs
+
   -- The certificate shows the claim: it is accepted, no accepted one has fewer pieces, and a course
   -- fits the exchanges, so that it says something of some course.
   pub record IsShownBy (certificate : CertificateData) : Type 0 where
@@ -53,8 +57,9 @@ module _ (claim : ClaimData) (xs : List Exchange) where
     pub few : length certificate.pieces ≤ max_pieces
 
   -- The refutation contests it: a course fits in which the clock is off by its error, and no
-  -- certificate is accepted.
+  -- certificate is accepted. Without evidence every error would have such a course.
   pub record IsContestedBy (refutation : RefutationData) : Type 0 where
+    pub heard : IsHeard
     pub accepted : IsRefutedWithDrift claim xs refutation
     pub course : AllPairs SameRequest xs → HasDriftCourse claim xs refutation
     pub none_accepted : NoneIsAccepted (samples_of xs claim) claim
@@ -66,16 +71,17 @@ module _ (claim : ClaimData) (xs : List Exchange) where
     pub all : AreAllConflicts claim xs conflicts
     pub unaccounted : NoFewHoldAnEnd claim conflicts
 
-  -- This many groups have a sample, and no more than may be false: at every reading the error may be
-  -- anything, and no certificate is accepted.
+  -- This many groups have a sample, and no more than may be false: at every reading the error may
+  -- be anything, and no certificate is accepted.
   pub record IsUnheard (groups : ℕ) : Type 0 where
     pub nothing_said : IsNoEvidence claim xs groups
     pub none_accepted : NoneIsAccepted (samples_of xs claim) claim
 
-  -- A course fits, and no certificate is accepted. Where the longest pieces have come to, the next
-  -- tick isn't shown; in every course that fits, the error lies in its hull at every moment whose
-  -- reading lies there.
+  -- A course fits, and no certificate is accepted, though the capture is evidence. Where the
+  -- longest pieces have come to, the next tick isn't shown; in every course that fits, the error
+  -- lies in its hull at every moment whose reading lies there.
   pub record IsLeftOpen (begin end : ℤ) (hull : Hull) : Type 0 where
+    pub heard : IsHeard
     pub course : SomeCourse claim xs
     pub stuck : IsStuck (samples_of xs claim) claim begin end hull
     pub none_accepted : NoneIsAccepted (samples_of xs claim) claim
@@ -91,6 +97,7 @@ module _ (claim : ClaimData) (xs : List Exchange) where
   -- A course fits, and as many pieces as a certificate may have don't reach the span's end: none
   -- that may be written is accepted. No refutation was found either.
   pub record HasTooManyPieces : Type 0 where
+    pub heard : IsHeard
     pub course : SomeCourse claim xs
     pub too_long : IsTooLong (samples_of xs claim) claim
     pub none_accepted : NoneOfFewIsAccepted (samples_of xs claim) claim

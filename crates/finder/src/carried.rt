@@ -37,8 +37,8 @@ pub struct LeastCarried {
     /// The bound in nanoseconds, at most 10^15.
     pub bound_ns: u64,
     /// The Unix tick of 2^-32 s at which the search stops with a nanosecond less: the one that the
-    /// longest pieces come to, and the next one isn't shown, or 100,000 pieces come no further. With
-    /// a bound of 0 it is the span's first.
+    /// longest pieces come to, and the next one isn't shown, or 100,000 pieces come no further.
+    /// With a bound of 0 it is the span's first.
     pub tick: u64,
 }
 

@@ -54,8 +54,8 @@ pub(crate) fn group_of(claim: &Claim, server: u8) -> u8
     claim.groups[usize::from(server)]
 }
 
-/// The greatest whole error, in ticks, that the exchanges of each group let be at a reading, on this
-/// side of zero. It looks once at each exchange, and takes no memory.
+/// The greatest whole error, in ticks, that the exchanges of each group let be at a reading, on
+/// this side of zero. It looks once at each exchange, and takes no memory.
 pub(crate) fn leeways_at<X: ToExchange>(
     exchanges: &[X],
     claim: &Claim,

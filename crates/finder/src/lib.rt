@@ -8,13 +8,14 @@
 //! the samples contradict each other. [`find_envelope`] takes the pieces of [`find`], and gives the
 //! hull of each and the least bound that holds over all of them. [`find_over`],
 //! [`find_fewest_over`] and [`find_envelope_over`] do so over samples from any source.
-//! [`least_bound`] gives the least bound with which a certificate of fewest pieces is found: where a
-//! course of events fits, no certificate carries a lesser one. [`best_parts`] gives what each server
-//! says at one tick. [`find_refutation`] gives a refutation, which the checker accepts, unless it
-//! accepts none, and [`find_refutation_with_drift`] one whose error may drift, if it finds one at
-//! the given places. [`settle`] gives a certificate of fewest pieces or a refutation with drift; or
-//! else the tick where such pieces stop, all conflicts if no course of events fits, or how few
-//! groups have a sample if no more do than may be false. [`laws`] has what holds of the definitions.
+//! [`least_bound`] gives the least bound with which a certificate of fewest pieces is found: where
+//! a course of events fits, no certificate carries a lesser one. [`best_parts`] gives what each
+//! server says at one tick. [`find_refutation`] gives a refutation, which the checker accepts,
+//! unless it accepts none, and [`find_refutation_with_drift`] one whose error may drift, if it
+//! finds one at the given places. [`settle`] gives a certificate of fewest pieces or a refutation
+//! with drift; or else the tick where such pieces stop, all conflicts if no course of events fits,
+//! or how few groups have a sample if no more do than may be false. [`laws`] has what holds of the
+//! definitions.
 //!
 //! What is found of a sample, as `finds` of `worked_examples/src/checking/finds.rt` asks for it,
 //! which the gate runs:

@@ -5,6 +5,7 @@ ghost use Rattle.certificate.specs.Refutation.{data_of as refutation_data};
 ghost use Rattle.claim_file.specs.Claim.{IsLawful, data_of as claim_data};
 ghost use Rattle.checker.specs.Traceability.{samples_of};
 ghost use Rattle.courses.specs.DriftSettlement.{SettlesWithDrift};
+ghost use Rattle.courses.specs.Evidence.{count_with_exchange};
 ghost use Rattle.finder.specs.Reach.{IsTabled};
 ghost use Rattle.finder.specs.Samples.{AreSamplesOf};
 ghost use Rattle.finder.specs.Settlement.{Settles};
@@ -77,8 +78,18 @@ pub fn exchange_samples<'a, X: ToExchange>(
     }
 }
 
-/// A refutation with drift, if one is found: for each cover at both ends of the tick that needs most
-/// without it, and at these readings.
+/// How many groups have a sample.
+fn groups_heard<X: ToExchange>(exchanges: &[X], claim: &Claim) -> u8
+    requires claim { IsLawful (claim_data claim.now) }
+    requires exchanges { All (IsLawfulExchange (length claim.now.servers.items))
+        (map X.shown exchanges.now) }
+    ensures { result ≡ count_with_exchange (claim_data claim.now) (map X.shown exchanges.now) }
+{
+    groups_with_exchanges(exchanges, claim).count(claim.servers.len() as u8)
+}
+
+/// A refutation with drift, if one is found: for each cover at both ends of the tick that needs
+/// most without it, and at these readings.
 fn refutation_of<X: ToExchange>(
     alloc: Global,
     exchanges: &[X],
@@ -140,7 +151,7 @@ pub fn settle<X: ToExchange>(
         let told = first_contradictions(alloc, exchanges, claim, &conflicts)?;
         return Ok(Settled::NothingFits(told));
     }
-    let groups = groups_with_exchanges(exchanges, claim).count(claim.servers.len() as u8);
+    let groups = groups_heard(exchanges, claim);
     if groups <= claim.false_max {
         return Ok(Settled::NoEvidence { groups });
     }

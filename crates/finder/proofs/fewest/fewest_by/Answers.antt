@@ -29,7 +29,8 @@ returns-in-Stuck g c =
       held = c.best_hulls_hold_the_error.ensures;
     }) (g.S.SampleSource.samples c.args.samples) (claim_data c.args.claim.now) c.requires.claim c.requires.samples
     c.in-Stuck.begin c.in-Stuck.end c.from.result c.from-in-Stuck.result c.in-Stuck.hull c.from.ensures
-    c.from-in-Stuck.ensures (rw c.in-Stuck.is at c.in_ok-ends.ensures (g.S.SampleSource.samples c.args.samples) c.requires.tables)
+    c.from-in-Stuck.ensures
+    (rw c.in-Stuck.is at c.in_ok-ends.ensures (g.S.SampleSource.samples c.args.samples) c.requires.tables)
 
 pub returns-in-TooLong : goal.returns-in-TooLong
 returns-in-TooLong g c =

@@ -11,5 +11,9 @@ parts_without-parts-requires-clause-listed c =
     let claim = data_of c.args.claim.now in
     let samples = c.requires.tables.0 in
     let tabled = c.requires.tables.1 in
-    rw (c.as_slice.ensures.value, c.requires.claim.group_for_each, c.parts_over-all.ensures samples (length claim.servers) tabled.are)
+    rw (
+      c.as_slice.ensures.value,
+      c.requires.claim.group_for_each,
+      c.parts_over-all.ensures samples (length claim.servers) tabled.are,
+    )
     (listed_said c.best_samples_are_the_first_best.ensures samples claim _ _ tabled.of_claim)

@@ -1,12 +1,9 @@
-use Rattle.std.proofs.Common.{Ok, List, map, ap, subst, sym, ◌∙◌}
-use Rattle.std.specs.Prelude.{count_by}
+use Rattle.std.proofs.Common.{◌≤◌, Ok, List, map, subst, arith}
 use Rattle.claim_file.specs.Claim.{data_of as claim_data}
-use Rattle.courses.specs.Groups.{holds}
 use Rattle.sample_interval.specs.declared.kinds.Sample.{Sample}
-use Rattle.span_cover.specs.Group.{numbers_below}
 use Rattle.finder.specs.FewestAnswer.{FindsFewest}
 use Rattle.finder.specs.declared.fewest.Fewest.TheVariants as found
-use Rattle.finder.proofs.SettlementAnswer.{contested_by, fits_if, fits_not, left_open, none_fits, shown_by, stuck_within, unheard}
+use Rattle.finder.proofs.SettlementAnswer.{contested_by, fits_if, fits_not, heard, left_open, none_fits, shown_by, stuck_within, unheard}
 use Rattle.finder.proofs.settlement.settle.Goals as goal
 
 -- no course fits
@@ -16,7 +13,8 @@ returns-then-not-has_cover g c =
     let xs = map g.X.ToExchange.shown c.args.exchanges.now in
     record {
       settled = none_fits claim xs _ c.in_ok-told.ensures
-          (fits_not c.has_cover.result c.if-not-has_cover.true c.has_cover.ensures.exact c.in_ok-conflicts.ensures.covers)
+          (fits_not c.has_cover.result c.if-not-has_cover.true c.has_cover.ensures.exact
+          c.in_ok-conflicts.ensures.covers)
           (c.some_course_fits_where_a_cover_is_small.ensures claim xs c.requires.claim c.requires.exchanges)
           (λ is_in ends. c.ends_of_all_conflicts_are_a_cover.ensures claim xs _ is_in c.in_ok-told.ensures ends);
       refused = tt;
@@ -27,14 +25,13 @@ pub returns-then-groups-claim : goal.returns-then-groups-claim
 returns-then-groups-claim g c =
     let claim = claim_data c.args.claim.now in
     let xs = map g.X.ToExchange.shown c.args.exchanges.now in
-    let servers = c.len.ensures ∙ c.args.claim.now.servers.ok.0 ∙ sym c.requires.claim.group_for_each in
+    let test = c.if-groups-claim.true in
+    let few : c.groups_heard-groups.result ≤ c.args.claim.now.false_max = omega arith in
     record {
       settled = unheard claim xs c.requires.exchanges c.requires.claim
           (c.few_groups_are_no_evidence.ensures claim xs)
-          (c.no_evidence_gives_no_yes.ensures claim xs) c.count-groups.result
-          (c.count-groups.ensures.exact
-          ∙ ap (λ n. count_by (holds c.groups_with_exchanges.result) (numbers_below n)) servers
-          ∙ c.groups_with_exchanges.ensures.count) c.if-groups-claim.true;
+          (c.no_evidence_gives_no_yes.ensures claim xs) c.groups_heard-groups.result
+          c.groups_heard-groups.ensures few;
       refused = tt;
     }
 
@@ -45,9 +42,12 @@ returns-in-Ok-Certificate g c =
     let xs = map g.X.ToExchange.shown c.args.exchanges.now in
     record {
       settled = shown_by claim xs c.in-Ok-Certificate.certificate
-          (fits_if c.has_cover.result c.if-not-has_cover.false c.has_cover.ensures.exact c.in_ok-conflicts.ensures.covers)
-          (subst (λ (samples : List Sample). FindsFewest samples claim (Ok (found.Certificate c.in-Ok-Certificate.certificate)))
-          c.exchange_samples-samples.ensures.samples (rw (c.in-Ok-Certificate.is, c.in-Ok-Certificate.field-0-is) at c.fewest_by.ensures));
+          (fits_if c.has_cover.result c.if-not-has_cover.false c.has_cover.ensures.exact
+          c.in_ok-conflicts.ensures.covers)
+          (subst (λ (samples : List Sample).
+          FindsFewest samples claim (Ok (found.Certificate c.in-Ok-Certificate.certificate)))
+          c.exchange_samples-samples.ensures.samples
+          (rw (c.in-Ok-Certificate.is, c.in-Ok-Certificate.field-0-is) at c.fewest_by.ensures));
       refused = tt;
     }
 
@@ -56,29 +56,39 @@ pub overflow_cast-ends : goal.overflow_cast-ends
 overflow_cast-ends g c =
     let claim = claim_data c.args.claim.now in
     let stuck = rw (c.in-Ok-Nothing.is, c.in-Ok-Nothing.field-0-is) at c.fewest_by.ensures.stuck in
-    let tick = stuck_within claim c.requires.claim _ c.in-Ok-Nothing.begin c.in-Ok-Nothing.end c.in-Ok-Nothing.hull stuck in
+    let tick = stuck_within claim c.requires.claim _ c.in-Ok-Nothing.begin c.in-Ok-Nothing.end
+    c.in-Ok-Nothing.hull stuck in
     rw tick.begin_kept (tick.begin_fits)
 
 pub overflow_cast-ends-in-Ok-Nothing : goal.overflow_cast-ends-in-Ok-Nothing
 overflow_cast-ends-in-Ok-Nothing g c =
     let claim = claim_data c.args.claim.now in
     let stuck = rw (c.in-Ok-Nothing.is, c.in-Ok-Nothing.field-0-is) at c.fewest_by.ensures.stuck in
-    let tick = stuck_within claim c.requires.claim _ c.in-Ok-Nothing.begin c.in-Ok-Nothing.end c.in-Ok-Nothing.hull stuck in
+    let tick = stuck_within claim c.requires.claim _ c.in-Ok-Nothing.begin c.in-Ok-Nothing.end
+    c.in-Ok-Nothing.hull stuck in
     rw tick.end_kept (tick.end_fits)
 
 pub returns-in-Some : goal.returns-in-Some
-returns-in-Some g c = record {
-  settled = contested_by (claim_data c.args.claim.now) (map g.X.ToExchange.shown c.args.exchanges.now) _
-      (rw c.in-Some.is at c.in_ok-refutation-in-Ok-Nothing.ensures);
-  refused = tt;
-}
+returns-in-Some g c =
+    let claim = claim_data c.args.claim.now in
+    let xs = map g.X.ToExchange.shown c.args.exchanges.now in
+    record {
+      settled = contested_by claim xs _
+          (heard claim xs c.groups_heard-groups.result c.groups_heard-groups.ensures c.if-groups-claim.false)
+          (rw c.in-Some.is at c.in_ok-refutation-in-Ok-Nothing.ensures);
+      refused = tt;
+    }
 
 pub returns-in-Some-2 : goal.returns-in-Some-2
-returns-in-Some-2 g c = record {
-  settled = contested_by (claim_data c.args.claim.now) (map g.X.ToExchange.shown c.args.exchanges.now) _
-      (rw c.in-Some-2.is at c.in_ok-refutation-in-Err-TooManyPieces.ensures);
-  refused = tt;
-}
+returns-in-Some-2 g c =
+    let claim = claim_data c.args.claim.now in
+    let xs = map g.X.ToExchange.shown c.args.exchanges.now in
+    record {
+      settled = contested_by claim xs _
+          (heard claim xs c.groups_heard-groups.result c.groups_heard-groups.ensures c.if-groups-claim.false)
+          (rw c.in-Some-2.is at c.in_ok-refutation-in-Err-TooManyPieces.ensures);
+      refused = tt;
+    }
 
 pub returns-in-Ok-Nothing : goal.returns-in-Ok-Nothing
 returns-in-Ok-Nothing g c =
@@ -88,11 +98,14 @@ returns-in-Ok-Nothing g c =
     let end = c.in-Ok-Nothing.end in
     let course = fits_if c.has_cover.result c.if-not-has_cover.false c.has_cover.ensures.exact
     c.in_ok-conflicts.ensures.covers in
-    let finds = subst (λ (samples : List Sample). FindsFewest samples claim (Ok (found.Nothing begin end c.in-Ok-Nothing.hull)))
-    c.exchange_samples-samples.ensures.samples (rw (c.in-Ok-Nothing.is, c.in-Ok-Nothing.field-0-is) at c.fewest_by.ensures) in
+    let finds = subst (λ (samples : List Sample).
+    FindsFewest samples claim (Ok (found.Nothing begin end c.in-Ok-Nothing.hull)))
+    c.exchange_samples-samples.ensures.samples
+    (rw (c.in-Ok-Nothing.is, c.in-Ok-Nothing.field-0-is) at c.fewest_by.ensures) in
     let tick = stuck_within claim c.requires.claim _ begin end c.in-Ok-Nothing.hull finds.stuck in
     record {
-      settled = rw (tick.begin_kept, tick.end_kept) (left_open claim xs begin end c.in-Ok-Nothing.hull tick.forward course
+      settled = rw (tick.begin_kept, tick.end_kept) (left_open claim xs begin end c.in-Ok-Nothing.hull tick.forward
+          (heard claim xs c.groups_heard-groups.result c.groups_heard-groups.ensures c.if-groups-claim.false) course
           (c.some_course_is_observed_at_any_reading.ensures claim xs begin c.requires.claim c.requires.exchanges course)
           finds);
       refused = tt;

@@ -1,0 +1,12 @@
+use Rattle.std.proofs.Common.{ap, sym, ◌∙◌}
+use Rattle.std.specs.Prelude.{count_by}
+use Rattle.courses.specs.Groups.{holds}
+use Rattle.span_cover.specs.Group.{numbers_below}
+use Rattle.finder.proofs.settlement.groups_heard.Goals as goal
+
+pub returns : goal.returns
+returns g c =
+    let servers = c.len.ensures ∙ c.args.claim.now.servers.ok.0 ∙ sym c.requires.claim.group_for_each in
+    c.count.ensures.exact
+    ∙ ap (λ n. count_by (holds c.groups_with_exchanges.result) (numbers_below n)) servers
+    ∙ c.groups_with_exchanges.ensures.count
