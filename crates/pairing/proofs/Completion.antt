@@ -1,5 +1,5 @@
 -- From what was gathered to the answer.
-use Rattle.std.proofs.Common.{◌≡◌, ℕ, ◌^◌, ◌≤◌, ◌<◌, List, Option, Some, None, Result, Ok, Err, refl, sym, ap, subst, inl, inr, length, arith}
+use Rattle.std.proofs.Common.{◌≡◌, ℕ, ◌≤◌, List, Option, Some, None, Result, Ok, Err, refl, sym, ap, subst, inl, inr, length, arith}
 use Rattle.std.specs.Prelude.{IfOk, IfSome, MatchResult, filter, nat_lt, Bool, true, false, ◌⊎◌, if◌then◌else◌}
 use Rattle.std.proofs.lemmas.Bool.Decides.{nat_tests}
 use Rattle.std.proofs.lemmas.List.{length-map}
@@ -20,9 +20,8 @@ use Rattle.pairing.specs.Exchange.{AreLawful, most_exchanges}
 use Rattle.pairing.specs.Gathering.{IsGatheredFrom, is_accepted}
 use Rattle.pairing.specs.Counts.{HasRoom}
 use Rattle.pairing.specs.Held.{held_data, held_of}
-use Rattle.pairing.specs.Index.{kept_of}
-use Rattle.pairing.specs.Message.{reply_of, request_of}
-use Rattle.pairing.specs.Pairing.{Collection, collection_of, counts_of, exchanges_of, replies_of, requests_of}
+use Rattle.pairing.specs.Message.{reply_of}
+use Rattle.pairing.specs.Pairing.{Collection, collection_of, counts_of, exchanges_of, replies_of}
 use Rattle.pairing.specs.Reading.{IsWhole}
 use Rattle.pairing.proofs.JoinSteps.{length-filter_map}
 use Rattle.pairing.proofs.ReadingSteps.{HasRoom-weaker, gathered-room}
