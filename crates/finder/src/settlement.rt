@@ -110,14 +110,14 @@ fn refutation_of<X: ToExchange>(
     let mut places = Vec::new(alloc);
     for cover in &covers {
         let cover = *cover;
-        for reading in readings {
-            let reading = *reading;
-            places.push(Place { cover, reading })?;
-        }
         if let Some(tick) = neediest_tick(alloc, tables, claim, cover, most)? {
             for reading in [tick.begin, tick.begin.saturating_add(tick.reach)] {
                 places.push(Place { cover, reading })?;
             }
+        }
+        for reading in readings {
+            let reading = *reading;
+            places.push(Place { cover, reading })?;
         }
     }
     find_refutation_with_drift(alloc, exchanges, claim, &places)
