@@ -5,5 +5,5 @@ printed, at most converted from ticks of 2^-32 s to milliseconds and from Unix s
 measured or read for a premise stands beside it, as what it is, and no verdict depends on it.
 """
 
-VERSION = 5
+VERSION = 6
 """The form of audit.json. An audit.json of another form is of another dossier, and its folder is audited again."""
