@@ -91,7 +91,8 @@ def is_same(folder: Folder, old: Record, wanted: Wanted, program: Program) -> bo
 
 
 def change_of(folder: Folder, record: Record) -> str:
-    """The first file that isn't there any more, or isn't what it was, or an input that came; nothing if there is none."""
+    """The first file that isn't there any more, or isn't what it was, or that came, if it is an input or has the name of an
+    output; nothing if there is none."""
     now = sums_of_inputs(folder)
     for name, sum_ in record.inputs.items():
         if now.get(name) != sum_:
@@ -104,7 +105,8 @@ def change_of(folder: Folder, record: Record) -> str:
             return f"{name} isn't there"
         if folder.sum(name) != sum_:
             return f"{name} was changed since the audit ({short(folder.sum(name))}, {files.AUDIT} has {short(sum_)})"
-    return ""
+    more = next(filter(folder.has, sorted((LEFT | {files.JOINED}) - record.outputs.keys())), None)
+    return f"{more} isn't of this audit: {files.AUDIT} has no sum of it" if more else ""
 
 
 def short(sum_: str | None) -> str:

@@ -181,7 +181,7 @@ class Record:
     capture: or_nothing(is_name)  # type: ignore[valid-type]
     """The capture that was read: the one input, or the file in which several were joined."""
     made: Time
-    seconds: float
+    seconds: Annotated[float, within(0, 10**9)]
     signed: or_nothing(is_time)  # type: ignore[valid-type]
     """When this was signed, as the signer says; nothing if it wasn't."""
     entries: sized(Entry, 0, 40_000)  # type: ignore[valid-type]
@@ -191,6 +191,8 @@ class Record:
     def __post_init__(self) -> None:
         if bool(self.entries) == bool(self.refusal) or bool(self.entries) != bool(self.leap_seconds):
             raise Mangled("entries")
+        if self.capture not in {"", JOINED, *self.inputs}:
+            raise Mangled("capture")
 
     @property
     def status(self) -> int:

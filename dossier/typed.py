@@ -6,7 +6,6 @@ left out where it has it.
 from __future__ import annotations
 
 import json
-import math
 import re
 from collections.abc import Callable
 from dataclasses import MISSING, fields, is_dataclass
@@ -22,7 +21,7 @@ class Mangled(ValueError):
     """Where JSON isn't what it has to be."""
 
 
-def within(least: int, most: int) -> Callable[[int], bool]:
+def within(least: int, most: int) -> Callable[[float], bool]:
     return lambda number: least <= number <= most
 
 
@@ -76,7 +75,7 @@ Seconds = Annotated[int, within(-(2**40), 2**40)]
 """Unix seconds."""
 Ticks = Annotated[int, within(-(2**100), 2**100)]
 """Ticks of 2^-32 s, of an error or since 1970."""
-Nanoseconds = Annotated[int, within(-(10**25), 10**25)]
+Nanoseconds = Annotated[int, within(0, 10**25)]
 
 
 def parsed(data: bytes) -> Any:
@@ -129,9 +128,7 @@ def typed(kind: Any, value: Any, place: str) -> Any:
         return {typed(inner[0], key, f"{place} {key}"): typed(inner[1], item, f"{place} {key}") for key, item in value.items()}
     if is_dataclass(kind) and isinstance(value, dict):
         return record_of(kind, value, place)
-    if kind is float and type(value) in (int, float) and abs(value) < 10**12 and math.isfinite(value):
-        return value
-    if type(value) is kind:
+    if kind is float and type(value) is int or type(value) is kind:
         return value
     raise Mangled(place)
 

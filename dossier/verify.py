@@ -48,7 +48,7 @@ class Verifier:
     def difference(self, folder: Folder, record: Record) -> str:
         """An audit that was refused is tried again: it is refused for the same reason, or there is a difference."""
         leaps = record.leap_seconds or self.leaps
-        found = "" if record.refusal else change_of(folder, record) or differing(leaps, self.leaps) or left_over(folder, record)
+        found = "" if record.refusal else change_of(folder, record) or differing(leaps, self.leaps)
         if found:
             return found
         is_other = record.program.sha256 != self.program.made.sha256
@@ -62,13 +62,6 @@ class Verifier:
                 return f"{name}: {comparison.end()}"
         differs = first_difference(said(record), said(made))
         return f"{files.AUDIT}:{in_words_of(*differs)}" if differs else ""
-
-
-def left_over(folder: Folder, record: Record) -> str:
-    """What has the name of an output and isn't one."""
-    names = sorted((files.LEFT | {files.JOINED}) - record.outputs.keys())
-    found = next(filter(folder.has, names), None)
-    return f"{found} isn't of this audit: {files.AUDIT} has no sum of it" if found else ""
 
 
 def audit_json(folder: Folder) -> bytes:
