@@ -314,7 +314,7 @@ def why_no_recording(*user):
     """Why tcpdump can't record here, as a user that these words call it by; nothing if it can."""
     if not shutil.which("tcpdump"):
         return "tcpdump isn't installed"
-    ran = run([*user, "tcpdump", "-i", "lo", "-c", "1", "-w", "/dev/null", "udp and port 123 and port 124"], timeout=2)
+    ran = run([*user, "tcpdump", "-i", "lo", "-c", "1", "-w", "-", "udp and port 123 and port 124"], timeout=2)  # (it gives a file that it writes to its own user)
     return "" if ran[0] == "no end" else "there is no right to record"
 
 
