@@ -22,9 +22,9 @@ def read_counts(line: str) -> dict[str, int]:
 
 
 class Settled(NamedTuple):
-    """What `settle` says: its verdict; and a refutation; or the conflicts, each with the server and the record of a request
-    and the server and the record of a reply; or a tick that is left open, in Unix ticks, and its hull; or how many groups
-    have a sample."""
+    """What `settle` says: its verdict; and a refutation; or the conflicts, each with the server and the record of a
+    request and the server and the record of a reply; or a tick that is left open, in Unix ticks, and its hull; or how
+    many groups have a sample."""
 
     verdict: Verdict
     refutation: Refutation | None = None
@@ -44,7 +44,8 @@ def read_settled(text: bytes) -> Settled:
         return Settled(OPEN, tick=int(last[1]), hull=read_hull(last[4:]))
     if last[0] == "no":
         return Settled(NO_EVIDENCE, heard=int(last[3]))
-    return Settled(NOTHING_FITS, conflicts=[(low, int(request), high, int(reply)) for _, low, request, high, reply in lines])
+    conflicts = [(low, int(request), high, int(reply)) for _, low, request, high, reply in lines]
+    return Settled(NOTHING_FITS, conflicts=conflicts)
 
 
 def read_advice(report: bytes) -> dict[str, str]:

@@ -21,8 +21,8 @@ from .text import count
 from .units import range_ms
 from .words import capital, fit, sentence, span, to_do
 
-SYMBOLS = {YES: "\u2713", REFUTED: "\u2717", NOTHING_FITS: "\u2205", NO_EVIDENCE: "\u2026", OPEN: "?", NOT_VERIFIED: "\u2014",
-           REFUSED: "!"}
+SYMBOLS = {YES: "\u2713", REFUTED: "\u2717", NOTHING_FITS: "\u2205", NO_EVIDENCE: "\u2026", OPEN: "?",
+           NOT_VERIFIED: "\u2014", REFUSED: "!"}
 MOST_CONFLICTS = 20
 
 COUNTS = {
@@ -109,8 +109,8 @@ NO_COURSE = "No course of events allows for both exchanges of a line, with eithe
 
 
 def figure(name: str, entry: Entry, envelope: Envelope) -> Html:
-    label = (f"The clock's error in ms, {span(entry.claim)}, in pieces of {entry.envelope_step} s. Above 0 the clock is "
-             "ahead of UTC. The band is the hull: what is left if no more were wrong than granted.")
+    label = (f"The clock's error in ms, {span(entry.claim)}, in pieces of {entry.envelope_step} s. Above 0 the clock "
+             "is ahead of UTC. The band is the hull: what is left if no more were wrong than granted.")
     return element("figure", lines([
         "",
         element("figcaption", label),
@@ -124,7 +124,8 @@ def rows(columns: dict[str, str], found: Iterable[Iterable[object]], name: str =
     head = element("tr", *(element("th", column, class_=kind) for column, kind in columns.items()))
     body = [element("tr", *(element("td", cell, data_label=column, class_=columns[column])
                             for column, cell in zip(columns, row))) for row in found]
-    return element("table", lines(["", element("thead", head), element("tbody", lines(["", *body, ""])), ""]), class_=name)
+    parts = [element("thead", head), element("tbody", lines(["", *body, ""]))]
+    return element("table", lines(["", *parts, ""]), class_=name)
 
 
 def servers(entry: Entry, envelope: Envelope) -> Html:
@@ -132,7 +133,8 @@ def servers(entry: Entry, envelope: Envelope) -> Html:
     found, drawn = [], ranges_of(envelope)
     for number, server in enumerate(entry.servers):
         swatch: object = ""
-        outer, remarks = "" if server.samples else "no sample", []
+        remarks: list[object] = []
+        outer = "" if server.samples else "no sample"
         if server.address in drawn:
             seen = drawn[server.address]
             swatch, outer = stroke(list(drawn).index(server.address)), minus(range_ms(seen.low, seen.high))
@@ -172,7 +174,8 @@ def again(record: Record, entry: Entry) -> Html:
     capture = record.capture if entry.part == "." else f"../{record.capture}"
     capture = f"./{capture}" if capture.startswith("-") else capture
     step = str(entry.envelope_step)
-    calls = [["settle", files.CLAIM, capture], ["envelope", files.CLAIM, capture, "--servers", "--least", "--step", step]]
+    calls = [["settle", files.CLAIM, capture],
+             ["envelope", files.CLAIM, capture, "--servers", "--least", "--step", step]]
     if entry.verdict == YES:
         calls.insert(1, ["check", files.CLAIM, capture, files.CERTIFICATE])
     if entry.verdict == NOTHING_FITS:
@@ -197,6 +200,6 @@ def sums(record: Record, entry: Entry) -> Iterator[Html]:
     found += [[name, "left by the audit", sum_] for name, sum_ in entry.outputs.items()]
     found.append([record.program.version or "ntpaudit", "the program", record.program.sha256])
     yield element("h3", "Files")
-    yield element("p", f"Audited at {record.made}, in {record.seconds} s. What the sums are good for: {see('The sums')}.",
-                  class_="soft")
+    when = f"Audited at {record.made}, in {record.seconds} s."
+    yield element("p", f"{when} What the sums are good for: {see('The sums')}.", class_="soft")
     yield rows({"File": "", "What": "", "SHA-256": ""}, found, "sums")

@@ -1,4 +1,5 @@
-"""The audit of one folder: reused if it was made or verified here and nothing has changed since, or made and put in place."""
+"""The audit of one folder: reused if it was made or verified here and nothing has changed since, or made and put in
+place."""
 from __future__ import annotations
 
 from dataclasses import dataclass
@@ -36,8 +37,8 @@ class Audited(NamedTuple):
     was_signed: bool = False
 
 
-SIGNED = ("signed, and not as it would be audited now. It is audited again only with --again, which takes the signature "
-          "away")
+SIGNED = ("signed, and not as it would be audited now. It is audited again only with --again, which takes the "
+          "signature away")
 
 
 def audit_folder(path: str, wanted: Wanted, program: Program) -> Audited:
@@ -91,8 +92,8 @@ def is_same(folder: Folder, old: Record, wanted: Wanted, program: Program) -> bo
 
 
 def change_of(folder: Folder, record: Record) -> str:
-    """The first file that isn't there any more, or isn't what it was, or that came, if it is an input or has the name of an
-    output; nothing if there is none."""
+    """The first file that isn't there any more, or isn't what it was, or that came, if it is an input or has the name
+    of an output; nothing if there is none."""
     now = sums_of_inputs(folder)
     for name, sum_ in record.inputs.items():
         if now.get(name) != sum_:

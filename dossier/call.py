@@ -83,8 +83,9 @@ class Caller:
     def start(self, words: list[str], given: str, output: int, sums: bytes) -> int:
         self.limit.left()
         os.lseek(self.error, 0, os.SEEK_SET)
-        actions = [(os.POSIX_SPAWN_OPEN, 0, given, os.O_RDONLY, 0), (os.POSIX_SPAWN_DUP2, output, 1),
-                   (os.POSIX_SPAWN_DUP2, self.error, 2)]
+        actions: list[tuple[object, ...]] = [
+            (os.POSIX_SPAWN_OPEN, 0, given, os.O_RDONLY, 0), (os.POSIX_SPAWN_DUP2, output, 1),
+            (os.POSIX_SPAWN_DUP2, self.error, 2)]
         if not sums:
             return spawn(words, actions)
         its_sums = pipe_of(sums)
@@ -115,7 +116,7 @@ class Caller:
             raise
 
 
-def spawn(words: list[str], actions: list[tuple[int, ...]]) -> int:
+def spawn(words: list[str], actions: list[tuple[object, ...]]) -> int:
     return os.posix_spawn(words[0], words, ENVIRONMENT, file_actions=actions, setpgroup=0, setsigdef=DEFAULTS)
 
 

@@ -6,7 +6,7 @@ import os
 import re
 from dataclasses import dataclass
 from fractions import Fraction
-from typing import Annotated, Literal
+from typing import Annotated, Final, Literal
 
 from .fault import fault
 from .folder import data_named
@@ -14,7 +14,8 @@ from .limit import Limit
 from .program import sum_of
 from .typed import Sum, Text, within
 
-CHRONY, NTPD = "chronyd", "ntpd"
+CHRONY: Final = "chronyd"
+NTPD: Final = "ntpd"
 
 SLEW = Fraction(10**9, 12)
 """Parts in 10^9 by which chronyd slews at most if `maxslewrate` isn't set: a twelfth."""
@@ -73,9 +74,10 @@ def read_chrony(paths: list[str]) -> Configuration:
         number_of("makestep", step, 0)
         number_of("makestep", step, 1)
     return Configuration(
-        CHRONY, files, math.ceil(slew), maxslewrate=rate[0] if rate else None, makestep=" ".join(step) if step else None,
-        step_s=step[0] if step else None, leapsecmode=" ".join(said.get("leapsecmode", ())) or None,
-        hwtimestamp=" ".join(cards) or None, not_read=" ".join(others) or None)
+        CHRONY, files, math.ceil(slew), maxslewrate=rate[0] if rate else None,
+        makestep=" ".join(step) if step else None, step_s=step[0] if step else None,
+        leapsecmode=" ".join(said.get("leapsecmode", ())) or None, hwtimestamp=" ".join(cards) or None,
+        not_read=" ".join(others) or None)
 
 
 def read_ntpd(paths: list[str]) -> Configuration:

@@ -45,14 +45,17 @@ def parser() -> Parser:
     draft.add_argument("--client", metavar="ADDRESS", help="the client; the one that asks most if it is left out")
     draft.add_argument("--day", action="store_true", help="claim whole days (UTC)")
     draft.add_argument("--drift-ppb", type=int, metavar="N",
-                       help="oscillator and client together, in parts of 10^9; by the client's configuration, else 100000")
+                       help="oscillator and client together, in parts of 10^9; by the client's configuration, else "
+                            "100000")
     client = draft.add_mutually_exclusive_group()
-    client.add_argument("--chrony", action="append", metavar="FILE", help="chronyd's configuration, which limits the drift")
+    client.add_argument("--chrony", action="append", metavar="FILE",
+                        help="chronyd's configuration, which limits the drift")
     client.add_argument("--ntpd", action="append", metavar="FILE", help="ntpd's configuration")
     draft.add_argument("--tracking", action="append", metavar="FILE", help="chronyd's tracking.log, or its messages")
     draft.add_argument("--oscillator-ppb", type=in_range(0, 500_000_000), default=100_000, metavar="N",
                        help="the oscillator alone, to which the configuration adds; 100000 if it is left out")
-    draft.add_argument("--evidence", metavar="FILE", help="write what was read from the client's files to FILE, for evidence.json")
+    draft.add_argument("--evidence", metavar="FILE",
+                       help="write what was read from the client's files to FILE, for evidence.json")
     draft.add_argument("--reading-ns", type=int, default=100_000, metavar="N",
                        help="how far records' times may be from the clock, in nanoseconds; 100000 if it is left out")
     audit = commands.add_parser("audit", help="audit folders")
@@ -70,19 +73,21 @@ def parser() -> Parser:
     form = page.add_mutually_exclusive_group()
     form.add_argument("--json", action="store_true", help="the table as JSON")
     form.add_argument("--csv", action="store_true", help="the table as CSV")
-    page.add_argument("--signers", metavar="FILE", help="who may sign, as ssh-keygen's file of allowed signers has it: signatures are checked")
     page.add_argument("--verify", action="store_true", help="verify the folders first; else what is known here counts")
-    page.add_argument("--leap-seconds", metavar="FILE", help=LEAPS)
     page.add_argument("--title", default="Clock dossier", metavar="TEXT", help="the page's heading")
-    page.add_argument("-o", "--output", metavar="FILE", help="write the page to FILE, whole or not at all; standard output if it is left out")
+    page.add_argument("-o", "--output", metavar="FILE",
+                      help="write the page to FILE, whole or not at all; standard output if it is left out")
     verify = commands.add_parser("verify", help="audit the inputs again, and compare all that stands in the folder")
     verify.add_argument("folders", nargs="+", metavar="FOLDER", help=FOLDER)
-    verify.add_argument("--signers", metavar="FILE", help="who may sign, as ssh-keygen's file of allowed signers has it")
-    verify.add_argument("--leap-seconds", metavar="FILE", help=LEAPS)
     sign = commands.add_parser("sign", help="sign audits with an ssh key")
     sign.add_argument("folders", nargs="+", metavar="FOLDER", help=FOLDER)
     sign.add_argument("--key", required=True, metavar="FILE",
                       help="a private key, or the public one of a key that an agent holds")
+    for command in (page, verify):
+        command.add_argument("--signers", metavar="FILE",
+                             help="who may sign, as ssh-keygen's file of allowed signers has it: signatures are "
+                                  "checked")
+        command.add_argument("--leap-seconds", metavar="FILE", help=LEAPS)
     for command in (audit, page, verify, sign):
         command.add_argument("--state", metavar="DIR",
                              help="where it is recorded which audits were made or verified here; else below "
@@ -91,9 +96,11 @@ def parser() -> Parser:
                              help=f"seconds for each folder, which is refused after them; {SECONDS} if it is left out")
     measure = commands.add_parser("measure", help="measure how far the times of records are from the clock")
     measure.add_argument("--interface", default="lo", metavar="NAME", help="where to record; the loopback if left out")
-    measure.add_argument("--count", type=in_range(10, 100_000), default=1000, metavar="N", help="how many packets; 1000 if left out")
+    measure.add_argument("--count", type=in_range(10, 100_000), default=1000, metavar="N",
+                         help="how many packets; 1000 if left out")
     measure.add_argument("--load", action="store_true", help="keep all processors busy meanwhile")
-    measure.add_argument("-o", "--output", metavar="FILE", help="write it as JSON to FILE too, for evidence.json to name")
+    measure.add_argument("-o", "--output", metavar="FILE",
+                         help="write it as JSON to FILE too, for evidence.json to name")
     picture = commands.add_parser("picture", help="print the picture of a claim and a capture, as SVG")
     picture.add_argument("claim", metavar="CLAIM", help="a JSON file")
     picture.add_argument("capture", metavar="CAPTURE", help="a classic pcap file")

@@ -207,7 +207,8 @@ class Draft:
         """What only a person can answer for."""
         groups = count(len(claim.grouped), "group")
         self.remark(f"drift_ppb is {claim.drift_ppb}: how fast the clock may gain or lose,",
-                    "its oscillator's data sheet and the NTP client's corrections together. Nothing in a capture shows it.")
+                    "its oscillator's data sheet and the NTP client's corrections together.",
+                    "Nothing in a capture shows it.")
         self.remark(f"reading_ns is {claim.reading_ns}: how far a record's time may be from what the clock showed.",
                     "It has to be measured on that machine.")
         self.remark(f"false_max is {claim.false_max}: fewer than half of {groups} of servers may be wrong.",

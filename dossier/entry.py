@@ -3,17 +3,22 @@ from __future__ import annotations
 
 import json
 from dataclasses import dataclass, field
-from typing import Annotated, Any, Literal
+from typing import Annotated, Any, Final, Literal
 
 from . import VERSION
 from .claim import Claim
 from .fault import DEVICE, REFUSED as INPUT_REFUSED, fault
 from .folder import AUDIT, CLAIM, JOINED, LEFT, LIMITS
-from .typed import (Address, Count, Mangled, Name, Nanoseconds, Seconds, Small, Sum, Text, Ticks, Time, is_name, is_time,
-                    mangled, matching, or_nothing, parsed, said, sized, typed, within)
+from .typed import (Address, Count, Mangled, Name, Nanoseconds, Seconds, Small, Sum, Text, Ticks, Time, is_name,
+                    is_time, mangled, matching, or_nothing, parsed, said, sized, typed, within)
 
 Verdict = Literal["yes", "refuted", "nothing fits", "no evidence", "open"]
-YES, REFUTED, NOTHING_FITS, NO_EVIDENCE, OPEN = ANSWERED = "yes", "refuted", "nothing fits", "no evidence", "open"
+YES: Final = "yes"
+REFUTED: Final = "refuted"
+NOTHING_FITS: Final = "nothing fits"
+NO_EVIDENCE: Final = "no evidence"
+OPEN: Final = "open"
+ANSWERED = (YES, REFUTED, NOTHING_FITS, NO_EVIDENCE, OPEN)
 REFUSED, NOT_VERIFIED = "refused", "not verified"
 """There is no verdict; and there is one that nobody made or verified here."""
 
@@ -54,8 +59,8 @@ class Reason:
     drift_ppb: Count = 0
     conflicts: list[tuple[Address, Count, Address, Count]] = field(default_factory=list)
     apart: list[Address] = field(default_factory=list)
-    """Where nothing fits: the drift that was tried; each conflict, with the server and the record of a request and those
-    of a reply; and the servers that are apart."""
+    """Where nothing fits: the drift that was tried; each conflict, with the server and the record of a request and
+    those of a reply; and the servers that are apart."""
     heard: Count = 0
     """`silent`: how many groups have a sample."""
 
@@ -123,7 +128,8 @@ class Entry:
     envelope_step: Annotated[int, within(1, 86_400)]
     """Seconds of the envelope's pieces."""
     least_ns: Nanoseconds | None
-    """The least bound that any certificate carries; None if no course of events fits, or too few groups have a sample."""
+    """The least bound that any certificate carries; None if no course of events fits, or too few groups have a
+    sample."""
     worst: Piece
     """The piece that needs the least bound, or the first that is unbounded or empty."""
     counts: dict[Annotated[str, matching("[a-z]{1,20}")], Count]
@@ -139,10 +145,6 @@ class Entry:
     def __post_init__(self) -> None:
         if (self.reason is None) != (self.verdict == YES) or "samples" not in self.counts:
             raise Mangled(f"entry {self.part}")
-
-    @property
-    def status(self) -> int:
-        return int(self.verdict != YES)
 
 
 @dataclass(frozen=True)
@@ -196,7 +198,7 @@ class Record:
 
     @property
     def status(self) -> int:
-        return self.refusal.status if self.refusal else max(entry.status for entry in self.entries)
+        return self.refusal.status if self.refusal else int(any(entry.verdict != YES for entry in self.entries))
 
     @property
     def verdicts(self) -> list[str]:

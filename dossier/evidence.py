@@ -18,7 +18,9 @@ PREMISES = Literal["reading", "capture", "servers", "distance", "answers", "drif
 
 def evidence(folder: Folder) -> dict[str, str]:
     """Where the evidence for each premise is kept, as evidence.json says it, if there is one."""
-    found: dict[str, str] = read_typed(EVIDENCE, dict[PREMISES, Text], folder.data(EVIDENCE)) if folder.has(EVIDENCE) else {}
+    if not folder.has(EVIDENCE):
+        return {}
+    found: dict[str, str] = read_typed(EVIDENCE, dict[PREMISES, Text], folder.data(EVIDENCE))
     return found
 
 

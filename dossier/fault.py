@@ -4,6 +4,8 @@ from __future__ import annotations
 REFUSED, MEMORY, DEVICE, USAGE, MISSING = 2, 3, 4, 5, 70
 """Statuses: an input is refused, out of memory, a device, the command line, something isn't installed."""
 
+OWN = "ntpaudit-dossier: "
+
 
 class Fault(Exception):
     """A call or a folder that gave no answer: its line, and its status."""
@@ -11,6 +13,15 @@ class Fault(Exception):
     def __init__(self, line: str, status: int):
         super().__init__(line)
         self.line, self.status = line, status
+
+    @property
+    def words(self) -> str:
+        """The line without the name of who says it."""
+        return self.line.removeprefix(OWN)
+
+    def of(self, what: str) -> Fault:
+        """The same of something that is named."""
+        return fault(f"{what}: {self.words}", self.status)
 
 
 class Stopped(BaseException):
@@ -22,4 +33,4 @@ class Stopped(BaseException):
 
 def fault(words: str, status: int = REFUSED) -> Fault:
     """A fault that the dossier finds by itself."""
-    return Fault(f"ntpaudit-dossier: {words}", status)
+    return Fault(f"{OWN}{words}", status)

@@ -67,8 +67,8 @@ def picture(envelope: Envelope, bound_ns: int, name: str, label: str) -> Html:
         element("rect", class_="frame", y=TOP, width="100%", height=HEIGHT),
         stretched(TOP + HEIGHT, STRIP, marks(cells)),
         *words(envelope, bound, bound_ns, low, high, y), ""])
-    return element("svg", drawn, xmlns=XMLNS, class_="picture", width="100%", height=TOP + HEIGHT + STRIP + FOOT, role="img",
-                   aria_labelledby=f"{name}-t {name}-d")
+    return element("svg", drawn, xmlns=XMLNS, class_="picture", width="100%", height=TOP + HEIGHT + STRIP + FOOT,
+                   role="img", aria_labelledby=f"{name}-t {name}-d")
 
 
 XMLNS = "http://www.w3.org/2000/svg"
@@ -200,7 +200,7 @@ def described(envelope: Envelope, bound_ns: int) -> str:
         said.append(f"The hull lies within {ends}.")
     said.append(f"The claimed bound is {ns_ms(bound_ns)} ms to either side.")
     fails = {"beyond the bound": sum(is_beyond(hull, bound) for hull in bounded)}
-    fails |= {word: envelope.hulls.count(word) for word in ("empty", "unbounded")}
+    fails |= {word: sum(hull == word for hull in envelope.hulls) for word in ("empty", "unbounded")}
     return " ".join([*said, *(f"{count(number, 'piece')} {word}." for word, number in fails.items() if number)])
 
 
@@ -222,7 +222,8 @@ def items(names: list[str], fails: Collection[str]) -> list[tuple[list[Html], st
 
 def legend(names: list[str], fails: Collection[str]) -> Html:
     """The legend beside a picture in a page."""
-    return element("ul", *(element("li", swatch(drawn), " ", text) for drawn, text in items(names, fails)), class_="legend")
+    listed = (element("li", swatch(drawn), " ", text) for drawn, text in items(names, fails))
+    return element("ul", *listed, class_="legend")
 
 
 def fails_of(envelope: Envelope, bound_ns: int) -> set[str]:
@@ -238,12 +239,15 @@ def standing_alone(envelope: Envelope, bound_ns: int, label: str, wide: int = 90
     for drawn, text in items(list(envelope.servers), fails_of(envelope, bound_ns)):
         if across + 52 + 7 * len(text) > wide:
             top, across = top + 20, 10
-        written.append(element("g", *drawn, element("text", text, x=32, y=12), transform=f"translate({across} {top - 28})"))
+        named = element("text", text, x=32, y=12)
+        written.append(element("g", *drawn, named, transform=f"translate({across} {top - 28})"))
         across += 52 + 7 * len(text)
     height = top + TOP + HEIGHT + STRIP + FOOT
-    inner = element("svg", lines(["", picture(envelope, bound_ns, "p", label), ""]), x=10, y=top, width=wide - 20, height=height - top)
+    drawn_inside = lines(["", picture(envelope, bound_ns, "p", label), ""])
+    inner = element("svg", drawn_inside, x=10, y=top, width=wide - 20, height=height - top)
     paper = element("rect", class_="paper", width="100%", height="100%")
-    return element("svg", lines(["", element("style", PICTURE), paper, *written, inner, ""]), xmlns=XMLNS, width=wide, height=height)
+    parts = lines(["", element("style", PICTURE), paper, *written, inner, ""])
+    return element("svg", parts, xmlns=XMLNS, width=wide, height=height)
 
 
 def print_picture(program: Program, claim: str, capture: str, step: int) -> int:

@@ -1,7 +1,7 @@
 """A folder that is a stranger's: how its files are opened, and that each is read as one and the same.
 
-A file is opened by the folder's descriptor. No link is followed, it has to be a regular file, and no larger than its kind
-may be. What is parsed, shown, summed or handed on is what was read: its bytes, or a private copy of them.
+A file is opened by the folder's descriptor. No link is followed, it has to be a regular file, and no larger than its
+kind may be. What is parsed, shown, summed or handed on is what was read: its bytes, or a private copy of them.
 """
 from __future__ import annotations
 

@@ -6,11 +6,12 @@ from __future__ import annotations
 
 from collections.abc import Iterator
 from operator import sub
-from typing import NamedTuple
+from typing import Literal, NamedTuple
 
 from .answers import Envelope, Settled, read_advice, read_hulls, read_settled
 from .claim import GREATEST_DRIFT, Claim, Part
-from .entry import NO_EVIDENCE, NOTHING_FITS, OPEN, REFUTED, YES, Alert, Entry, Hull, Leap, LeapList, Piece, Reason, Server
+from .entry import (NO_EVIDENCE, NOTHING_FITS, OPEN, REFUTED, YES, Alert, Entry, Hull, Leap, LeapList, Piece, Reason,
+                    Server)
 from .leap import WITHIN, look_up
 from .recording import SECOND, Recording
 from .units import bound_ticks
@@ -98,8 +99,8 @@ def why_refuted(bound: int, envelope: Envelope) -> Reason:
 
 def why_nothing_fits(claim: Claim, servers: list[Server], settled: Settled, fits_with_more: bool) -> Reason:
     """`apart` with the servers of groups that are in conflict with themselves or with most others, if these are the
-    minority and in each conflict; else `drift` if a course fits with more drift; `step` if each group is in conflict with
-    itself; else `many`."""
+    minority and in each conflict; else `drift` if a course fits with more drift; `step` if each group is in conflict
+    with itself; else `many`."""
     group = {server.address: server.group for server in servers}
     heard = {server.group for server in servers if server.samples}
     pairs = {(group[low], group[high]) for low, _, high, _ in settled.conflicts}
@@ -110,7 +111,8 @@ def why_nothing_fits(claim: Claim, servers: list[Server], settled: Settled, fits
     if 2 * len(apart) < len(heard) and all(a in apart or b in apart for a, b in pairs):
         names = [server.address for server in servers if server.group in apart]
         return Reason("apart", drift_ppb=tried, conflicts=conflicts, apart=names)
-    return Reason("drift" if fits_with_more else "step" if broken == heard else "many", drift_ppb=tried, conflicts=conflicts)
+    why: Literal["drift", "step", "many"] = "drift" if fits_with_more else "step" if broken == heard else "many"
+    return Reason(why, drift_ppb=tried, conflicts=conflicts)
 
 
 def servers_of(claim: Claim, recording: Recording) -> list[Server]:

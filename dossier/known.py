@@ -37,8 +37,8 @@ class Known:
         except FileNotFoundError:
             self.lines = b""
         except OSError as error:
-            raise fault(f"the record of audits in {state} can't be used ({error.strerror}): --state names another folder",
-                        DEVICE) from None
+            why = f"the record of audits in {state} can't be used ({error.strerror})"
+            raise fault(f"{why}: --state names another folder", DEVICE) from None
 
     def has(self, sum_: str) -> bool:
         return sum_ in self.added or f"\n{sum_}\n".encode() in self.lines

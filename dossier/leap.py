@@ -6,6 +6,7 @@ by then.
 from __future__ import annotations
 
 import hashlib
+from typing import Final
 
 from .claim import Claim
 from .entry import Leap, LeapList
@@ -20,7 +21,10 @@ SYSTEM = "/usr/share/zoneinfo/leap-seconds.list"
 FROM_1900 = 2_208_988_800
 """Seconds from 1900, by which lists count, to 1970."""
 
-NONE, WITHIN, EXPIRED, NO_LIST = "none", "within", "expired", "no list"
+NONE: Final = "none"
+WITHIN: Final = "within"
+EXPIRED: Final = "expired"
+NO_LIST: Final = "no list"
 
 
 def read_list(path: str | None, limit: Limit) -> LeapList:
@@ -30,14 +34,14 @@ def read_list(path: str | None, limit: Limit) -> LeapList:
     except Fault as found:
         if path is not None:
             raise
-        return LeapList(SYSTEM, fault=found.line.removeprefix("ntpaudit-dossier: "))
+        return LeapList(SYSTEM, fault=found.words)
 
 
 def list_of(path: str, limit: Limit) -> LeapList:
     try:
         data = data_named(path, limit)
     except Fault as found:
-        raise fault(f"the list of leap seconds: {found.line.removeprefix('ntpaudit-dossier: ')}", found.status) from None
+        raise found.of("the list of leap seconds") from None
     try:
         good_until, seconds = parsed(data.decode("utf-8"))
         if not is_text(path):
@@ -53,12 +57,13 @@ def differing(kept: LeapList, own: LeapList) -> str:
     one, other = ([row for row in list_.seconds if row[0] <= until] for list_ in (kept, own))
     if kept.fault or own.fault or one == other:
         return ""
-    return f"{AUDIT}: the list of leap seconds has {one[-3:]} at its end until {civil(until)}, and this machine's {other[-3:]}"
+    end = f"at its end until {civil(until)}"
+    return f"{AUDIT}: the list of leap seconds has {one[-3:]} {end}, and this machine's {other[-3:]}"
 
 
 def parsed(text: str) -> tuple[int, list[tuple[int, int]]]:
-    """Until when a list is good, in Unix seconds, and its leap seconds: where the day after each begins, and by how much
-    UTC fell behind. A ValueError if it isn't whole: a list has a sum of its own."""
+    """Until when a list is good, in Unix seconds, and its leap seconds: where the day after each begins, and by how
+    much UTC fell behind. A ValueError if it isn't whole: a list has a sum of its own."""
     good_until, own, words = None, None, []
     rows: list[tuple[int, int]] = []
     for line in text.splitlines():

@@ -1,6 +1,7 @@
 """An audit, made from the inputs of a folder alone: private copies of them, the program's calls, and what they leave.
 
-All of it is in the current folder, which is one's own. `audit` puts it into its place, and `verify` holds the folder to it.
+All of it is in the current folder, which is one's own. `audit` puts it into its place, and `verify` holds the folder to
+it.
 """
 from __future__ import annotations
 
@@ -69,7 +70,7 @@ def take_inputs(folder: Folder) -> Inputs:
     return taken
 
 
-def make(taken: Inputs, options: Options, leaps: LeapList, program: Program, earlier: Earlier = no_earlier) -> list[Entry]:
+def make(taken: Inputs, options: Options, leaps: LeapList, program: Program, earlier: Earlier) -> list[Entry]:
     """All answers, and their files in the current folder."""
     capture, joined = next(iter(taken.copies.values())), {}
     if len(taken.copies) > 1:

@@ -44,17 +44,17 @@ class Measurement:
     def why(self) -> str:
         of = f"the greatest of {self.packets:,} packets that were sent, rounded up to two digits"
         if self.reading_ns <= LEAST_READING:
-            return (f"no less than {LEAST_READING:,}, though the greatest of {self.packets:,} packets that were sent is "
-                    "less: nothing was measured of what is received, nor of busier times")
+            return (f"no less than {LEAST_READING:,}, though the greatest of {self.packets:,} packets that were sent "
+                    "is less: nothing was measured of what is received, nor of busier times")
         return f"{of}. Nothing was measured of what is received, nor of busier times"
 
     def sentence(self) -> str:
         """What a page says."""
         beside = f" {self.under}" if self.busy else ""
-        return (f"{self.packets:,} packets that {self.machine} sent itself on {self.interface}{beside} at {self.made} were "
-                f"recorded {self.least_ns:,} ns after the clock was read at the least, {self.median_ns:,} in the median, "
-                f"{self.percent_99_ns:,} for 99 percent, and {self.greatest_ns:,} at the most. What is received wasn't "
-                "measured.")
+        return (f"{self.packets:,} packets that {self.machine} sent itself on {self.interface}{beside} at {self.made} "
+                f"were recorded {self.least_ns:,} ns after the clock was read at the least, {self.median_ns:,} in the "
+                f"median, {self.percent_99_ns:,} for 99 percent, and {self.greatest_ns:,} at the most. What is "
+                "received wasn't measured.")
 
 
 def measurement_text(found: Measurement) -> bytes:

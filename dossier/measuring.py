@@ -1,5 +1,5 @@
-"""How far the times of records are from the clock, measured for what is sent: packets to this machine itself, recorded by
-tcpdump, each record's time against what the clock read just before.
+"""How far the times of records are from the clock, measured for what is sent: packets to this machine itself, recorded
+by tcpdump, each record's time against what the clock read just before.
 """
 from __future__ import annotations
 
@@ -172,8 +172,8 @@ def recorded(program: Program, capture: str) -> dict[int, int]:
 
 
 def matched(sent: list[int], times: dict[int, int]) -> list[int]:
-    """What lies between the reading of the clock and the record's time, of each packet that was recorded. A busy machine
-    may drop some."""
+    """What lies between the reading of the clock and the record's time, of each packet that was recorded. A busy
+    machine may drop some."""
     delays = [times[number] - at for number, at in enumerate(sent, 1) if number in times]
     if 10 * len(delays) < 9 * len(sent):
         raise fault(f"{len(delays)} of {len(sent)} packets were recorded, so nothing is measured",

@@ -87,7 +87,8 @@ class Looking:
             return
         for entry in record.entries:
             name, row = f"a{len(self.sections)}", row_of(path, entry, signature)
-            self.sections.append(Section(name, row, article(name, path, folder, record, entry, signature), record.program))
+            said = article(name, path, folder, record, entry, signature)
+            self.sections.append(Section(name, row, said, record.program))
 
     def refuse(self, path: str, line: str, signature: Signature) -> None:
         why, what = remedy(line)
@@ -100,7 +101,8 @@ class Looking:
 
 def write_page(folders: list[str], given: argparse.Namespace, known: Known, limit: Limit,
                verifier: Verifier | None = None) -> int:
-    """Prints the page or the table, or writes it whole. The status is 2 if a folder was refused for what stands in it."""
+    """Prints the page or the table, or writes it whole. The status is 2 if a folder was refused for what stands in
+    it."""
     caller = verifier.program.caller if verifier else Caller(limit)
     looking = Looking(known, Signers(given.signers, caller), limit, verifier)
     for folder in folders:
@@ -135,14 +137,16 @@ def page(found: list[Section], title: str, folders: int, is_looked_at: bool) -> 
         "", element("h1", title), element("p", made_by(found, folders), class_="soft"), tally(rows), ""]))
     names = [section.name for section in found]
     main = element("main", lines(["", table(rows, names, is_looked_at), *(section.article for section in found), ""]))
-    return f"<!DOCTYPE html>\n{element('html', lines(['', head, element('body', lines(['', header, main, ''])), '']), lang='en')}\n"
+    body = element("body", lines(["", header, main, ""]))
+    return f"<!DOCTYPE html>\n{element('html', lines(['', head, body, '']), lang='en')}\n"
 
 
 def made_by(found: list[Section], folders: int) -> str:
     """Which programs made the audits."""
     programs = {section.made.sha256: section.made.version for section in found if section.made}
     which = "; ".join(f"{version or 'ntpaudit'}, SHA-256 {sum_[:16]} and on" for sum_, version in programs.items())
-    return f"{count(folders, 'folder')}, put together at {now()}. Audited by {which or 'nothing known'}. All times are UTC."
+    said = f"{count(folders, 'folder')}, put together at {now()}. Audited by {which or 'nothing known'}."
+    return f"{said} All times are UTC."
 
 
 def tally(rows: list[Row]) -> Html:
@@ -164,7 +168,8 @@ def table(rows: list[Row], names: list[str], is_looked_at: bool) -> Html:
     head = element("thead", element("tr", *(element("th", column, class_=COLUMNS[column]) for column in shown)))
     groups = []
     for row, line in zip(rows, cells):
-        said = element("tr", *(element("td", line[column], data_label=column, class_=COLUMNS[column]) for column in shown))
+        said = element("tr", *(element("td", line[column], data_label=column, class_=COLUMNS[column])
+                               for column in shown))
         why = joined(why_of(row), element("br"))
         under = element("tr", element("td", why, colspan=len(shown)), class_="why") if why else ""
         groups.append(element("tbody", said, under))

@@ -1,7 +1,8 @@
-"""How outputs get into a folder: made in a new folder of random name beside their places (0700), and renamed from there.
+"""How outputs get into a folder: made in a new folder of random name beside their places (0700), and renamed from
+there.
 
-Nothing is written through a link, and all of it goes by descriptors: whoever may write in the folder can at most have what
-he put there replaced.
+Nothing is written through a link, and all of it goes by descriptors: whoever may write in the folder can at most have
+what he put there replaced.
 """
 from __future__ import annotations
 

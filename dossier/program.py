@@ -34,8 +34,8 @@ class Program(NamedTuple):
         return self.caller.limit
 
     def run(self, *words: str, sums: dict[str, str] | None = None) -> Ran:
-        """Calls the program, and has it hold its operands to their sums, if these are given by the operands' names: all of
-        them are names of one's own, so none has anything in it that `sha256sum` would escape."""
+        """Calls the program, and has it hold its operands to their sums, if these are given by the operands' names: all
+        of them are names of one's own, so none has anything in it that `sha256sum` would escape."""
         called, text_of_sums = [self.path, *words], b""
         if sums:
             called += ["--sums", f"/dev/fd/{SUMS}"]

@@ -19,9 +19,9 @@ MANY_PIECES = 10_000
 
 
 class Settling:
-    """A claim that is being settled by a capture, the sums of the files that its verdict is about, and of those that were
-    left so far. The envelope has pieces of the step that is asked for, if one is. A refutation that was found earlier is
-    taken in place of another one, if the program accepts it."""
+    """A claim that is being settled by a capture, the sums of the files that its verdict is about, and of those that
+    were left so far. The envelope has pieces of the step that is asked for, if one is. A refutation that was found
+    earlier is taken in place of another one, if the program accepts it."""
 
     def __init__(self, part: Part, capture: str, program: Program, step: int | None, sums: dict[str, str],
                  earlier: bytes = b""):
@@ -64,8 +64,8 @@ class Settling:
         return said
 
     def decide(self) -> Texts:
-        """What `settle` says, and what the checkers say about it. At a yes the same claim with the bound 0 is settled too,
-        and where nothing fits the same claim with more drift: with any bound, since that is ignored."""
+        """What `settle` says, and what the checkers say about it. At a yes the same claim with the bound 0 is settled
+        too, and where nothing fits the same claim with more drift: with any bound, since that is ignored."""
         text = self.call("settle", self.claim, self.capture)
         verdict = read_settled(text).verdict
         if verdict == YES:

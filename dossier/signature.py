@@ -10,7 +10,7 @@ from typing import NamedTuple
 
 from .call import Caller, find_tool
 from .entry import read_record
-from .fault import Fault, fault
+from .fault import Fault
 from .folder import AUDIT, SIGNATURE, Copy, Folder, data_named
 from .scratch import scratch
 from .typed import is_time
@@ -48,11 +48,11 @@ class Signers:
         try:
             self.given = data_named(path, caller.limit) if path is not None else None
         except Fault as found:
-            raise fault(f"the file of signers: {found.line.removeprefix('ntpaudit-dossier: ')}", found.status) from None
+            raise found.of("the file of signers") from None
 
     def signature_of(self, folder: Folder) -> Signature:
-        """The signature of a folder, over the very bytes of audit.json that are read of it. It is looked at if there are
-        signers; whether a key may sign is asked of the time at which audit.json says that it was made."""
+        """The signature of a folder, over the very bytes of audit.json that are read of it. It is looked at if there
+        are signers; whether a key may sign is asked of the time at which audit.json says that it was made."""
         if not folder.has(SIGNATURE):
             return Signature(NONE)
         signature, data = folder.data(SIGNATURE), folder.data(AUDIT) if folder.has(AUDIT) else b""
@@ -89,7 +89,7 @@ class Signers:
 def time_of(data: bytes) -> str:
     """When a record was signed, as it says; nothing if it is no record."""
     try:
-        return read_record(data).signed
+        return str(read_record(data).signed)
     except Fault:
         return ""
 

@@ -93,7 +93,8 @@ body{padding:16px 14px 40px}
 h1{font-size:24px}
 thead{display:none}
 tr{display:block;border-bottom:2px solid var(--rule);padding:8px 0}
-td,td.number,td.narrow,td.granted{display:flex;gap:12px;border:0;padding:2px 0;text-align:left;white-space:normal;width:auto}
+td,td.number,td.narrow,td.granted{display:flex;gap:12px;border:0;padding:2px 0;text-align:left;width:auto}
+td,td.number,td.narrow,td.granted{white-space:normal}
 td>*{min-width:0}
 td::before{content:attr(data-label);flex:0 0 7.5em;color:var(--soft)}
 td:empty{display:none}

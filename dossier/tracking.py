@@ -1,7 +1,7 @@
 """What chronyd's tracking.log says: how its frequency changed, and where the clock was stepped.
 
-It is the client's own opinion, and stands as such wherever it is shown. tracking.log doesn't mark steps: an update whose
-offset is more than makestep's threshold is taken for one. chronyd's messages name them, if they are given too.
+It is the client's own opinion, and stands as such wherever it is shown. tracking.log doesn't mark steps: an update
+whose offset is more than makestep's threshold is taken for one. chronyd's messages name them, if they are given too.
 """
 from __future__ import annotations
 
@@ -18,10 +18,14 @@ from .text import count
 from .typed import Count, Sum, Text, Time, is_time
 from .units import EPOCH, FORM, seconds_of, shown_time
 
-UPDATE = re.compile(r"(\d{4}-\d\d-\d\d) (\d\d:\d\d:\d\d) +\S+ +(\d+) +(-?\d{1,9}\.\d{1,9}) +\d+\.\d+ +(-?\d\.\d{1,9}e[+-]\d\d) ", re.ASCII)
+UPDATE = re.compile(r"(\d{4}-\d\d-\d\d) (\d\d:\d\d:\d\d) +\S+ +(\d+) +(-?\d{1,9}\.\d{1,9}) +\d+\.\d+ +"
+                    r"(-?\d\.\d{1,9}e[+-]\d\d) ", re.ASCII)
 STEPPED = re.compile(r"(\d{4}-\d\d-\d\d[T ]\d\d:\d\d:\d\d(?:\.\d+)?(?:Z|[+-]\d\d:?\d\d)) .*"
                      r"System clock was stepped by (-?\d{1,12}\.\d{1,12}) seconds", re.ASCII)
 HAPPENED, OFFSET, FALLS = "it says so", "an offset beyond makestep's threshold", "the times of the log fall back"
+
+Step = tuple[Time, Text, Text]
+"""The time of a step, its seconds (nothing if they aren't known), and how it is seen."""
 
 
 @dataclass(frozen=True)
@@ -34,7 +38,7 @@ class Tracking:
     greatest_ppm: Text
     change_ppm: Text
     """The greatest change of frequency from one update to the next."""
-    steps: list[tuple[Time, Text, Text]]
+    steps: list[Step]
     """Of each step its time, its seconds (nothing if they aren't known), and how it is seen."""
 
 
@@ -42,7 +46,7 @@ def read_tracking(paths: list[str], step_s: str | None) -> Tracking:
     """What the logs say, for a client that steps from so many seconds on."""
     files: dict[str, str] = {}
     seen: list[tuple[str, Fraction]] = []
-    steps: list[tuple[str, str, str]] = []
+    steps: list[Step] = []
     for path in paths:
         data, lines = lines_of(path)
         files[os.path.basename(path)] = sum_of(data)
@@ -59,7 +63,7 @@ def read_tracking(paths: list[str], step_s: str | None) -> Tracking:
     return Tracking(files, len(seen), times[0], times[-1], ppm(min(rates)), ppm(max(rates)), ppm(change), sorted(steps))
 
 
-def take(update: re.Match[str], step_s: str | None, seen: list[tuple[str, Fraction]], steps: list[tuple[str, str, str]]) -> None:
+def take(update: re.Match[str], step_s: str | None, seen: list[tuple[str, Fraction]], steps: list[Step]) -> None:
     """Takes an update. One of no source (its stratum is 0) says nothing of the frequency."""
     time = f"{update[1]}T{update[2]}Z"
     if not is_time(time):
@@ -88,8 +92,9 @@ def ppm(rate: Fraction) -> str:
 def in_words(found: Tracking) -> str:
     """What a page and a draft say of it."""
     steps = count(len(found.steps), "step") if found.steps else "no step"
-    return (f"{', '.join(found.files)}, as chronyd wrote it: {count(found.updates, 'update')} from {shown(found.first)} to "
-            f"{shown(found.last)}, its frequency from {found.least_ppm} to {found.greatest_ppm} ppm, with "
+    updates = count(found.updates, "update")
+    return (f"{', '.join(found.files)}, as chronyd wrote it: {updates} from {shown(found.first)} to {shown(found.last)}, "
+            f"its  frequency from {found.least_ppm} to {found.greatest_ppm} ppm, with "
             f"{found.change_ppm} ppm at the most from one to the next; {steps}.")
 
 

@@ -125,7 +125,8 @@ def typed(kind: Any, value: Any, place: str) -> Any:
     if origin is tuple and isinstance(value, list) and len(value) == len(inner):
         return tuple(typed(each, item, f"{place} {number}") for number, (each, item) in enumerate(zip(inner, value)))
     if origin is dict and isinstance(value, dict):
-        return {typed(inner[0], key, f"{place} {key}"): typed(inner[1], item, f"{place} {key}") for key, item in value.items()}
+        pairs = ((key, item, f"{place} {key}") for key, item in value.items())
+        return {typed(inner[0], key, where): typed(inner[1], item, where) for key, item, where in pairs}
     if is_dataclass(kind) and isinstance(value, dict):
         return record_of(kind, value, place)
     if kind is float and type(value) is int or type(value) is kind:
@@ -178,9 +179,9 @@ def default_of(field: Any) -> Any:
 def first_difference(one: Any, other: Any, place: str = "") -> tuple[str, Any, Any] | None:
     """Where two values of JSON differ first, and what they say there."""
     if isinstance(one, dict) and isinstance(other, dict):
-        pairs = [(name, one.get(name), other.get(name)) for name in {**one, **other}]
+        parts = [(name, one.get(name), other.get(name)) for name in {**one, **other}]
     elif isinstance(one, list) and isinstance(other, list) and len(one) == len(other):
-        pairs = [(str(number), *items) for number, items in enumerate(zip(one, other))]
+        parts = [(str(number), a, b) for number, (a, b) in enumerate(zip(one, other))]
     else:
         return None if one == other and type(one) is type(other) else (place, one, other)
-    return next((found for name, *items in pairs if (found := first_difference(*items, f"{place} {name}"))), None)
+    return next((found for name, a, b in parts if (found := first_difference(a, b, f"{place} {name}"))), None)

@@ -29,8 +29,8 @@ class Verifier:
         self.program, self.known, self.leaps = program, known, leaps
 
     def verify(self, folder: Folder) -> tuple[str, list[str]]:
-        """The first difference between what stands in a folder and what its inputs come to, nothing if there is none; and
-        what is worth a note and is no difference."""
+        """The first difference between what stands in a folder and what its inputs come to, nothing if there is none;
+        and what is worth a note and is no difference."""
         data = audit_json(folder)
         record = read_record(data)
         with scratch():
@@ -52,7 +52,8 @@ class Verifier:
         if found:
             return found
         is_other = record.program.sha256 != self.program.made.sha256
-        made = Making(folder, self.program, record.options, leaps).record(earlier_of(folder, record) if is_other else no_earlier)
+        making = Making(folder, self.program, record.options, leaps)
+        made = making.record(earlier_of(folder, record) if is_other else no_earlier)
         made = replace(made, made=record.made, seconds=record.seconds, signed=record.signed,
                        program=record.program if is_other else made.program)
         for name, sum_ in made.outputs.items():

@@ -49,17 +49,19 @@ def sentence(entry: Entry) -> str:
         said = f"{capital(span(claim))} {within}, {granted(claim)} and what else the claim grants is true."
         if entry.least_ns is None:
             return said
-        return (f"{said} Then the widest it may have been off was {ns_up_ms(entry.least_ns)} ms, {between(entry.worst)}: "
-                "no certificate carries a lesser bound.")
+        widest = f"{ns_up_ms(entry.least_ns)} ms, {between(entry.worst)}"
+        return (f"{said} Then the widest it may have been off was {widest}: no "
+                "certificate carries a lesser bound.")
     if entry.verdict == REFUTED:
         return f"The capture doesn't show that {span(claim)} {within}, and no certificate can. {reason(entry)}"
     if entry.verdict == NOTHING_FITS:
-        return (f"Whether {span(claim)} {within} can't be said: no course of events fits the capture, so something that "
-                f"the claim grants isn't true. {reason(entry)}")
+        return (f"Whether {span(claim)} {within} can't be said: no course of events fits the capture, so something "
+                f"that the claim grants isn't true. {reason(entry)}")
     if entry.verdict == NO_EVIDENCE:
-        return f"Whether {span(claim)} {within} can't be said: the capture says nothing about this clock. {reason(entry)}"
-    return (f"Whether {span(claim)} {within} stays open: no certificate shows it, and no course of events was found that "
-            f"fits the capture and breaks it. {reason(entry)}")
+        return (f"Whether {span(claim)} {within} can't be said: the capture says nothing about this clock. "
+                f"{reason(entry)}")
+    return (f"Whether {span(claim)} {within} stays open: no certificate shows it, and no course of events was found "
+            f"that fits the capture and breaks it. {reason(entry)}")
 
 
 def reason(entry: Entry) -> str:
@@ -69,10 +71,12 @@ def reason(entry: Entry) -> str:
         return ""
     if entry.verdict == NO_EVIDENCE:
         most = entry.claim.false_max
-        of = f"{found.heard} of {count(len(entry.claim.grouped), 'group')} of servers {'has' if found.heard == 1 else 'have'}"
-        return f"{of} a sample, and {most or 'none'} may be wrong: whatever the error, a course of events fits."
+        groups, have = count(len(entry.claim.grouped), "group"), "has" if found.heard == 1 else "have"
+        return (f"{found.heard} of {groups} of servers {have} a sample, and {most or 'none'} may be wrong: whatever the "
+                "error, a course of events fits.")
     if found.hull is not None:
-        left = f"the hull is {found.hull}" if isinstance(found.hull, str) else f"errors from {range_ms(*found.hull)} are left open"
+        is_word = isinstance(found.hull, str)
+        left = f"the hull is {found.hull}" if is_word else f"errors from {range_ms(*found.hull)} are left open"
         return f"At {shown_time(found.tick // TICKS)} {left}."
     return why_nothing_fits(found) if entry.verdict == NOTHING_FITS else why_refuted(entry, found)
 
@@ -83,8 +87,8 @@ def why_refuted(entry: Entry, found: Reason) -> str:
     said = f"A course of events fits the exchanges {course_of(entry)}."
     if found.piece is None or isinstance(found.piece.hull, str):
         return said
-    return (f"{said} {capital(between(found.piece))} the error lay from {range_ms(*found.piece.hull)}, outside the bound, if "
-            "what the claim grants is true.")
+    return (f"{said} {capital(between(found.piece))} the error lay from {range_ms(*found.piece.hull)}, outside the "
+            "bound, if what the claim grants is true.")
 
 
 def why_nothing_fits(found: Reason) -> str:
@@ -92,8 +96,8 @@ def why_nothing_fits(found: Reason) -> str:
     conflicts, drift = count(number, "conflict"), f"a drift of {found.drift_ppb:,} parts in 10^9"
     if found.why == "apart":
         own = "itself" if len(found.apart) == 1 else "themselves"
-        return (f"{' and '.join(found.apart)} {is_or_are(len(found.apart))} in each of {conflicts}, with {own} or with most "
-                "others.")
+        return (f"{' and '.join(found.apart)} {is_or_are(len(found.apart))} in each of {conflicts}, with {own} or "
+                "with most others.")
     if found.why == "drift":
         return f"With {drift} a course of events would fit: the claim grants too little drift."
     if found.why == "step":
@@ -110,22 +114,23 @@ def to_do(entry: Entry) -> str:
     return least + TO_DO[entry.reason.why]
 
 
+TIGHTER = "For a tighter one ask nearer servers, more of them, or more often; or grant less drift, if that is true."
 TO_DO = {
-    "unbounded": "Name more servers, put fewer of them together, or grant fewer wrong ones. The counts tell what became of "
-                 "their replies.",
-    "silent": "See whether the claim names the right client, and whether the capture has replies: the counts tell what became "
-              "of them. Name more servers, put fewer of them together, or grant fewer wrong ones.",
+    "unbounded": "Name more servers, put fewer of them together, or grant fewer wrong ones. The counts tell what "
+                 "became of their replies.",
+    "silent": "See whether the claim names the right client, and whether the capture has replies: the counts tell "
+              "what became of them. Name more servers, put fewer of them together, or grant fewer wrong ones.",
     "off": "See in the picture how it went; claim a wider bound, or another span.",
-    "tick": "For a tighter one ask nearer servers, more of them, or more often; or grant less drift, if that is true.",
-    "exceeds": "For a tighter one ask nearer servers, more of them, or more often; or grant less drift, if that is true.",
-    "apart": "See by the servers how far off they are. Name them no more, or grant that they were wrong (`false_max`) and "
-             "name more servers. Those that follow one another belong into one group.",
-    "drift": "Grant as much as the oscillator and the client's corrections can make: `ntpaudit-dossier draft --chrony` or "
-             "`--ntpd` reads them of the client's configuration.",
-    "step": "Look for the step in the client's messages (`System clock was stepped`), cut the capture there with `editcap "
-            "-A` and `-B`, and claim the time before and the time after by themselves.",
-    "many": "See in the conflicts which servers are in most, and in the picture how far off. Grant that they were wrong "
-            "(`false_max`) and name more; or the claim grants too little of `reading_ns`.",
+    "tick": TIGHTER,
+    "exceeds": TIGHTER,
+    "apart": "See by the servers how far off they are. Name them no more, or grant that they were wrong (`false_max`) "
+             "and name more servers. Those that follow one another belong into one group.",
+    "drift": "Grant as much as the oscillator and the client's corrections can make: `ntpaudit-dossier draft "
+             "--chrony` or `--ntpd` reads them of the client's configuration.",
+    "step": "Look for the step in the client's messages (`System clock was stepped`), cut the capture there with "
+            "`editcap -A` and `-B`, and claim the time before and the time after by themselves.",
+    "many": "See in the conflicts which servers are in most, and in the picture how far off. Grant that they were "
+            "wrong (`false_max`) and name more; or the claim grants too little of `reading_ns`.",
 }
 
 
@@ -148,7 +153,8 @@ def course_of(entry: Entry) -> str:
     found = entry.refutation
     if not found:
         return ""
-    return f"with an error of {error_of(found)} at {shown_time(found.reading // TICKS)} and {liars_of(entry.claim, found)}"
+    at = f"at {shown_time(found.reading // TICKS)}"
+    return f"with an error of {error_of(found)} {at} and {liars_of(entry.claim, found)}"
 
 
 def error_of(found: Refutation) -> str:
