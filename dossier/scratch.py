@@ -9,12 +9,16 @@ from contextlib import contextmanager
 from .fault import DEVICE, fault
 from .folder import HOME
 
+PLACES = ("/tmp", "/var/tmp")
+"""Where it is made if TMPDIR names no place. The current folder is none of them: it may be a stranger's."""
+
 
 @contextmanager
 def scratch() -> Iterator[None]:
     """Makes a new folder (0700) the current one for a while, and takes it away at the end."""
+    place = os.environ.get("TMPDIR") or next((place for place in PLACES if os.access(place, os.W_OK)), PLACES[0])
     try:
-        own = tempfile.TemporaryDirectory(prefix="ntpaudit-", dir=os.path.abspath(os.environ.get("TMPDIR") or "/tmp"))
+        own = tempfile.TemporaryDirectory(prefix="ntpaudit-", dir=os.path.abspath(place))
     except OSError as error:
         raise fault(f"no folder for private copies can be made ({error.strerror}): TMPDIR names another place",
                     DEVICE) from None

@@ -93,8 +93,8 @@ def in_words(found: Tracking) -> str:
     """What a page and a draft say of it."""
     steps = count(len(found.steps), "step") if found.steps else "no step"
     updates = count(found.updates, "update")
-    return (f"{', '.join(found.files)}, as chronyd wrote it: {updates} from {shown(found.first)} to {shown(found.last)}, "
-            f"its  frequency from {found.least_ppm} to {found.greatest_ppm} ppm, with "
+    span = f"from {shown(found.first)} to {shown(found.last)}"
+    return (f"{', '.join(found.files)}, as chronyd wrote it: {updates} {span}, its frequency from {found.least_ppm} to {found.greatest_ppm} ppm, with "
             f"{found.change_ppm} ppm at the most from one to the next; {steps}.")
 
 

@@ -72,8 +72,8 @@ def reason(entry: Entry) -> str:
     if entry.verdict == NO_EVIDENCE:
         most = entry.claim.false_max
         groups, have = count(len(entry.claim.grouped), "group"), "has" if found.heard == 1 else "have"
-        return (f"{found.heard} of {groups} of servers {have} a sample, and {most or 'none'} may be wrong: whatever the "
-                "error, a course of events fits.")
+        return (f"{found.heard} of {groups} of servers {have} a sample, and {most or 'none'} may be wrong: whatever "
+                "the error, a course of events fits.")
     if found.hull is not None:
         is_word = isinstance(found.hull, str)
         left = f"the hull is {found.hull}" if is_word else f"errors from {range_ms(*found.hull)} are left open"
