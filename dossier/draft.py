@@ -11,6 +11,7 @@ from .answers import read_hulls
 from .claim import GREATEST_BOUND, Claim
 from .folder import CLAIM, JOINED, Copy, copy_named
 from .joining import join
+from .limit import Limit
 from .program import Program
 from .recording import SECOND, Recording, read_recording
 from .scratch import scratch
@@ -132,7 +133,7 @@ class Draft:
         if len(seen.answered[client]) > MOST_SERVERS:
             self.remark(f"A claim names at most {MOST_SERVERS} servers: those that answered least are left out.")
         claim = Claim(client, servers, 0, civil(0), civil(0), 0, wanted.drift_ppb, wanted.reading_ns)
-        keep(claim)
+        keep(claim, self.program.limit)
         recording = read_recording(self.program, CLAIM, self.capture, wants_request=True)
         if recording.first_request is None:
             self.remark(f"None of {client}'s servers gave a sample: {counted(recording.counts)}.")
@@ -140,7 +141,7 @@ class Draft:
         claim = self.named(claim, recording, {server: seen.references[client, server] for server in servers})
         first, last = span_of(recording.first_request, recording.times[-1], wanted.whole_days)
         claim = replace(claim, from_=civil(first), to=civil(last))
-        keep(claim)
+        keep(claim, self.program.limit)
         claim = replace(claim, bound_ns=self.bound())
         self.leave_to_a_person(claim)
         return claim
@@ -223,9 +224,9 @@ def counted(counts: dict[str, int]) -> str:
     return ", ".join(f"{name} {counts[name]}" for name in names if counts.get(name))
 
 
-def keep(claim: Claim) -> None:
+def keep(claim: Claim, limit: Limit) -> None:
     """Writes a claim for the program."""
-    with Copy(CLAIM) as copy:
+    with Copy(CLAIM, limit) as copy:
         copy.take(claim.text)
 
 

@@ -123,14 +123,24 @@ def read_once(place: int, file: str, name: str, limit: Limit, take: Callable[[by
     return found.hexdigest()
 
 
+def kind_of(place: int, name: str) -> str:
+    """What stands there, such as `a file` or `a link`; nothing if there is nothing."""
+    try:
+        return KINDS.get(stat.S_IFMT(os.stat(name, dir_fd=place, follow_symlinks=False).st_mode), "no file")
+    except (OSError, ValueError):
+        return ""
+
+
 class Folder:
     """A folder, held by its descriptor. What is read of a file is the same each time, or the folder is refused."""
 
     def __init__(self, path: str, limit: Limit):
         self.limit = limit
         try:
-            self.place = os.open(path, OF_A_FOLDER, dir_fd=HOME)
+            self.place = os.open(path, OF_A_FOLDER | os.O_NOFOLLOW, dir_fd=HOME)
         except (FileNotFoundError, NotADirectoryError):
+            if kind_of(HOME, path) == KINDS[stat.S_IFLNK]:
+                raise fault("the folder is a link: name the folder itself") from None
             raise fault("no such folder", DEVICE) from None
         except OSError as error:
             raise fault(f"the folder can't be read ({error.strerror})", DEVICE) from None
@@ -158,16 +168,12 @@ class Folder:
         """Whether there is something of this name, whatever it is."""
         try:
             with parent_of(self.place, name) as (parent, file):
-                os.stat(file, dir_fd=parent, follow_symlinks=False)
-        except OSError:
+                return bool(kind_of(parent, file))
+        except (OSError, Fault):
             return False
-        return True
 
     def is_folder(self, name: str) -> bool:
-        try:
-            return stat.S_ISDIR(os.stat(name, dir_fd=self.place, follow_symlinks=False).st_mode)
-        except OSError:
-            return False
+        return kind_of(self.place, name) == KINDS[stat.S_IFDIR]
 
     def data(self, name: str) -> bytes:
         """The bytes of a file."""
@@ -183,7 +189,7 @@ class Folder:
 
     def copy(self, name: str, to: str) -> str:
         """Makes a private copy of a file, and gives its SHA-256."""
-        with Copy(to) as copy:
+        with Copy(to, self.limit) as copy:
             return self.read(name, copy.take)
 
     def read(self, name: str, take: Callable[[bytes], object]) -> str:
@@ -198,10 +204,10 @@ class Folder:
 
 
 class Copy:
-    """A file in a folder of one's own. A block of zeros becomes a hole in it."""
+    """A file in a folder of one's own. A block of zeros becomes a hole in it; the others take of the folder's room."""
 
-    def __init__(self, path: str):
-        self.path, self.size = path, 0
+    def __init__(self, path: str, limit: Limit):
+        self.path, self.size, self.limit = path, 0, limit
 
     def __enter__(self) -> Copy:
         try:
@@ -217,6 +223,7 @@ class Copy:
                 os.ftruncate(self.file, self.size)
                 os.lseek(self.file, self.size, os.SEEK_SET)
             else:
+                self.limit.take(len(block))
                 write(self.file, block)
         except OSError as error:
             raise unwritable(self.path, error) from None
@@ -236,7 +243,7 @@ def write(file: int, data: bytes) -> None:
 
 def copy_named(path: str, to: str, limit: Limit, most: int = MOST_OF_A_CAPTURE) -> None:
     """Makes a private copy of a file that the command line names. A link is followed: it isn't a stranger's choice."""
-    with Copy(to) as copy:
+    with Copy(to, limit) as copy:
         read_once(HOME, path, os.path.basename(path), limit, copy.take, most, follow=0)
 
 

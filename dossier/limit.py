@@ -1,4 +1,4 @@
-"""The time that a folder may take."""
+"""The time and the room that a folder may take."""
 from __future__ import annotations
 
 import time
@@ -6,10 +6,12 @@ import time
 from .fault import REFUSED, Fault, fault
 
 SECONDS = 600
+ROOM = 1 << 35
+"""Bytes of private copies and of answers."""
 
 
 class Limit:
-    """How long all calls and readings of one folder may take together."""
+    """How long all calls and readings of one folder may take together, and how much they may leave."""
 
     def __init__(self, seconds: int = SECONDS):
         self.seconds = seconds
@@ -17,7 +19,13 @@ class Limit:
 
     def begin(self) -> None:
         """Another folder: its time begins."""
-        self.end = time.monotonic() + self.seconds
+        self.end, self.room = time.monotonic() + self.seconds, ROOM
+
+    def take(self, size: int) -> None:
+        """Takes of the room."""
+        self.room -= size
+        if self.room < 0:
+            raise fault(f"its copies and answers take more than {ROOM:,} bytes")
 
     def over(self) -> Fault:
         return fault(f"not done within {self.seconds} s (--limit)", REFUSED)

@@ -41,16 +41,16 @@ def new_folder(place: int) -> Iterator[int]:
     name = f".ntpaudit-{secrets.token_hex(8)}"
     with undisturbed():
         os.mkdir(name, 0o700, dir_fd=place)
-        try:
-            with held(name, place, OF_A_FOLDER | os.O_NOFOLLOW) as own:
-                fcntl.flock(own, fcntl.LOCK_EX | fcntl.LOCK_NB)
+        with held(name, place, OF_A_FOLDER | os.O_NOFOLLOW) as own:
+            fcntl.flock(own, fcntl.LOCK_EX | fcntl.LOCK_NB)
+            try:
                 yield own
-        finally:
-            clear(place, name)
+            finally:
+                clear(place, name, own)
 
 
-def clear(place: int, name: str) -> None:
-    with suppress(OSError), held(name, place, OF_A_FOLDER | os.O_NOFOLLOW) as own:
+def clear(place: int, name: str, own: int) -> None:
+    with suppress(OSError):
         for left in os.listdir(own):
             os.unlink(left, dir_fd=own)
         os.rmdir(name, dir_fd=place)
@@ -61,7 +61,7 @@ def sweep(place: int) -> None:
     for name in filter(NEW.fullmatch, os.listdir(place)):
         with suppress(OSError), held(name, place, OF_A_FOLDER | os.O_NOFOLLOW) as own:
             fcntl.flock(own, fcntl.LOCK_EX | fcntl.LOCK_NB)
-            clear(place, name)
+            clear(place, name, own)
 
 
 def put(own: int, name: str, blocks: Iterable[bytes]) -> None:

@@ -44,7 +44,7 @@ class Settling:
     def keep(self, name: str, data: bytes) -> bytes:
         """Leaves a file of this part."""
         path = self.part.within(name)
-        with Copy(path) as copy:
+        with Copy(path, self.program.limit) as copy:
             copy.take(data)
         self.sums[path] = self.left[path] = sum_of(data)
         return data

@@ -61,7 +61,7 @@ class Signers:
             return Signature(UNSEEN, at)
         with scratch():
             for name, text in ((SIGNED, data), (SIGNATURE, signature), (SIGNERS, self.given)):
-                with Copy(name) as copy:
+                with Copy(name, self.caller.limit) as copy:
                     copy.take(text)
             return self.looked_at(at)
 

@@ -77,7 +77,7 @@ def signature_by(key: str, data: bytes) -> bytes:
     tool = find_tool("ssh-keygen", NO_KEYGEN)
     environment = ENVIRONMENT | {name: os.environ[name] for name in OF_A_PERSON if name in os.environ}
     with scratch():
-        with Copy(files.AUDIT) as copy:
+        with Copy(files.AUDIT, Limit()) as copy:
             copy.take(data)
         with subprocess.Popen([tool, "-Y", "sign", "-f", key, "-n", NAMESPACE, files.AUDIT], env=environment,
                               stdout=subprocess.DEVNULL, stderr=subprocess.PIPE) as call:

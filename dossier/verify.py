@@ -9,7 +9,7 @@ from .entry import LeapList, Record, read_record
 from .fault import DEVICE, Fault, fault
 from .folder import Folder
 from .known import Known
-from .leap import differing
+from .leap import NONE as NO_LEAP, differing
 from .making import Earlier, Making, no_earlier
 from .program import Program, sum_of
 from .scratch import scratch
@@ -42,8 +42,10 @@ class Verifier:
     def notes(self, record: Record) -> list[str]:
         other = record.program.sha256 != self.program.made.sha256
         unseen = record.leap_seconds is not None and (record.leap_seconds.fault or self.leaps.fault)
+        later = any(entry.leap.says == NO_LEAP and entry.leap.to >= self.leaps.good_until for entry in record.entries)
         return [*(["by another build of the program than the audit's"] if other else []),
-                *(["nothing is known of leap seconds, since there is no list of them"] if unseen else [])]
+                *(["nothing is known of leap seconds, since there is no list of them"] if unseen else []),
+                *(["the list of leap seconds here ends before the span does"] if later and not unseen else [])]
 
     def difference(self, folder: Folder, record: Record) -> str:
         """An audit that was refused is tried again: it is refused for the same reason, or there is a difference."""
