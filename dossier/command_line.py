@@ -7,7 +7,7 @@ import sys
 from collections.abc import Callable
 from typing import TYPE_CHECKING, NoReturn
 
-from .fault import DEVICE, USAGE, Fault, Stopped, fault
+from .fault import DEVICE, MEMORY, MISSING, USAGE, Fault, Stopped, fault
 from .known import Known, state_of
 from .limit import SECONDS, Limit
 from .program import Program, find_program, now
@@ -131,11 +131,17 @@ def main(words: list[str]) -> int:
         sys.stdout = open(os.devnull, "w")
         say(f"ntpaudit-dossier: the output can't be written ({error.strerror})")
         return DEVICE
+    except MemoryError:
+        say("ntpaudit-dossier: out of memory")
+        return MEMORY
     except KeyboardInterrupt:
         say("ntpaudit-dossier: broken off; what is done isn't done again by the next call")
         return INTERRUPTED
     except Stopped as stopped:
         return 128 + stopped.number
+    except Exception:  # (status 1, which Python would give, means no)
+        sys.excepthook(*sys.exc_info())
+        return MISSING
 
 
 def say(line: str) -> None:

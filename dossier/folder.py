@@ -13,7 +13,7 @@ from collections.abc import Callable, Iterator
 from contextlib import contextmanager
 from itertools import islice
 
-from .fault import DEVICE, Fault, fault
+from .fault import DEVICE, MEMORY, Fault, fault
 from .limit import Limit
 
 CLAIM = "claim.json"
@@ -150,8 +150,13 @@ class Folder:
     def __enter__(self) -> Folder:
         return self
 
-    def __exit__(self, *_: object) -> None:
+    def __exit__(self, _: object, error: BaseException | None, trace: object) -> None:
+        """Whatever goes wrong with a folder is the fault of this folder alone."""
         os.close(self.place)
+        if isinstance(error, MemoryError):
+            raise fault("out of memory", MEMORY) from None
+        if isinstance(error, OSError):
+            raise fault(f"it can't be worked on ({error.strerror})", DEVICE) from None
 
     def names(self) -> list[str]:
         """The names in the folder, sorted."""

@@ -16,7 +16,7 @@ PLACES = ("/tmp", "/var/tmp")
 @contextmanager
 def scratch() -> Iterator[None]:
     """Makes a new folder (0700) the current one for a while, and takes it away at the end."""
-    where: str = os.environ.get("TMPDIR") or next((place for place in PLACES if os.access(place, os.W_OK)), PLACES[0])
+    where = os.environ.get("TMPDIR", "") or next((place for place in PLACES if os.access(place, os.W_OK)), PLACES[0])
     try:
         own = tempfile.TemporaryDirectory(prefix="ntpaudit-", dir=os.path.abspath(where))
     except OSError as error:

@@ -95,8 +95,8 @@ def in_words(found: Tracking) -> str:
     updates = count(found.updates, "update")
     span = f"from {shown(found.first)} to {shown(found.last)}"
     return (f"{', '.join(found.files)}, as chronyd wrote it: {updates} {span}, its frequency from "
-            f"{found.least_ppm} to {found.greatest_ppm} ppm, with {found.change_ppm} ppm at the most from one to the next; "
-            f"{steps}.")
+            f"{found.least_ppm} to {found.greatest_ppm} ppm, with {found.change_ppm} ppm at the most from one to the "
+            f"next; {steps}.")
 
 
 def shown(time: str) -> str:

@@ -219,7 +219,13 @@ def test_no_files(place):
 
 
 def test_socket_and_rights(place):
-    """A socket, and a file that may not be read."""
+    """A folder that is a link, one that isn't a folder, a socket, and a file that may not be read."""
+    real = folder_of(place, "real")
+    (place / "link").symlink_to(real)
+    for command in ("audit", "verify", "page"):
+        out = b"".join(dossier(command, place / "link")[1:])
+        check(f"a folder that is a link, by {command}", line=(b"the folder is a link" in out, True), left=(sorted(os.listdir(real)), ["claim.json", "f.pcap"]))
+    check("a file for a folder", run=(dossier("audit", real / "f.pcap")[:2], (4, f"refused       {real}/f.pcap: ntpaudit-dossier: no such folder\n".encode())))
     folder = folder_of(place, "s")
     (folder / "f.pcap").unlink()
     with socket.socket(socket.AF_UNIX) as made:
@@ -503,6 +509,37 @@ def test_hostile_inputs(place):
         check(f"a file that is none: {words[0]} {[str(word) for word in words[1:]]}", status=(status, 2), line=(b" is a " in err and err.count(b"\n") == 1, True), output=(out, b""))
 
 
+def test_own_faults(place):
+    """What goes wrong within one folder is that folder's alone, and never has the status of a no."""
+    from dossier import making
+    from dossier.audit import Wanted
+    from dossier.call import Caller
+    from dossier.entry import LeapList, Made, Options
+    from dossier.known import Known
+    from dossier.limit import Limit
+    from dossier.program import Program
+    from dossier.remedies import remedy
+    from dossier.task import Task
+    folders = [folder_of(place, name) for name in ("one", "two")]
+    wanted = Wanted(Options(), False, LeapList("none", fault="none"), False, Known(str(place / "state"), True))
+    task, make = Task([str(folder) for folder in folders], wanted, Program(PROGRAM, Made("ntpaudit", "0" * 64), Caller(Limit()))), making.make
+    for error, status, line in ((MemoryError(), 3, "out of memory"), (OSError(errno.ENOSPC, "No space left on device"), 4, "it can't be worked on (No space left on device)")):
+        def failing(*given, error=error):
+            raise error
+        making.make = failing
+        first = task.audit(0)
+        making.make = make
+        check(f"a folder with {type(error).__name__}", first=((first.status, first.verdicts), (status, ["refused"])), line=(first.lines, [f"refused       {folders[0]}: ntpaudit-dossier: {line}"]), other=(task.audit(1).status, 0))
+    limit = Limit()
+    limit.room = 100
+    check("room", over=(is_taken(lambda data: limit.take(101), ""), False))
+    lines = ["f.pcap is a FIFO", "f.pcap is too big: it has more than 1 bytes", "audit.json isn't one that is taken (inputs)", "not done within 600 s (--limit)", "f.pcap has changed meanwhile", "the folder is a link: name the folder itself",
+             "out of memory", "it can't be worked on (x)", "its copies and answers take more than 1 bytes", "no folder for private copies can be made (x): TMPDIR names another place", "report.txt can't be written (x)", "f.pcap can't be read (x)"]
+    check("remedies of these", missing=([line for line in lines if not remedy(f"ntpaudit-dossier: {line}")[0]], []))
+    script = f'import sys; sys.path.insert(0, {str(Path(SCRIPT).parent)!r}); from dossier import command_line as c; c.run = lambda given: 1 / 0; sys.exit(c.main(["page", "x"]))'
+    check("an error of one's own", status=(run(["python3", "-c", script], env=ENVIRONMENT)[0], 70))
+
+
 NO_EVIDENCE = """#!/bin/sh
 # stands in for a program whose settle says that there is no evidence
 [ "$1" = settle ] && {{ echo "no evidence groups 0 of 2 false_max 0"; exit 1; }}
@@ -565,5 +602,6 @@ def test_browser(place):
     check("a page in a browser", asked=(asked, []), title=(found and found[1], title.replace("<", "&lt;").replace(">", "&gt;")), owned=("<title>owned" in shown, False), scripts=("<script" in shown, False))
 
 
+ALONE = [test_every_write, test_own_faults]
 STRANGER_TESTS = [test_no_files, test_forged_audit, test_hidden_capture, test_swapped_record, test_socket_and_rights, test_links_of_parts, test_named_outputs, test_at_once, test_programs, test_fields,
                   test_hostile_records, test_hostile_inputs, test_no_evidence, test_browser]
