@@ -2,6 +2,7 @@
 place."""
 from __future__ import annotations
 
+from collections.abc import Iterable
 from dataclasses import dataclass
 from typing import NamedTuple
 
@@ -11,7 +12,7 @@ from .fault import USAGE, Fault, fault
 from .folder import LEFT, Folder
 from .known import Known
 from .making import Making, sums_of_inputs
-from .placing import place, take_away
+from .placing import blocks_of, place, take_away
 from .program import Program, sum_of
 from .scratch import scratch
 
@@ -64,7 +65,8 @@ def audit_folder(path: str, wanted: Wanted, program: Program) -> Audited:
         if is_signed:
             take_away(folder.place, files.SIGNATURE)
         text, stale = record_text(record), [*LEFT, files.JOINED, *(old.outputs if old else ())]
-        place(folder, list(record.outputs), set(stale) - record.outputs.keys(), text)
+        made: dict[str, Iterable[bytes]] = {name: blocks_of(name) for name in record.outputs}
+        place(folder, {**made, files.AUDIT: [text]}, set(stale) - record.outputs.keys())
     wanted.known.add(sum_of(text))
     return Audited(record, was_signed=is_signed)
 

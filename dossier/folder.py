@@ -218,7 +218,7 @@ class Copy:
         try:
             self.file = os.open(self.path, os.O_WRONLY | os.O_CREAT | os.O_TRUNC | os.O_CLOEXEC, 0o600)
         except OSError as error:
-            raise unwritable(self.path, error) from None
+            raise self.unwritable(error) from None
         return self
 
     def take(self, block: bytes) -> None:
@@ -231,7 +231,10 @@ class Copy:
                 self.limit.take(len(block))
                 write(self.file, block)
         except OSError as error:
-            raise unwritable(self.path, error) from None
+            raise self.unwritable(error) from None
+
+    def unwritable(self, error: OSError) -> Fault:
+        return unwritable(f"a private copy ({self.path})", error)
 
     def __exit__(self, *_: object) -> None:
         os.close(self.file)

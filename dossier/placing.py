@@ -16,8 +16,7 @@ import time
 from collections.abc import Iterable, Iterator
 from contextlib import contextmanager, suppress
 
-from .fault import DEVICE, fault
-from .folder import AUDIT, BLOCK, HOME, OF_A_FOLDER, Folder, held, parent_of, unwritable, write
+from .folder import BLOCK, HOME, OF_A_FOLDER, Folder, held, parent_of, unwritable, write
 
 NEW = re.compile(r"\.ntpaudit-[0-9a-f]{16}")
 """Names of folders in which outputs are made."""
@@ -95,24 +94,21 @@ def alone(folder: Folder) -> Iterator[None]:
         fcntl.flock(folder.place, fcntl.LOCK_UN)
 
 
-def place(folder: Folder, names: list[str], old: Iterable[str], record: bytes) -> None:
-    """Puts files of the current folder into their places in another, takes away what is old, and puts the record there
-    last."""
-    name = AUDIT
+def place(folder: Folder, made: dict[str, Iterable[bytes]], old: Iterable[str] = ()) -> None:
+    """Puts files into their places in a folder, in this order, after all of them were made, and takes away what is old."""
+    name = ""
     try:
         with alone(folder):
             sweep(folder.place)
             with new_folder(folder.place) as own:
-                for number, name in enumerate(names):
-                    put(own, str(number), blocks_of(name))
-                put(own, name := AUDIT, [record])
-                for number, name in enumerate(names):
-                    into_place(folder.place, own, str(number), name)
+                for number, (name, blocks) in enumerate(made.items()):
+                    put(own, str(number), blocks)
                 for name in old:
                     take_away(folder.place, name)
-                into_place(folder.place, own, AUDIT, name := AUDIT)
+                for number, name in enumerate(made):
+                    into_place(folder.place, own, str(number), name)
     except OSError as error:
-        raise unwritable(name, error) from None
+        raise unwritable(name or "the folder", error) from None
 
 
 def into_place(folder: int, own: int, file: str, name: str) -> None:
@@ -149,15 +145,3 @@ def write_named(path: str, data: bytes) -> None:
             os.rename("0", name, src_dir_fd=own, dst_dir_fd=place)
     except OSError as error:
         raise unwritable(os.path.basename(path), error) from None
-
-
-def place_signed(folder: Folder, signature: bytes, record: bytes, name: str) -> None:
-    """Puts a signed record and its signature into a folder."""
-    try:
-        with alone(folder), new_folder(folder.place) as own:
-            for file, data in ((AUDIT, record), (name, signature)):
-                put(own, file, [data])
-            for file in (AUDIT, name):
-                os.rename(file, file, src_dir_fd=own, dst_dir_fd=folder.place)
-    except OSError as error:
-        raise fault(f"{AUDIT} can't be signed ({error.strerror})", DEVICE) from None

@@ -15,7 +15,7 @@ from .fault import DEVICE, USAGE, Fault, fault
 from .folder import Copy, Folder
 from .known import Known
 from .limit import Limit
-from .placing import place_signed
+from .placing import place
 from .program import now, sum_of
 from .scratch import scratch
 from .signature import NAMESPACE, NO_KEYGEN
@@ -58,7 +58,8 @@ def sign(folder: Folder, key: str, known: Known) -> str:
     changed = change_of(folder, record)
     if not changed:
         signed = record_text(replace(record, signed=now()))
-        place_signed(folder, signature_by(key, signed), signed, files.SIGNATURE)
+        signature = signature_by(key, signed)
+        place(folder, {files.AUDIT: [signed], files.SIGNATURE: [signature]})
         known.add(sum_of(signed))
     return changed
 

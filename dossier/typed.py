@@ -105,7 +105,7 @@ def read_typed(name: str, kind: Any, data: bytes) -> Any:
 
 
 def mangled(name: str, why: str) -> Fault:
-    return fault(f"{name} isn't one that is taken ({why[:200].strip()})")
+    return fault(f"{name} isn't one that is taken ({why[:200].strip() or 'as a whole'})")
 
 
 def typed(kind: Any, value: Any, place: str) -> Any:

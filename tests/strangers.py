@@ -305,11 +305,11 @@ def test_every_write(place):
     from dossier.limit import Limit
     made = place / "made"
     made.mkdir()
-    names = [str(made / name) for name in ("report.txt", "envelope.txt")]
+    names = ("report.txt", "envelope.txt")
     old, new = {"audit.json": b"old", "report.txt": b"old", "certificate.json": b"old"}, {"audit.json": b"new", "report.txt": b"new", "envelope.txt": b"new"}
     write, seen = os.write, []
     os.chdir(made)
-    for name in ("report.txt", "envelope.txt"):
+    for name in names:
         Path(name).write_bytes(b"new")
     for error in (OSError(errno.ENOSPC, "No space left on device"), KeyboardInterrupt()):
         for last in range(5):
@@ -326,7 +326,7 @@ def test_every_write(place):
             files.os.write = failing
             try:
                 with Folder(str(folder), Limit()) as held:
-                    placing.place(held, [Path(name).name for name in names], ["certificate.json"], b"new")
+                    placing.place(held, {name: placing.blocks_of(name) for name in names} | {"audit.json": [b"new"]}, ["certificate.json"])
             except (Fault, KeyboardInterrupt) as found:
                 seen.append(type(found))
             finally:
