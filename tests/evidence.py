@@ -292,6 +292,8 @@ def test_lists(place):
     seen = [is_unchanged("--leap-seconds", good), is_unchanged("--leap-seconds", good), is_unchanged(), is_unchanged("--leap-seconds", other), is_unchanged()]
     check("audited again for a list", seen=(seen, [False, True, True, False, True]))
     record = json.loads((folder / "audit.json").read_text())
+    early = leap_list(place / "early.list", 1_700_000_000)
+    check("a list that ends earlier than the audit's", run=(dossier("verify", "--leap-seconds", early, folder)[:2], (0, f"{folder}: verified\n{folder}: (the list of leap seconds here ends before the span does)\n".encode())))
     (folder / "audit.json").write_text(json.dumps({**record, "leap_seconds": {**record["leap_seconds"], "seconds": [[1795331020, 1]]}}))
     status, out, _ = dossier("verify", "--leap-seconds", other, folder)
     check("a list that was changed in a record", status=(status, 1), line=(b"audit.json: the list of leap seconds has [(1795331020, 1)] at its end" in out, True))

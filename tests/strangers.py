@@ -17,7 +17,7 @@ import time
 from pathlib import Path
 
 from audits import ENVIRONMENT, PROGRAM, SCRIPT, check, check_page, dossier, folder_of, parts_left, skipped, table
-from evidence import key_of
+from evidence import key_of, why_no_recording
 from tally import DATA, SECONDS, run
 
 KILOBYTES = 3_000_000
@@ -286,6 +286,8 @@ def test_named_outputs(place):
     out = reader.communicate()[0]
     check("-o to a FIFO", status=(status, 0), whole=(out.endswith(b"</html>\n"), True), there=(stat.S_ISFIFO(fifo.lstat().st_mode), True))
     check("-o to standard output", whole=(dossier("page", "-o", "/proc/self/fd/1", folder)[1].endswith(b"</html>\n"), True))
+    if not why_no_recording():
+        check("measure -o to a link", status=(dossier("measure", "--count", "10", "-o", link)[0], 0), link=(link.is_symlink(), True), target=(json.loads(target.read_text())["kind"], "reading"))
     if os.geteuid():
         skipped("-o to a device", "it takes root to make one")
         return
