@@ -39,7 +39,8 @@ SMALL, JSON, LARGE = 1 << 16, 1 << 24, 1 << 30
 LIMITS = {CLAIM: SMALL, EVIDENCE: SMALL, CLAIM_OF_0: SMALL, CLAIM_OF_DRIFT: SMALL, REFUTATION: SMALL, SIGNATURE: SMALL,
           REPORT: JSON, AUDIT: JSON, CERTIFICATE: 1 << 27, ENVELOPE: LARGE}
 """Bytes that a file may have by its name."""
-MOST_OF_A_CAPTURE, MOST_NAMES = 1 << 34, 100_000
+MOST_OF_A_CAPTURE, MOST_NAMES = 1 << 32, 100_000
+"""The program holds a capture in memory for as long as it takes to hold it to its sum."""
 
 KINDS = {stat.S_IFIFO: "a FIFO", stat.S_IFLNK: "a link", stat.S_IFDIR: "a folder", stat.S_IFSOCK: "a socket",
          stat.S_IFCHR: "a device", stat.S_IFBLK: "a device"}

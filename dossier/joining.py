@@ -1,9 +1,11 @@
 """Several captures, private copies in the current folder, joined into one by mergecap."""
 from __future__ import annotations
 
+import os
+
 from .call import Caller, find_tool
 from .fault import fault
-from .folder import JOINED
+from .folder import JOINED, MOST_OF_A_CAPTURE, too_big
 
 MICROSECONDS = {bytes.fromhex("d4c3b2a1"), bytes.fromhex("a1b2c3d4")}
 NANOSECONDS = {bytes.fromhex("4d3cb2a1"), bytes.fromhex("a1b23c4d")}
@@ -29,3 +31,5 @@ def join(caller: Caller, copies: dict[str, str]) -> None:
     if status:
         said = error.decode("utf-8", "replace").splitlines() or [f"status {status}"]
         raise fault(f"the captures can't be joined ({said[0]})")
+    if os.stat(JOINED).st_size > MOST_OF_A_CAPTURE:
+        raise too_big(JOINED, MOST_OF_A_CAPTURE)

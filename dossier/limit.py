@@ -6,7 +6,7 @@ import time
 from .fault import REFUSED, Fault, fault
 
 SECONDS = 600
-ROOM = 1 << 35
+ROOM = 1 << 34
 """Bytes of private copies and of answers."""
 
 
