@@ -6,7 +6,7 @@ from collections.abc import Iterator
 from dataclasses import dataclass, field, replace
 from typing import Annotated
 
-from .typed import Address, Small, Time, said, sized, within
+from .typed import Address, Small, Time, length, said, within
 from .units import DAY, civil, day_of, seconds_of
 
 GREATEST_BOUND, GREATEST_DRIFT = 10**15, 500_000_000
@@ -17,7 +17,7 @@ COMPACT = json.JSONEncoder(separators=(",", ":"))
 @dataclass(frozen=True)
 class Claim:
     client: Address
-    servers: sized(Address, 1, 32)  # type: ignore[valid-type]
+    servers: Annotated[list[Address], length(1, 32)]
     false_max: Small
     from_: Time
     to: Time

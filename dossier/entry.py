@@ -10,7 +10,7 @@ from .claim import Claim
 from .fault import DEVICE, REFUSED as INPUT_REFUSED, fault
 from .folder import AUDIT, CLAIM, JOINED, LEFT, LIMITS
 from .typed import (Address, Count, Mangled, Name, Nanoseconds, Seconds, Small, Sum, Text, Ticks, Time, is_name,
-                    is_time, mangled, matching, or_nothing, parsed, said, sized, typed, within)
+                    is_time, length, mangled, matching, or_nothing, parsed, said, typed, within)
 
 Verdict = Literal["yes", "refuted", "nothing fits", "no evidence", "open"]
 YES: Final = "yes"
@@ -77,7 +77,7 @@ class Refutation:
     """A course of events: its error at a reading of the clock, in ticks, and the servers that are wrong in it."""
 
     error: Ticks
-    false: sized(Small, 0, 32)  # type: ignore[valid-type]
+    false: Annotated[list[Small], length(0, 32)]
     reading: Ticks
 
 
@@ -133,12 +133,12 @@ class Entry:
     worst: Piece
     """The piece that needs the least bound, or the first that is unbounded or empty."""
     counts: dict[Annotated[str, matching("[a-z]{1,20}")], Count]
-    servers: sized(Server, 1, 32)  # type: ignore[valid-type]
+    servers: Annotated[list[Server], length(1, 32)]
     leap: Leap
     reason: Reason | None = None
     refutation: Refutation | None = None
     """That of the claim; or, at a yes, of the same claim with the bound 0."""
-    warnings: sized(Alert, 0, 20) = field(default_factory=list)  # type: ignore[valid-type]
+    warnings: Annotated[list[Alert], length(0, 20)] = field(default_factory=list)
     outputs: dict[Left, Sum] = field(default_factory=dict)
     """The SHA-256 of each file that the audit left, by its name seen from the record's folder."""
 
@@ -175,18 +175,18 @@ class Options:
 class Record:
     """What audit.json says about a folder."""
 
-    dossier: Literal[VERSION]  # type: ignore[valid-type]
+    dossier: Annotated[int, within(VERSION, VERSION)]
     program: Made
     options: Options
     inputs: dict[Name, Sum]
     """The SHA-256 of each input, by its name."""
-    capture: or_nothing(is_name)  # type: ignore[valid-type]
+    capture: Annotated[str, or_nothing(is_name)]
     """The capture that was read: the one input, or the file in which several were joined."""
     made: Time
     seconds: Annotated[float, within(0, 10**9)]
-    signed: or_nothing(is_time)  # type: ignore[valid-type]
+    signed: Annotated[str, or_nothing(is_time)]
     """When this was signed, as the signer says; nothing if it wasn't."""
-    entries: sized(Entry, 0, 40_000)  # type: ignore[valid-type]
+    entries: Annotated[list[Entry], length(0, 40_000)]
     refusal: Refusal | None = None
     leap_seconds: LeapList | None = None
 

@@ -95,7 +95,7 @@ def alone(folder: Folder) -> Iterator[None]:
 
 
 def place(folder: Folder, made: dict[str, Iterable[bytes]], old: Iterable[str] = ()) -> None:
-    """Puts files into their places in a folder, in this order, after all of them were made, and takes away what is old."""
+    """Puts files into their places in a folder, in this order and after all were made, and takes away what is old."""
     name = ""
     try:
         with alone(folder):

@@ -30,9 +30,8 @@ def matching(pattern: str) -> Callable[[str], bool]:
     return lambda text: bool(found.fullmatch(text))
 
 
-def sized(kind: Any, least: int, most: int) -> Any:
-    """A list of so many."""
-    return Annotated[list[kind], lambda found: least <= len(found) <= most]
+def length(least: int, most: int) -> Callable[[list[Any]], bool]:
+    return lambda found: least <= len(found) <= most
 
 
 def is_text(text: str) -> bool:
@@ -58,9 +57,8 @@ def is_time(text: str) -> bool:
         return False
 
 
-def or_nothing(is_right: Callable[[str], bool]) -> Any:
-    """A text of a form, or an empty one."""
-    return Annotated[str, lambda text: not text or is_right(text)]
+def or_nothing(is_right: Callable[[str], bool]) -> Callable[[str], bool]:
+    return lambda text: not text or is_right(text)
 
 
 TIME = re.compile(r"[1-9]\d{3}-\d\d-\d\dT\d\d:\d\d:\d\dZ", re.ASCII)
