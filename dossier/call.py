@@ -10,6 +10,7 @@ import resource
 import select
 import shutil
 import signal
+import time
 from collections.abc import Callable
 from contextlib import suppress
 
@@ -21,6 +22,9 @@ BLOCK = 1 << 16
 
 DEFAULTS = [signal.SIGPIPE, signal.SIGXFSZ]
 """Signals that Python ignores, and that the program is to get as usual."""
+
+OFTEN = 0.002
+"""Seconds between two looks at a process, where none can be waited for with a limit."""
 
 SUMS = 3
 """The file in which a call finds the sums of its operands, if it is given some: /dev/fd/3."""
@@ -105,15 +109,23 @@ class Caller:
     def ended(self, process: int) -> int:
         """The status of a process when it has ended. It is ended if that isn't awaited."""
         try:
-            watched = os.pidfd_open(process)
-            try:
-                self.comes(watched)
-            finally:
-                os.close(watched)
+            self.wait(process)
             return os.waitstatus_to_exitcode(os.waitpid(process, 0)[1])
         except BaseException:
             end(process)
             raise
+
+    def wait(self, process: int) -> None:
+        try:
+            watched = os.pidfd_open(process)
+        except OSError:  # (a kernel before 5.3)
+            while not os.waitid(os.P_PID, process, os.WEXITED | os.WNOHANG | os.WNOWAIT):
+                time.sleep(min(OFTEN, self.limit.left()))
+            return
+        try:
+            self.comes(watched)
+        finally:
+            os.close(watched)
 
 
 def spawn(words: list[str], actions: list[tuple[object, ...]]) -> int:

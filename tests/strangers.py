@@ -538,6 +538,14 @@ def test_own_faults(place):
     lines = ["f.pcap is a FIFO", "f.pcap is too big: it has more than 1 bytes", "audit.json isn't one that is taken (inputs)", "not done within 600 s (--limit)", "f.pcap has changed meanwhile", "the folder is a link: name the folder itself",
              "out of memory", "it can't be worked on (x)", "its copies and answers take more than 1 bytes", "no folder for private copies can be made (x): TMPDIR names another place", "report.txt can't be written (x)", "f.pcap can't be read (x)"]
     check("remedies of these", missing=([line for line in lines if not remedy(f"ntpaudit-dossier: {line}")[0]], []))
+    pidfd_open = os.pidfd_open
+
+    def missing(_):
+        raise OSError(errno.ENOSYS, "Function not implemented")
+    os.pidfd_open = missing
+    said = [Caller(Limit()).run(["/bin/sh", "-c", "echo x; exit 7"]), is_taken(lambda data: Caller(Limit(1)).run(["/bin/sleep", "30"]), "")]
+    os.pidfd_open = pidfd_open
+    check("a call on an older kernel", said=(said, [(7, b"x\n", b""), False]))
     script = f'import sys; sys.path.insert(0, {str(Path(SCRIPT).parent)!r}); from dossier import command_line as c; c.run = lambda given: 1 / 0; sys.exit(c.main(["page", "x"]))'
     check("an error of one's own", status=(run(["python3", "-c", script], env=ENVIRONMENT)[0], 70))
 
