@@ -41,7 +41,7 @@ def new_folder(place: int) -> Iterator[int]:
     with undisturbed():
         os.mkdir(name, 0o700, dir_fd=place)
         with held(name, place, OF_A_FOLDER | os.O_NOFOLLOW) as own:
-            fcntl.flock(own, fcntl.LOCK_EX | fcntl.LOCK_NB)
+            is_locked(own)
             try:
                 yield own
             finally:
@@ -80,18 +80,26 @@ def blocks_of(path: str) -> Iterator[bytes]:
 
 @contextmanager
 def alone(folder: Folder) -> Iterator[None]:
-    """Waits until no other call writes outputs in a folder."""
-    while True:
-        try:
-            fcntl.flock(folder.place, fcntl.LOCK_EX | fcntl.LOCK_NB)
-            break
-        except BlockingIOError:
-            folder.limit.left()
-            time.sleep(PATIENCE)
+    """Waits until no other call writes outputs in a folder. Where folders can't be locked (NFS), it doesn't wait."""
+    while is_locked(folder.place):
+        folder.limit.left()
+        time.sleep(PATIENCE)
     try:
         yield
     finally:
-        fcntl.flock(folder.place, fcntl.LOCK_UN)
+        with suppress(OSError):
+            fcntl.flock(folder.place, fcntl.LOCK_UN)
+
+
+def is_locked(place: int) -> bool:
+    """Whether another call holds a folder; else this one does from now on, as far as that can be."""
+    try:
+        fcntl.flock(place, fcntl.LOCK_EX | fcntl.LOCK_NB)
+    except BlockingIOError:
+        return True
+    except OSError:
+        pass
+    return False
 
 
 def place(folder: Folder, made: dict[str, Iterable[bytes]], old: Iterable[str] = ()) -> None:
