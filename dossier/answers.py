@@ -1,17 +1,18 @@
 """What the program prints, taken apart word by word. A number stays the number that was printed."""
 from __future__ import annotations
 
-import json
-from typing import Any, NamedTuple
+from typing import NamedTuple
 
-from .entry import NOTHING_FITS, OPEN, REFUTED, YES
-
-Hull = tuple[int, int] | str
-"""Two ends in ticks, or one of the words `unbounded` and `empty`."""
+from .entry import NO_EVIDENCE, NOTHING_FITS, OPEN, REFUTED, YES, Hull, Refutation, Verdict
+from .folder import REFUTATION
+from .typed import read_typed
 
 
 def read_hull(words: list[str]) -> Hull:
-    return words[0] if len(words) == 1 else (int(words[0]), int(words[1]))
+    """Two ends in ticks, or one of the words `unbounded` and `empty`."""
+    if len(words) > 1:
+        return int(words[0]), int(words[1])
+    return "empty" if words[0] == "empty" else "unbounded"
 
 
 def read_counts(line: str) -> dict[str, int]:
@@ -21,24 +22,30 @@ def read_counts(line: str) -> dict[str, int]:
 
 
 class Settled(NamedTuple):
-    """What `settle` says: its verdict; and a refutation; or the conflicts, each with the server and the record of a request
-    and the server and the record of a reply; or the ends of a tick, in Unix ticks, and its hull."""
+    """What `settle` says: its verdict; and a refutation; or the conflicts, each with the server and the record of a
+    request and the server and the record of a reply; or a tick that is left open, in Unix ticks, and its hull; or how
+    many groups have a sample."""
 
-    verdict: str
-    refutation: dict[str, Any] = {}
+    verdict: Verdict
+    refutation: Refutation | None = None
     conflicts: list[tuple[str, int, str, int]] = []
-    left_open: tuple[int, int, Hull] = (0, 0, "")
+    tick: int = 0
+    hull: Hull | None = None
+    heard: int = 0
 
 
 def read_settled(text: bytes) -> Settled:
     if text.startswith(b'{"pieces"'):
         return Settled(YES)
     if text.startswith(b"{"):
-        return Settled(REFUTED, refutation=json.loads(text))
+        return Settled(REFUTED, refutation=read_typed(REFUTATION, Refutation, text))
     *lines, last = [line.split() for line in text.decode("ascii").splitlines()]
     if last[0] == "open":
-        return Settled(OPEN, left_open=(int(last[1]), int(last[2]), read_hull(last[4:])))
-    return Settled(NOTHING_FITS, conflicts=[(low, int(request), high, int(reply)) for _, low, request, high, reply in lines])
+        return Settled(OPEN, tick=int(last[1]), hull=read_hull(last[4:]))
+    if last[0] == "no":
+        return Settled(NO_EVIDENCE, heard=int(last[3]))
+    conflicts = [(low, int(request), high, int(reply)) for _, low, request, high, reply in lines]
+    return Settled(NOTHING_FITS, conflicts=conflicts)
 
 
 def read_advice(report: bytes) -> dict[str, str]:

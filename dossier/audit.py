@@ -1,40 +1,32 @@
-"""The audit of one folder: its inputs, the claims that are settled in it, and its record."""
+"""The audit of one folder: reused if it was made or verified here and nothing has changed since, or made and put in
+place."""
 from __future__ import annotations
 
-import json
-import os
-import time
-from collections.abc import Iterator
-from typing import Any, NamedTuple
+from collections.abc import Iterable
+from dataclasses import dataclass
+from typing import NamedTuple
 
-from . import VERSION
 from . import folder as files
-from .entry import REFUSED, Entry, Record, read_record, record_text
-from .evidence import evidence_files
-from .folder import is_capture, read, remove, write_beside
-from .program import Fault, Operand, Program, now, sum_of, sum_of_file
-from .recording import read_recording
-from .settling import Part, Settling, changed_during
-from .units import DAY, civil, day_of, seconds_of
+from .entry import LeapList, Options, Record, read_record, record_text
+from .fault import USAGE, Fault, fault
+from .folder import LEFT, Folder
+from .known import Known
+from .making import Making, sums_of_inputs
+from .placing import blocks_of, place, take_away
+from .program import Program, sum_of
+from .scratch import scratch
 
 
-class Options(NamedTuple):
-    step: int | None = None
-    days: bool = False
-    again: bool = False
-    leaps: dict[str, Any] = {}
-    """What the list of leap seconds says."""
-    is_own_list: bool = False
-    """Whether that list was named, and isn't just the system's."""
+@dataclass(frozen=True)
+class Wanted:
+    """How folders are to be audited, and where it is recorded."""
 
-    @property
-    def kept(self) -> dict[str, Any]:
-        """What is kept of them: with other options a folder is audited again."""
-        return {"step": self.step, "days": self.days}
-
-    def has_same_list(self, old: Record) -> bool:
-        """Whether an audit needn't be made again for its list. The system's may become another at any time."""
-        return not self.is_own_list or old.leap_seconds.get("sha256") == self.leaps["sha256"]
+    options: Options
+    again: bool
+    leaps: LeapList
+    is_own_list: bool
+    """Whether that list was named, and isn't just the system's, which may become another at any time."""
+    known: Known
 
 
 class Audited(NamedTuple):
@@ -46,128 +38,79 @@ class Audited(NamedTuple):
     was_signed: bool = False
 
 
-SIGNED = ("ntpaudit-dossier: signed, and not as it would be audited now. It is audited again only with --again, which "
-          "takes the signature away")
-COMMAND_LINE = 5
+SIGNED = ("signed, and not as it would be audited now. It is audited again only with --again, which takes the "
+          "signature away")
 
 
-def audit_folder(options: Options, program: Program) -> Audited:
-    """Audits the current folder and leaves its files, audit.json last.
+def audit_folder(path: str, wanted: Wanted, program: Program) -> Audited:
+    """Audits a folder and leaves its files, audit.json last.
 
     A refusal is an audit too, and is written down. A fault is raised only if that isn't possible, or if the folder is
     signed and would have to be audited again.
     """
-    begun, made, old = time.monotonic(), now(), read_record(".")
-    by, kept = {"version": program.version, "sha256": program.sha256}, options.kept
-    inputs, refusal = sums_of_inputs()
-    is_same = old and (old.dossier, old.inputs, old.options, old.program) == (VERSION, inputs, kept, by)
-    if old and is_same and not options.again and options.has_same_list(old) and is_whole(old):
-        return Audited(old, is_old=True)
-    was_signed = take_signature(options)
-    capture, leaps = "", options.leaps
-    try:
-        if refusal:
-            raise refusal
-        files.sweep_parts()
-        capture = take_capture(inputs)
-        entries = audit_parts(capture, inputs, options, program)
-    except Fault as fault:
-        entries, leaps = [Entry(part=".", verdict=REFUSED, fault={"line": fault.line, "status": fault.status})], {}
-    record = Record(by, kept, inputs, capture, entries, made, round(time.monotonic() - begun, 3),
-                    leap_seconds=leaps)
-    if old:
-        remove_files(old.outputs.keys() - record.outputs.keys() - inputs.keys())
-    write_beside(files.AUDIT, record_text(record))
-    return Audited(record, was_signed=was_signed)
-
-
-def take_signature(options: Options) -> bool:
-    """Takes a signature away, if there is one, and if that was asked for."""
-    if not os.path.lexists(files.SIGNATURE):
-        return False
-    if not options.again:
-        raise Fault(SIGNED, COMMAND_LINE)
-    try:
-        remove(files.SIGNATURE)
-    except OSError as error:
-        line = f"ntpaudit-dossier: {files.SIGNATURE} can't be removed ({error.strerror})"
-        raise Fault(line, files.DEVICE) from None
-    return True
-
-
-def sums_of_inputs() -> tuple[dict[str, str], Fault | None]:
-    """The SHA-256 of each input, by its name: of the claim, the captures, and the evidence. Or why there are none."""
-    try:
-        names = files.inputs()
-        return sums([*names, *(name for name in evidence_files() if name not in names)]), None
-    except Fault as fault:
-        return {}, fault
-
-
-def sums(names: list[str]) -> dict[str, str]:
-    try:
-        return {name: sum_of_file(name) for name in names}
-    except OSError as error:
-        raise Fault(f"ntpaudit-dossier: an input can't be read ({error.strerror})", files.DEVICE) from None
-
-
-def is_whole(old: Record) -> bool:
-    """Whether a record has verdicts, and all its files are there as they were left. What was refused is tried again."""
-    if not old.entries or any(entry.verdict == REFUSED for entry in old.entries):
-        return False
-    try:
-        return all(sum_of_file(name) == sum_ for name, sum_ in old.outputs.items())
-    except OSError:
-        return False
-
-
-def take_capture(inputs: dict[str, str]) -> str:
-    """The name of the one capture, or of what several are joined to."""
-    names = list(filter(is_capture, inputs))
-    if len(names) == 1:
-        return names[0]
-    from .joining import join
-    join(names)
-    for name in names:
-        if sum_of_file(name) != inputs[name]:
-            raise changed_during(name)
-    return files.JOINED
-
-
-def audit_parts(capture: str, inputs: dict[str, str], options: Options, program: Program) -> list[Entry]:
-    joined = {capture: sum_of_file(capture)} if capture == files.JOINED else {}
-    operand, sums = Operand(capture), inputs | joined
-    recording = read_recording(program, files.CLAIM, operand, wants_request=True)
-    data = read(files.CLAIM)
-    if sum_of(data) != inputs[files.CLAIM]:
-        raise changed_during(files.CLAIM)
-    parts = parts_of(json.loads(data), options.days)
-    entries = [Settling(part, operand, program, options.step, sums).settle(recording, options.leaps) for part in parts]
-    return [entry._replace(outputs=entry.outputs | joined) for entry in entries]
-
-
-def parts_of(claim: dict[str, Any], days: bool) -> Iterator[Part]:
-    """The claim as it stands, or a claim for each day (UTC) of its span. A day ends with the moment at which the next
-    begins, so that no moment is left out."""
-    if not days:
-        yield Part(".", claim)
-        return
-    first, last = seconds_of(claim["from"]), seconds_of(claim["to"])
-    begin = first
-    while begin < last or begin == first:
-        end = min(last, begin - begin % DAY + DAY)
-        yield Part(day_of(begin), {**claim, "from": civil(begin), "to": civil(end)})
-        begin = end
-        if first == last:
-            return
-
-
-def remove_files(names: set[str]) -> None:
-    """Takes away what an earlier audit left and this one didn't, and folders of days that are empty by that."""
-    for name in names:
-        remove(name)
-    for day in {os.path.dirname(name) for name in names} - {""}:
+    with Folder(path, program.limit) as folder:
+        old = known_record(folder, wanted.known)
+        if old and not wanted.again and is_same(folder, old, wanted, program):
+            return Audited(old, is_old=True)
+    with Folder(path, program.limit) as folder, scratch():
+        is_signed = folder.has(files.SIGNATURE)
+        if is_signed and not wanted.again:
+            raise fault(SIGNED, USAGE)
+        making = Making(folder, program, wanted.options, wanted.leaps)
         try:
-            os.rmdir(day)
-        except OSError:
-            pass
+            record = making.record()
+        except Fault as found:
+            record = making.refused(found)
+            program.limit.begin()  # (what is left to do doesn't depend on the folder)
+        if is_signed:
+            take_away(folder.place, files.SIGNATURE)
+        text, stale = record_text(record), [*LEFT, files.JOINED, *(old.outputs if old else ())]
+        made: dict[str, Iterable[bytes]] = {name: blocks_of(name) for name in record.outputs}
+        place(folder, {**made, files.AUDIT: [text]}, set(stale) - record.outputs.keys())
+    wanted.known.add(sum_of(text))
+    return Audited(record, was_signed=is_signed)
+
+
+def known_record(folder: Folder, known: Known) -> Record | None:
+    """The folder's record, if it was made or verified here."""
+    try:
+        data = folder.data(files.AUDIT)
+        return read_record(data) if known.has(sum_of(data)) else None
+    except Fault:
+        return None
+
+
+def is_same(folder: Folder, old: Record, wanted: Wanted, program: Program) -> bool:
+    """Whether a folder would be audited as it was, and all its files are there as they were left. What was refused is
+    tried again."""
+    if old.refusal or (old.program, old.options) != (program.made, wanted.options):
+        return False
+    if wanted.is_own_list and old.leap_seconds and old.leap_seconds.sha256 != wanted.leaps.sha256:
+        return False
+    try:
+        return change_of(folder, old) == ""
+    except Fault:
+        return False
+
+
+def change_of(folder: Folder, record: Record) -> str:
+    """The first file that isn't there any more, or isn't what it was, or that came, if it is an input or has the name
+    of an output; nothing if there is none."""
+    now = sums_of_inputs(folder)
+    for name, sum_ in record.inputs.items():
+        if now.get(name) != sum_:
+            return f"{name} isn't the file that was audited ({short(now.get(name))}, {files.AUDIT} has {short(sum_)})"
+    new = sorted(now.keys() - record.inputs.keys())
+    if new:
+        return f"{new[0]} is new, and {files.AUDIT} has no sum of it"
+    for name, sum_ in record.outputs.items():
+        if not folder.has(name):
+            return f"{name} isn't there"
+        if folder.sum(name) != sum_:
+            return f"{name} was changed since the audit ({short(folder.sum(name))}, {files.AUDIT} has {short(sum_)})"
+    more = next(filter(folder.has, sorted((LEFT | {files.JOINED}) - record.outputs.keys())), None)
+    return f"{more} isn't of this audit: {files.AUDIT} has no sum of it" if more else ""
+
+
+def short(sum_: str | None) -> str:
+    return f"SHA-256 {sum_[:16]}.." if sum_ else "it isn't there"

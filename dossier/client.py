@@ -3,46 +3,54 @@ from __future__ import annotations
 
 import math
 import os
+import re
+from dataclasses import dataclass
 from fractions import Fraction
-from typing import Any, NamedTuple
+from typing import Annotated, Final, Literal
 
-from .folder import DEVICE, read
-from .program import Fault, sum_of
+from .fault import fault
+from .folder import data_named
+from .limit import Limit
+from .program import sum_of
+from .typed import Sum, Text, within
 
-CHRONY, NTPD = "chronyd", "ntpd"
-REFUSED = 2
+CHRONY: Final = "chronyd"
+NTPD: Final = "ntpd"
 
 SLEW = Fraction(10**9, 12)
 """Parts in 10^9 by which chronyd slews at most if `maxslewrate` isn't set: a twelfth."""
 SLEW_OF_NTPD = 500_000
+MOST_BYTES = 1 << 28
+"""A larger log or configuration is refused."""
 STEP_OF_NTPD = "0.128"
 """Seconds from which ntpd steps if `tinker step` isn't set."""
 
 
-class Configuration(NamedTuple):
+NUMBER = re.compile(r"[+-]?[0-9]{1,15}(\.[0-9]{0,15})?([eE][+-]?[0-9]{1,2})?")
+
+
+@dataclass(frozen=True)
+class Configuration:
     """What is set, in the words of the configuration; None if it isn't."""
 
-    client: str
-    files: dict[str, str]
+    client: Literal["chronyd", "ntpd"]
+    files: dict[Text, Sum]
     """The SHA-256 of each file, by its name."""
-    slew_ppb: int
+    slew_ppb: Annotated[int, within(0, 10**12)]
     """How fast the client moves the clock at most, in parts of 10^9, rounded up."""
-    maxslewrate: str | None = None
-    makestep: str | None = None
+    maxslewrate: Text | None = None
+    makestep: Text | None = None
     """Of chronyd: the threshold in seconds, and the number of updates, which if negative are all."""
-    step_s: str | None = None
+    step_s: Text | None = None
     """Seconds from which the client steps the clock; None if it never does."""
-    leapsecmode: str | None = None
-    hwtimestamp: str | None = None
-    not_read: str | None = None
+    leapsecmode: Text | None = None
+    hwtimestamp: Text | None = None
+    not_read: Text | None = None
     """Files that the configuration takes in, which weren't read."""
 
 
 def lines_of(path: str) -> tuple[bytes, list[str]]:
-    try:
-        data = read(path)
-    except OSError as error:
-        raise Fault(f"ntpaudit-dossier: {os.path.basename(path)} can't be read ({error.strerror})", DEVICE) from None
+    data = data_named(path, Limit(), MOST_BYTES)
     return data, data.decode("utf-8", "replace").splitlines()
 
 
@@ -66,9 +74,10 @@ def read_chrony(paths: list[str]) -> Configuration:
         number_of("makestep", step, 0)
         number_of("makestep", step, 1)
     return Configuration(
-        CHRONY, files, math.ceil(slew), maxslewrate=rate[0] if rate else None, makestep=" ".join(step) if step else None,
-        step_s=step[0] if step else None, leapsecmode=" ".join(said.get("leapsecmode", ())) or None,
-        hwtimestamp=" ".join(cards) or None, not_read=" ".join(others) or None)
+        CHRONY, files, math.ceil(slew), maxslewrate=rate[0] if rate else None,
+        makestep=" ".join(step) if step else None, step_s=step[0] if step else None,
+        leapsecmode=" ".join(said.get("leapsecmode", ())) or None, hwtimestamp=" ".join(cards) or None,
+        not_read=" ".join(others) or None)
 
 
 def read_ntpd(paths: list[str]) -> Configuration:
@@ -86,10 +95,9 @@ def read_ntpd(paths: list[str]) -> Configuration:
 
 
 def number_of(name: str, words: list[str], at: int) -> Fraction:
-    try:
-        return Fraction(words[at])
-    except (IndexError, ValueError, ZeroDivisionError):
-        raise Fault(f"ntpaudit-dossier: {name} has no number in the configuration", REFUSED) from None
+    if at >= len(words) or not NUMBER.fullmatch(words[at]):
+        raise fault(f"{name} has no number in the configuration")
+    return Fraction(words[at])
 
 
 def configuration(chrony: list[str] | None, ntpd: list[str] | None) -> Configuration | None:
@@ -129,11 +137,3 @@ def cautions(found: Configuration) -> list[str]:
     if found.leapsecmode and found.leapsecmode != "system":
         said.append(f"leapsecmode {found.leapsecmode}: a leap second moves this clock for a while after it.")
     return said
-
-
-def configuration_of(value: dict[str, Any]) -> Configuration:
-    """A configuration that a file holds; a TypeError or ValueError if it is none."""
-    found = Configuration(**value)
-    if not isinstance(found.files, dict) or not isinstance(found.slew_ppb, int):
-        raise ValueError
-    return found

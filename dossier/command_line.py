@@ -7,12 +7,15 @@ import sys
 from collections.abc import Callable
 from typing import TYPE_CHECKING, NoReturn
 
-from .program import Fault, Program, Stopped, find_program, now
+from .fault import DEVICE, MEMORY, MISSING, USAGE, Fault, Stopped, fault
+from .known import Known, state_of
+from .limit import SECONDS, Limit
+from .program import Program, find_program, now
 
 if TYPE_CHECKING:
     from .correction import Correction
 
-USAGE, OUTPUT_FAILED, INTERRUPTED = 5, 4, 130
+INTERRUPTED = 130
 
 ABOUT = """Puts many audits by ntpaudit together: folders with a claim and captures, and one page for a person to read.
 
@@ -25,6 +28,7 @@ ABOUT = """Puts many audits by ntpaudit together: folders with a claim and captu
 
 docs/DOSSIER.md has more. Statuses are those of ntpaudit: 0 yes, 1 no yes, 2 an input is refused, 3 out of memory, 4 a
 device, 5 the command line; the status of several folders is the worst of theirs."""
+LEAPS = "the list of leap seconds; the system's if it is left out"
 FOLDER = "a folder with claim.json and captures, and what an audit wrote beside them"
 
 
@@ -41,14 +45,17 @@ def parser() -> Parser:
     draft.add_argument("--client", metavar="ADDRESS", help="the client; the one that asks most if it is left out")
     draft.add_argument("--day", action="store_true", help="claim whole days (UTC)")
     draft.add_argument("--drift-ppb", type=int, metavar="N",
-                       help="oscillator and client together, in parts of 10^9; by the client's configuration, else 100000")
+                       help="oscillator and client together, in parts of 10^9; by the client's configuration, else "
+                            "100000")
     client = draft.add_mutually_exclusive_group()
-    client.add_argument("--chrony", action="append", metavar="FILE", help="chronyd's configuration, which limits the drift")
+    client.add_argument("--chrony", action="append", metavar="FILE",
+                        help="chronyd's configuration, which limits the drift")
     client.add_argument("--ntpd", action="append", metavar="FILE", help="ntpd's configuration")
     draft.add_argument("--tracking", action="append", metavar="FILE", help="chronyd's tracking.log, or its messages")
     draft.add_argument("--oscillator-ppb", type=in_range(0, 500_000_000), default=100_000, metavar="N",
                        help="the oscillator alone, to which the configuration adds; 100000 if it is left out")
-    draft.add_argument("--evidence", metavar="FILE", help="write what was read from the client's files to FILE, for evidence.json")
+    draft.add_argument("--evidence", metavar="FILE",
+                       help="write what was read from the client's files to FILE, for evidence.json")
     draft.add_argument("--reading-ns", type=int, default=100_000, metavar="N",
                        help="how far records' times may be from the clock, in nanoseconds; 100000 if it is left out")
     audit = commands.add_parser("audit", help="audit folders")
@@ -60,27 +67,40 @@ def parser() -> Parser:
                        help="folders side by side; as many as processors if it is left out")
     audit.add_argument("--again", action="store_true",
                        help="audit folders that are done, or signed, too; a signature is removed")
-    audit.add_argument("--leap-seconds", metavar="FILE", help="the list of leap seconds; the system's if it is left out")
+    audit.add_argument("--leap-seconds", metavar="FILE", help=LEAPS)
     page = commands.add_parser("page", help="print a page of audits that were made")
     page.add_argument("folders", nargs="+", metavar="FOLDER", help=FOLDER)
     form = page.add_mutually_exclusive_group()
     form.add_argument("--json", action="store_true", help="the table as JSON")
     form.add_argument("--csv", action="store_true", help="the table as CSV")
-    page.add_argument("--signers", metavar="FILE", help="who may sign, as ssh-keygen's file of allowed signers has it: signatures are checked")
+    page.add_argument("--verify", action="store_true", help="verify the folders first; else what is known here counts")
     page.add_argument("--title", default="Clock dossier", metavar="TEXT", help="the page's heading")
-    page.add_argument("-o", "--output", metavar="FILE", help="write the page to FILE, whole or not at all; standard output if it is left out")
-    verify = commands.add_parser("verify", help="check that inputs and answers are still the same")
+    page.add_argument("-o", "--output", metavar="FILE",
+                      help="write the page to FILE, whole or not at all; standard output if it is left out")
+    verify = commands.add_parser("verify", help="audit the inputs again, and compare all that stands in the folder")
     verify.add_argument("folders", nargs="+", metavar="FOLDER", help=FOLDER)
-    verify.add_argument("--signers", metavar="FILE", help="who may sign, as ssh-keygen's file of allowed signers has it")
     sign = commands.add_parser("sign", help="sign audits with an ssh key")
     sign.add_argument("folders", nargs="+", metavar="FOLDER", help=FOLDER)
     sign.add_argument("--key", required=True, metavar="FILE",
                       help="a private key, or the public one of a key that an agent holds")
+    for command in (page, verify):
+        command.add_argument("--signers", metavar="FILE",
+                             help="who may sign, as ssh-keygen's file of allowed signers has it: signatures are "
+                                  "checked")
+        command.add_argument("--leap-seconds", metavar="FILE", help=LEAPS)
+    for command in (audit, page, verify, sign):
+        command.add_argument("--state", metavar="DIR",
+                             help="where it is recorded which audits were made or verified here; else below "
+                                  "$XDG_STATE_HOME, or ~/.local/state")
+        command.add_argument("--limit", type=in_range(1, 1_000_000), default=SECONDS, metavar="N",
+                             help=f"seconds for each folder, which is refused after them; {SECONDS} if it is left out")
     measure = commands.add_parser("measure", help="measure how far the times of records are from the clock")
     measure.add_argument("--interface", default="lo", metavar="NAME", help="where to record; the loopback if left out")
-    measure.add_argument("--count", type=in_range(10, 100_000), default=1000, metavar="N", help="how many packets; 1000 if left out")
+    measure.add_argument("--count", type=in_range(10, 100_000), default=1000, metavar="N",
+                         help="how many packets; 1000 if left out")
     measure.add_argument("--load", action="store_true", help="keep all processors busy meanwhile")
-    measure.add_argument("-o", "--output", metavar="FILE", help="write it as JSON to FILE too, for evidence.json to name")
+    measure.add_argument("-o", "--output", metavar="FILE",
+                         help="write it as JSON to FILE too, for evidence.json to name")
     picture = commands.add_parser("picture", help="print the picture of a claim and a capture, as SVG")
     picture.add_argument("claim", metavar="CLAIM", help="a JSON file")
     picture.add_argument("capture", metavar="CAPTURE", help="a classic pcap file")
@@ -104,18 +124,24 @@ def main(words: list[str]) -> int:
         status = run(parser().parse_args(words))
         sys.stdout.flush()
         return status
-    except Fault as fault:
-        say(fault.line)
-        return fault.status
+    except Fault as found:
+        say(found.line)
+        return found.status
     except OSError as error:
         sys.stdout = open(os.devnull, "w")
         say(f"ntpaudit-dossier: the output can't be written ({error.strerror})")
-        return OUTPUT_FAILED
+        return DEVICE
+    except MemoryError:
+        say("ntpaudit-dossier: out of memory")
+        return MEMORY
     except KeyboardInterrupt:
         say("ntpaudit-dossier: broken off; what is done isn't done again by the next call")
         return INTERRUPTED
     except Stopped as stopped:
         return 128 + stopped.number
+    except Exception:  # (status 1, which Python would give, means no)
+        sys.excepthook(*sys.exc_info())
+        return MISSING
 
 
 def say(line: str) -> None:
@@ -127,33 +153,43 @@ def say(line: str) -> None:
 
 
 def run(given: argparse.Namespace) -> int:
-    if given.command == "page":
-        from .page import write_page
-        return write_page([tidy(folder) for folder in given.folders], given)
-    if given.command == "sign":
-        from .signing import sign_all
-        return sign_all([tidy(folder) for folder in given.folders], given.key)
-    program = find_program()
+    limit = Limit(getattr(given, "limit", SECONDS))
+    if given.command in ("audit", "page", "verify", "sign"):
+        return run_on_folders(given, [tidy(folder) for folder in given.folders], limit)
+    program = find_program(limit)
     if given.command == "measure":
         from .measuring import Wanted, measure
         return measure(program, Wanted(given.interface, given.count, given.load), given.output)
     if given.command == "draft":
         return run_draft(given, program)
-    if given.command == "audit":
-        from .audit import Options
-        from .leap import read_list
-        from .task import Task
-        from .work import audit_all
-        jobs = given.jobs or len(os.sched_getaffinity(0))
-        leaps, is_own = read_list(given.leap_seconds), given.leap_seconds is not None
-        options = Options(given.step, given.days, given.again, leaps, is_own)
-        return audit_all(Task([tidy(folder) for folder in given.folders], options, program), jobs)
-    if given.command == "verify":
-        from .signature import allowed
-        from .verify import verify_all
-        return verify_all([tidy(folder) for folder in given.folders], program, allowed(given.signers))
     from .figure import print_picture
     return print_picture(program, given.claim, given.capture, given.step)
+
+
+def run_on_folders(given: argparse.Namespace, folders: list[str], limit: Limit) -> int:
+    known = Known(state_of(given.state), writes=given.command != "page" or given.verify)
+    if given.command == "sign":
+        from .signing import sign_all
+        return sign_all(folders, given.key, known, limit)
+    if given.command == "page" and not given.verify:
+        from .page import write_page
+        return write_page(folders, given, known, limit)
+    from .leap import read_list
+    program, leaps = find_program(limit), read_list(given.leap_seconds, limit)
+    if given.command == "audit":
+        from .audit import Wanted as Audit
+        from .entry import Options
+        from .task import Task
+        from .work import audit_all
+        wanted = Audit(Options(given.step, given.days), given.again, leaps, given.leap_seconds is not None, known)
+        return audit_all(Task(folders, wanted, program), given.jobs or len(os.sched_getaffinity(0)))
+    from .verify import Verifier, verify_all
+    verifier = Verifier(program, known, leaps)
+    if given.command == "page":
+        from .page import write_page
+        return write_page(folders, given, known, limit, verifier)
+    from .signature import Signers
+    return verify_all(folders, verifier, Signers(given.signers, program.caller))
 
 
 def tidy(folder: str) -> str:
@@ -161,36 +197,35 @@ def tidy(folder: str) -> str:
     return folder.rstrip("/") or "/"
 
 
-def correction(given: argparse.Namespace) -> Correction | None:
+def correction_of(given: argparse.Namespace) -> Correction | None:
     """What the client's configuration and log say, if they are given."""
     from .client import configuration
-    from .correction import Correction, checked
+    from .correction import correction
     from .tracking import read_tracking
     if (given.tracking and not given.chrony) or (given.evidence and not (given.chrony or given.ntpd)):
-        raise Fault("ntpaudit-dossier: --tracking takes --chrony, and --evidence takes --chrony or --ntpd", USAGE)
+        raise fault("--tracking takes --chrony, and --evidence takes --chrony or --ntpd", USAGE)
     found = configuration(given.chrony, given.ntpd)
     if found is None:
         return None
     log = read_tracking(given.tracking, found.step_s) if given.tracking else None
-    return checked(Correction(given.oscillator_ppb, found, log, now()))
+    return correction(given.oscillator_ppb, found, log, now())
 
 
 def run_draft(given: argparse.Namespace, program: Program) -> int:
     from .correction import correction_text
-    from .folder import write_beside
-    from .units import seconds_of
     from .draft import DRIFT, Wanted, claim_text, draft
-    found = correction(given)
+    from .placing import write_named
+    found = correction_of(given)
     proposed = found.drift_ppb if found else DRIFT
     drift_ppb = proposed if given.drift_ppb is None else given.drift_ppb
     claim, remarks = draft(program, given.captures, Wanted(given.client, given.day, drift_ppb, given.reading_ns))
     if claim and found:
-        remarks += found.sentences() + found.cautions(seconds_of(claim["from"]), seconds_of(claim["to"]))
+        remarks += found.sentences() + found.cautions(claim.first, claim.last)
     for remark in remarks:
         say(remark)
     if claim is None:
         return 1
     if found and given.evidence:
-        write_beside(given.evidence, correction_text(found))
+        write_named(given.evidence, correction_text(found))
     sys.stdout.write(claim_text(claim))
     return 0

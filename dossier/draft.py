@@ -3,20 +3,21 @@ from __future__ import annotations
 
 import ipaddress
 import json
-import tempfile
+import os
 from collections import Counter, defaultdict
-from dataclasses import dataclass, field
-from pathlib import Path
-from typing import Any
+from dataclasses import dataclass, field, replace
 
-from . import folder as files
 from .answers import read_hulls
+from .claim import GREATEST_BOUND, Claim
+from .folder import CLAIM, JOINED, Copy, copy_named
 from .joining import join
-from .judgement import GREATEST_BOUND
-from .program import Fault, Operand, Program
+from .limit import Limit
+from .program import Program
 from .recording import SECOND, Recording, read_recording
+from .scratch import scratch
 from .text import count, plain
 from .text import reference as letters
+from .typed import said
 from .units import DAY, civil, ns_up_ms
 
 MOST_SERVERS = 32
@@ -52,7 +53,7 @@ class Traffic:
     references: dict[tuple[str, str], set[tuple[int, str]]] = field(default_factory=lambda: defaultdict(set))
 
 
-def read_traffic(program: Program, capture: Operand) -> Traffic:
+def read_traffic(program: Program, capture: str) -> Traffic:
     seen = Traffic()
 
     def take(block: bytes) -> None:
@@ -115,14 +116,14 @@ def span_of(first_request: int, last_reply: int, whole_days: bool) -> tuple[int,
 class Draft:
     """Drafts a claim for one capture, and says on the way what a person has to look at."""
 
-    def __init__(self, program: Program, capture: Operand):
+    def __init__(self, program: Program, capture: str):
         self.program, self.capture = program, capture
         self.remarks: list[str] = []
 
     def remark(self, *words: str) -> None:
         self.remarks.append(" ".join(words))
 
-    def claim(self, wanted: Wanted) -> dict[str, Any] | None:
+    def claim(self, wanted: Wanted) -> Claim | None:
         """The claim, or None if the capture has no client with a server that answered it."""
         seen = read_traffic(self.program, self.capture)
         client = self.choose(seen, wanted.client)
@@ -131,20 +132,17 @@ class Draft:
         servers = sorted((server for server, _ in seen.answered[client].most_common(MOST_SERVERS)), key=by_number)
         if len(seen.answered[client]) > MOST_SERVERS:
             self.remark(f"A claim names at most {MOST_SERVERS} servers: those that answered least are left out.")
-        claim = {"client": client, "servers": servers, "false_max": 0, "from": civil(0), "to": civil(0), "bound_ns": 0,
-                 "drift_ppb": wanted.drift_ppb, "reading_ns": wanted.reading_ns}
-        with tempfile.TemporaryDirectory(prefix="ntpaudit-") as place:
-            own = Operand(str(Path(place) / files.CLAIM))
-            Path(own.name).write_bytes(files.compact(claim))
-            recording = read_recording(self.program, own, self.capture, wants_request=True)
-            if recording.first_request is None:
-                self.remark(f"None of {client}'s servers gave a sample: {counted(recording.counts)}.")
-                return None
-            self.name_servers(claim, recording, {server: seen.references[client, server] for server in servers})
-            first, last = span_of(recording.first_request, recording.times[-1], wanted.whole_days)
-            claim |= {"from": civil(first), "to": civil(last)}
-            Path(own.name).write_bytes(files.compact(claim))
-            self.take_bound(claim, own)
+        claim = Claim(client, servers, 0, civil(0), civil(0), 0, wanted.drift_ppb, wanted.reading_ns)
+        keep(claim, self.program.limit)
+        recording = read_recording(self.program, CLAIM, self.capture, wants_request=True)
+        if recording.first_request is None:
+            self.remark(f"None of {client}'s servers gave a sample: {counted(recording.counts)}.")
+            return None
+        claim = self.named(claim, recording, {server: seen.references[client, server] for server in servers})
+        first, last = span_of(recording.first_request, recording.times[-1], wanted.whole_days)
+        claim = replace(claim, from_=civil(first), to=civil(last))
+        keep(claim, self.program.limit)
+        claim = replace(claim, bound_ns=self.bound())
         self.leave_to_a_person(claim)
         return claim
 
@@ -167,19 +165,22 @@ class Draft:
             return None
         return chosen
 
-    def name_servers(self, claim: dict[str, Any], recording: Recording, references: References) -> None:
-        """Names the servers with a sample and puts them into groups, of which fewer than half may be wrong."""
-        silent = [server for server in claim["servers"] if server not in recording.by_server]
+    def named(self, claim: Claim, recording: Recording, references: References) -> Claim:
+        """The claim of the servers with a sample, put into groups, of which fewer than half may be wrong."""
+        silent = [server for server in claim.servers if server not in recording.by_server]
         if silent:
             self.remark("Left out, since no reply of theirs is of use:",
                         f"{', '.join(silent)} ({counted(recording.counts)}).")
-        claim["servers"] = [server for server in claim["servers"] if server in recording.by_server]
-        groups = group(claim["servers"], references)
-        claim["false_max"] = (len(groups) - 1) // 2
-        if len(groups) < len(claim["servers"]):
-            claim["groups"] = groups
+        heard = [server for server in claim.servers if server in recording.by_server]
+        groups = group(heard, references)
+        self.look_at_kinds(heard, references)
+        return replace(claim, servers=heard, false_max=(len(groups) - 1) // 2,
+                       groups=groups if len(groups) < len(heard) else [])
+
+    def look_at_kinds(self, heard: list[str], references: References) -> None:
+        """Remarks servers that name one kind of reference clock."""
         kinds = defaultdict(set)
-        for server in claim["servers"]:
+        for server in heard:
             for stratum, reference in references[server]:
                 if upstream(stratum, reference) is None and reference != UNKNOWN:
                     kinds[reference].add(server)
@@ -189,29 +190,29 @@ class Draft:
                 self.remark(f"{names} name one kind of reference clock ({letters(reference)}):",
                             "if it is one and the same clock, put them into one group.")
 
-    def take_bound(self, claim: dict[str, Any], own: Operand) -> None:
+    def bound(self) -> int:
         """The least bound that any certificate carries, rounded up to two digits."""
-        envelope = read_hulls(self.program.run("envelope", own, self.capture, "--least", "--step", LONGEST).text)
-        claim["bound_ns"] = NO_BOUND
+        envelope = read_hulls(self.program.run("envelope", CLAIM, self.capture, "--least", "--step", LONGEST).text)
         if envelope.least_ns is None:
             begin, word = envelope.begins[envelope.worst], envelope.hulls[envelope.worst]
             self.remark(f"bound_ns: no bound is carried, since the piece from {civil(begin)} is {word};", FOR_NOW)
-        elif envelope.least_ns > GREATEST_BOUND:
-            least = ns_up_ms(envelope.least_ns)
+            return NO_BOUND
+        least = ns_up_ms(envelope.least_ns)
+        if envelope.least_ns > GREATEST_BOUND:
             self.remark(f"bound_ns: the least bound is {least} ms, more than a claim can say; {FOR_NOW}")
-        else:
-            claim["bound_ns"] = round_up(envelope.least_ns)
-            least = ns_up_ms(envelope.least_ns)
-            self.remark(f"bound_ns: the least bound that any certificate carries is {least} ms; rounded up.")
+            return NO_BOUND
+        self.remark(f"bound_ns: the least bound that any certificate carries is {least} ms; rounded up.")
+        return round_up(envelope.least_ns)
 
-    def leave_to_a_person(self, claim: dict[str, Any]) -> None:
+    def leave_to_a_person(self, claim: Claim) -> None:
         """What only a person can answer for."""
-        groups = count(len(claim.get("groups", claim["servers"])), "group")
-        self.remark(f"drift_ppb is {claim['drift_ppb']}: how fast the clock may gain or lose,",
-                    "its oscillator's data sheet and the NTP client's corrections together. Nothing in a capture shows it.")
-        self.remark(f"reading_ns is {claim['reading_ns']}: how far a record's time may be from what the clock showed.",
+        groups = count(len(claim.grouped), "group")
+        self.remark(f"drift_ppb is {claim.drift_ppb}: how fast the clock may gain or lose,",
+                    "its oscillator's data sheet and the NTP client's corrections together.",
+                    "Nothing in a capture shows it.")
+        self.remark(f"reading_ns is {claim.reading_ns}: how far a record's time may be from what the clock showed.",
                     "It has to be measured on that machine.")
-        self.remark(f"false_max is {claim['false_max']}: fewer than half of {groups} of servers may be wrong.",
+        self.remark(f"false_max is {claim.false_max}: fewer than half of {groups} of servers may be wrong.",
                     "Whether no more were is for a person to say.")
         self.remark("groups: servers of one operator, or on one reference clock, belong together.",
                     "A capture shows only what they name as their reference.")
@@ -223,25 +224,28 @@ def counted(counts: dict[str, int]) -> str:
     return ", ".join(f"{name} {counts[name]}" for name in names if counts.get(name))
 
 
-def draft(program: Program, captures: list[str], wanted: Wanted) -> tuple[dict[str, Any] | None, list[str]]:
+def keep(claim: Claim, limit: Limit) -> None:
+    """Writes a claim for the program."""
+    with Copy(CLAIM, limit) as copy:
+        copy.take(claim.text)
+
+
+def draft(program: Program, captures: list[str], wanted: Wanted) -> tuple[Claim | None, list[str]]:
     """A claim for captures, which are joined if there are several; and remarks for a person."""
-    if len(captures) == 1:
-        drafting = Draft(program, Operand(captures[0]))
-        return drafting.claim(wanted), drafting.remarks
-    with tempfile.TemporaryDirectory(prefix="ntpaudit-") as place:
-        for number, capture in enumerate(captures):
-            try:
-                (Path(place) / f"{number:06}.pcap").symlink_to(Path(capture).resolve(strict=True))
-            except OSError:
-                raise Fault("ntpaudit: device capture", files.DEVICE) from None
-        with files.inside(place):
-            join([f"{number:06}.pcap" for number in range(len(captures))])
-        drafting = Draft(program, Operand(f"{place}/{files.JOINED}"))
+    with scratch():
+        copies = {f"{number}.pcap": path for number, path in enumerate(captures)}
+        for copy, path in copies.items():
+            copy_named(path, copy, program.limit)
+        if len(copies) > 1:
+            join(program.caller, {f"{os.path.basename(path)} ({copy})": copy for copy, path in copies.items()})
+        drafting = Draft(program, JOINED if len(copies) > 1 else "0.pcap")
         claim = drafting.claim(wanted)
-        drafting.remarks.insert(0, f"{len(captures)} captures were joined in order of time.")
+        if len(copies) > 1:
+            drafting.remarks.insert(0, f"{len(copies)} captures were joined in order of time.")
         return claim, drafting.remarks
 
 
-def claim_text(claim: dict[str, Any]) -> str:
+def claim_text(claim: Claim) -> str:
     """The claim, a line for each of its fields."""
-    return "{\n" + ",\n".join(f"  {json.dumps(name)}: {json.dumps(value)}" for name, value in claim.items()) + "\n}\n"
+    lines = (f"  {json.dumps(name)}: {json.dumps(value)}" for name, value in said(claim).items())
+    return "{\n" + ",\n".join(lines) + "\n}\n"

@@ -2,77 +2,207 @@
 from __future__ import annotations
 
 import json
-import re
-from collections.abc import Sequence
-from typing import Any, NamedTuple
+from dataclasses import dataclass, field
+from typing import Annotated, Any, Final, Literal
 
 from . import VERSION
-from .folder import (AUDIT, CERTIFICATE, CLAIM, CLAIM_OF_0, CLAIM_OF_DRIFT, ENVELOPE, JOINED, REFUTATION, REPORT,
-                     read_json)
+from .claim import Claim
+from .fault import DEVICE, REFUSED as INPUT_REFUSED, fault
+from .folder import AUDIT, CLAIM, JOINED, LEFT, LIMITS
+from .typed import (Address, Count, Mangled, Name, Nanoseconds, Seconds, Small, Sum, Text, Ticks, Time, is_name,
+                    is_time, length, mangled, matching, or_nothing, parsed, said, typed, within)
 
-VERDICTS = YES, REFUTED, NOTHING_FITS, OPEN, REFUSED = "yes", "refuted", "nothing fits", "open", "refused"
+Verdict = Literal["yes", "refuted", "nothing fits", "no evidence", "open"]
+YES: Final = "yes"
+REFUTED: Final = "refuted"
+NOTHING_FITS: Final = "nothing fits"
+NO_EVIDENCE: Final = "no evidence"
+OPEN: Final = "open"
+ANSWERED = (YES, REFUTED, NOTHING_FITS, NO_EVIDENCE, OPEN)
+REFUSED, NOT_VERIFIED = "refused", "not verified"
+"""There is no verdict; and there is one that nobody made or verified here."""
 
-DAY = re.compile(r"\d{4}-\d\d-\d\d")
-PART = re.compile(rf"\.|{DAY.pattern}")
-LEFT = {CERTIFICATE, REPORT, ENVELOPE, REFUTATION, CLAIM_OF_0, CLAIM_OF_DRIFT}
-
-MANGLED = (KeyError, TypeError, ValueError, AttributeError, IndexError, StopIteration, OverflowError)
-"""What an audit.json brings about that no audit wrote."""
+Hull = tuple[Ticks, Ticks] | Literal["unbounded", "empty"]
+"""Two ends in ticks, or a word."""
+Day = Annotated[str, matching(r"\d{4}-\d\d-\d\d")]
 
 
-class Entry(NamedTuple):
+def is_left(name: str) -> bool:
+    """Whether an audit leaves a file of this name, seen from the record's folder."""
+    day, _, file = name.rpartition("/")
+    return name == JOINED or (file in LEFT | {CLAIM} and matching(r"\d{4}-\d\d-\d\d")(day) if day else file in LEFT)
+
+
+Left = Annotated[str, is_left]
+
+
+@dataclass(frozen=True)
+class Piece:
+    """A piece of the envelope: its number, its ends in Unix seconds, and its hull."""
+
+    piece: Count
+    from_: Seconds
+    to: Seconds
+    hull: Hull
+
+
+@dataclass(frozen=True)
+class Reason:
+    """Why it isn't a yes, and what shows it."""
+
+    why: Literal["exceeds", "unbounded", "off", "apart", "drift", "step", "many", "tick", "silent"]
+    piece: Piece | None = None
+    """`off`: the first piece whose hull lies beyond the bound as a whole."""
+    tick: Ticks = 0
+    hull: Hull | None = None
+    """`tick`: that the claim stays open at a Unix tick, and its hull."""
+    drift_ppb: Count = 0
+    conflicts: list[tuple[Address, Count, Address, Count]] = field(default_factory=list)
+    apart: list[Address] = field(default_factory=list)
+    """Where nothing fits: the drift that was tried; each conflict, with the server and the record of a request and
+    those of a reply; and the servers that are apart."""
+    heard: Count = 0
+    """`silent`: how many groups have a sample."""
+
+
+@dataclass(frozen=True)
+class Server:
+    address: Address
+    group: Small
+    samples: Count
+
+
+@dataclass(frozen=True)
+class Refutation:
+    """A course of events: its error at a reading of the clock, in ticks, and the servers that are wrong in it."""
+
+    error: Ticks
+    false: Annotated[list[Small], length(0, 32)]
+    reading: Ticks
+
+
+@dataclass(frozen=True)
+class Alert:
+    """A warning that stands beside a verdict."""
+
+    kind: Literal["outside", "no-drift", "falls", "far", "leap", "leap-second", "sources", "reference"]
+    count: Count = 0
+    record: Count = 0
+    before: Nanoseconds = 0
+    after: Nanoseconds = 0
+    distance: Nanoseconds = 0
+    piece: Piece | None = None
+    reference: Annotated[str, matching("[0-9a-f]{0,8}")] = ""
+    seconds: list[tuple[Seconds, Annotated[int, within(-9, 9)]]] = field(default_factory=list)
+
+
+@dataclass(frozen=True)
+class LeapList:
+    """What the list of leap seconds says that was looked up, or why there was none."""
+
+    file: Text
+    fault: Text = ""
+    sha256: Annotated[str, matching("[0-9a-f]{64}|")] = ""
+    good_until: Seconds = 0
+    seconds: list[tuple[Seconds, Annotated[int, within(-9, 9)]]] = field(default_factory=list)
+
+
+@dataclass(frozen=True)
+class Leap:
+    """What a list of leap seconds says of the span and all exchanges."""
+
+    says: Literal["none", "within", "expired", "no list"]
+    from_: Seconds
+    to: Seconds
+    seconds: list[tuple[Seconds, Annotated[int, within(-9, 9)]]] = field(default_factory=list)
+
+
+@dataclass(frozen=True)
+class Entry:
     """One audit: of a whole claim, or of one day of it."""
 
-    part: str
+    part: Literal["."] | Day
     """The folder of its files, seen from the record's: `.`, or a day such as `2026-11-22`."""
-    verdict: str
-    fault: dict[str, Any] = {}
-    """Of a refusal, its line and its status. What follows is there if there is none."""
-    claim: dict[str, Any] = {}
-    envelope_step: int = 0
+    verdict: Verdict
+    claim: Claim
+    envelope_step: Annotated[int, within(1, 86_400)]
     """Seconds of the envelope's pieces."""
-    least_ns: int | None = None
-    """The least bound that any certificate carries; None if no course of events fits, or too few groups have a sample."""
-    worst: dict[str, Any] = {}
+    least_ns: Nanoseconds | None
+    """The least bound that any certificate carries; None if no course of events fits, or too few groups have a
+    sample."""
+    worst: Piece
     """The piece that needs the least bound, or the first that is unbounded or empty."""
-    reason: dict[str, Any] = {}
-    """Why it isn't a yes, and what shows it: a piece of the envelope, conflicts, or a tick."""
-    counts: dict[str, int] = {}
-    servers: Sequence[dict[str, Any]] = ()
-    refutation: dict[str, Any] = {}
+    counts: dict[Annotated[str, matching("[a-z]{1,20}")], Count]
+    servers: Annotated[list[Server], length(1, 32)]
+    leap: Leap
+    reason: Reason | None = None
+    refutation: Refutation | None = None
     """That of the claim; or, at a yes, of the same claim with the bound 0."""
-    warnings: Sequence[dict[str, Any]] = ()
-    outputs: dict[str, str] = {}
+    warnings: Annotated[list[Alert], length(0, 20)] = field(default_factory=list)
+    outputs: dict[Left, Sum] = field(default_factory=dict)
     """The SHA-256 of each file that the audit left, by its name seen from the record's folder."""
-    leap: dict[str, Any] = {}
-    """What the list of leap seconds says of the span and all exchanges."""
 
-    @property
-    def status(self) -> int:
-        return int(self.fault["status"]) if self.fault else int(self.verdict != YES)
+    def __post_init__(self) -> None:
+        if (self.reason is None) != (self.verdict == YES) or "samples" not in self.counts:
+            raise Mangled(f"entry {self.part}")
 
 
-class Record(NamedTuple):
+@dataclass(frozen=True)
+class Refusal:
+    """Why there is no verdict."""
+
+    line: Text
+    status: Annotated[int, within(2, 70)]
+
+
+@dataclass(frozen=True)
+class Made:
+    """The program by which an audit was made."""
+
+    version: Text
+    sha256: Sum
+
+
+@dataclass(frozen=True)
+class Options:
+    """What decides what an audit leaves: with other options a folder is audited again."""
+
+    step: Annotated[int, within(1, 86_400)] | None = None
+    days: bool = False
+
+
+@dataclass(frozen=True)
+class Record:
     """What audit.json says about a folder."""
 
-    program: dict[str, str]
-    options: dict[str, Any]
-    inputs: dict[str, str]
+    dossier: Annotated[int, within(VERSION, VERSION)]
+    program: Made
+    options: Options
+    inputs: dict[Name, Sum]
     """The SHA-256 of each input, by its name."""
-    capture: str
+    capture: Annotated[str, or_nothing(is_name)]
     """The capture that was read: the one input, or the file in which several were joined."""
-    entries: list[Entry]
-    made: str
-    seconds: float
-    dossier: int = VERSION
-    signed: str = ""
+    made: Time
+    seconds: Annotated[float, within(0, 10**9)]
+    signed: Annotated[str, or_nothing(is_time)]
     """When this was signed, as the signer says; nothing if it wasn't."""
-    leap_seconds: dict[str, Any] = {}
-    """What the list of leap seconds says that was looked up."""
+    entries: Annotated[list[Entry], length(0, 40_000)]
+    refusal: Refusal | None = None
+    leap_seconds: LeapList | None = None
+
+    def __post_init__(self) -> None:
+        if bool(self.entries) == bool(self.refusal) or bool(self.entries) != bool(self.leap_seconds):
+            raise Mangled("entries")
+        if self.capture not in {"", JOINED, *self.inputs}:
+            raise Mangled("capture")
 
     @property
     def status(self) -> int:
-        return max((entry.status for entry in self.entries), default=0)
+        return self.refusal.status if self.refusal else int(any(entry.verdict != YES for entry in self.entries))
+
+    @property
+    def verdicts(self) -> list[str]:
+        return [entry.verdict for entry in self.entries] or [REFUSED]
 
     @property
     def outputs(self) -> dict[str, str]:
@@ -81,33 +211,23 @@ class Record(NamedTuple):
 
 def record_text(record: Record) -> bytes:
     """A record as JSON, a line for the folder and one for each entry."""
-    of_folder = json.dumps({name: value for name, value in record._asdict().items() if name != "entries"})
-    entries = ",\n".join(json.dumps(entry._asdict()) for entry in record.entries)
-    return f'{of_folder[:-1]}, "entries": [\n{entries}\n]}}\n'.encode()
+    of_folder = said(record)
+    entries = ",\n".join(json.dumps(entry) for entry in of_folder.pop("entries"))
+    data = f'{json.dumps(of_folder)[:-1]}, "entries": [\n{entries}\n]}}\n'.encode()
+    if len(data) > LIMITS[AUDIT]:
+        raise fault(f"{AUDIT} would be too big: audit fewer days at once", INPUT_REFUSED)
+    return data
 
 
-def read_record(folder: str) -> Record | None:
-    """The record of a folder; None if there is none, or one of another form."""
-    found: Any = read_json(f"{folder}/{AUDIT}")
-    if not isinstance(found, dict) or found.get("dossier") != VERSION:
-        return None
+def read_record(data: bytes) -> Record:
+    """The record that audit.json holds; a fault if it is none, or of another form."""
     try:
-        said: dict[str, Any] = {**found, "entries": [Entry(**entry) for entry in found["entries"]]}
-        record = Record(**said)
-        is_inside = not any("/" in name for name in [*record.inputs, record.capture])
-        return record if is_inside and all(map(is_own, record.entries)) else None
-    except (TypeError, KeyError, AttributeError):
-        return None
-
-
-def is_own(entry: Entry) -> bool:
-    """Whether an entry names files of its own folder alone: an audit.json may come from anybody."""
-    def is_left(name: str) -> bool:
-        part, _, file = name.rpartition("/")
-        return name == JOINED or (file in LEFT if not part else file in LEFT | {CLAIM} and bool(DAY.fullmatch(part)))
-    return bool(PART.fullmatch(entry.part)) and all(map(is_left, entry.outputs))
-
-
-def differing(one: Entry, other: Entry) -> list[str]:
-    """The names of what two entries say differently, the sums of outputs left out."""
-    return [name for name, seen, wanted in zip(Entry._fields, one, other) if name != "outputs" and seen != wanted]
+        found: Any = parsed(data)
+        if isinstance(found, dict) and type(found.get("dossier")) is int and found["dossier"] != VERSION:
+            raise fault("not audited", DEVICE)
+        record: Record = typed(Record, found, "")
+        return record
+    except Mangled as error:
+        raise mangled(AUDIT, str(error)) from None
+    except ValueError:
+        raise mangled(AUDIT, "no JSON") from None

@@ -5,22 +5,23 @@ that file: its sum is taken with those of claim and captures, so a signature is 
 """
 from __future__ import annotations
 
-import os
+from typing import Literal
 
-from .entry import LEFT
-from .folder import AUDIT, EVIDENCE, JOINED, SIGNATURE, read_json
+from .folder import EVIDENCE, OWN, Folder
+from .typed import Text, read_typed
 
 AROUND = "\"'`()[]<>.,;:"
 """What may stand around a name in a text."""
 
-OWN = LEFT | {AUDIT, SIGNATURE, JOINED}
-"""What an audit leaves, and no evidence."""
+PREMISES = Literal["reading", "capture", "servers", "distance", "answers", "drift", "leap"]
 
 
-def evidence(folder: str) -> dict[str, str]:
-    """Where the evidence for each premise is kept, as evidence.json says it."""
-    found = read_json(f"{folder}/{EVIDENCE}")
-    return {str(name): str(text) for name, text in found.items()} if isinstance(found, dict) else {}
+def evidence(folder: Folder) -> dict[str, str]:
+    """Where the evidence for each premise is kept, as evidence.json says it, if there is one."""
+    if not folder.has(EVIDENCE):
+        return {}
+    found: dict[str, str] = read_typed(EVIDENCE, dict[PREMISES, Text], folder.data(EVIDENCE))
+    return found
 
 
 def named_in(text: str) -> list[str]:
@@ -29,16 +30,9 @@ def named_in(text: str) -> list[str]:
     return [word for word in dict.fromkeys(words) if word and "/" not in word]
 
 
-def evidence_files() -> list[str]:
-    """evidence.json of the current folder, if it is there, and the files that it names."""
-    if not os.path.isfile(EVIDENCE):
+def evidence_files(folder: Folder, names: list[str]) -> list[str]:
+    """evidence.json, if it is there, and the files that it names."""
+    if EVIDENCE not in names:
         return []
-    names = {name for text in evidence(".").values() for name in named_in(text)}
-    return [EVIDENCE, *sorted(name for name in names - OWN - {EVIDENCE} if is_file(name))]
-
-
-def is_file(name: str) -> bool:
-    try:
-        return os.path.isfile(name)
-    except ValueError:  # (a zero byte)
-        return False
+    named = {name for text in evidence(folder).values() for name in named_in(text)} & set(names) - OWN - {EVIDENCE}
+    return [EVIDENCE, *sorted(name for name in named if not folder.is_folder(name))]

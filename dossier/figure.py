@@ -6,18 +6,21 @@ picture that is stretched, and the words stand beside it at parts of the width.
 """
 from __future__ import annotations
 
-import json
 import sys
 from collections.abc import Callable, Collection
 
 from .answers import Envelope, read_envelope
 from .cells import Cell, cells_of
+from .claim import Claim
+from .folder import CLAIM, LIMITS, copy_named
 from .judgement import is_beyond
-from .markup import html, minus
-from .program import Operand, Program
+from .markup import Html, element, lines, minus
+from .program import Program
 from .scale import ms_marks, time_marks
+from .scratch import scratch
 from .style import PICTURE
 from .text import count
+from .typed import read_typed
 from .units import bound_ticks, ns_ms, range_ms, shown_time
 
 WIDTH, HEIGHT, TOP, STRIP, FOOT = 10_000, 300, 10, 12, 40
@@ -37,10 +40,14 @@ MARKS = {
 }
 
 
-HULL = '<path class="hull" d="M0 2H26V12H0Z"/><path class="edge" d="M0 2H26M0 12H26"/>'
+def path(kind: str, drawn: str) -> Html:
+    return element("path", class_=kind, d=drawn)
 
 
-def picture(envelope: Envelope, bound_ns: int, name: str, label: str) -> str:
+HULL = [path("hull", "M0 2H26V12H0Z"), path("edge", "M0 2H26M0 12H26")]
+
+
+def picture(envelope: Envelope, bound_ns: int, name: str, label: str) -> Html:
     """The picture, with ids that begin with a name of its own."""
     bound = bound_ticks(bound_ns)
     cells = cells_of(envelope, bound)
@@ -49,25 +56,28 @@ def picture(envelope: Envelope, bound_ns: int, name: str, label: str) -> str:
     def y(ticks: float) -> float:
         return HEIGHT * (high - ticks) / (high - low)
     hull = band(cells, y)
-    inner = [f'<path class="hull" d="{hull}"/>', *strokes(cells, y), f'<path class="edge" d="{hull}"/>']
+    inner = [path("hull", hull), *strokes(cells, y), path("edge", hull)]
     inner += [line(y(mark), "grid" if mark else "zero") for mark, _ in ms_marks(low, high)]
     inner += [line(y(side), "bound") for side in (bound, -bound)]
-    height = TOP + HEIGHT + STRIP + FOOT
-    return "\n".join([
-        f'<svg xmlns="http://www.w3.org/2000/svg" class="picture" width="100%" height="{height}" role="img" '
-        f'aria-labelledby="{name}-t {name}-d">',
-        f'<title id="{name}-t">{html(label)}</title>',
-        f'<desc id="{name}-d">{html(described(envelope, bound_ns))}</desc>',
+    drawn = lines([
+        "",
+        element("title", label, id=f"{name}-t"),
+        element("desc", described(envelope, bound_ns), id=f"{name}-d"),
         stretched(TOP, HEIGHT, inner),
-        f'<rect class="frame" y="{TOP}" width="100%" height="{HEIGHT}"/>',
+        element("rect", class_="frame", y=TOP, width="100%", height=HEIGHT),
         stretched(TOP + HEIGHT, STRIP, marks(cells)),
-        *words(envelope, bound, bound_ns, low, high, y), "</svg>"])
+        *words(envelope, bound, bound_ns, low, high, y), ""])
+    return element("svg", drawn, xmlns=XMLNS, class_="picture", width="100%", height=TOP + HEIGHT + STRIP + FOOT,
+                   role="img", aria_labelledby=f"{name}-t {name}-d")
 
 
-def stretched(top: int, height: int, drawn: list[str]) -> str:
+XMLNS = "http://www.w3.org/2000/svg"
+
+
+def stretched(top: int, height: int, drawn: list[Html]) -> Html:
     """An inner picture, as wide as the outer one whatever that is."""
-    box = f'viewBox="0 0 {WIDTH} {height}" preserveAspectRatio="none"'
-    return "\n".join([f'<svg y="{top}" width="100%" height="{height}" {box}>', *drawn, "</svg>"])
+    return element("svg", lines(["", *drawn, ""]), y=top, width="100%", height=height, viewBox=f"0 0 {WIDTH} {height}",
+                   preserveAspectRatio="none")
 
 
 def extent(cells: list[Cell], bound: int) -> tuple[int, int]:
@@ -106,7 +116,7 @@ def band(cells: list[Cell], y: Height) -> str:
     return drawn
 
 
-def strokes(cells: list[Cell], y: Height) -> list[str]:
+def strokes(cells: list[Cell], y: Height) -> list[Html]:
     """Of each server a stroke in each cell, side by side. One through the whole picture is faint, and if it lies
     outside there is a short one at the edge."""
     servers = len(cells[0].servers)
@@ -129,9 +139,9 @@ def strokes(cells: list[Cell], y: Height) -> list[str]:
             else:
                 short = max(0.0, (LEAST - bottom + top) / 2)
                 plain.append(f"M{at} {min(bottom + short, HEIGHT):.1f}V{max(top - short, 0):.1f}")
-        for path, kind in ((wide, " wide"), (plain, is_dense)):
-            if path:
-                drawn.append(f'<path class="server {server_class(place)}{kind}" d="{"".join(path)}"/>')
+        for strokes_, kind in ((wide, " wide"), (plain, is_dense)):
+            if strokes_:
+                drawn.append(path(f"server {server_class(place)}{kind}", "".join(strokes_)))
     return drawn
 
 
@@ -139,45 +149,44 @@ def server_class(place: int) -> str:
     return f"c{place % COLOURS} d{place // COLOURS % DASHES}"
 
 
-def line(height: float, name: str) -> str:
-    return f'<path class="{name}" d="M0 {height:.1f}H{WIDTH}"/>'
+def line(height: float, name: str) -> Html:
+    return path(name, f"M0 {height:.1f}H{WIDTH}")
 
 
-def marks(cells: list[Cell]) -> list[str]:
+def marks(cells: list[Cell]) -> list[Html]:
     """A strip that marks the cells that fail, run by run."""
     drawn = []
     for kind in MARKS:
-        path, end = [], None
+        runs, end = [], None
         for cell in cells:
             if cell.mark == kind:
                 if end != cell.begin:
-                    path.append(f"M{x(cell.begin)} {STRIP / 2:.0f}")
-                path.append(f"H{x(cell.end)}")
+                    runs.append(f"M{x(cell.begin)} {STRIP / 2:.0f}")
+                runs.append(f"H{x(cell.end)}")
                 end = cell.end
-        if path:
-            drawn.append(f'<path class="mark {kind}" d="{"".join(path)}"/>')
+        if runs:
+            drawn.append(path(f"mark {kind}", "".join(runs)))
     return drawn
 
 
-def words(envelope: Envelope, bound: int, bound_ns: int, low: int, high: int, y: Height) -> list[str]:
+def words(envelope: Envelope, bound: int, bound_ns: int, low: int, high: int, y: Height) -> list[Html]:
     """What is written: milliseconds at the left, the bound at the right, times below."""
     first, last = envelope.begins[0], envelope.ends[-1]
     bottom = TOP + HEIGHT + STRIP
     drawn = []
     for mark, text in ms_marks(low, high):
         if 12 < y(mark) < HEIGHT - 4:
-            drawn.append(f'<text x="4" y="{TOP + y(mark) - 3:.1f}">{minus(text)}{" ms" if not mark else ""}</text>')
+            drawn.append(element("text", minus(text), "" if mark else " ms", x=4, y=f"{TOP + y(mark) - 3:.1f}"))
     for side, sign, shift in ((bound, "+", -4), (-bound, "\u2212", 13))[: 2 if bound else 1]:
-        text = f"claimed {sign}{ns_ms(bound_ns)} ms"
-        place = f'x="100%" dx="-4" y="{TOP + y(side) + shift:.1f}" text-anchor="end"'
-        drawn.append(f'<text class="claimed" {place}>{text}</text>')
+        drawn.append(element("text", f"claimed {sign}{ns_ms(bound_ns)} ms", class_="claimed", x="100%", dx=-4,
+                             y=f"{TOP + y(side) + shift:.1f}", text_anchor="end"))
     for time, text in time_marks(first, last) if first < last else [(first, shown_time(first)[11:])]:
         part = 100 * (time - first) / max(1, last - first)
         anchor = "start" if part < 6 else "end" if part > 94 else "middle"
-        drawn.append(f'<line class="tick" x1="{part:.2f}%" x2="{part:.2f}%" y1="{bottom}" y2="{bottom + 5}"/>')
-        drawn.append(f'<text x="{part:.2f}%" y="{bottom + 18}" text-anchor="{anchor}">{text}</text>')
+        drawn.append(element("line", class_="tick", x1=f"{part:.2f}%", x2=f"{part:.2f}%", y1=bottom, y2=bottom + 5))
+        drawn.append(element("text", text, x=f"{part:.2f}%", y=bottom + 18, text_anchor=anchor))
     days = " to ".join(sorted({shown_time(time)[:10] for time in (first, last)}))
-    drawn.append(f'<text x="50%" y="{bottom + 34}" text-anchor="middle">UTC, {days}</text>')
+    drawn.append(element("text", f"UTC, {days}", x="50%", y=bottom + 34, text_anchor="middle"))
     return drawn
 
 
@@ -191,30 +200,30 @@ def described(envelope: Envelope, bound_ns: int) -> str:
         said.append(f"The hull lies within {ends}.")
     said.append(f"The claimed bound is {ns_ms(bound_ns)} ms to either side.")
     fails = {"beyond the bound": sum(is_beyond(hull, bound) for hull in bounded)}
-    fails |= {word: envelope.hulls.count(word) for word in ("empty", "unbounded")}
+    fails |= {word: sum(hull == word for hull in envelope.hulls) for word in ("empty", "unbounded")}
     return " ".join([*said, *(f"{count(number, 'piece')} {word}." for word, number in fails.items() if number)])
 
 
-def stroke(place: int) -> str:
+def stroke(place: int) -> Html:
     """The stroke of a server, as a small picture for a line of text."""
-    return swatch(f'<path class="server {server_class(place)}" d="M0 7H26"/>')
+    return swatch([path(f"server {server_class(place)}", "M0 7H26")])
 
 
-def swatch(drawn: str) -> str:
-    return f'<svg width="26" height="14" aria-hidden="true">{drawn}</svg>'
+def swatch(drawn: list[Html]) -> Html:
+    return element("svg", *drawn, width=26, height=14, aria_hidden="true")
 
 
-def items(names: list[str], fails: Collection[str]) -> list[tuple[str, str]]:
+def items(names: list[str], fails: Collection[str]) -> list[tuple[list[Html], str]]:
     """What stands for what: something drawn, and its name."""
-    servers = [(f'<path class="server {server_class(place)}" d="M0 7H26"/>', name) for place, name in enumerate(names)]
-    marks = [(f'<path class="mark {kind}" d="M0 7H26"/>', text) for kind, text in MARKS.items() if kind in fails]
-    return [(HULL, "hull"), *servers, ('<path class="bound" d="M0 7H26"/>', "claimed bound"), *marks]
+    servers = [([path(f"server {server_class(place)}", "M0 7H26")], name) for place, name in enumerate(names)]
+    failing = [([path(f"mark {kind}", "M0 7H26")], text) for kind, text in MARKS.items() if kind in fails]
+    return [(HULL, "hull"), *servers, ([path("bound", "M0 7H26")], "claimed bound"), *failing]
 
 
-def legend(names: list[str], fails: Collection[str]) -> str:
+def legend(names: list[str], fails: Collection[str]) -> Html:
     """The legend beside a picture in a page."""
-    lines = "".join(f"<li>{swatch(drawn)} {html(text)}</li>" for drawn, text in items(names, fails))
-    return f'<ul class="legend">{lines}</ul>'
+    listed = (element("li", swatch(drawn), " ", text) for drawn, text in items(names, fails))
+    return element("ul", *listed, class_="legend")
 
 
 def fails_of(envelope: Envelope, bound_ns: int) -> set[str]:
@@ -224,28 +233,31 @@ def fails_of(envelope: Envelope, bound_ns: int) -> set[str]:
             if isinstance(hull, str) or is_beyond(hull, bound)}
 
 
-def standing_alone(envelope: Envelope, bound_ns: int, label: str, wide: int = 900) -> str:
+def standing_alone(envelope: Envelope, bound_ns: int, label: str, wide: int = 900) -> Html:
     """The picture as a file of its own, with its legend in it."""
     top, across, written = 36, 10, []
     for drawn, text in items(list(envelope.servers), fails_of(envelope, bound_ns)):
         if across + 52 + 7 * len(text) > wide:
             top, across = top + 20, 10
-        words = f'<text x="32" y="12">{html(text)}</text>'
-        written.append(f'<g transform="translate({across} {top - 28})">{drawn}{words}</g>')
+        named = element("text", text, x=32, y=12)
+        written.append(element("g", *drawn, named, transform=f"translate({across} {top - 28})"))
         across += 52 + 7 * len(text)
     height = top + TOP + HEIGHT + STRIP + FOOT
-    return "\n".join([
-        f'<svg xmlns="http://www.w3.org/2000/svg" width="{wide}" height="{height}">',
-        f"<style>{PICTURE}</style>", '<rect class="paper" width="100%" height="100%"/>', *written,
-        f'<svg x="10" y="{top}" width="{wide - 20}" height="{height - top}">',
-        picture(envelope, bound_ns, "p", label), "</svg>", "</svg>"])
+    drawn_inside = lines(["", picture(envelope, bound_ns, "p", label), ""])
+    inner = element("svg", drawn_inside, x=10, y=top, width=wide - 20, height=height - top)
+    paper = element("rect", class_="paper", width="100%", height="100%")
+    parts = lines(["", element("style", PICTURE), paper, *written, inner, ""])
+    return element("svg", parts, xmlns=XMLNS, width=wide, height=height)
 
 
 def print_picture(program: Program, claim: str, capture: str, step: int) -> int:
     """Prints the picture of a claim and a capture, from what `envelope` says about them."""
-    text = program.run("envelope", Operand(claim), Operand(capture), "--servers", "--step", str(step)).text
-    with open(claim, "rb") as opened:
-        given = json.load(opened)
-    label = f"The error of the clock of {given['client']}"
-    sys.stdout.write(standing_alone(read_envelope(text), given["bound_ns"], label) + "\n")
+    with scratch():
+        copy_named(claim, CLAIM, program.limit, LIMITS[CLAIM])
+        copy_named(capture, "0.pcap", program.limit)
+        text = program.run("envelope", CLAIM, "0.pcap", "--servers", "--step", str(step)).text
+        with open(CLAIM, "rb") as opened:
+            given: Claim = read_typed(CLAIM, Claim, opened.read())
+    label = f"The error of the clock of {given.client}"
+    sys.stdout.write(standing_alone(read_envelope(text), given.bound_ns, label) + "\n")
     return 0

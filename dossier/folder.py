@@ -1,16 +1,20 @@
-"""A folder that is audited: which files in it are inputs, and how outputs get there, whole or not at all.
+"""A folder that is a stranger's: how its files are opened, and that each is read as one and the same.
 
-While a folder is audited or verified it is the current one: names are looked for in it, and the program runs there.
+A file is opened by the folder's descriptor. No link is followed, it has to be a regular file, and no larger than its
+kind may be. What is parsed, shown, summed or handed on is what was read: its bytes, or a private copy of them.
 """
 from __future__ import annotations
 
-import json
+import hashlib
 import os
 import re
-from collections.abc import Iterator
+import stat
+from collections.abc import Callable, Iterator
 from contextlib import contextmanager
+from itertools import islice
 
-from .program import BLOCK, Fault
+from .fault import DEVICE, MEMORY, Fault, fault
+from .limit import Limit
 
 CLAIM = "claim.json"
 EVIDENCE = "evidence.json"
@@ -23,118 +27,237 @@ CLAIM_OF_DRIFT = "more-drift.claim.json"
 AUDIT = "audit.json"
 SIGNATURE = f"{AUDIT}.sig"
 JOINED = "joined.pcap"
+LEFT = frozenset({CERTIFICATE, REPORT, ENVELOPE, REFUTATION, CLAIM_OF_0, CLAIM_OF_DRIFT})
+"""What an audit leaves of each claim."""
+OWN = LEFT | {AUDIT, SIGNATURE, JOINED}
+"""What stands in a folder besides the inputs."""
 
-CAPTURE = re.compile(r".*\.(pcap|pcapng|cap)[0-9]*", re.DOTALL)
+CAPTURE = re.compile(r"[^.].*\.(pcap|pcapng|cap)[0-9]*", re.DOTALL)
 """Names of captures: also `f.pcap1` and so on, as `tcpdump -C` writes them."""
 
-PART = re.compile(r"\..*\.(\d+)\.part(\.sig)?", re.DOTALL)
-"""Names of files that are being written, with the number of the process that writes."""
+SMALL, JSON, LARGE = 1 << 16, 1 << 24, 1 << 30
+LIMITS = {CLAIM: SMALL, EVIDENCE: SMALL, CLAIM_OF_0: SMALL, CLAIM_OF_DRIFT: SMALL, REFUTATION: SMALL, SIGNATURE: SMALL,
+          REPORT: JSON, AUDIT: JSON, CERTIFICATE: 1 << 27, ENVELOPE: LARGE}
+"""Bytes that a file may have by its name."""
+MOST_OF_A_CAPTURE, MOST_NAMES = 1 << 32, 100_000
+"""The program holds a capture in memory for as long as it takes to hold it to its sum."""
 
-COMPACT = json.JSONEncoder(separators=(",", ":"))
-DEVICE = 4
+KINDS = {stat.S_IFIFO: "a FIFO", stat.S_IFLNK: "a link", stat.S_IFDIR: "a folder", stat.S_IFSOCK: "a socket",
+         stat.S_IFCHR: "a device", stat.S_IFBLK: "a device"}
+BLOCK = 1 << 20
+"""Bytes of a file that are read at once."""
+OF_A_FOLDER = os.O_RDONLY | os.O_DIRECTORY | os.O_CLOEXEC
+OF_A_FILE = os.O_RDONLY | os.O_NONBLOCK | os.O_NOCTTY | os.O_CLOEXEC
 
-HOME = os.open(".", os.O_PATH | os.O_DIRECTORY)
-"""The folder in which this was called."""
-
-
-@contextmanager
-def inside(folder: str) -> Iterator[None]:
-    """Makes a folder the current one for a while."""
-    try:
-        os.chdir(folder)
-    except (FileNotFoundError, NotADirectoryError):
-        raise Fault("ntpaudit-dossier: no such folder", DEVICE) from None
-    except OSError as error:
-        raise unreadable(error) from None
-    try:
-        yield
-    finally:
-        os.fchdir(HOME)
-
-
-def unreadable(error: OSError) -> Fault:
-    return Fault(f"ntpaudit-dossier: the folder can't be read ({error.strerror})", DEVICE)
-
-
-def inputs() -> list[str]:
-    """The claim and the captures, in the order of their names; a fault if there are none."""
-    try:
-        names = {entry.name for entry in os.scandir() if entry.is_file()}
-    except OSError as error:
-        raise unreadable(error) from None
-    if CLAIM not in names:
-        raise Fault(f"ntpaudit-dossier: no {CLAIM} in the folder", DEVICE)
-    captures = sorted(filter(is_capture, names))
-    if not captures:
-        raise Fault("ntpaudit-dossier: no capture in the folder", DEVICE)
-    return [CLAIM, *captures]
+HOME = os.open(".", os.O_PATH | os.O_DIRECTORY | os.O_CLOEXEC)
+"""The folder in which this was called. Names on the command line are seen from there."""
 
 
 def is_capture(name: str) -> bool:
-    return bool(CAPTURE.fullmatch(name)) and name != JOINED and not name.startswith(".")
+    return bool(CAPTURE.fullmatch(name)) and name != JOINED
 
 
-def part_of(path: str) -> str:
-    """Where a file is written before it is put into its place."""
-    place, slash, name = path.rpartition("/")
-    return f"{place}{slash}.{name}.{os.getpid()}.part"
+def limit_of(name: str) -> int:
+    """The bytes that a file of this name may have."""
+    file = name.rpartition("/")[2]
+    other = JSON if file.endswith(".json") else LARGE
+    return LIMITS.get(file, MOST_OF_A_CAPTURE if is_capture(file) or file == JOINED else other)
 
 
-def write_beside(path: str, data: bytes) -> None:
-    """Writes a file whole or not at all: beside its place, and then into it."""
-    part = part_of(path)
+def unreadable(name: str, error: OSError) -> Fault:
+    return fault(f"{name} can't be read ({error.strerror})", DEVICE)
+
+
+@contextmanager
+def held(name: str, place: int, flags: int) -> Iterator[int]:
+    """A descriptor, for a while."""
+    file = os.open(name, flags, dir_fd=place)
     try:
-        try:
-            write(part, data)
-            os.replace(part, path)
-        except BaseException:
-            remove(part)
-            raise
+        yield file
+    finally:
+        os.close(file)
+
+
+@contextmanager
+def parent_of(place: int, name: str) -> Iterator[tuple[int, str]]:
+    """The folder of a file, and the file's name in it. A day's folder is one and no link to one."""
+    day, _, file = name.rpartition("/")
+    if not day:
+        yield place, file
+        return
+    seen = os.stat(day, dir_fd=place, follow_symlinks=False)
+    if not stat.S_ISDIR(seen.st_mode):
+        raise fault(f"{day} is {KINDS.get(stat.S_IFMT(seen.st_mode), 'no folder')}")
+    with held(day, place, OF_A_FOLDER | os.O_NOFOLLOW) as parent:
+        yield parent, file
+
+
+def has_kind(name: str, seen: os.stat_result, most: int) -> None:
+    """Refuses what is no regular file, or too big."""
+    if not stat.S_ISREG(seen.st_mode):
+        raise fault(f"{name} is {KINDS.get(stat.S_IFMT(seen.st_mode), 'no regular file')}")
+    if seen.st_size > most:
+        raise too_big(name, most)
+
+
+def too_big(name: str, most: int) -> Fault:
+    return fault(f"{name} is too big: it has more than {most:,} bytes")
+
+
+def read_once(place: int, file: str, name: str, limit: Limit, take: Callable[[bytes], object], most: int,
+              follow: int = os.O_NOFOLLOW) -> str:
+    """Hands all bytes of a file on, a block at a time, and gives their SHA-256. A device isn't opened."""
+    found, size = hashlib.sha256(), 0
+    try:
+        has_kind(name, os.stat(file, dir_fd=place, follow_symlinks=not follow), most)
+        with held(file, place, OF_A_FILE | follow) as opened:
+            has_kind(name, os.fstat(opened), most)
+            while block := os.read(opened, BLOCK):
+                limit.left()
+                size += len(block)
+                if size > most:
+                    raise too_big(name, most)
+                found.update(block)
+                take(block)
     except OSError as error:
-        name = os.path.basename(path)
-        raise Fault(f"ntpaudit-dossier: {name} can't be written ({error.strerror})", DEVICE) from None
+        raise unreadable(name, error) from None
+    return found.hexdigest()
 
 
-def write(path: str, data: bytes) -> None:
-    file = os.open(path, os.O_WRONLY | os.O_CREAT | os.O_TRUNC, 0o666)
+def kind_of(place: int, name: str) -> str:
+    """What stands there, such as `a file` or `a link`; nothing if there is nothing."""
     try:
-        while data:
-            data = data[os.write(file, data) :]
-    finally:
-        os.close(file)
+        return KINDS.get(stat.S_IFMT(os.stat(name, dir_fd=place, follow_symlinks=False).st_mode), "no file")
+    except (OSError, ValueError):
+        return ""
 
 
-def remove(path: str) -> None:
-    """Removes a file, if it is there."""
-    try:
-        os.unlink(path)
-    except FileNotFoundError:
-        pass
+class Folder:
+    """A folder, held by its descriptor. What is read of a file is the same each time, or the folder is refused."""
+
+    def __init__(self, path: str, limit: Limit):
+        self.limit = limit
+        try:
+            self.place = os.open(path, OF_A_FOLDER | os.O_NOFOLLOW, dir_fd=HOME)
+        except (FileNotFoundError, NotADirectoryError):
+            if kind_of(HOME, path) == KINDS[stat.S_IFLNK]:
+                raise fault("the folder is a link: name the folder itself") from None
+            raise fault("no such folder", DEVICE) from None
+        except OSError as error:
+            raise fault(f"the folder can't be read ({error.strerror})", DEVICE) from None
+        self.sums: dict[str, str] = {}
+        self.kept: dict[str, bytes] = {}
+
+    def __enter__(self) -> Folder:
+        return self
+
+    def __exit__(self, _: object, error: BaseException | None, trace: object) -> None:
+        """Whatever goes wrong with a folder is the fault of this folder alone."""
+        os.close(self.place)
+        if isinstance(error, MemoryError):
+            raise fault("out of memory", MEMORY) from None
+        if isinstance(error, OSError):
+            raise fault(f"it can't be worked on ({error.strerror})", DEVICE) from None
+
+    def names(self) -> list[str]:
+        """The names in the folder, sorted."""
+        try:
+            with os.scandir(self.place) as entries:
+                names = [entry.name for entry in islice(entries, MOST_NAMES + 1)]
+        except OSError as error:
+            raise fault(f"the folder can't be read ({error.strerror})", DEVICE) from None
+        if len(names) > MOST_NAMES:
+            raise fault(f"more than {MOST_NAMES:,} files are in the folder")
+        return sorted(names)
+
+    def has(self, name: str) -> bool:
+        """Whether there is something of this name, whatever it is."""
+        try:
+            with parent_of(self.place, name) as (parent, file):
+                return bool(kind_of(parent, file))
+        except (OSError, Fault):
+            return False
+
+    def is_folder(self, name: str) -> bool:
+        return kind_of(self.place, name) == KINDS[stat.S_IFDIR]
+
+    def data(self, name: str) -> bytes:
+        """The bytes of a file."""
+        if name not in self.kept:
+            blocks: list[bytes] = []
+            self.read(name, blocks.append)
+            self.kept[name] = b"".join(blocks)
+        return self.kept[name]
+
+    def sum(self, name: str) -> str:
+        """The SHA-256 of a file, of any size that its kind may have."""
+        return self.sums[name] if name in self.sums else self.read(name, lambda _: None)
+
+    def copy(self, name: str, to: str) -> str:
+        """Makes a private copy of a file, and gives its SHA-256."""
+        with Copy(to, self.limit) as copy:
+            return self.read(name, copy.take)
+
+    def read(self, name: str, take: Callable[[bytes], object]) -> str:
+        try:
+            with parent_of(self.place, name) as (parent, file):
+                sum_ = read_once(parent, file, name, self.limit, take, limit_of(name))
+        except OSError as error:
+            raise unreadable(name, error) from None
+        if self.sums.setdefault(name, sum_) != sum_:
+            raise fault(f"{name} has changed meanwhile")
+        return sum_
 
 
-def sweep_parts() -> None:
-    """Takes away what a killed run may have left half written."""
-    for name in os.listdir():
-        part = PART.fullmatch(name)
-        if part and not os.path.exists(f"/proc/{part[1]}"):
-            remove(name)
+class Copy:
+    """A file in a folder of one's own. A block of zeros becomes a hole in it; the others take of the folder's room."""
+
+    def __init__(self, path: str, limit: Limit):
+        self.path, self.size, self.limit = path, 0, limit
+
+    def __enter__(self) -> Copy:
+        try:
+            self.file = os.open(self.path, os.O_WRONLY | os.O_CREAT | os.O_TRUNC | os.O_CLOEXEC, 0o600)
+        except OSError as error:
+            raise self.unwritable(error) from None
+        return self
+
+    def take(self, block: bytes) -> None:
+        self.size += len(block)
+        try:
+            if block.count(0) == len(block):
+                os.ftruncate(self.file, self.size)
+                os.lseek(self.file, self.size, os.SEEK_SET)
+            else:
+                self.limit.take(len(block))
+                write(self.file, block)
+        except OSError as error:
+            raise self.unwritable(error) from None
+
+    def unwritable(self, error: OSError) -> Fault:
+        return unwritable(f"a private copy ({self.path})", error)
+
+    def __exit__(self, *_: object) -> None:
+        os.close(self.file)
 
 
-def read(path: str) -> bytes:
-    file = os.open(path, os.O_RDONLY)
-    try:
-        return b"".join(iter(lambda: os.read(file, BLOCK), b""))
-    finally:
-        os.close(file)
+def unwritable(name: str, error: OSError) -> Fault:
+    return fault(f"{name} can't be written ({error.strerror})", DEVICE)
 
 
-def read_json(path: str) -> object:
-    """What a JSON file says, or None if it isn't there or isn't JSON."""
-    try:
-        return json.loads(read(path))
-    except (OSError, ValueError, RecursionError):
-        return None
+def write(file: int, data: bytes) -> None:
+    while data:
+        data = data[os.write(file, data) :]
 
 
-def compact(value: object) -> bytes:
-    return COMPACT.encode(value).encode() + b"\n"
+def copy_named(path: str, to: str, limit: Limit, most: int = MOST_OF_A_CAPTURE) -> None:
+    """Makes a private copy of a file that the command line names. A link is followed: it isn't a stranger's choice."""
+    with Copy(to, limit) as copy:
+        read_once(HOME, path, os.path.basename(path), limit, copy.take, most, follow=0)
+
+
+def data_named(path: str, limit: Limit, most: int = JSON) -> bytes:
+    """The bytes of a file that the command line names."""
+    blocks: list[bytes] = []
+    read_once(HOME, path, os.path.basename(path), limit, blocks.append, most, follow=0)
+    return b"".join(blocks)

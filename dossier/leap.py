@@ -6,46 +6,64 @@ by then.
 from __future__ import annotations
 
 import hashlib
-from typing import Any
+from typing import Final
 
-from .folder import DEVICE, read
-from .program import Fault, sum_of
+from .claim import Claim
+from .entry import Leap, LeapList
+from .fault import Fault, fault
+from .folder import AUDIT, data_named
+from .limit import Limit
 from .recording import SECOND, Recording
-from .units import seconds_of
+from .typed import is_text
+from .units import civil
 
 SYSTEM = "/usr/share/zoneinfo/leap-seconds.list"
 FROM_1900 = 2_208_988_800
 """Seconds from 1900, by which lists count, to 1970."""
 
-NONE, WITHIN, EXPIRED, NO_LIST = "none", "within", "expired", "no list"
-REFUSED = 2
+NONE: Final = "none"
+WITHIN: Final = "within"
+EXPIRED: Final = "expired"
+NO_LIST: Final = "no list"
 
 
-def read_list(path: str | None) -> dict[str, Any]:
+def read_list(path: str | None, limit: Limit) -> LeapList:
     """What a list says; or, if none is named and the system has none, why not. A list that is named has to be one."""
     try:
-        return list_of(path or SYSTEM)
-    except Fault as fault:
+        return list_of(path or SYSTEM, limit)
+    except Fault as found:
         if path is not None:
             raise
-        return {"file": SYSTEM, "fault": fault.line.removeprefix("ntpaudit-dossier: ")}
+        return LeapList(SYSTEM, fault=found.words)
 
 
-def list_of(path: str) -> dict[str, Any]:
+def list_of(path: str, limit: Limit) -> LeapList:
     try:
-        data = read(path)
-    except OSError as error:
-        raise Fault(f"ntpaudit-dossier: the list of leap seconds can't be read ({error.strerror})", DEVICE) from None
+        data = data_named(path, limit)
+    except Fault as found:
+        raise found.of("the list of leap seconds") from None
     try:
         good_until, seconds = parsed(data.decode("utf-8"))
+        if not is_text(path):
+            raise ValueError
     except (ValueError, IndexError):
-        raise Fault("ntpaudit-dossier: the list of leap seconds isn't one", REFUSED) from None
-    return {"file": path, "sha256": sum_of(data), "good_until": good_until, "seconds": seconds}
+        raise fault("the list of leap seconds isn't one") from None
+    return LeapList(path, "", hashlib.sha256(data).hexdigest(), good_until, seconds)
 
 
-def parsed(text: str) -> tuple[int, list[list[int]]]:
-    """Until when a list is good, in Unix seconds, and its leap seconds: where the day after each begins, and by how much
-    UTC fell behind. A ValueError if it isn't whole: a list has a sum of its own."""
+def differing(kept: LeapList, own: LeapList) -> str:
+    """How a list that somebody kept differs from one's own, as far as both are good; nothing if it doesn't."""
+    until = min(kept.good_until, own.good_until)
+    one, other = ([row for row in list_.seconds if row[0] <= until] for list_ in (kept, own))
+    if kept.fault or own.fault or one == other:
+        return ""
+    end = f"at its end until {civil(until)}"
+    return f"{AUDIT}: the list of leap seconds has {one[-3:]} {end}, and this machine's {other[-3:]}"
+
+
+def parsed(text: str) -> tuple[int, list[tuple[int, int]]]:
+    """Until when a list is good, in Unix seconds, and its leap seconds: where the day after each begins, and by how
+    much UTC fell behind. A ValueError if it isn't whole: a list has a sum of its own."""
     good_until, own, words = None, None, []
     rows: list[tuple[int, int]] = []
     for line in text.splitlines():
@@ -61,21 +79,17 @@ def parsed(text: str) -> tuple[int, list[list[int]]]:
     digest = hashlib.sha1("".join(words).encode(), usedforsecurity=False).hexdigest()
     if good_until is None or own != [int(digest[k : k + 8], 16) for k in range(0, 40, 8)] or rows != sorted(rows):
         raise ValueError
-    return good_until, [[time, offset - before] for (_, before), (time, offset) in zip(rows, rows[1:])]
+    return good_until, [(time, offset - before) for (_, before), (time, offset) in zip(rows, rows[1:])]
 
 
-def look_up(leaps: dict[str, Any], claim: dict[str, Any], recording: Recording) -> dict[str, Any]:
-    """What a list says of a span and of all exchanges, wider by the claimed bound at both ends; nothing if no list was
-    looked for."""
-    if not leaps:
-        return {}
-    times = [seconds_of(claim["from"]) * SECOND, seconds_of(claim["to"]) * SECOND, *recording.exchanges()]
-    first, last = min(times) - claim["bound_ns"], max(times) + claim["bound_ns"]
-    found = {"from": first // SECOND, "to": -(-last // SECOND)}
-    if "fault" in leaps:
-        return {"says": NO_LIST, **found}
-    within = [[end, change] for end, change in leaps["seconds"]
-              if first <= end * SECOND and (end - 1) * SECOND <= last]
+def look_up(leaps: LeapList, claim: Claim, recording: Recording) -> Leap:
+    """What a list says of a span and of all exchanges, wider by the claimed bound at both ends."""
+    times = [claim.first * SECOND, claim.last * SECOND, *recording.exchanges()]
+    first, last = min(times) - claim.bound_ns, max(times) + claim.bound_ns
+    begin, end = first // SECOND, -(-last // SECOND)
+    if leaps.fault:
+        return Leap(NO_LIST, begin, end)
+    within = [row for row in leaps.seconds if first <= row[0] * SECOND and (row[0] - 1) * SECOND <= last]
     if within:
-        return {"says": WITHIN, **found, "seconds": within}
-    return {"says": NONE if last < leaps["good_until"] * SECOND else EXPIRED, **found}
+        return Leap(WITHIN, begin, end, within)
+    return Leap(NONE if last < leaps.good_until * SECOND else EXPIRED, begin, end)

@@ -13,12 +13,10 @@ def refusal_of(folder: str, line: str) -> str:
 
 def line_of(folder: str, entry: Entry) -> str:
     """One line for a terminal: the verdict, the folder, and the figures."""
-    if entry.fault:
-        return refusal_of(folder, entry.fault["line"])
     name = plain(folder) + ("" if entry.part == "." else f" {entry.part}")
     return f"{entry.verdict:14}{name}: {figures(entry)}"
 
 
 def figures(entry: Entry) -> str:
     least = "no bound is carried" if entry.least_ns is None else f"least bound {ns_up_ms(entry.least_ns)} ms"
-    return f"{least}, claimed {ns_ms(entry.claim['bound_ns'])} ms"
+    return f"{least}, claimed {ns_ms(entry.claim.bound_ns)} ms"

@@ -1,5 +1,5 @@
-"""How far the times of records are from the clock, measured for what is sent: packets to this machine itself, recorded by
-tcpdump, each record's time against what the clock read just before.
+"""How far the times of records are from the clock, measured for what is sent: packets to this machine itself, recorded
+by tcpdump, each record's time against what the clock read just before.
 """
 from __future__ import annotations
 
@@ -7,17 +7,19 @@ import os
 import signal
 import socket
 import subprocess
-import tempfile
 import time
 from collections.abc import Iterator
 from contextlib import contextmanager
 from typing import NamedTuple
 
+from .call import ENVIRONMENT, find_tool
 from .draft import round_up
-from .folder import DEVICE, write_beside
+from .fault import DEVICE, fault
 from .measurement import LEAST_READING, Measurement, measurement_text
-from .program import Fault, Operand, Program, now
+from .placing import write_named
+from .program import Program, now
 from .recording import nanoseconds
+from .scratch import scratch
 from .text import plain
 
 LOOPBACK = "lo"
@@ -25,7 +27,6 @@ APART = 0.001
 """Seconds between two packets."""
 PATIENCE = 2.0
 """Seconds for which tcpdump is waited for at its end."""
-MISSING = 70
 ELSEWHERE = "192.0.2.1"
 """An address of nobody's, for packets that leave by another interface. They live for one hop."""
 
@@ -45,20 +46,20 @@ def measure(program: Program, wanted: Wanted, output: str | None) -> int:
         interface=wanted.interface, packets=len(delays), busy=busy, least_ns=delays[0],
         median_ns=delays[len(delays) // 2], percent_99_ns=delays[(len(delays) * 99 - 1) // 100],
         greatest_ns=greatest, reading_ns=max(LEAST_READING, round_up(greatest)), machine=plain(os.uname().nodename),
-        kernel=plain(os.uname().release), made=now())
+        kernel=plain(os.uname().release), made=now(), kind="reading")
     for line in found.lines():
         print(line)
     if output:
-        write_beside(output, measurement_text(found))
+        write_named(output, measurement_text(found))
     return 0
 
 
 def delays_of(program: Program, wanted: Wanted, busy: int) -> list[int]:
     """Nanoseconds from each reading of the clock to the time of the packet that was sent right then."""
     udp = socket.socket(socket.AF_INET, socket.SOCK_DGRAM)
-    with tempfile.TemporaryDirectory(prefix="ntpaudit-") as place, udp as sending:
+    with scratch(), udp as sending:
         bind(sending, wanted.interface)
-        capture = f"{place}/f.pcap"
+        capture = "f.pcap"
         with recorder(wanted, sending.getsockname()[1], capture) as recording:
             with load(busy):
                 sent = send(sending, wanted)
@@ -76,19 +77,17 @@ def bind(sending: socket.socket, interface: str) -> None:
         sending.setsockopt(socket.IPPROTO_IP, socket.IP_TTL, 1)
         sending.bind(("", 0))
     except OSError as error:
-        raise Fault(f"ntpaudit-dossier: nothing can be sent by {interface} ({error.strerror})", DEVICE) from None
+        raise fault(f"nothing can be sent by {interface} ({error.strerror})", DEVICE) from None
 
 
 @contextmanager
 def recorder(wanted: Wanted, port: int, capture: str) -> Iterator[subprocess.Popen[bytes]]:
     """tcpdump, as soon as it listens. It ends by itself when it has all packets."""
-    words = ["tcpdump", "-i", wanted.interface, "-n", "-U", "--immediate-mode", "--time-stamp-precision=nano", "-s", "128",
-             "-c", str(wanted.packets), "-w", "-", f"udp src port {port} and dst port 123"]
+    tool = find_tool("tcpdump", "tcpdump isn't installed, which records the packets")
+    words = [tool, "-i", wanted.interface, "-n", "-U", "--immediate-mode", "--time-stamp-precision=nano", "-s", "128",
+             "-c", str(wanted.packets), "-w", "-", "--", f"udp src port {port} and dst port 123"]
     with open(capture, "wb") as file:
-        try:
-            call = subprocess.Popen(words, stdin=subprocess.DEVNULL, stdout=file, stderr=subprocess.PIPE)
-        except FileNotFoundError:
-            raise Fault("ntpaudit-dossier: tcpdump isn't installed, which records the packets", MISSING) from None
+        call = subprocess.Popen(words, env=ENVIRONMENT, stdin=subprocess.DEVNULL, stdout=file, stderr=subprocess.PIPE)
     with call:
         try:
             wait_for(call, wanted.interface)
@@ -106,9 +105,9 @@ def wait_for(call: subprocess.Popen[bytes], interface: str) -> None:
             return
     words = " ".join(said)
     if "permi" in words or "socket:" in words:
-        raise Fault(f"ntpaudit-dossier: there is no right to record on {interface}: it takes root, or the capability "
+        raise fault(f"there is no right to record on {interface}: it takes root, or the capability "
                     "CAP_NET_RAW for tcpdump", DEVICE)
-    raise Fault(f"ntpaudit-dossier: tcpdump doesn't record on {interface} ({words})", DEVICE)
+    raise fault(f"tcpdump doesn't record on {interface} ({words})", DEVICE)
 
 
 @contextmanager
@@ -148,7 +147,7 @@ def send(sending: socket.socket, wanted: Wanted) -> list[int]:
             read.append(at)
             time.sleep(APART)
     except OSError as error:
-        raise Fault(f"ntpaudit-dossier: nothing can be sent by {wanted.interface} ({error.strerror})", DEVICE) from None
+        raise fault(f"nothing can be sent by {wanted.interface} ({error.strerror})", DEVICE) from None
     return read
 
 
@@ -168,18 +167,18 @@ def recorded(program: Program, capture: str) -> dict[int, int]:
         lines = [line.split() for line in block.splitlines() if not line.startswith(b"records ")]
         times = nanoseconds([words[1] for words in lines])
         found.update(zip((int(words[15], 16) for words in lines), times))
-    program.blocks(take, "list", Operand(capture))
+    program.blocks(take, "list", capture)
     return found
 
 
 def matched(sent: list[int], times: dict[int, int]) -> list[int]:
-    """What lies between the reading of the clock and the record's time, of each packet that was recorded. A busy machine
-    may drop some."""
+    """What lies between the reading of the clock and the record's time, of each packet that was recorded. A busy
+    machine may drop some."""
     delays = [times[number] - at for number, at in enumerate(sent, 1) if number in times]
     if 10 * len(delays) < 9 * len(sent):
-        raise Fault(f"ntpaudit-dossier: {len(delays)} of {len(sent)} packets were recorded, so nothing is measured",
+        raise fault(f"{len(delays)} of {len(sent)} packets were recorded, so nothing is measured",
                     DEVICE)
     if min(delays) < 0:
-        raise Fault("ntpaudit-dossier: a packet was recorded before the clock read the time at which it was sent, so "
+        raise fault("a packet was recorded before the clock read the time at which it was sent, so "
                     "the clock was set meanwhile: measure again", DEVICE)
     return delays

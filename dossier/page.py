@@ -6,119 +6,153 @@ import sys
 from collections import Counter
 from dataclasses import dataclass
 
-from .article import article
-from .entry import MANGLED, NOTHING_FITS, OPEN, REFUSED, REFUTED, YES, Record
-from .folder import write_beside
-from .markup import html, minus, with_code
-from .program import now
-from .signature import GOOD, NONE, STRANGER, UNFIT, UNSEEN, Signature, allowed, signature_of
+from .article import article, badge, short_article
+from .audit import change_of
+from .call import Caller
+from .entry import NO_EVIDENCE, NOT_VERIFIED, NOTHING_FITS, OPEN, REFUSED, REFUTED, YES, Made, read_record
+from .fault import REFUSED as INPUT_REFUSED, Fault
+from .folder import Folder
+from .known import Known
+from .limit import Limit
+from .markup import Html, element, joined, lines, minus, with_code
+from .placing import write_named
+from .program import now, sum_of
+from .remedies import remedy
+from .signature import GOOD, NONE, STRANGER, UNFIT, UNSEEN, Signature, Signers
 from .style import PAGE
-from .table import Row, as_csv, as_json, not_audited, records_of, row_of, rows_of
+from .table import Row, as_csv, as_json, row_of, row_without_verdict
 from .text import count
 from .units import ns_ms, ns_up_ms
+from .verify import Verifier, audit_json
 
-SYMBOLS = {YES: "\u2713", REFUTED: "\u2717", NOTHING_FITS: "\u2205", OPEN: "?", REFUSED: "!"}
 MEANINGS = {
     YES: "shown: in every course of events that fits the capture",
     REFUTED: "not shown, and by nothing in the capture: a course of events fits it that breaks the claim",
     NOTHING_FITS: "no course of events fits: something that the claim grants isn't true",
+    NO_EVIDENCE: "the capture says nothing about the clock",
     OPEN: "neither shown nor refuted",
+    NOT_VERIFIED: "an audit.json that was neither made nor verified here: it may say what it likes",
     REFUSED: "no verdict: the audit couldn't be made",
 }
 POLICY = "default-src 'none'; style-src 'unsafe-inline'"
 """Nothing is fetched and nothing is run, whatever stands in the page."""
-
-
-def write_page(folders: list[str], given: argparse.Namespace) -> int:
-    """Prints the page or the table, or writes it whole."""
-    records, signers = records_of(folders), allowed(given.signers)
-    if given.json:
-        text = as_json(rows_of(records, signers))
-    elif given.csv:
-        text = as_csv(rows_of(records, signers))
-    else:
-        text = page(records, given.title, signers)
-    data = text.encode("utf-8", "backslashreplace")
-    if given.output:
-        write_beside(given.output, data)
-    else:
-        sys.stdout.buffer.write(data)
-    return 0
+UNKNOWN = "It was neither made nor verified here, so nothing that its audit.json says is shown"
+VERIFY = "`ntpaudit-dossier verify` the folder, or call `page --verify`."
 
 
 @dataclass(frozen=True)
 class Section:
-    """An audit on the page: the name of its place, its line in the table, and its article."""
+    """An audit on the page: the name of its place, its line in the table, its article, and the program that made it."""
 
     name: str
     row: Row
-    article: str
+    article: Html
+    made: Made | None = None
 
 
-def sections(records: list[tuple[str, Record]], signers: str | None) -> list[Section]:
-    found: list[Section] = []
-    for folder, record in records:
-        signature = signature_of(folder, record.signed, signers)
+class Looking:
+    """How folders are looked at: what is known here, who may sign, and whether they are verified first."""
+
+    def __init__(self, known: Known, signers: Signers, limit: Limit, verifier: Verifier | None):
+        self.known, self.signers, self.limit, self.verifier = known, signers, limit, verifier
+        self.sections: list[Section] = []
+        self.status = 0
+
+    def look(self, path: str) -> None:
+        """Adds the sections of a folder, whatever stands in it."""
+        self.limit.begin()
+        signature = Signature(NONE)
         try:
-            found += sections_of(folder, record, signature, len(found))
-        except MANGLED:
-            found += sections_of(folder, not_audited(), signature, len(found))
-    return found
+            with Folder(path, self.limit) as folder:
+                signature = self.signers.signature_of(folder)
+                self.look_in(path, folder, signature)
+        except Fault as found:
+            self.status = max(self.status, INPUT_REFUSED if found.status == INPUT_REFUSED else 0)
+            self.refuse(path, found.line, signature)
+
+    def look_in(self, path: str, folder: Folder, signature: Signature) -> None:
+        data = audit_json(folder)
+        record = read_record(data)
+        if self.verifier:
+            why, _ = self.verifier.verify(folder)
+        elif not self.known.has(sum_of(data)):
+            why = UNKNOWN
+        elif record.refusal:
+            self.refuse(path, record.refusal.line, signature)
+            return
+        else:
+            why = change_of(folder, record)
+        if why:
+            self.add_short(path, row_without_verdict(path, NOT_VERIFIED, f"{why}.", VERIFY, signature), "", signature)
+            return
+        for entry in record.entries:
+            name, row = f"a{len(self.sections)}", row_of(path, entry, signature)
+            said = article(name, path, folder, record, entry, signature)
+            self.sections.append(Section(name, row, said, record.program))
+
+    def refuse(self, path: str, line: str, signature: Signature) -> None:
+        why, what = remedy(line)
+        self.add_short(path, row_without_verdict(path, REFUSED, f"{line}. {why}", what, signature), line, signature)
+
+    def add_short(self, path: str, row: Row, line: str, signature: Signature) -> None:
+        name = f"a{len(self.sections)}"
+        self.sections.append(Section(name, row, short_article(name, path, row, line, signature)))
 
 
-def sections_of(folder: str, record: Record, signature: Signature, first: int) -> list[Section]:
-    found = []
-    for number, entry in enumerate(record.entries, first):
-        name = f"a{number}"
-        said = article(name, folder, record, entry, signature, badge(entry.verdict))
-        found.append(Section(name, row_of(folder, entry, signature), said))
-    return found
+def write_page(folders: list[str], given: argparse.Namespace, known: Known, limit: Limit,
+               verifier: Verifier | None = None) -> int:
+    """Prints the page or the table, or writes it whole. The status is 2 if a folder was refused for what stands in
+    it."""
+    caller = verifier.program.caller if verifier else Caller(limit)
+    looking = Looking(known, Signers(given.signers, caller), limit, verifier)
+    for folder in folders:
+        looking.look(folder)
+    rows = [section.row for section in looking.sections]
+    if given.json:
+        text = as_json(rows)
+    elif given.csv:
+        text = as_csv(rows)
+    else:
+        text = page(looking.sections, given.title, len(folders), given.signers is not None)
+    data = text.encode("utf-8", "backslashreplace")
+    if given.output:
+        write_named(given.output, data)
+    else:
+        sys.stdout.buffer.write(data)
+    return looking.status
 
 
-def page(records: list[tuple[str, Record]], title: str, signers: str | None) -> str:
-    found = sections(records, signers)
+def page(found: list[Section], title: str, folders: int, is_looked_at: bool) -> str:
     rows = [section.row for section in found]
-    return "\n".join([
-        "<!DOCTYPE html>",
-        '<html lang="en">',
-        "<head>",
-        '<meta charset="utf-8">',
-        f'<meta http-equiv="Content-Security-Policy" content="{POLICY}">',
-        '<meta name="viewport" content="width=device-width, initial-scale=1">',
-        '<meta name="color-scheme" content="light dark">',
-        f"<title>{html(title)}</title>",
-        f"<style>{PAGE}</style>",
-        "</head>",
-        "<body>",
-        f'<header>\n<h1>{html(title)}</h1>\n<p class="soft">{html(made_by(records))}</p>\n{tally(rows)}\n</header>',
-        "<main>",
-        table(rows, [section.name for section in found], signers is not None),
-        *(section.article for section in found),
-        "</main>",
-        "</body>",
-        "</html>",
+    head = element("head", lines([
         "",
-    ])
+        element("meta", charset="utf-8"),
+        element("meta", http_equiv="Content-Security-Policy", content=POLICY),
+        element("meta", name="viewport", content="width=device-width, initial-scale=1"),
+        element("meta", name="color-scheme", content="light dark"),
+        element("title", title),
+        element("style", PAGE),
+        ""]))
+    header = element("header", lines([
+        "", element("h1", title), element("p", made_by(found, folders), class_="soft"), tally(rows), ""]))
+    names = [section.name for section in found]
+    main = element("main", lines(["", table(rows, names, is_looked_at), *(section.article for section in found), ""]))
+    body = element("body", lines(["", header, main, ""]))
+    return f"<!DOCTYPE html>\n{element('html', lines(['', head, body, '']), lang='en')}\n"
 
 
-def made_by(records: list[tuple[str, Record]]) -> str:
+def made_by(found: list[Section], folders: int) -> str:
     """Which programs made the audits."""
-    made = [record.program for _, record in records if record.program]
-    programs = {str(program.get("sha256")): program.get("version") for program in made}
+    programs = {section.made.sha256: section.made.version for section in found if section.made}
     which = "; ".join(f"{version or 'ntpaudit'}, SHA-256 {sum_[:16]} and on" for sum_, version in programs.items())
-    folders = count(len(records), "folder")
-    return f"{folders}, put together at {now()}. Audited by {which or 'nothing yet'}. All times are UTC."
+    said = f"{count(folders, 'folder')}, put together at {now()}. Audited by {which or 'nothing known'}."
+    return f"{said} All times are UTC."
 
 
-def badge(verdict: str) -> str:
-    return f'<span class="verdict {verdict.replace(" ", "-")}">{SYMBOLS[verdict]} {verdict}</span>'
-
-
-def tally(rows: list[Row]) -> str:
+def tally(rows: list[Row]) -> Html:
     counts = Counter(row.verdict for row in rows)
-    items = [f"<li>{badge(verdict)} {counts[verdict]:,} {html(MEANINGS[verdict])}</li>"
-             for verdict in MEANINGS if counts[verdict]]
-    return f'<ul class="tally">{"".join(items)}</ul>'
+    return element("ul", *(element("li", badge(verdict), f" {counts[verdict]:,} {meaning}")
+                           for verdict, meaning in MEANINGS.items() if counts[verdict]), class_="tally")
 
 
 COLUMNS = {"Machine": "machine", "Day": "", "Verdict": "", "Claimed": "number", "Least bound": "number",
@@ -126,52 +160,52 @@ COLUMNS = {"Machine": "machine", "Day": "", "Verdict": "", "Claimed": "number", 
 """The columns of the table, each with its class."""
 
 
-def table(rows: list[Row], names: list[str], is_looked_at: bool) -> str:
+def table(rows: list[Row], names: list[str], is_looked_at: bool) -> Html:
     """Machines and days, and below each line why it isn't a plain yes. A column that would be empty is left out."""
     signed = [signed_cell(row, is_looked_at) for row in rows]
     cells = [dict(zip(COLUMNS, [*cells_of(row, name), cell])) for row, name, cell in zip(rows, names, signed)]
     shown = [column for column in COLUMNS if any(line[column] for line in cells)]
-    head = "".join(f"<th{of_column(column)}>{column}</th>" for column in shown)
+    head = element("thead", element("tr", *(element("th", column, class_=COLUMNS[column]) for column in shown)))
     groups = []
     for row, line in zip(rows, cells):
-        said = "".join(f'<td data-label="{column}"{of_column(column)}>{line[column]}</td>' for column in shown)
-        why = "<br>".join(why_of(row))
-        under = f'<tr class="why"><td colspan="{len(shown)}">{why}</td></tr>' if why else ""
-        groups.append(f"<tbody><tr>{said}</tr>{under}</tbody>")
-    body = "\n".join(groups)
-    return f'<table class="audits">\n<thead><tr>{head}</tr></thead>\n{body}\n</table>'
+        said = element("tr", *(element("td", line[column], data_label=column, class_=COLUMNS[column])
+                               for column in shown))
+        why = joined(why_of(row), element("br"))
+        under = element("tr", element("td", why, colspan=len(shown)), class_="why") if why else ""
+        groups.append(element("tbody", said, under))
+    return element("table", lines(["", head, *groups, ""]), class_="audits")
 
 
-def of_column(column: str) -> str:
-    return f' class="{COLUMNS[column]}"' if COLUMNS[column] else ""
-
-
-def cells_of(row: Row, name: str) -> list[str]:
+def cells_of(row: Row, name: str) -> list[object]:
     """The cells of a line. If there is no verdict there are no figures."""
-    cells = [f'<a href="#{name}">{html(row.machine)}</a>', row.day, badge(row.verdict)]
-    if row.bound_ns is None or row.groups is None:
+    cells: list[object] = [element("a", row.machine, href=f"#{name}"), row.day, badge(row.verdict)]
+    if row.bound_ns is None:
         return [*cells, *[""] * (len(COLUMNS) - 1 - len(cells))]
     least = "none" if row.least_bound_ns is None else f"{ns_up_ms(row.least_bound_ns)} ms"
-    servers = f"{row.servers} in {count(row.groups, 'group')}" if row.groups != row.servers else f"{row.servers}"
-    worst = f"<span>{row.worst_begin[:10]}</span> <span>{row.worst_begin[11:19]}</span>"
-    wrong = f"{row.false_max or 'none'} wrong"
-    return [*cells, f"{ns_ms(row.bound_ns)} ms", least, worst, f"{row.samples:,}", servers, wrong]
+    servers = f"{row.servers}" if row.groups == row.servers else f"{row.servers} in {count(row.groups or 0, 'group')}"
+    return [*cells, f"{ns_ms(row.bound_ns)} ms", least, two_lines(row.worst_begin), f"{row.samples:,}", servers,
+            f"{row.false_max or 'none'} wrong"]
+
+
+def two_lines(time: str) -> Html:
+    """A day and a time of it, which may stand on two lines."""
+    return joined([element("span", time[:10]), element("span", time[11:19])], " ")
 
 
 SIGNED = {NONE: "nobody", UNSEEN: "not looked at", UNFIT: "doesn\u2019t fit", STRANGER: "by a stranger"}
 
 
-def signed_cell(row: Row, is_looked_at: bool) -> str:
+def signed_cell(row: Row, is_looked_at: bool) -> object:
     """Who signed, and when; nothing if nobody did and it wasn't asked."""
     if row.signature == NONE and not is_looked_at:
         return ""
     if row.signature != GOOD:
-        return f"<b>{SIGNED[row.signature]}</b>" if row.signature in (UNFIT, STRANGER) else SIGNED[row.signature]
-    at = f"<span>{html(row.signed_at[:10])}</span> <span>{html(row.signed_at[11:19])}</span>"
-    return f'<span class="free">{html(row.signer)} {at}</span>'
+        words = SIGNED[row.signature]
+        return element("b", words) if row.signature in (UNFIT, STRANGER) else words
+    return element("span", row.signer, " ", two_lines(row.signed_at), class_="free")
 
 
-def why_of(row: Row) -> list[str]:
+def why_of(row: Row) -> list[Html]:
     """Why it isn't a yes, what to do, and the warnings."""
-    said = [minus(html(row.reason)), minus(with_code(row.to_do))]
-    return ([" ".join(said)] if any(said) else []) + [f"<b>Warning:</b> {html(words)}" for words in row.warnings]
+    said = joined(filter(None, [minus(row.reason), with_code(row.to_do)]), " ")
+    return ([said] if said else []) + [joined([element("b", "Warning:"), words], " ") for words in row.warnings]

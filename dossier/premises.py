@@ -3,9 +3,8 @@ claim's numbers."""
 from __future__ import annotations
 
 from dataclasses import dataclass
-from typing import Any
 
-from .judgement import groups_of
+from .claim import Claim
 from .units import ns_ms
 
 
@@ -16,15 +15,16 @@ class Premise:
     known: str
 
 
-def premises(claim: dict[str, Any]) -> list[Premise]:
-    most, groups, within = claim["false_max"], len(groups_of(claim)), ns_ms(claim["reading_ns"])
-    wrong = f"At most {most} of {groups} groups of servers held one that was wrong, or whose packets somebody altered " \
-            "(false_max, groups)." if most else "No server was wrong, and nobody altered any packets (false_max is 0)."
+def premises(claim: Claim) -> list[Premise]:
+    most, groups, within = claim.false_max, len(claim.grouped), ns_ms(claim.reading_ns)
+    wrong = f"At most {most} of {groups} groups of servers held one that was wrong, or whose packets somebody " \
+            "altered (false_max, groups)." if most \
+        else "No server was wrong, and nobody altered any packets (false_max is 0)."
     return [
-        Premise("reading", f"The times of the records are readings of the clock of {claim['client']}, each within "
+        Premise("reading", f"The times of the records are readings of the clock of {claim.client}, each within "
                 f"{within} ms (reading_ns).",
-                "The capture was made on that machine, by the system's clock; the delay from packet to stamp was measured "
-                "under load."),
+                "The capture was made on that machine, by the system's clock; the delay from packet to stamp was "
+                "measured under load."),
         Premise("capture", "The capture is what passed: nobody made up or changed packets, times or order.",
                 "Who recorded it, and who kept it since; a signature over the file."),
         Premise("servers", wrong, "How the servers are run and by whom; servers of one reference are in one group."),
@@ -32,10 +32,10 @@ def premises(claim: dict[str, Any]) -> list[Premise]:
                 "Their operators, and their own traceability to UTC."),
         Premise("answers", "A reply with a request's transmit timestamp is the answer to that request.",
                 "The servers speak NTP version 4 in client and server mode; the timestamps of requests differ."),
-        Premise("drift", f"The clock gained or lost at most {claim['drift_ppb']:,} parts in 10^9 (drift_ppb), and wasn't "
+        Premise("drift", f"The clock gained or lost at most {claim.drift_ppb:,} parts in 10^9 (drift_ppb), and wasn't "
                 "stepped, in the span and between it and the exchanges that are used.",
                 "The oscillator's data sheet; the configuration and the log of the NTP client."),
-        Premise("leap", "There is no leap second in the span or between it and the exchanges that are used, and no server "
-                "smears one without being counted as wrong.",
+        Premise("leap", "There is no leap second in the span or between it and the exchanges that are used, and no "
+                "server smears one without being counted as wrong.",
                 "The bulletins of the IERS."),
     ]

@@ -3,32 +3,18 @@ from __future__ import annotations
 
 import hashlib
 import os
+import shutil
 import time
 from collections.abc import Callable
 from typing import NamedTuple
 
-from .call import SUMS, Caller
-from .sums import sums_text
-
-BLOCK = 1 << 20
-"""Bytes of a file that are read at once."""
+from .call import ENVIRONMENT, SUMS, Caller
+from .entry import Made
+from .fault import MEMORY, MISSING, Fault
+from .folder import BLOCK
+from .limit import Limit
 
 ROOT = os.path.dirname(os.path.dirname(os.path.realpath(__file__)))
-
-
-class Fault(Exception):
-    """A call that gave no answer: its line, and its status (2 to 5, or 70 of the launcher)."""
-
-    def __init__(self, line: str, status: int):
-        super().__init__(line)
-        self.line, self.status = line, status
-
-
-class Stopped(BaseException):
-    """A signal came: nothing more is begun, and nothing half done is left."""
-
-    def __init__(self, number: int):
-        self.number = number
 
 
 class Ran(NamedTuple):
@@ -38,42 +24,23 @@ class Ran(NamedTuple):
     text: bytes
 
 
-STDIN, NOTHING = "/dev/stdin", "/dev/null"
-
-
-class Operand(str):
-    """The word that names a file on a command line. The program takes UTF-8 only: a file of another name is given on
-    standard input."""
-
-    name: str
-
-    def __new__(cls, name: str) -> Operand:
-        word = super().__new__(cls, STDIN if not is_utf8(name) else f"./{name}" if name.startswith("-") else name)
-        word.name = name
-        return word
-
-
-def is_utf8(name: str) -> bool:
-    try:
-        name.encode()
-    except UnicodeEncodeError:
-        return False
-    return True
-
-
 class Program(NamedTuple):
     path: str
-    version: str
-    sha256: str
+    made: Made
     caller: Caller
 
+    @property
+    def limit(self) -> Limit:
+        return self.caller.limit
+
     def run(self, *words: str, sums: dict[str, str] | None = None) -> Ran:
-        """Calls the program, and has it hold its operands to their sums, if these are given by the operands' texts. At
-        most one operand may have a name that isn't UTF-8."""
+        """Calls the program, and has it hold its operands to their sums, if these are given by the operands' names: all
+        of them are names of one's own, so none has anything in it that `sha256sum` would escape."""
         called, text_of_sums = [self.path, *words], b""
         if sums:
-            called, text_of_sums = [*called, "--sums", f"/dev/fd/{SUMS}"], sums_text(sums)
-        status, text, error = self.caller.run(called, given_to(words), text_of_sums)
+            called += ["--sums", f"/dev/fd/{SUMS}"]
+            text_of_sums = "".join(f"{sum_}  {name}\n" for name, sum_ in sums.items()).encode()
+        status, text, error = self.caller.run(called, sums=text_of_sums)
         if status not in (0, 1):
             raise fault_of(status, error)
         return Ran(status, text)
@@ -93,36 +60,29 @@ class Program(NamedTuple):
             rest = block[end:]
             if end:
                 take(block[:end] if rest else block)
-        status, error = self.caller.stream([self.path, *words], given_to(words), take_block)
+        status, error = self.caller.stream([self.path, *words], take_block)
         if status not in (0, 1):
             raise fault_of(status, error)
-
-
-def given_to(words: tuple[str, ...]) -> str:
-    """The file on a call's standard input: the operand whose name can't be said, if there is one."""
-    if STDIN not in words:
-        return NOTHING
-    return next((word.name for word in words if isinstance(word, Operand) and word == STDIN), NOTHING)
 
 
 def fault_of(status: int, error: bytes) -> Fault:
     """The fault of a call, by its line on standard error."""
     lines = [line for line in error.decode("utf-8", "replace").splitlines() if line]
     if status < 0:
-        return Fault(f"ntpaudit: ended by signal {-status}", 3)
+        return Fault(f"ntpaudit: ended by signal {-status}", MEMORY)
     return Fault(lines[0] if lines else f"ntpaudit: status {status}, and no line", status)
 
 
-def find_program() -> Program:
+def find_program(limit: Limit) -> Program:
     """The program under which all is done, with its version and its sum."""
     path = path_of_program()
     if not path or not os.access(path, os.X_OK):
         where = path or "neither beside ntpaudit-dossier nor on the PATH"
-        raise Fault(f"ntpaudit: the program is not there ({where}): set NTPAUDIT to its path", 70)
-    caller = Caller()
-    status, version, _ = caller.run([path, "--version"], NOTHING)
+        raise Fault(f"ntpaudit: the program is not there ({where}): set NTPAUDIT to its path", MISSING)
+    caller = Caller(limit)
+    status, version, _ = caller.run([path, "--version"])
     lines = version.decode("utf-8", "replace").splitlines()
-    return Program(path, lines[0] if lines and not status else "", sum_of_file(path), caller)
+    return Program(path, Made(lines[0] if lines and not status else "", sum_of_file(path)), caller)
 
 
 def path_of_program() -> str | None:
@@ -137,29 +97,24 @@ def path_of_program() -> str | None:
     for beside in (f"{ROOT}/ntpaudit", os.path.join(os.path.dirname(os.path.dirname(ROOT)), "bin", "ntpaudit")):
         if os.path.exists(beside):
             return beside
-    import shutil
-    found = shutil.which("ntpaudit")
-    return found and os.path.abspath(found)
+    return shutil.which("ntpaudit", path=ENVIRONMENT["PATH"]) if ENVIRONMENT["PATH"] else None
 
 
 def path_of_launcher() -> str:
     import subprocess
     built = subprocess.run([f"{ROOT}/ntpaudit", "--version"], stdin=subprocess.DEVNULL, stdout=subprocess.DEVNULL)
     if built.returncode:
-        raise Fault("ntpaudit: the program is not built", 70)
+        raise Fault("ntpaudit: the program is not built", MISSING)
     kept = f"{ROOT}/out/ntpaudit"
     return kept if os.path.exists(kept) else f"{ROOT}/dist/ntpaudit"
 
 
 def sum_of_file(path: str) -> str:
-    """The SHA-256 of a file, of any size."""
+    """The SHA-256 of a file of one's own."""
     found = hashlib.sha256()
-    file = os.open(path, os.O_RDONLY)
-    try:
-        while block := os.read(file, BLOCK):
+    with open(path, "rb") as opened:
+        while block := opened.read(BLOCK):
             found.update(block)
-    finally:
-        os.close(file)
     return found.hexdigest()
 
 

@@ -4,7 +4,8 @@ from __future__ import annotations
 from operator import gt
 from typing import NamedTuple
 
-from .answers import Envelope, Hull
+from .answers import Envelope
+from .entry import Hull
 
 
 class Range(NamedTuple):

@@ -12,7 +12,7 @@ from functools import cached_property
 from itertools import compress
 
 from .answers import read_counts
-from .program import Operand, Program
+from .program import Program
 
 SECOND = 10**9
 """Nanoseconds in a second: times of records are held in nanoseconds."""
@@ -69,10 +69,10 @@ class Recording:
         return max(0, min([max(first - time, time - last) for time in self.times[max(0, at - 1) : at + 1]]))
 
 
-def read_recording(program: Program, claim: str, capture: Operand, wants_request: bool = False) -> Recording:
+def read_recording(program: Program, claim: str, capture: str, wants_request: bool = False) -> Recording:
     """Runs `samples` and `list`. The first request is looked for if it is wanted."""
     found, samples = Recording(), Samples(wants_request)
-    call = program.block if is_small(capture.name) else program.blocks
+    call = program.block if is_small(capture) else program.blocks
     call(samples.take, "samples", claim, capture)
     found.counts = read_counts(samples.closing.decode("ascii"))
     found.by_server = {server.decode("ascii"): number for server, number in samples.by_server.items()}
@@ -81,10 +81,7 @@ def read_recording(program: Program, claim: str, capture: Operand, wants_request
 
 
 def is_small(path: str) -> bool:
-    try:
-        return os.stat(path).st_size <= AT_ONCE
-    except OSError:
-        return True  # (the program says what it is)
+    return os.stat(path).st_size <= AT_ONCE
 
 
 def closing_of(block: bytes) -> int:

@@ -4,23 +4,25 @@ It is one of ssh-keygen, beside audit.json. Who may sign stands in a file of all
 """
 from __future__ import annotations
 
-import os
 import re
-import subprocess
 from datetime import datetime
 from typing import NamedTuple
 
-from .folder import AUDIT, DEVICE, SIGNATURE, read
-from .program import Fault
+from .call import Caller, find_tool
+from .entry import read_record
+from .fault import Fault
+from .folder import AUDIT, SIGNATURE, Copy, Folder, data_named
+from .scratch import scratch
+from .typed import is_time
 
 NAMESPACE = "ntpaudit-dossier"
 """What a signature is made for: one that was made for anything else doesn't count."""
 
 NONE, UNSEEN, GOOD, UNFIT, STRANGER = "none", "unseen", "good", "unfit", "stranger"
-TIME = re.compile(r"[1-9]\d{3}-\d\d-\d\dT\d\d:\d\d:\d\dZ")
 KEY = re.compile(r"with (\S+) key (\S+)")
-NO_KEYGEN = "ntpaudit-dossier: ssh-keygen isn't installed, which makes signatures and looks at them"
-MISSING = 70
+NO_KEYGEN = "ssh-keygen isn't installed, which makes signatures and looks at them"
+SIGNED, SIGNERS = "signed", "signers"
+"""Private copies of what was signed, and of who may sign."""
 
 
 class Signature(NamedTuple):
@@ -38,43 +40,58 @@ class Signature(NamedTuple):
     """What ssh-keygen says of a key that may not sign."""
 
 
-def allowed(path: str | None) -> str | None:
-    """The path of a file of allowed signers, for calls in any folder; a fault if it can't be read."""
-    if path is None:
-        return None
-    try:
-        os.close(os.open(path, os.O_RDONLY))
-    except OSError as error:
-        raise Fault(f"ntpaudit-dossier: the file of signers can't be read ({error.strerror})", DEVICE) from None
-    return os.path.abspath(path)
+class Signers:
+    """Who may sign, as a file of allowed signers says, if one is named."""
+
+    def __init__(self, path: str | None, caller: Caller):
+        self.caller = caller
+        try:
+            self.given = data_named(path, caller.limit) if path is not None else None
+        except Fault as found:
+            raise found.of("the file of signers") from None
+
+    def signature_of(self, folder: Folder) -> Signature:
+        """The signature of a folder, over the very bytes of audit.json that are read of it. It is looked at if there
+        are signers; whether a key may sign is asked of the time at which audit.json says that it was made."""
+        if not folder.has(SIGNATURE):
+            return Signature(NONE)
+        signature, data = folder.data(SIGNATURE), folder.data(AUDIT) if folder.has(AUDIT) else b""
+        at = time_of(data)
+        if self.given is None:
+            return Signature(UNSEEN, at)
+        with scratch():
+            for name, text in ((SIGNED, data), (SIGNATURE, signature), (SIGNERS, self.given)):
+                with Copy(name, self.caller.limit) as copy:
+                    copy.take(text)
+            return self.looked_at(at)
+
+    def looked_at(self, at: str) -> Signature:
+        status, said, _ = self.keygen("check-novalidate", "-n", NAMESPACE)
+        key = KEY.search(said)
+        if status or not key:
+            return Signature(UNFIT, at)
+        found = Signature(STRANGER, at, key=f"{key[1]} {key[2]}")
+        on = ["-O", f"verify-time={local(at)}"] if is_time(at) else []
+        _, named, error = self.keygen("find-principals", *on, "-f", SIGNERS)
+        for signer in named.splitlines():
+            status, _, error = self.keygen("verify", *on, "-f", SIGNERS, "-I", signer, "-n", NAMESPACE)
+            if not status:
+                return found._replace(state=GOOD, signer=signer)
+        lines = [line for line in error.splitlines() if line]
+        return found._replace(why=lines[0] if lines else "")
+
+    def keygen(self, *words: str) -> tuple[int, str, str]:
+        tool = find_tool("ssh-keygen", NO_KEYGEN)
+        status, said, error = self.caller.run([tool, "-Y", *words, "-s", SIGNATURE], SIGNED)
+        return status, said.decode("utf-8", "replace"), error.decode("utf-8", "replace")
 
 
-def signature_of(folder: str, at: str, signers: str | None) -> Signature:
-    """The signature of a folder, whose audit.json says that it was made at this time. It is looked at if there are
-    signers; whether a key may sign is asked of that time."""
-    path = f"{folder}/{SIGNATURE}"
-    if not os.path.lexists(path):
-        return Signature(NONE)
-    if signers is None:
-        return Signature(UNSEEN, at)
+def time_of(data: bytes) -> str:
+    """When a record was signed, as it says; nothing if it is no record."""
     try:
-        data = read(f"{folder}/{AUDIT}")
-    except OSError:
-        data = b""
-    fits = keygen(["check-novalidate", "-n", NAMESPACE, "-s", path], data)
-    key = KEY.search(fits.stdout.decode("utf-8", "replace"))
-    if fits.returncode or not key:
-        return Signature(UNFIT, at)
-    found = Signature(STRANGER, at, key=f"{key[1]} {key[2]}")
-    on = ["-O", f"verify-time={local(at)}"] if TIME.fullmatch(at) else []
-    named = keygen(["find-principals", *on, "-f", signers, "-s", path], b"")
-    for signer in named.stdout.decode("utf-8", "replace").splitlines():
-        tried = keygen(["verify", *on, "-f", signers, "-I", signer, "-n", NAMESPACE, "-s", path], data)
-        if not tried.returncode:
-            return found._replace(state=GOOD, signer=signer)
-        named = tried
-    said = [line for line in named.stderr.decode("utf-8", "replace").splitlines() if line]
-    return found._replace(why=said[0] if said else "")
+        return str(read_record(data).signed)
+    except Fault:
+        return ""
 
 
 def local(time: str) -> str:
@@ -83,14 +100,6 @@ def local(time: str) -> str:
         return datetime.fromisoformat(time).astimezone().strftime("%Y%m%d%H%M%S")
     except (ValueError, OverflowError):
         return datetime.now().strftime("%Y%m%d%H%M%S")
-
-
-def keygen(words: list[str], data: bytes) -> subprocess.CompletedProcess[bytes]:
-    try:
-        return subprocess.run(["ssh-keygen", "-Y", *words], input=data, capture_output=True,
-                              env={**os.environ, "LC_ALL": "C"})
-    except FileNotFoundError:
-        raise Fault(NO_KEYGEN, MISSING) from None
 
 
 def in_words(found: Signature) -> str:

@@ -4,53 +4,64 @@ from __future__ import annotations
 import os
 import subprocess
 import sys
+from dataclasses import replace
 from typing import IO
 
 from . import folder as files
-from .entry import REFUSED, read_record, record_text
-from .folder import part_of, read, remove, write, write_beside
-from .program import Fault, now
-from .signature import MISSING, NAMESPACE, NO_KEYGEN
+from .audit import change_of
+from .call import ENVIRONMENT, find_tool
+from .entry import read_record, record_text
+from .fault import DEVICE, USAGE, Fault, fault
+from .folder import Copy, Folder
+from .known import Known
+from .limit import Limit
+from .placing import place
+from .program import now, sum_of
+from .scratch import scratch
+from .signature import NAMESPACE, NO_KEYGEN
 from .text import plain
-from .verify import DIFFERS, changed
+from .verify import DIFFERS, audit_json
+
+OF_A_PERSON = ("HOME", "TERM", "DISPLAY", "WAYLAND_DISPLAY", "XDG_RUNTIME_DIR", "SSH_AUTH_SOCK", "SSH_ASKPASS",
+               "SSH_ASKPASS_REQUIRE", "SSH_SK_PROVIDER", "SSH_SK_HELPER")
+"""What ssh-keygen needs to ask a person, an agent or a piece of hardware."""
+PROGRESS = (b"Signing file ", b"Write signature to ")
 
 
-def sign_all(folders: list[str], key: str) -> int:
+def sign_all(folders: list[str], key: str, known: Known, limit: Limit) -> int:
     """Signs each folder, and prints a line for each. The status is the worst."""
     worst, key = 0, os.path.abspath(key)
-    for folder in folders:
+    for path in folders:
+        limit.begin()
         try:
-            with files.inside(folder):
-                findings, status = sign(key), 0
-        except Fault as fault:
-            findings, status = [fault.line], fault.status
-        for finding in findings or ["signed"]:
-            print(f"{plain(folder)}: {plain(finding)}", flush=True)
-        worst = max(worst, status, DIFFERS if findings else 0)
+            with Folder(path, limit) as folder:
+                line = sign(folder, key, known)
+                status = DIFFERS if line else 0
+        except Fault as found:
+            line, status = found.line, found.status
+        print(f"{plain(path)}: {plain(line or 'signed')}", flush=True)
+        worst = max(worst, status)
     return worst
 
 
-def sign(key: str) -> list[str]:
-    """Signs the current folder's audit.json, with the time in it. If files aren't what it says, they are named, and
-    nothing is signed."""
-    record = read_record(".")
-    if record is None:
-        raise Fault("ntpaudit-dossier: not audited", files.DEVICE)
-    if os.path.lexists(files.SIGNATURE):
-        raise Fault(f"ntpaudit-dossier: signed already; who wants another signature takes {files.SIGNATURE} away",
-                    files.DEVICE)
-    if any(entry.verdict == REFUSED for entry in record.entries):
-        raise Fault("ntpaudit-dossier: the audit was refused, so there is nothing to sign", files.DEVICE)
-    findings = changed(record)
-    if not findings:
-        data = record_text(record._replace(signed=now()))
-        signature = signature_by(key, data)
-        write_beside(files.AUDIT, data)
-        write_beside(files.SIGNATURE, signature)
-    return findings
-
-
-PROGRESS = (b"Signing file ", b"Write signature to ")
+def sign(folder: Folder, key: str, known: Known) -> str:
+    """Signs a folder's audit.json, with the time in it, if it was made or verified here. If a file isn't what it says,
+    that is said, and nothing is signed."""
+    data = audit_json(folder)
+    record = read_record(data)
+    if folder.has(files.SIGNATURE):
+        raise fault(f"signed already; who wants another signature takes {files.SIGNATURE} away", DEVICE)
+    if record.refusal:
+        raise fault("the audit was refused, so there is nothing to sign", DEVICE)
+    if not known.has(sum_of(data)):
+        raise fault("neither made nor verified here, so it isn't signed: `ntpaudit-dossier verify` comes first", USAGE)
+    changed = change_of(folder, record)
+    if not changed:
+        signed = record_text(replace(record, signed=now()))
+        signature = signature_by(key, signed)
+        place(folder, {files.AUDIT: [signed], files.SIGNATURE: [signature]})
+        known.add(sum_of(signed))
+    return changed
 
 
 def hand_on(said: IO[bytes] | None) -> None:
@@ -63,21 +74,16 @@ def hand_on(said: IO[bytes] | None) -> None:
 
 def signature_by(key: str, data: bytes) -> bytes:
     """The signature that ssh-keygen makes. It speaks for itself on the terminal: it may ask for a passphrase, for the
-    touch of a key, or for a PIN."""
-    part = part_of(files.AUDIT)
-    made = f"{part}.sig"
-    try:
-        write(part, data)
-        with subprocess.Popen(["ssh-keygen", "-Y", "sign", "-f", key, "-n", NAMESPACE, part],
+    touch of a key, or for a PIN, so it has no limit of time."""
+    tool = find_tool("ssh-keygen", NO_KEYGEN)
+    environment = ENVIRONMENT | {name: os.environ[name] for name in OF_A_PERSON if name in os.environ}
+    with scratch():
+        with Copy(files.AUDIT, Limit()) as copy:
+            copy.take(data)
+        with subprocess.Popen([tool, "-Y", "sign", "-f", key, "-n", NAMESPACE, files.AUDIT], env=environment,
                               stdout=subprocess.DEVNULL, stderr=subprocess.PIPE) as call:
             hand_on(call.stderr)
         if call.returncode:
-            raise Fault(f"ntpaudit-dossier: ssh-keygen didn't sign it (status {call.returncode})", files.DEVICE)
-        return read(made)
-    except FileNotFoundError:
-        raise Fault(NO_KEYGEN, MISSING) from None
-    except OSError as error:
-        raise Fault(f"ntpaudit-dossier: {files.AUDIT} can't be signed ({error.strerror})", files.DEVICE) from None
-    finally:
-        remove(part)
-        remove(made)
+            raise fault(f"ssh-keygen didn't sign it (status {call.returncode})", DEVICE)
+        with open(files.SIGNATURE, "rb") as made:
+            return made.read()

@@ -1,6 +1,8 @@
 """The look of pages and pictures: light, dark and printed. The colours are those that the colour-blind tell apart, and
 forms differ too (dashes, symbols, borders), for a printer without colour."""
 
+from .markup import Html
+
 LIGHT = """--paper:#fff;--ink:#1b1b1b;--soft:#5c5c5c;--rule:#d5d5d5;--panel:#f5f5f3;
 --hull:#ffe9a0;--hulledge:#a88400;--bound:#1b1b1b;
 --bad:#b3261e;--good:#0b5e4a;--c0:#0072b2;--c1:#009e73;--c2:#c77f00;--c3:#d55e00;--c4:#b0498a;--c5:#3f9bd1;--c6:#666"""
@@ -9,7 +11,7 @@ DARK = """--paper:#16181a;--ink:#ececec;--soft:#a9a9a9;--rule:#3d4043;--panel:#2
 --bad:#ff8a80;--good:#5fd3b3;
 --c0:#5ab4f0;--c1:#3fd0a4;--c2:#f0b03c;--c3:#ff8c4a;--c4:#e796c4;--c5:#9bd7ff;--c6:#b5b5b5"""
 
-PICTURE = f""":root{{{LIGHT}}}
+PICTURE = Html(f""":root{{{LIGHT}}}
 @media(prefers-color-scheme:dark){{:root{{{DARK}}}}}
 @media print{{:root{{{LIGHT}}}}}
 svg{{font:12px system-ui,sans-serif}}
@@ -33,10 +35,10 @@ svg .claimed{{fill:var(--ink)}}
 .d1{{stroke-dasharray:6 3}}
 .d2{{stroke-dasharray:2 2}}
 .d3{{stroke-dasharray:9 2 2 2}}
-""" + "".join(f".c{k}{{stroke:var(--c{k})}}\n" for k in range(7))
+""" + "".join(f".c{k}{{stroke:var(--c{k})}}\n" for k in range(7)))
 """What pictures need, in a page and alone."""
 
-PAGE = PICTURE + """*{box-sizing:border-box}
+PAGE = Html(PICTURE + """*{box-sizing:border-box}
 body{margin:0 auto;max-width:1100px;padding:24px 20px 60px}
 body{background:var(--paper);color:var(--ink);font:16px/1.5 system-ui,sans-serif}
 h1{font-size:28px;margin:0 0 4px}
@@ -65,6 +67,8 @@ th{font-weight:600;color:var(--soft)}
 .refuted{color:var(--paper);background:var(--bad);border-color:var(--bad)}
 .nothing-fits{color:var(--bad);border-style:double}
 .open{color:var(--bad);border-style:dashed}
+.no-evidence{color:var(--bad);border-style:groove}
+.not-verified{color:var(--ink);background:var(--panel);border-style:dotted}
 .refused{color:var(--soft);border-style:dotted}
 h2 .verdict{font-size:16px;vertical-align:3px;margin-left:6px}
 .tally{display:flex;flex-wrap:wrap;gap:8px 18px;list-style:none;padding:0;margin:14px 0}
@@ -89,7 +93,8 @@ body{padding:16px 14px 40px}
 h1{font-size:24px}
 thead{display:none}
 tr{display:block;border-bottom:2px solid var(--rule);padding:8px 0}
-td,td.number,td.narrow,td.granted{display:flex;gap:12px;border:0;padding:2px 0;text-align:left;white-space:normal;width:auto}
+td,td.number,td.narrow,td.granted{display:flex;gap:12px;border:0;padding:2px 0;text-align:left;width:auto}
+td,td.number,td.narrow,td.granted{white-space:normal}
 td>*{min-width:0}
 td::before{content:attr(data-label);flex:0 0 7.5em;color:var(--soft)}
 td:empty{display:none}
@@ -111,5 +116,5 @@ th,td{padding-right:7px}
 tbody tr,.audits tbody{break-inside:avoid}
 *{print-color-adjust:exact;-webkit-print-color-adjust:exact}
 }
-"""
+""")
 """What a page needs besides."""

@@ -7,14 +7,11 @@ import json
 from dataclasses import asdict, dataclass, field
 
 from .alerts import warning_words
-from .entry import MANGLED, REFUSED, Entry, Record, read_record
-from .judgement import groups_of
-from .signature import Signature, signature_of
+from .entry import Entry
+from .signature import Signature
 from .text import plain
 from .units import civil
 from .words import reason, to_do
-
-NOT_AUDITED = {"line": "ntpaudit-dossier: not audited", "status": 4}
 
 
 @dataclass
@@ -24,7 +21,7 @@ class Row:
     client: str = ""
     begin: str = ""
     end: str = ""
-    verdict: str = REFUSED
+    verdict: str = ""
     bound_ns: int | None = None
     least_bound_ns: int | None = None
     worst_begin: str = ""
@@ -42,39 +39,27 @@ class Row:
     signed_at: str = ""
 
 
-def not_audited() -> Record:
-    return Record({}, {}, {}, "", [Entry(part=".", verdict=REFUSED, fault=NOT_AUDITED)], "", 0)
+def signed_row(folder: str, day: str, found: Signature) -> Row:
+    return Row(plain(folder), day, signature=found.state, signer=plain(found.signer), signed_at=plain(found.at))
 
 
-def records_of(folders: list[str]) -> list[tuple[str, Record]]:
-    """The record of each folder. One that wasn't audited gets a record that says so."""
-    return [(folder, read_record(folder) or not_audited()) for folder in folders]
-
-
-def row_of(folder: str, entry: Entry, signature: Signature) -> Row:
-    row = Row(plain(folder), "" if entry.part == "." else entry.part, verdict=entry.verdict)
-    row.reason, row.to_do = plain(reason(entry)), to_do(entry)
-    row.warnings = [warning_words(warning) for warning in entry.warnings]
-    row.signature, row.signer, row.signed_at = signature.state, plain(signature.signer), plain(str(signature.at))
-    if entry.claim:
-        claim, worst = entry.claim, entry.worst
-        row.client, row.begin, row.end, row.bound_ns = claim["client"], claim["from"], claim["to"], claim["bound_ns"]
-        row.least_bound_ns, row.worst_begin, row.worst_end = entry.least_ns, civil(worst["from"]), civil(worst["to"])
-        row.samples, row.servers, row.groups = entry.counts["samples"], len(claim["servers"]), len(groups_of(claim))
-        row.false_max, row.leap_seconds = claim["false_max"], plain(str(entry.leap.get("says", "")))
+def row_without_verdict(folder: str, verdict: str, why: str, what: str, signature: Signature) -> Row:
+    """A folder that has no figures: nobody audited it, or nobody verified that here."""
+    row = signed_row(folder, "", signature)
+    row.verdict, row.reason, row.to_do = verdict, plain(why), what
     return row
 
 
-def rows_of(records: list[tuple[str, Record]], signers: str | None) -> list[Row]:
-    """A row for each audit; for a folder whose audit.json was mangled one that says so."""
-    found = []
-    for folder, record in records:
-        signature = signature_of(folder, record.signed, signers)
-        try:
-            found += [row_of(folder, entry, signature) for entry in record.entries]
-        except MANGLED:
-            found += [row_of(folder, entry, signature) for entry in not_audited().entries]
-    return found
+def row_of(folder: str, entry: Entry, signature: Signature) -> Row:
+    claim, worst = entry.claim, entry.worst
+    row = signed_row(folder, "" if entry.part == "." else entry.part, signature)
+    row.verdict, row.reason, row.to_do = entry.verdict, reason(entry), to_do(entry)
+    row.warnings = [warning_words(warning) for warning in entry.warnings]
+    row.client, row.begin, row.end, row.bound_ns = claim.client, claim.from_, claim.to, claim.bound_ns
+    row.least_bound_ns, row.worst_begin, row.worst_end = entry.least_ns, civil(worst.from_), civil(worst.to)
+    row.samples, row.servers, row.groups = entry.counts["samples"], len(claim.servers), len(claim.grouped)
+    row.false_max, row.leap_seconds = claim.false_max, entry.leap.says
+    return row
 
 
 def as_json(rows: list[Row]) -> str:

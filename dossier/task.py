@@ -3,12 +3,12 @@ from __future__ import annotations
 
 from typing import NamedTuple
 
-from .audit import Options, audit_folder
+from .audit import Wanted, audit_folder
 from .call import Caller
 from .entry import REFUSED
-from .folder import inside
+from .fault import Fault
 from .line import line_of, refusal_of
-from .program import Fault, Program
+from .program import Program
 from .text import plain
 
 
@@ -24,24 +24,26 @@ class Task(NamedTuple):
     """The folders to be audited, and how."""
 
     folders: list[str]
-    options: Options
+    wanted: Wanted
     program: Program
 
     def audit(self, number: int) -> Done:
         folder = self.folders[number]
+        self.program.limit.begin()
         try:
-            with inside(folder):
-                record, is_old, was_signed = audit_folder(self.options, self.program)
-        except Fault as fault:
-            return self.refused(number, fault.line, fault.status)
+            record, is_old, was_signed = audit_folder(folder, self.wanted, self.program)
+        except Fault as found:
+            return self.refused(number, found.line, found.status)
         lines = [line_of(folder, entry) + (" (unchanged)" if is_old else "") for entry in record.entries]
+        if record.refusal:
+            lines = [refusal_of(folder, record.refusal.line)]
         if was_signed:
             lines.append(f"{'':14}{plain(folder)}: its signature was removed")
-        return Done(record.status, [entry.verdict for entry in record.entries], lines)
+        return Done(record.status, record.verdicts, lines)
 
     def refused(self, number: int, line: str, status: int) -> Done:
         return Done(status, [REFUSED], [refusal_of(self.folders[number], line)])
 
     def with_own_caller(self) -> Task:
         """The same task for another process."""
-        return self._replace(program=self.program._replace(caller=Caller()))
+        return self._replace(program=self.program._replace(caller=Caller(self.program.limit)))

@@ -16,7 +16,7 @@ import signal
 import sys
 import time
 
-from .program import Stopped
+from .fault import Stopped
 from .progress import Progress
 from .task import Done, Task
 

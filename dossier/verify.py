@@ -1,143 +1,148 @@
-"""A year later: are the inputs those that were audited, and do the same calls give the same bytes?"""
+"""A year later, or at a stranger's: does an audit of the inputs alone come to what stands in the folder?"""
 from __future__ import annotations
 
-import json
-from typing import Any
+from dataclasses import replace
 
 from . import folder as files
-from .audit import parts_of
-from .entry import MANGLED, REFUSED, Entry, Record, differing, read_record
-from .evidence import evidence_files
-from .program import Fault, Operand, Program, sum_of, sum_of_file
-from .recording import Recording, read_recording
-from .settling import Part, Settling
-from .signature import GOOD, NONE, UNSEEN, in_words, signature_of
+from .audit import change_of
+from .entry import LeapList, Record, read_record
+from .fault import DEVICE, Fault, fault
+from .folder import Folder
+from .known import Known
+from .leap import NONE as NO_LEAP, differing
+from .making import Earlier, Making, no_earlier
+from .program import Program, sum_of
+from .scratch import scratch
+from .signature import GOOD, NONE, UNSEEN, Signers, in_words
 from .text import plain
+from .typed import first_difference, said
 
 DIFFERS = 1
+SHOWN = 80
+"""Characters of a value that are shown of a difference."""
 
 
-def verify_all(folders: list[str], program: Program, signers: str | None) -> int:
-    """Prints `verified` or what differs, a line for each finding. The status is 0 if all is verified, and 1 if
-    something differs; or a fault's. With a file of signers, a folder that nobody signed differs too."""
+class Verifier:
+    """Verifies folders, each in a scratch folder of its own, and records those that are."""
+
+    def __init__(self, program: Program, known: Known, leaps: LeapList):
+        self.program, self.known, self.leaps = program, known, leaps
+
+    def verify(self, folder: Folder) -> tuple[str, list[str]]:
+        """The first difference between what stands in a folder and what its inputs come to, nothing if there is none;
+        and what is worth a note and is no difference."""
+        data = audit_json(folder)
+        record = read_record(data)
+        with scratch():
+            found, notes = self.difference(folder, record), self.notes(record)
+        if not found:
+            self.known.add(sum_of(data))
+        return found, notes
+
+    def notes(self, record: Record) -> list[str]:
+        other = record.program.sha256 != self.program.made.sha256
+        unseen = record.leap_seconds is not None and (record.leap_seconds.fault or self.leaps.fault)
+        later = any(entry.leap.says == NO_LEAP and entry.leap.to >= self.leaps.good_until for entry in record.entries)
+        return [*(["by another build of the program than the audit's"] if other else []),
+                *(["nothing is known of leap seconds, since there is no list of them"] if unseen else []),
+                *(["the list of leap seconds here ends before the span does"] if later and not unseen else [])]
+
+    def difference(self, folder: Folder, record: Record) -> str:
+        """An audit that was refused is tried again: it is refused for the same reason, or there is a difference."""
+        leaps = record.leap_seconds or self.leaps
+        found = "" if record.refusal else change_of(folder, record) or differing(leaps, self.leaps)
+        if found:
+            return found
+        is_other = record.program.sha256 != self.program.made.sha256
+        making = Making(folder, self.program, record.options, leaps)
+        made = making.record(earlier_of(folder, record) if is_other else no_earlier)
+        made = replace(made, made=record.made, seconds=record.seconds, signed=record.signed,
+                       program=record.program if is_other else made.program)
+        for name, sum_ in made.outputs.items():
+            if name in record.outputs and folder.sum(name) != sum_:
+                comparison = Comparison(name)
+                folder.read(name, comparison.take)
+                return f"{name}: {comparison.end()}"
+        differs = first_difference(said(record), said(made))
+        return f"{files.AUDIT}:{in_words_of(*differs)}" if differs else ""
+
+
+def audit_json(folder: Folder) -> bytes:
+    if not folder.has(files.AUDIT):
+        raise fault("not audited", DEVICE)
+    return folder.data(files.AUDIT)
+
+
+def earlier_of(folder: Folder, record: Record) -> Earlier:
+    """The refutations that stand in a folder: another build of the program may find another one."""
+    def earlier(part: str) -> bytes:
+        name = files.REFUTATION if part == "." else f"{part}/{files.REFUTATION}"
+        return folder.data(name) if name in record.outputs else b""
+    return earlier
+
+
+def in_words_of(place: str, kept: object, made: object) -> str:
+    return f"{place} is {clipped(kept)}, and by the inputs {clipped(made)}"
+
+
+def clipped(value: object) -> str:
+    text = str(value)
+    return f"`{text[:SHOWN]}{'..' if len(text) > SHOWN else ''}`"
+
+
+class Comparison:
+    """The first difference between a file that is read, block by block, and one of one's own."""
+
+    def __init__(self, path: str):
+        self.opened = open(path, "rb")
+        self.at, self.line, self.found = 0, 1, ""
+
+    def take(self, block: bytes) -> None:
+        if self.found:
+            return
+        own = self.opened.read(len(block))
+        if own == block:
+            self.at, self.line = self.at + len(block), self.line + block.count(b"\n")
+            return
+        k = next((k for k, (a, b) in enumerate(zip(block, own)) if a != b), min(len(block), len(own)))
+        kept, made = (text[k : k + SHOWN].decode("ascii", "backslashreplace") for text in (block, own))
+        line = self.line + block[:k].count(b"\n")
+        self.found = f"from byte {self.at + k} on (line {line}) it{in_words_of('', kept, made)}"
+
+    def end(self) -> str:
+        """What was found; else there is more of one's own."""
+        rest = self.opened.read(SHOWN).decode("ascii", "backslashreplace")
+        self.opened.close()
+        return self.found or f"after {self.at} bytes it{in_words_of('', '', rest)}"
+
+
+def verify_all(folders: list[str], verifier: Verifier, signers: Signers) -> int:
+    """Prints `verified` or the first difference, a line for each folder, and notes. The status is 0 if all is verified,
+    and 1 if something differs; or a fault's. With a file of signers, a folder that nobody signed differs too."""
     worst = 0
-    for folder in folders:
-        findings: list[str] = []
-        notes: list[str] = []
-        status = DIFFERS
-        try:
-            with files.inside(folder):
-                look_at_signature(signers, findings, notes)
-                verify(program, findings, notes)
-            status = DIFFERS if findings else 0
-        except Fault as fault:
-            findings, status = [*findings, fault.line], fault.status
-        except MANGLED:
-            findings.append("audit.json isn't one that an audit wrote")
-        for finding in findings or ["verified"]:
-            print(f"{plain(folder)}: {plain(finding)}")
-        for note in notes:
-            print(f"{plain(folder)}: ({plain(note)})")
+    for path in folders:
+        verifier.program.limit.begin()
+        lines, status = lines_of(path, verifier, signers)
+        for line in lines:
+            print(f"{plain(path)}: {plain(line)}", flush=True)
         worst = max(worst, status)
     return worst
 
 
-def look_at_signature(signers: str | None, findings: list[str], notes: list[str]) -> None:
-    """Adds what is wrong with the current folder's signature to the findings, and to the notes who signed."""
-    record = read_record(".")
-    found = signature_of(".", record.signed if record else "", signers)
-    if found.state in (GOOD, UNSEEN):
-        notes.append(in_words(found))
-    elif found.state != NONE or signers is not None:
-        findings.append(in_words(found))
-
-
-def verify(program: Program, findings: list[str], notes: list[str]) -> None:
-    """Adds what differs in the current folder to the findings, and to the notes what is worth one and differs in
-    nothing."""
-    record = read_record(".")
-    if record is None:
-        raise Fault("ntpaudit-dossier: not audited", files.DEVICE)
-    if differs := changed(record):
-        findings += differs
-        return
-    refused = [entry for entry in record.entries if entry.verdict == REFUSED]
-    if refused:
-        raise Fault(f"ntpaudit-dossier: the audit was refused: {refused[0].fault['line']}", refused[0].fault["status"])
-    if record.program["sha256"] != program.sha256:
-        notes.append("by another build of the program than the audit's")
-    capture = Operand(record.capture)
-    recording = read_recording(program, files.CLAIM, capture, wants_request=True)
-    data = files.read(files.CLAIM)
-    if sum_of(data) != record.inputs[files.CLAIM]:
-        raise Fault(differs_in_words(record, files.CLAIM), DIFFERS)
-    claim = json.loads(data)
-    claims = {part.name: part.claim for part in parts_of(claim, record.options["days"])}
-    if list(claims) != [entry.part for entry in record.entries]:
-        findings.append("audit.json: other days than those of the claim's span")
-        return
-    for entry in record.entries:
-        again = Again(Part(entry.part, claims[entry.part]), capture, program, record)
-        findings += again.findings(entry, recording, record.leap_seconds)
-
-
-def changed(record: Record) -> list[str]:
-    """The files that aren't there any more, or aren't what they were; and inputs that came."""
-    found = []
-    for name, wanted in {**record.inputs, **record.outputs}.items():
-        try:
-            if sum_of_file(name) != wanted:
-                found.append(differs_in_words(record, name))
-        except OSError as error:
-            found.append(f"{name} can't be read ({error.strerror})")
+def lines_of(path: str, verifier: Verifier, signers: Signers) -> tuple[list[str], int]:
+    findings: list[str] = []
+    notes: list[str] = []
     try:
-        there = {*files.inputs(), *evidence_files()}
-        found += [f"{name} is new" for name in sorted(there - set(record.inputs))]
-    except Fault as fault:
-        found += [] if found else [fault.line]
-    return found
-
-
-def differs_in_words(record: Record, name: str) -> str:
-    """That a file isn't what it was, as an input or as what the audit left."""
-    return f"{name} isn't the file that was audited" if name in record.inputs else f"{name} was changed since the audit"
-
-
-class Again(Settling):
-    """A claim that is settled again, whose files are held to those that are kept, and to the sums of a record."""
-
-    def __init__(self, part: Part, capture: Operand, program: Program, record: Record):
-        super().__init__(part, capture, program, record.options["step"], {**record.inputs, **record.outputs})
-        self.record = record
-        self.found: list[str] = []
-
-    def keep(self, name: str, data: bytes) -> bytes:
-        """The file that is kept. Of refutations any that `refute` accepts will do."""
-        path = self.part.within(name)
-        try:
-            kept = files.read(path)
-        except OSError as error:
-            raise Fault(f"ntpaudit-dossier: {path} can't be read ({error.strerror})", files.DEVICE) from None
-        if name != files.REFUTATION and kept != data:
-            self.differs(f"{path}: {first_difference(kept, data)}")
-        return kept
-
-    def differs(self, words: str) -> None:
-        self.found.append(words)
-
-    def has_changed(self, name: str) -> Fault:
-        return Fault(differs_in_words(self.record, name), DIFFERS)
-
-    def findings(self, entry: Entry, recording: Recording, leaps: dict[str, Any]) -> list[str]:
-        """What differs: an answer from its file, or audit.json from what the answers come to."""
-        seen = self.settle(recording, leaps)
-        if not self.found:
-            of = "" if self.part.name == "." else f" of {self.part.name}"
-            self.found += [f"audit.json says another {name} than the answers{of}" for name in differing(entry, seen)]
-        return self.found
-
-
-def first_difference(kept: bytes, seen: bytes) -> str:
-    """Where two texts begin to differ."""
-    at = next((k for k, (a, b) in enumerate(zip(kept, seen)) if a != b), min(len(kept), len(seen)))
-    return f"the answer is another one now, from byte {at} on (line {kept[:at].count(10) + 1})"
+        with Folder(path, verifier.program.limit) as folder:
+            signature = signers.signature_of(folder)
+            if signature.state in (GOOD, UNSEEN):
+                notes.append(in_words(signature))
+            elif signature.state != NONE or signers.given is not None:
+                findings.append(in_words(signature))
+            found, others = verifier.verify(folder)
+            notes += others
+            findings += [found] if found else []
+        status = DIFFERS if findings else 0
+    except Fault as found_fault:
+        findings, status = [*findings, found_fault.line], found_fault.status
+    return [*(findings or ["verified"]), *(f"({note})" for note in notes)], status

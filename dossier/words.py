@@ -5,35 +5,32 @@ within the bound. Refuted is: in one of them it isn't, so nothing in the capture
 """
 from __future__ import annotations
 
-from typing import Any
-
-from .entry import NOTHING_FITS, OPEN, REFUSED, REFUTED, YES, Entry
+from .claim import Claim
+from .entry import NO_EVIDENCE, NOTHING_FITS, REFUTED, YES, Entry, Piece, Reason, Refutation
 from .folder import REFUTATION
-from .judgement import groups_of
-from .remedies import remedy
 from .text import count
-from .units import TICKS, high_ms, low_ms, ns_ms, ns_up_ms, range_ms, seconds_of, shown_time
+from .units import TICKS, high_ms, low_ms, ns_ms, ns_up_ms, range_ms, shown_time
 
 
-def between(piece: dict[str, Any]) -> str:
+def between(piece: Piece) -> str:
     """The time of a piece: `between .. and ..`, or `at ..` of a piece of one moment."""
-    if piece["from"] == piece["to"]:
-        return f"at {shown_time(piece['from'])}"
-    end = shown_time(piece["to"])
-    same_day = end[:10] == shown_time(piece["from"])[:10]
-    return f"between {shown_time(piece['from'])} and {end[11:] if same_day else end}"
+    if piece.from_ == piece.to:
+        return f"at {shown_time(piece.from_)}"
+    end = shown_time(piece.to)
+    same_day = end[:10] == shown_time(piece.from_)[:10]
+    return f"between {shown_time(piece.from_)} and {end[11:] if same_day else end}"
 
 
-def span(claim: dict[str, Any]) -> str:
-    first, last = (shown_time(seconds_of(claim[name])) for name in ("from", "to"))
+def span(claim: Claim) -> str:
+    first, last = shown_time(claim.first), shown_time(claim.last)
     if first == last:
         return f"at {first} UTC"
     return f"from {first} to {last[11:] if first[:10] == last[:10] else last} UTC"
 
 
-def granted(claim: dict[str, Any]) -> str:
+def granted(claim: Claim) -> str:
     """What the claim grants of its servers."""
-    servers, groups, most = len(claim["servers"]), len(groups_of(claim)), claim["false_max"]
+    servers, groups, most = len(claim.servers), len(claim.grouped), claim.false_max
     of = f"these {servers} servers" if groups == servers else f"these {groups} groups of servers"
     if most:
         return f"if at most {most} of {of} {'was' if most == 1 else 'were'} wrong"
@@ -46,90 +43,94 @@ def capital(words: str) -> str:
 
 def sentence(entry: Entry) -> str:
     """What a manager reads."""
-    if entry.verdict == REFUSED:
-        return "There is no verdict: the audit couldn't be made."
     claim = entry.claim
-    within = f"the clock of {claim['client']} was within {ns_ms(claim['bound_ns'])} ms of UTC"
+    within = f"the clock of {claim.client} was within {ns_ms(claim.bound_ns)} ms of UTC"
     if entry.verdict == YES:
         said = f"{capital(span(claim))} {within}, {granted(claim)} and what else the claim grants is true."
         if entry.least_ns is None:
             return said
-        return (f"{said} Then the widest it may have been off was {ns_up_ms(entry.least_ns)} ms, {between(entry.worst)}: "
-                "no certificate carries a lesser bound.")
+        widest = f"{ns_up_ms(entry.least_ns)} ms, {between(entry.worst)}"
+        return (f"{said} Then the widest it may have been off was {widest}: no "
+                "certificate carries a lesser bound.")
     if entry.verdict == REFUTED:
         return f"The capture doesn't show that {span(claim)} {within}, and no certificate can. {reason(entry)}"
     if entry.verdict == NOTHING_FITS:
-        return (f"Whether {span(claim)} {within} can't be said: no course of events fits the capture, so something that "
-                f"the claim grants isn't true. {reason(entry)}")
-    return (f"Whether {span(claim)} {within} stays open: no certificate shows it, and no course of events was found that "
-            f"fits the capture and breaks it. {reason(entry)}")
+        return (f"Whether {span(claim)} {within} can't be said: no course of events fits the capture, so something "
+                f"that the claim grants isn't true. {reason(entry)}")
+    if entry.verdict == NO_EVIDENCE:
+        return (f"Whether {span(claim)} {within} can't be said: the capture says nothing about this clock. "
+                f"{reason(entry)}")
+    return (f"Whether {span(claim)} {within} stays open: no certificate shows it, and no course of events was found "
+            f"that fits the capture and breaks it. {reason(entry)}")
 
 
 def reason(entry: Entry) -> str:
     """Why it isn't a yes."""
-    if entry.verdict == YES:
-        return ""
-    if entry.verdict == REFUSED:
-        return f"{entry.fault['line']}. {remedy(entry.fault['line'])[0]}"
-    return {REFUTED: why_refuted, NOTHING_FITS: why_nothing_fits, OPEN: why_open}[entry.verdict](entry)
-
-
-def why_refuted(entry: Entry) -> str:
     found = entry.reason
-    if found["why"] == "unbounded":
+    if not found:
+        return ""
+    if entry.verdict == NO_EVIDENCE:
+        most = entry.claim.false_max
+        groups, have = count(len(entry.claim.grouped), "group"), "has" if found.heard == 1 else "have"
+        return (f"{found.heard} of {groups} of servers {have} a sample, and {most or 'none'} may be wrong: whatever "
+                "the error, a course of events fits.")
+    if found.hull is not None:
+        is_word = isinstance(found.hull, str)
+        left = f"the hull is {found.hull}" if is_word else f"errors from {range_ms(*found.hull)} are left open"
+        return f"At {shown_time(found.tick // TICKS)} {left}."
+    return why_nothing_fits(found) if entry.verdict == NOTHING_FITS else why_refuted(entry, found)
+
+
+def why_refuted(entry: Entry, found: Reason) -> str:
+    if found.why == "unbounded":
         return "No more groups have a sample than the claim takes for wrong, so nothing follows."
     said = f"A course of events fits the exchanges {course_of(entry)}."
-    if found["why"] != "off":
+    if found.piece is None or isinstance(found.piece.hull, str):
         return said
-    return (f"{said} {capital(between(found))} the error lay from {range_ms(*found['hull'])}, outside the bound, if what the "
-            "claim grants is true.")
+    return (f"{said} {capital(between(found.piece))} the error lay from {range_ms(*found.piece.hull)}, outside the "
+            "bound, if what the claim grants is true.")
 
 
-def why_nothing_fits(entry: Entry) -> str:
-    found, number = entry.reason, len(entry.reason["conflicts"])
-    conflicts, drift = count(number, "conflict"), f"a drift of {found['drift_ppb']:,} parts in 10^9"
-    if found["why"] == "apart":
-        names = found["apart"]
-        own = "itself" if len(names) == 1 else "themselves"
-        return f"{' and '.join(names)} {is_or_are(len(names))} in each of {conflicts}, with {own} or with most others."
-    if found["why"] == "drift":
+def why_nothing_fits(found: Reason) -> str:
+    number = len(found.conflicts)
+    conflicts, drift = count(number, "conflict"), f"a drift of {found.drift_ppb:,} parts in 10^9"
+    if found.why == "apart":
+        own = "itself" if len(found.apart) == 1 else "themselves"
+        return (f"{' and '.join(found.apart)} {is_or_are(len(found.apart))} in each of {conflicts}, with {own} or "
+                "with most others.")
+    if found.why == "drift":
         return f"With {drift} a course of events would fit: the claim grants too little drift."
-    if found["why"] == "step":
+    if found.why == "step":
         return f"Every server is in conflict with itself, and would be with {drift}: so it is if the clock was stepped."
     return f"More servers are in conflict than the claim takes for wrong: there {is_or_are(number)} {conflicts}."
 
 
-def why_open(entry: Entry) -> str:
-    when, hull = shown_time(entry.reason["from"] // TICKS), entry.reason["hull"]
-    left = f"the hull is {hull}" if isinstance(hull, str) else f"errors from {range_ms(*hull)} are left open"
-    return f"At {when} {left}."
-
-
 def to_do(entry: Entry) -> str:
     """What to do about it."""
-    if entry.verdict == YES:
+    if not entry.reason:
         return ""
-    if entry.verdict == REFUSED:
-        return remedy(entry.fault["line"])[1]
-    why = entry.reason.get("why", "exceeds")
     least = f"A bound of {ns_up_ms(entry.least_ns)} ms is the least that a certificate carries. " \
         if entry.least_ns is not None else ""
-    return least + TO_DO[why]
+    return least + TO_DO[entry.reason.why]
 
 
+TIGHTER = "For a tighter one ask nearer servers, more of them, or more often; or grant less drift, if that is true."
 TO_DO = {
-    "unbounded": "Name more servers, put fewer of them together, or grant fewer wrong ones. The counts tell what became of "
-                 "their replies.",
+    "unbounded": "Name more servers, put fewer of them together, or grant fewer wrong ones. The counts tell what "
+                 "became of their replies.",
+    "silent": "See whether the claim names the right client, and whether the capture has replies: the counts tell "
+              "what became of them. Name more servers, put fewer of them together, or grant fewer wrong ones.",
     "off": "See in the picture how it went; claim a wider bound, or another span.",
-    "exceeds": "For a tighter one ask nearer servers, more of them, or more often; or grant less drift, if that is true.",
-    "apart": "See by the servers how far off they are. Name them no more, or grant that they were wrong (`false_max`) and "
-             "name more servers. Those that follow one another belong into one group.",
-    "drift": "Grant as much as the oscillator and the client's corrections can make: `ntpaudit-dossier draft --chrony` or "
-             "`--ntpd` reads them of the client's configuration.",
-    "step": "Look for the step in the client's messages (`System clock was stepped`), cut the capture there with `editcap "
-            "-A` and `-B`, and claim the time before and the time after by themselves.",
-    "many": "See in the conflicts which servers are in most, and in the picture how far off. Grant that they were wrong "
-            "(`false_max`) and name more; or the claim grants too little of `reading_ns`.",
+    "tick": TIGHTER,
+    "exceeds": TIGHTER,
+    "apart": "See by the servers how far off they are. Name them no more, or grant that they were wrong (`false_max`) "
+             "and name more servers. Those that follow one another belong into one group.",
+    "drift": "Grant as much as the oscillator and the client's corrections can make: `ntpaudit-dossier draft "
+             "--chrony` or `--ntpd` reads them of the client's configuration.",
+    "step": "Look for the step in the client's messages (`System clock was stepped`), cut the capture there with "
+            "`editcap -A` and `-B`, and claim the time before and the time after by themselves.",
+    "many": "See in the conflicts which servers are in most, and in the picture how far off. Grant that they were "
+            "wrong (`false_max`) and name more; or the claim grants too little of `reading_ns`.",
 }
 
 
@@ -150,16 +151,18 @@ def fit(entry: Entry) -> str:
 def course_of(entry: Entry) -> str:
     """The course of events of a refutation."""
     found = entry.refutation
-    return f"with an error of {error_of(found)} at {shown_time(found['reading'] // TICKS)} and {liars_of(entry)}"
+    if not found:
+        return ""
+    at = f"at {shown_time(found.reading // TICKS)}"
+    return f"with an error of {error_of(found)} {at} and {liars_of(entry.claim, found)}"
 
 
-def error_of(found: dict[str, Any]) -> str:
+def error_of(found: Refutation) -> str:
     """The error of a refutation, rounded towards zero."""
-    ticks = found["error"]
-    text = high_ms(ticks) if ticks < 0 else low_ms(ticks)
+    text = high_ms(found.error) if found.error < 0 else low_ms(found.error)
     return "under 0.001 ms" if text.strip("-") == "0.000" else f"{text} ms"
 
 
-def liars_of(entry: Entry) -> str:
-    wrong = [entry.claim["servers"][number] for number in entry.refutation["false"]]
+def liars_of(claim: Claim, found: Refutation) -> str:
+    wrong = [claim.servers[number] for number in found.false]
     return f"{', '.join(wrong)} wrong" if wrong else "no server wrong"

@@ -4,7 +4,7 @@ from __future__ import annotations
 import signal
 from collections.abc import Generator
 
-from .program import Stopped
+from .fault import Stopped
 from .progress import Progress
 from .task import Done, Task
 from .team import Team

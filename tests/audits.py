@@ -1,7 +1,9 @@
 """What the tests of ntpaudit-dossier share: folders to audit, its calls, and what holds of every page."""
+import atexit
 import json
 import os
 import shutil
+import tempfile
 import threading
 from html.parser import HTMLParser
 
@@ -10,7 +12,10 @@ from tally import DATA, ROOT, program, run
 
 PROGRAM = program()
 SCRIPT = ROOT / "ntpaudit-dossier"
-ENVIRONMENT = {**os.environ, "NTPAUDIT": PROGRAM, "PYTHONDONTWRITEBYTECODE": "1", "LC_ALL": "C.UTF-8"}
+STATE = tempfile.mkdtemp(prefix="ntpaudit-state-")
+"""Where the audits of tests are recorded: not in the user's own record."""
+atexit.register(shutil.rmtree, STATE, ignore_errors=True)
+ENVIRONMENT = {**os.environ, "XDG_STATE_HOME": STATE, "NTPAUDIT": PROGRAM, "PYTHONDONTWRITEBYTECODE": "1", "LC_ALL": "C.UTF-8"}
 CLAIMS = sorted(DATA.glob("*.claim.json"))
 TICKS_PER_MS = 2**32 / 1000
 VOID = {"meta", "link", "br"}
@@ -52,7 +57,7 @@ def table(*folders):
 
 
 def parts_left(parent):
-    return [str(path) for path in parent.rglob(".*") if path.is_file()]
+    return [str(path) for path in parent.rglob(".*")]
 
 
 class Outline(HTMLParser):

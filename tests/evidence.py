@@ -81,13 +81,13 @@ def test_ended_keys(place):
         (place / "signers").write_text(f'alice valid-before="{end}" {line.split(" ", 1)[1]}')
         time.sleep(max(0, (at + timedelta(seconds=ends + 1) - datetime.now(timezone.utc)).total_seconds()))
         check(f"a key that ended just {name}", status=(dossier("verify", folder, "--signers", place / "signers", env=local)[0], wanted))
-    for forged in ("9999-99-99T99:99:99Z", "9999-12-31T23:59:59Z", "x"):
+    for forged, is_time in (("9999-99-99T99:99:99Z", False), ("9999-12-31T23:59:59Z", True), ("x", False)):
         (folder / "audit.json").write_text(json.dumps({**record, "signed": forged}))
-        check(f"a signature at {forged}", status=(dossier("verify", folder, "--signers", place / "signers")[0], 1))
+        check(f"a signature at {forged}", status=(dossier("verify", folder, "--signers", place / "signers")[0], 1 if is_time else 2))
         (folder / "audit.json.sig").unlink()
         run(["ssh-keygen", "-q", "-Y", "sign", "-f", key, "-n", "ntpaudit-dossier", folder / "audit.json"])
         (place / "signers").write_text(line)
-        check(f"a signature by hand at {forged}", status=(dossier("verify", folder, "--signers", place / "signers")[0], 0))
+        check(f"a signature by hand at {forged}", status=(dossier("verify", folder, "--signers", place / "signers")[0], 0 if is_time else 2))
 
 
 def test_allowed_signers(place):
@@ -111,7 +111,7 @@ def test_allowed_signers(place):
         status, out, _ = dossier("verify", folder, "--signers", place / "signers")
         check(f"allowed signers: {name}", status=(status, wanted), words=(words in out, True), escape=(b"\x1b" in out, False))
     check("no file of signers", run=(dossier("verify", folder, "--signers", place / "missing")[::2],
-                                     (4, b"ntpaudit-dossier: the file of signers can't be read (No such file or directory)\n")))
+                                     (4, b"ntpaudit-dossier: the file of signers: missing can't be read (No such file or directory)\n")))
     (place / "signers").write_text(line)
     purpose = ["ssh-keygen", "-q", "-Y", "sign", "-f", key, "-n", "file", folder / "audit.json"]
     for name, forge in (("of another purpose", lambda: run(purpose)), ("of no form", lambda: (folder / "audit.json.sig").write_text("junk")),
@@ -122,7 +122,7 @@ def test_allowed_signers(place):
         check(f"a signature {name}", status=(status, 1), words=(b"the signature doesn't fit" in out, True))
     (folder / "audit.json").write_text("{")
     status, out, _ = dossier("verify", folder, "--signers", place / "signers")
-    check("a signed folder whose record is gone", status=(status, 4), words=(b"the signature doesn't fit" in out and b"not audited" in out, True))
+    check("a signed folder whose record is gone", status=(status, 2), words=(b"the signature doesn't fit" in out and b"audit.json isn't one that is taken (no JSON)" in out, True))
 
 
 def test_signing_again(place):
@@ -156,9 +156,10 @@ def test_signing_again(place):
     status, out, _ = dossier("audit", "--again", folder)
     check("a signed folder, audited again", status=(status, 0), told=(f"        {folder}: its signature was removed\n" in out.decode(), True),
           gone=(signature.exists(), False), signed=(json.loads((folder / "audit.json").read_text())["signed"], ""))
+    was = json.loads((folder / "audit.json").read_text())["entries"][0]["outputs"]["report.txt"][:16]
     (folder / "report.txt").write_text("")
     status, out, _ = dossier("sign", folder, "--key", key)
-    check("a changed folder isn't signed", run=((status, out), (1, f"{folder}: report.txt was changed since the audit\n".encode())), gone=(signature.exists(), False))
+    check("a changed folder isn't signed", run=((status, out), (1, f"{folder}: report.txt was changed since the audit (SHA-256 e3b0c44298fc1c14.., audit.json has SHA-256 {was}..)\n".encode())), gone=(signature.exists(), False))
     (folder / "claim.json").write_text("{}")
     dossier("audit", folder)
     check("a refusal isn't signed", status=(dossier("sign", folder, "--key", key)[0], 4), gone=(signature.exists(), False))
@@ -175,12 +176,12 @@ def test_signed_evidence(place):
     """evidence.json and the files that it names are signed too."""
     folder = folder_of(place, "evidence")
     dossier("audit", folder)
-    said = {"capture": "kept by Ann, see `kept.txt`.", "drift": "sheet.pdf, chrony.conf", "leap": f"{place}/beside.txt report.txt audit.json", "answers": 5}
+    said = {"capture": "kept by Ann, see `kept.txt`.", "drift": "sheet.pdf, chrony.conf", "leap": f"{place}/beside.txt report.txt audit.json"}
     (folder / "evidence.json").write_text(json.dumps(said))
     for name in ("kept.txt", "sheet.pdf", "unnamed.txt", "../beside.txt"):
         (folder / name).write_text(name)
     status, out, _ = dossier("verify", folder)
-    later = b"evidence.json isn't the file that was audited"
+    later = b"evidence.json is new"
     check("evidence that came later", status=(status, 1), new=(b"evidence.json is new" in out, True), page=(later in dossier("page", folder)[1], True))
     dossier("audit", folder)
     check("evidence that was audited", page=(later in dossier("page", folder)[1], False))
@@ -188,7 +189,7 @@ def test_signed_evidence(place):
     check("sums of evidence", names=(sorted(inputs), ["claim.json", "evidence.json", "f.pcap", "kept.txt", "sheet.pdf"]))
     check("verify of evidence", status=(dossier("verify", folder)[0], 0))
     (folder / "kept.txt").write_text("another")
-    check("evidence that was changed", run=(dossier("verify", folder)[:2], (1, f"{folder}: kept.txt isn't the file that was audited\n".encode())))
+    check("evidence that was changed", run=(dossier("verify", folder)[:2], (1, f"{folder}: kept.txt isn't the file that was audited (SHA-256 ae448ac86c4e8e4d.., audit.json has SHA-256 {inputs['kept.txt'][:16]}..)\n".encode())))
 
 
 def test_elsewhere(place):
@@ -196,9 +197,10 @@ def test_elsewhere(place):
     folder = folder_of(place, "elsewhere")
     dossier("audit", folder)
     record = json.loads((folder / "audit.json").read_text())
-    for change in ({"inputs": {**record["inputs"], "/dev/zero": "0"}}, {"capture": "../elsewhere/f.pcap"}, {"inputs": 5}, {"capture": None}):
+    for change, where in (({"inputs": {**record["inputs"], "/dev/zero": "0"}}, "inputs /dev/zero"), ({"capture": "../elsewhere/f.pcap"}, "capture"), ({"inputs": 5}, "inputs"), ({"capture": None}, "capture")):
         (folder / "audit.json").write_text(json.dumps({**record, **change}))
-        check(f"a record with {change}", run=(dossier("verify", folder)[:2], (4, f"{folder}: ntpaudit-dossier: not audited\n".encode())))
+        line = f"{folder}: ntpaudit-dossier: audit.json isn't one that is taken ({where})\n"
+        check(f"a record with {change}", run=(dossier("verify", folder)[:2], (2, line.encode())))
 
 
 def test_older_records(place):
@@ -251,7 +253,7 @@ def test_leap_seconds(place):
         list_ = leap_list(place / f"{number}.list", until, *seconds)
         status, says, kinds, out = leap_of(folder, list_)
         check(f"leap seconds {wanted} until {until} {seconds}", status=(status, 0), says=(says, wanted), warned=("leap-second" in kinds, wanted == "within"),
-              again=(b"(unchanged)" in out, False), verified=(dossier("verify", folder)[0], 0))
+              again=(b"(unchanged)" in out, False), verified=(dossier("verify", "--leap-seconds", list_, folder)[0], 0))
         text = dossier("page", folder)[1].decode()
         page = "".join(check_page(f"a page with leap seconds {wanted}", text).words)
         day = datetime.fromtimestamp(until, timezone.utc).strftime("%Y-%m-%d")
@@ -267,12 +269,13 @@ def test_leap_seconds(place):
         check(f"a leap second at {time_} among exchanges", says=(says, wanted))
     day = folder_of(place, "days", around, **{**MINUTE, "from": "2001-09-08T01:46:40Z"})
     dossier("audit", "--days", "--leap-seconds", leap_list(place / "days.list", later, (LAST + 300, 11)), day)
-    check("leap seconds of days", says=([row["leap_seconds"] for row in table(day)], ["none", "none"]), verified=(dossier("verify", day)[0], 0))
+    check("leap seconds of days", says=([row["leap_seconds"] for row in table(day)], ["none", "none"]), verified=(dossier("verify", "--leap-seconds", place / "days.list", day)[0], 0))
 
 
 def test_lists(place):
     """Which lists are taken, and when a folder is audited again for one."""
     from dossier import leap
+    from dossier.limit import Limit
     folder, good = folder_of(place, "lists"), leap_list(place / "good.list", 2_000_000_000)
     spoilt = {"torn": good.read_text().rsplit("#h", 1)[0], "another sum": good.read_text().replace("# a day", "5 # a day").replace(" 10", " 11"), "empty": "",
               "words": "#@ x\n", "bytes": "\udcff"}
@@ -281,7 +284,7 @@ def test_lists(place):
         check(f"a list that is spoilt: {name}", run=(dossier("audit", "--leap-seconds", place / "spoilt.list", folder),
                                                      (2, b"", b"ntpaudit-dossier: the list of leap seconds isn't one\n")))
     check("a list that isn't there", run=(dossier("audit", "--leap-seconds", place / "missing", folder),
-                                          (4, b"", b"ntpaudit-dossier: the list of leap seconds can't be read (No such file or directory)\n")))
+                                          (4, b"", b"ntpaudit-dossier: the list of leap seconds: missing can't be read (No such file or directory)\n")))
 
     def is_unchanged(*words):
         return b"(unchanged)" in dossier("audit", *words, folder)[1]
@@ -289,18 +292,21 @@ def test_lists(place):
     seen = [is_unchanged("--leap-seconds", good), is_unchanged("--leap-seconds", good), is_unchanged(), is_unchanged("--leap-seconds", other), is_unchanged()]
     check("audited again for a list", seen=(seen, [False, True, True, False, True]))
     record = json.loads((folder / "audit.json").read_text())
+    early = leap_list(place / "early.list", 1_700_000_000)
+    check("a list that ends earlier than the audit's", run=(dossier("verify", "--leap-seconds", early, folder)[:2], (0, f"{folder}: verified\n{folder}: (the list of leap seconds here ends before the span does)\n".encode())))
     (folder / "audit.json").write_text(json.dumps({**record, "leap_seconds": {**record["leap_seconds"], "seconds": [[1795331020, 1]]}}))
-    status, out, _ = dossier("verify", folder)
-    check("a list that was changed in a record", status=(status, 1), line=(b"audit.json says another leap than the answers" in out, True))
+    status, out, _ = dossier("verify", "--leap-seconds", other, folder)
+    check("a list that was changed in a record", status=(status, 1), line=(b"audit.json: the list of leap seconds has [(1795331020, 1)] at its end" in out, True))
     system, leap.SYSTEM = leap.SYSTEM, str(place / "missing")
-    none = leap.read_list(None)
+    none = leap.read_list(None, Limit())
     leap.SYSTEM = system
-    check("no list", seen=(none, {"file": str(place / "missing"), "fault": "the list of leap seconds can't be read (No such file or directory)"}))
+    check("no list", seen=((none.file, none.fault), (str(place / "missing"), "the list of leap seconds: missing can't be read (No such file or directory)")))
     entry = record["entries"][0]
     unknown = {**entry, "leap": {**entry["leap"], "says": "no list"}}
-    (folder / "audit.json").write_text(json.dumps({**record, "leap_seconds": none, "entries": [unknown]}))
-    text = dossier("page", folder)[1].decode()
-    check("no list on the page", said=("nothing, since the list of leap seconds can&#x27;t be read" in text, True), verified=(dossier("verify", folder)[0], 0))
+    (folder / "audit.json").write_text(json.dumps({**record, "leap_seconds": {"file": none.file, "fault": none.fault}, "entries": [unknown]}))
+    text = dossier("page", "--verify", folder)[1].decode()
+    check("no list on the page", said=("nothing, since the list of leap seconds: missing can&#x27;t be read" in text, True),
+          verified=(dossier("verify", folder)[:2], (0, f"{folder}: verified\n{folder}: (nothing is known of leap seconds, since there is no list of them)\n".encode())))
 
 
 # ---- what is measured
@@ -310,7 +316,7 @@ def why_no_recording(*user):
     """Why tcpdump can't record here, as a user that these words call it by; nothing if it can."""
     if not shutil.which("tcpdump"):
         return "tcpdump isn't installed"
-    ran = run([*user, "tcpdump", "-i", "lo", "-c", "1", "-w", "/dev/null", "udp and port 123 and port 124"], timeout=2)
+    ran = run([*user, "tcpdump", "-i", "lo", "-c", "1", "-w", "-", "udp and port 123 and port 124"], timeout=2)  # (it gives a file that it writes to its own user)
     return "" if ran[0] == "no end" else "there is no right to record"
 
 
@@ -336,8 +342,17 @@ def test_measure(place):
 
 def test_measuring(place):
     """What the records' times come to, and what is refused."""
-    from dossier.measurement import Measurement, measurement_of
-    from dossier.measuring import Fault, load, matched
+    from dataclasses import asdict, replace
+    from dossier.fault import Fault
+    from dossier.measurement import Measurement
+    from dossier.measuring import load, matched
+    from dossier.typed import read_typed
+
+    def is_measurement(value):
+        try:
+            return bool(read_typed("measured.json", Measurement, json.dumps(value).encode()))
+        except Fault:
+            return False
     with load(2) as busy:
         time.sleep(0.3)
         used = [sum(map(int, Path(f"/proc/{process}/stat").read_text().rsplit(")", 1)[1].split()[11:13])) for process in busy]
@@ -349,22 +364,22 @@ def test_measuring(place):
         except Fault as fault:
             seen = fault.status
         check(f"delays with {name}", seen=(seen, 4))
-    small = Measurement("lo", 1000, 0, 1, 2, 3, 99, 100_000, "web-1", "6.1", "2026-11-25T12:00:00Z")
-    large = small._replace(greatest_ns=123_456, reading_ns=130_000, busy=1)
-    check("the reason of a reading", small=("no less than 100,000" in small.reason, True), large=("no less" in large.reason, False),
+    small = Measurement("lo", 1000, 0, 1, 2, 3, 99, 100_000, "web-1", "6.1", "2026-11-25T12:00:00Z", "reading")
+    large = replace(small, greatest_ns=123_456, reading_ns=130_000, busy=1)
+    check("the reason of a reading", small=("no less than 100,000" in small.why, True), large=("no less" in large.why, False),
           line=(large.lines()[0], "packets 1000 on lo, beside 1 busy process"))
-    check("a measurement in a file", same=(measurement_of(small._asdict()), small), other=([measurement_of(value) for value in (
-        {}, {**small._asdict(), "kind": "drift"}, {**small._asdict(), "least_ns": "<b>"}, {**small._asdict(), "machine": 1})], [None] * 4))
+    check("a measurement in a file", same=(is_measurement(asdict(small)), True), other=([is_measurement(value) for value in (
+        {}, {**asdict(small), "kind": "drift"}, {**asdict(small), "least_ns": "<b>"}, {**asdict(small), "machine": 1}, {**asdict(small), "more": 1})], [False] * 5))
     folder = folder_of(place, "measured")
     (folder / "evidence.json").write_text(json.dumps({"reading": "measured.json, by Ann"}))
-    for found, is_more in ((small._replace(machine="<b>web"), False), (large, True)):
-        (folder / "measured.json").write_text(json.dumps(found._asdict()))
+    for found, is_more in ((replace(small, machine="<b>web"), False), (large, True)):
+        (folder / "measured.json").write_text(json.dumps(asdict(found)))
         dossier("audit", folder)
         text = dossier("page", folder)[1].decode()
         said = "".join(check_page("a page with a measurement", text).words)
         check("a measurement on a page", said=(f"{found.greatest_ns} at the most" in said.replace(",", ""), True), machine=(f"that {found.machine} sent itself" in said, True),
               more=("That is more than the claim grants." in said, is_more), where=("measured.json, by Ann" in said, True))
-    (folder / "measured.json").write_text(json.dumps({**small._asdict(), "greatest_ns": 1}))
+    (folder / "measured.json").write_text(json.dumps({**asdict(small), "greatest_ns": 1}))
     check("a measurement that was changed", shown=(b"Measured:" in dossier("page", folder)[1], False))
 
 

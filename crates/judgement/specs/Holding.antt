@@ -18,13 +18,12 @@ use Rattle.sum_file.specs.Reading.{sum_given}
 use Rattle.judgement.specs.Sums.{AreGiven, Digests, IsOfSums, SumsData}
 use Rattle.judgement.specs.declared.inputs.HeldInputs.{HeldInputs}
 
--- the greatest length of an input, in bytes: a capture may have a header and 4,000,000 of the
--- longest records
+-- the greatest length of an input, in bytes: a capture may have 16 GiB
 abbrev pub limit_of : Input → ℕ
 limit_of inputs.Claim = max_claim
 limit_of inputs.Certificate = max_certificate
 limit_of inputs.Refutation = max_refutation
-limit_of inputs.Capture = 1048640000024
+limit_of inputs.Capture = 17179869184
 limit_of inputs.Sums = 65536
 
 -- An input was read: bytes that have this digest, and all that its feed had, if that is known.

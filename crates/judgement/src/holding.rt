@@ -15,8 +15,8 @@ use report::{Input, MAX_CERTIFICATE, MAX_CLAIM, MAX_REFUTATION, RunFault, SumsFa
 use sha2::{Digest, Sha256};
 use std::alloc::Global;
 
-/// The greatest length of a capture, in bytes: a header and 4,000,000 of the longest records.
-const MAX_CAPTURE: u64 = 24 + 4_000_000 * (16 + 262_144);
+/// The greatest length of a capture that is held in memory, in bytes: 16 GiB.
+const MAX_CAPTURE: u64 = 17_179_869_184;
 
 /// The greatest length of an input, in bytes.
 fn limit(which: Input) -> u64

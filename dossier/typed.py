@@ -1,0 +1,185 @@
+"""JSON of strangers, read into records: each field with its type and its range, and none besides.
+
+The name of a field is that of the record's, without a `_` at its end (`from_` is "from"). A field that has a default is
+left out where it has it.
+"""
+from __future__ import annotations
+
+import json
+import re
+from collections.abc import Callable
+from dataclasses import MISSING, fields, is_dataclass
+from datetime import datetime
+from functools import cache
+from types import NoneType, UnionType
+from typing import Annotated, Any, Literal, NoReturn, Union, get_args, get_origin, get_type_hints
+
+from .fault import Fault, fault
+
+
+class Mangled(ValueError):
+    """Where JSON isn't what it has to be."""
+
+
+def within(least: int, most: int) -> Callable[[float], bool]:
+    return lambda number: least <= number <= most
+
+
+def matching(pattern: str) -> Callable[[str], bool]:
+    found = re.compile(pattern)
+    return lambda text: bool(found.fullmatch(text))
+
+
+def length(least: int, most: int) -> Callable[[list[Any]], bool]:
+    return lambda found: least <= len(found) <= most
+
+
+def is_text(text: str) -> bool:
+    """Whether it is Unicode, and no longer than a page."""
+    try:
+        return len(text.encode()) <= 20_000
+    except UnicodeEncodeError:
+        return False
+
+
+def is_name(name: str) -> bool:
+    """Whether it may be the name of a file in a folder, its bytes as Python has them."""
+    try:
+        return 0 < len(name.encode("utf-8", "surrogateescape")) < 256 and "/" not in name and "\0" not in name
+    except UnicodeEncodeError:
+        return False
+
+
+def is_time(text: str) -> bool:
+    try:
+        return bool(TIME.fullmatch(text)) and bool(datetime.fromisoformat(text))
+    except ValueError:
+        return False
+
+
+def or_nothing(is_right: Callable[[str], bool]) -> Callable[[str], bool]:
+    return lambda text: not text or is_right(text)
+
+
+TIME = re.compile(r"[1-9]\d{3}-\d\d-\d\dT\d\d:\d\d:\d\dZ", re.ASCII)
+Text = Annotated[str, is_text]
+Name = Annotated[str, is_name]
+Time = Annotated[str, is_time]
+Sum = Annotated[str, matching("[0-9a-f]{64}")]
+Address = Annotated[str, matching(r"[0-9]{1,3}(\.[0-9]{1,3}){3}")]
+Small = Annotated[int, within(0, 31)]
+Count = Annotated[int, within(0, 2**40)]
+Seconds = Annotated[int, within(-(2**40), 2**40)]
+"""Unix seconds."""
+Ticks = Annotated[int, within(-(2**100), 2**100)]
+"""Ticks of 2^-32 s, of an error or since 1970."""
+Nanoseconds = Annotated[int, within(0, 10**25)]
+
+
+def parsed(data: bytes) -> Any:
+    """What JSON says; a ValueError if it isn't UTF-8, names a field twice, or holds what is no number."""
+    def once(pairs: list[tuple[str, Any]]) -> dict[str, Any]:
+        found = dict(pairs)
+        if len(found) < len(pairs):
+            raise Mangled("a name stands there twice")
+        return found
+
+    def never(word: str) -> NoReturn:
+        raise Mangled(word)
+    try:
+        return json.loads(data.decode(), object_pairs_hook=once, parse_constant=never)
+    except RecursionError:
+        raise Mangled("it is nested too deep") from None
+
+
+def read_typed(name: str, kind: Any, data: bytes) -> Any:
+    """What a file of JSON says, if it is of a kind; a fault that names the file and the place if it isn't."""
+    try:
+        return typed(kind, parsed(data), "")
+    except Mangled as error:
+        raise mangled(name, str(error)) from None
+    except ValueError:
+        raise mangled(name, "no JSON") from None
+
+
+def mangled(name: str, why: str) -> Fault:
+    return fault(f"{name} isn't one that is taken ({why[:200].strip() or 'as a whole'})")
+
+
+def typed(kind: Any, value: Any, place: str) -> Any:
+    """A value of a kind, or Mangled."""
+    origin, inner = get_origin(kind), get_args(kind)
+    if origin is Annotated:
+        found = typed(inner[0], value, place)
+        if not inner[1](found):
+            raise Mangled(place)
+        return found
+    if origin in (Union, UnionType):
+        return one_of(inner, value, place)
+    if origin is Literal and any(value is said or isinstance(value, str) and value == said for said in inner):
+        return value
+    if origin is list and isinstance(value, list):
+        return [typed(inner[0], item, f"{place} {number}") for number, item in enumerate(value)]
+    if origin is tuple and isinstance(value, list) and len(value) == len(inner):
+        return tuple(typed(each, item, f"{place} {number}") for number, (each, item) in enumerate(zip(inner, value)))
+    if origin is dict and isinstance(value, dict):
+        pairs = ((key, item, f"{place} {key}") for key, item in value.items())
+        return {typed(inner[0], key, where): typed(inner[1], item, where) for key, item, where in pairs}
+    if is_dataclass(kind) and isinstance(value, dict):
+        return record_of(kind, value, place)
+    if kind is float and type(value) is int or type(value) is kind:
+        return value
+    raise Mangled(place)
+
+
+def one_of(kinds: tuple[Any, ...], value: Any, place: str) -> Any:
+    for kind in kinds:
+        if (value is None) == (kind is NoneType):
+            try:
+                return typed(kind, value, place)
+            except Mangled as error:
+                found = error
+    raise found if len(kinds) == 2 and NoneType in kinds and value is not None else Mangled(place)
+
+
+@cache
+def kinds_of(kind: Any) -> dict[str, tuple[str, Any, bool]]:
+    """Of each name in JSON the field, its kind, and whether it has to be there."""
+    hints = get_type_hints(kind, include_extras=True)
+    return {field.name.rstrip("_"): (field.name, hints[field.name], field.default is field.default_factory is MISSING)
+            for field in fields(kind)}
+
+
+def record_of(kind: Any, value: dict[str, Any], place: str) -> Any:
+    known = kinds_of(kind)
+    for name in value.keys() - known.keys():
+        raise Mangled(f"{place} {name}")
+    for name, (_, _, is_needed) in known.items():
+        if is_needed and name not in value:
+            raise Mangled(f"{place} {name}")
+    return kind(**{known[name][0]: typed(known[name][1], item, f"{place} {name}") for name, item in value.items()})
+
+
+def said(value: Any) -> Any:
+    """A record as JSON has it."""
+    if is_dataclass(value):
+        return {field.name.rstrip("_"): said(own) for field in fields(value)
+                if (own := getattr(value, field.name)) != default_of(field)}
+    if isinstance(value, dict):
+        return {name: said(item) for name, item in value.items()}
+    return list(map(said, value)) if isinstance(value, (list, tuple)) else value
+
+
+def default_of(field: Any) -> Any:
+    return field.default_factory() if field.default_factory is not MISSING else field.default
+
+
+def first_difference(one: Any, other: Any, place: str = "") -> tuple[str, Any, Any] | None:
+    """Where two values of JSON differ first, and what they say there."""
+    if isinstance(one, dict) and isinstance(other, dict):
+        parts = [(name, one.get(name), other.get(name)) for name in {**one, **other}]
+    elif isinstance(one, list) and isinstance(other, list) and len(one) == len(other):
+        parts = [(str(number), a, b) for number, (a, b) in enumerate(zip(one, other))]
+    else:
+        return None if one == other and type(one) is type(other) else (place, one, other)
+    return next((found for name, a, b in parts if (found := first_difference(a, b, f"{place} {name}"))), None)
