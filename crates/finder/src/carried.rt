@@ -14,15 +14,18 @@ ghost use Rattle.finder.specs.Samples.{AreSamplesOf};
 use crate::laws::{
     best_entries_show_as_much, best_hulls_hold_the_error, pieces_within_have_no_wider_hulls,
 };
+use crate::least::reach_of;
 use crate::longest::tables_for;
-use crate::neediest::likely_bound;
+use crate::neediest::{in_nanoseconds, likely_bound};
 use crate::reach::{Reach, longest_ends};
 use crate::trial::trial;
 use checker::laws::{pieces_give_the_verdict, wider_bounds_hold_too};
+use certificate::MAX_PIECES;
 use claim_file::Claim;
 use courses::Groups;
 use era_unfold::laws::{more_nanoseconds_have_no_fewer_ticks, nanoseconds_lie_between_their_ticks};
 use era_unfold::{TICKS_PER_SECOND, ns_down};
+use intersection::kinds::Hull;
 use sample_interval::SampleSource;
 use span_cover::laws::best_samples_are_the_first_best;
 use std::alloc::{AllocError, Global};
@@ -62,20 +65,20 @@ pub fn least_bound<S: SampleSource>(
     ensures { FindsLeastBound (S.samples samples) (claim_data claim.now) result }
 {
     let tables = tables_for(alloc, samples, claim)?;
-    let near = likely_bound(alloc, &tables, claim, covers, samples.count())?;
-    let found = least_bound_by(alloc, &tables, claim, near)?;
+    let start = likely_bound(alloc, &tables, claim, covers, samples.count())?;
+    let found = least_bound_by(alloc, &tables, claim, start)?;
     Ok(found)
 }
 
-/// The least bound, by the tables of the servers, looked for near a number of nanoseconds.
+/// The least bound, by the tables of the servers, looked for from a number of nanoseconds on.
 ///
-/// Each turn of the loop either doubles the distance from there or halves what is left, so that
-/// there are at most some hundred.
+/// Every other try is the likely one by what the last one showed. The others double the distance
+/// from the start or halve what is left, so that there are at most some two hundred.
 fn least_bound_by(
     alloc: Global,
     tables: &[BestTable],
     claim: &Claim,
-    near: u64,
+    start: u64,
 ) -> Result<Option<LeastCarried>, AllocError>
     requires claim { IsLawful (claim_data claim.now) }
     requires tables { IsTabled (claim_data claim.now) tables.now }
@@ -90,18 +93,25 @@ fn least_bound_by(
     wider_bounds_hold_too();
     nanoseconds_lie_between_their_ticks();
     more_nanoseconds_have_no_fewer_ticks();
-    if stop_under(alloc, tables, claim, MOST_BOUND_NS)?.is_some() {
+    let widest = try_bound(alloc, tables, claim, start, MOST_BOUND_NS)?;
+    if widest.stop.is_some() {
         return Ok(None);
     }
     let mut least = 0;
     let mut bound_ns = MOST_BOUND_NS;
     let mut tick = claim.first as u64;
+    let mut likely = start;
+    let mut is_likely = true;
     while least < bound_ns {
-        let tried = trial(least, bound_ns, near, 0);
-        match stop_under(alloc, tables, claim, tried)? {
-            None => bound_ns = tried,
+        let near = if is_likely { likely } else { start };
+        let tried_ns = trial(least, bound_ns, near, 0);
+        let tried = try_bound(alloc, tables, claim, start, tried_ns)?;
+        likely = tried.likely;
+        is_likely = !is_likely;
+        match tried.stop {
+            None => bound_ns = tried_ns,
             Some(stop) => {
-                least = tried + 1;
+                least = tried_ns + 1;
                 tick = stop;
             }
         }
@@ -109,20 +119,29 @@ fn least_bound_by(
     Ok(Some(LeastCarried { bound_ns, tick }))
 }
 
-/// The Unix tick at which the longest pieces stop with a bound of this many nanoseconds; none if
-/// they reach the span's end.
-fn stop_under(
+/// What comes of a bound.
+#[derive(Clone, Copy)]
+struct Tried {
+    /// The Unix tick at which the longest pieces stop; none if they reach the span's end.
+    stop: Option<u64>,
+    /// Which bound is likely the least one by this, in nanoseconds.
+    likely: u64,
+}
+
+/// Takes the longest pieces with a bound of this many nanoseconds.
+fn try_bound(
     alloc: Global,
     tables: &[BestTable],
     claim: &Claim,
+    start: u64,
     bound_ns: u64,
-) -> Result<Option<u64>, AllocError>
+) -> Result<Tried, AllocError>
     requires claim { IsLawful (claim_data claim.now) }
     requires tables { IsTabled (claim_data claim.now) tables.now }
     requires in_range { bound_ns ≤ max_bound_ns }
-    ensures { IfOk result (λ stop. (samples : List TheSample) →
+    ensures { IfOk result (λ tried. (samples : List TheSample) →
         AreTablesFor samples (claim_data claim.now) tables.now →
-        MatchOption stop (IsCarried samples (with_bound (claim_data claim.now) bound_ns))
+        MatchOption tried.stop (IsCarried samples (with_bound (claim_data claim.now) bound_ns))
         (λ tick. StopsAt samples (with_bound (claim_data claim.now) bound_ns) (pos tick))) }
 {
     best_samples_are_the_first_best();
@@ -133,9 +152,43 @@ fn stop_under(
     nanoseconds_lie_between_their_ticks();
     let claim = claim_with(alloc, claim, bound_ns)?;
     match longest_ends(alloc, tables, &claim)? {
-        Reach::End(_) => Ok(None),
-        Reach::Stuck { begin, .. } => Ok(Some(begin)),
-        Reach::TooLong { begin } => Ok(Some(begin)),
+        Reach::End(ends) => Ok(Tried {
+            stop: None,
+            likely: scaled(start, bound_ns, ends.len() as u64, MAX_PIECES as u64),
+        }),
+        Reach::Stuck { begin, hull, .. } => Ok(Tried {
+            stop: Some(begin),
+            likely: likely_over(hull, bound_ns),
+        }),
+        Reach::TooLong { begin } => {
+            let first = claim.first as u64;
+            let last = claim.last as u64;
+            Ok(Tried {
+                stop: Some(begin),
+                likely: scaled(
+                    start,
+                    bound_ns,
+                    last.saturating_sub(first),
+                    begin.saturating_sub(first),
+                ),
+            })
+        }
+    }
+}
+
+/// What a bound is beyond the start grows by the ratio of two numbers: pieces are about as long as
+/// what is left of the bound.
+fn scaled(start: u64, bound_ns: u64, times: u64, over: u64) -> u64 {
+    let beyond = u128::from(bound_ns.saturating_sub(start)) * u128::from(times);
+    let scaled = u128::from(start).saturating_add(beyond / u128::from(over.max(1)));
+    scaled.min(u128::from(MOST_BOUND_NS)) as u64
+}
+
+/// The bound that a hull needs, or else this one.
+fn likely_over(hull: Hull, bound_ns: u64) -> u64 {
+    match hull {
+        Hull::Bounded { lo, hi } => in_nanoseconds(reach_of(lo, hi)),
+        Hull::Unbounded | Hull::Empty => bound_ns,
     }
 }
 

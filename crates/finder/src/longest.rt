@@ -88,14 +88,15 @@ pub(crate) fn tick_after(begin: u64, last: u64) -> u64
 
 /// Where the longest piece from `begin` ends, if the piece from there to `next`, the next tick,
 /// shows that the error is within the bound. What a piece shows each shorter one shows too, so that
-/// the end is found by halving; it is looked for first where a piece of the length `likely` ends.
+/// the end is found by halving; it is looked for first at `near`, and then in steps from there.
 pub(crate) fn longest_end(
     tables: &[BestTable],
     places: &mut Places,
     claim: &Claim,
     begin: u64,
     next: u64,
-    likely: u64,
+    near: u64,
+    step: u64,
 ) -> u64
     requires claim { IsLawful (data_of claim.now) }
     requires tables { IsTabled (data_of claim.now) tables.now }
@@ -114,7 +115,7 @@ pub(crate) fn longest_end(
     let mut low = next;
     let mut high = claim.last as u64;
     while low < high {
-        let middle = trial(low, high, begin.saturating_add(likely), likely / 16) + 1;
+        let middle = trial(low, high, near, step) + 1;
         if is_shown(tables, places, claim, begin, middle) {
             low = middle;
         } else {

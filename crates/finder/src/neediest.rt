@@ -58,7 +58,7 @@ pub(crate) fn likely_bound(
 }
 
 /// A number of ticks as a bound in nanoseconds, or the greatest that a claim may have.
-fn in_nanoseconds(ticks: u128) -> u64
+pub(crate) fn in_nanoseconds(ticks: u128) -> u64
     ensures { result ≤ max_bound_ns }
 {
     if 1_000_000 << 32 <= ticks {
