@@ -27,7 +27,13 @@
 //! The hull over any one piece, as `hull_over` of `finder/src/longest.rt`, with its proof:
 //!
 //! ```text
-//! let parts = parts_over(tables, i128::from(begin), i128::from(end), claim.drift_ppb);
+//! let parts = parts_near(
+//!     tables,
+//!     places,
+//!     i128::from(begin),
+//!     i128::from(end),
+//!     claim.drift_ppb,
+//! );
 //! piece_hull(parts.as_slice(), claim.groups.as_slice(), claim.false_max)
 //! ```
 
