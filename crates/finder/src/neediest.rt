@@ -19,17 +19,18 @@ use intersection::kinds::Hull;
 use span_cover::laws::best_samples_are_the_first_best;
 use span_cover::{Part, piece_hull};
 use std::alloc::{AllocError, Global};
+use std::cmp::Reverse;
 use std::collections::BinaryHeap;
 use sweep::{BestTable, parts_over};
 
 /// A stretch of the span, by how many ticks the bound of its hull has to have. The one that needs
-/// most is the greatest.
+/// most is the greatest, and of those that need as much the first.
 #[derive(Clone, Copy, PartialEq, Eq, PartialOrd, Ord)]
 pub(crate) struct StretchNeed {
     /// How many ticks of 2^-32 s the bound has to have.
     pub(crate) ticks: u128,
     /// Where the stretch begins, in Unix ticks.
-    pub(crate) begin: u64,
+    pub(crate) begin: Reverse<u64>,
     /// How many ticks it has.
     pub(crate) reach: u64,
 }
@@ -97,8 +98,9 @@ pub(crate) fn neediest_tick(
             return Ok(Some(widest));
         }
         let half = widest.reach / 2;
-        let middle = widest.begin.saturating_add(half);
-        add_stretch(&mut left, tables, claim, cover, widest.begin, half)?;
+        let begin = widest.begin.0;
+        let middle = begin.saturating_add(half);
+        add_stretch(&mut left, tables, claim, cover, begin, half)?;
         add_stretch(&mut left, tables, claim, cover, middle, widest.reach - half)?;
     }
     Ok(left.pop())
@@ -120,7 +122,7 @@ fn add_stretch(
     if let Hull::Bounded { lo, hi } = hull_without(tables, claim, cover, begin, end) {
         left.push(StretchNeed {
             ticks: reach_of(lo, hi),
-            begin,
+            begin: Reverse(begin),
             reach,
         })?;
     }

@@ -111,7 +111,8 @@ fn refutation_of<X: ToExchange>(
     for cover in &covers {
         let cover = *cover;
         if let Some(tick) = neediest_tick(alloc, tables, claim, cover, most)? {
-            for reading in [tick.begin, tick.begin.saturating_add(tick.reach)] {
+            let begin = tick.begin.0;
+            for reading in [begin, begin.saturating_add(tick.reach)] {
                 places.push(Place { cover, reading })?;
             }
         }
