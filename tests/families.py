@@ -197,7 +197,9 @@ def equal(setting: Setting, count: int) -> Hostile:
     begin = setting.begin * BILLION
     rows = ((number % setting.servers, begin, begin + WAY_NS, -WIDTH, WIDTH) for number in range(count))
     need = setting.need(1)
-    return Hostile(Exchanges(rows), {"zero": setting.claim(0), "need": setting.claim(need), "less": setting.claim(need // 2)})
+    return Hostile(Exchanges(rows), {"zero": setting.claim(0), "need": setting.claim(need), "less": setting.claim(need // 2),
+                                     "nobody": setting.claim(need, false_max=setting.servers),
+                                     "one-left": setting.claim(need, false_max=setting.servers - 1)})
 
 
 def one_moment(setting: Setting, count: int) -> Hostile:

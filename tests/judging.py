@@ -4,7 +4,7 @@ tests/settlement.py: for tests/hostile and tests/large, whose captures are made 
 A question is a claim on a capture. Of each there are cases: what was tried, and what is wrong with it.
 """
 import json
-import time
+import resource
 from collections.abc import Callable, Iterator
 from functools import cached_property
 from pathlib import Path
@@ -24,6 +24,9 @@ SOME = 3000
 
 LOOKED_AT = 300_000
 """Pieces times samples that the reading looks at one by one, to name the best ones."""
+
+WAIT = 20
+"""How many times its limit a call may take by the clock, where others have the processor."""
 
 FEW_COVERS = 4
 FAST_REFUTATION = 200
@@ -54,12 +57,17 @@ def differs(ran: Ran, status: int, lines: list[str], error: bytes = b"") -> str:
 
 
 class Way(NamedTuple):
-    """How questions are asked: of which program, in which folder (with the capture in capture.pcap), how many seconds a call
-    may take, and whether the reading makes all pieces, where there are many."""
+    """How questions are asked: of which program, in which folder (with the capture in capture.pcap), how many seconds of the
+    processor a call may take, and whether the reading makes all pieces, where there are many."""
     program: str
     folder: Path
     limit: float
     is_whole: bool
+
+
+def seconds_of_children() -> float:
+    used = resource.getrusage(resource.RUSAGE_CHILDREN)
+    return used.ru_utime + used.ru_stime
 
 
 class Question:
@@ -88,10 +96,11 @@ class Question:
         return marks.smallest_covers(self.claim, self.conflicts)
 
     def call(self, command: str, *words: object, claim: Path | None = None, given: bytes = b"") -> Ran:
-        """Runs a command on the claim and the capture."""
-        began = time.monotonic()
-        ran = run([self.way.program, command, claim or self.file, self.capture, *words], given, timeout=self.way.limit)
-        self.times.append((time.monotonic() - began, f"{self.name}: {command} {' '.join(map(str, words))}"))
+        """Runs a command on the claim and the capture. Its limit is of the processor's time, which no other load changes."""
+        began, limit = seconds_of_children(), int(self.way.limit)
+        ran = run([self.way.program, command, claim or self.file, self.capture, *words], given, timeout=WAIT * limit,
+                  preexec_fn=lambda: resource.setrlimit(resource.RLIMIT_CPU, (limit, limit + 1)))
+        self.times.append((seconds_of_children() - began, f"{self.name}: {command} {' '.join(map(str, words))}"))
         return ran
 
     def ends(self, bound_ns: int, is_needed: Callable[[Stop], bool] = lambda stop: False) -> tuple[list[int], Stop | None]:
