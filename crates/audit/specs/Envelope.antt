@@ -27,8 +27,8 @@ abbrev pub bound_outcome : LeastBound → Outcome
 bound_outcome (Holds n piece) = Yes
 bound_outcome (NoneHolds piece) = No
 
--- the report on an envelope: with what each server says, if that is asked for, and with this line of
--- the least bound that a certificate carries; none if no bound was looked for
+-- the report on an envelope: with what each server says, if that is asked for, and with this line
+-- of the least bound that a certificate carries; none if no bound was looked for
 abbrev pub text_of : Style → Bool → EvidenceData → EnvelopeData → Option LeastLine → Report
 text_of style servers e envelope None = refused Memory
 text_of style servers e envelope (Some line) =

@@ -1,6 +1,6 @@
 -- What was found that has no definition of its own: what settles a claim, and the least bound that
--- a certificate carries. A report may be one on a finding, and what the finding shows is said of the
--- evidence and of the bytes that give it.
+-- a certificate carries. A report may be one on a finding, and what the finding shows is said of
+-- the evidence and of the bytes that give it.
 use Rattle.std.specs.Prelude.{◌≡◌, ◌⊎◌, ℕ, List, Option, None, Result, Ok, Err, IfSome}
 use Rattle.byte_stream.specs.State.{FeedState}
 use Rattle.claim_file.specs.Claim.{ClaimData}

@@ -27,9 +27,9 @@ least_line_of claim step false found = Some NotAsked
 least_line_of claim step true None = None
 least_line_of claim step true (Some found) = Some (line_of claim step found)
 
--- What the bound shows of evidence: it is what the search answers. If some course of events fits the
--- exchanges, then under a lesser bound no certificate is accepted that may be written, and with each
--- wider one `settle` finds a certificate, unless memory runs out.
+-- What the bound shows of evidence: it is what the search answers. If some course of events fits
+-- the exchanges, then under a lesser bound no certificate is accepted that may be written, and with
+-- each wider one the search finds a certificate, unless memory runs out.
 pub record IsLeastBoundOf (e : EvidenceData) (found : Option LeastCarried) : Type 0 where
   pub finds : FindsLeastBound (samples_in e) e.claim (Ok found)
   pub none_below : SomeCourse e.claim e.collection.exchanges → IfSome found (λ least. (m : ℕ) →

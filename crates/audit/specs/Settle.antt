@@ -1,6 +1,6 @@
--- The report of `settle`, and what it shows: that the claim is shown, refuted, fitted by no course or
--- without evidence, or that it stays open. Which refutation is found has no definition of its own,
--- so the report is one on what was found.
+-- The report of `settle`, and what it shows: that the claim is shown, refuted, fitted by no course
+-- or without evidence, or that it stays open. Which refutation is found has no definition of its
+-- own, so the report is one on what was found.
 use Rattle.std.specs.Prelude.{◌≡◌, ℕ, true, List, ◌++◌, codes, Result, Ok, Err}
 use Rattle.byte_stream.specs.Bytes.{IsBytes}
 use Rattle.byte_stream.specs.State.{FeedState}

@@ -64,7 +64,7 @@ pub enum Question {
         step: Step,
         /// Whether to show what each server says about each piece.
         servers: bool,
-        /// Whether to show the least bound that any certificate carries.
+        /// Whether to show the least bound that a certificate carries.
         least: bool,
     },
     /// Is there a refutation of the claim?
@@ -107,7 +107,7 @@ pub(crate) enum Task {
         step: Step,
         /// Whether to show what each server says about each piece.
         servers: bool,
-        /// Whether to show the least bound that any certificate carries.
+        /// Whether to show the least bound that a certificate carries.
         least: bool,
     },
     /// Look for a refutation.

@@ -50,12 +50,12 @@ Example:  ntpaudit check claim.json recording.pcap certificate.json
 More:     man ntpaudit, which says what a yes means";
 
 const SETTLE_HELP: &str = "\
-Prints:   one of five answers. A certificate, which `check` accepts: the claim is shown. A refutation,
-          which `refute --drift` accepts. Lines `conflict SERVER REQUEST SERVER REPLY`, and then
-          `nothing fits`: what the claim grants isn't true in this capture. `no evidence groups K of
-          G false_max F`: no more groups of servers have a sample than may be wrong. Or `open P Q
-          hull LO HI`: neither is found, and no certificate is accepted. With --human the lines of
-          conflicts and of what is open have milliseconds and times as 2026-11-22T06:46:09Z
+Prints:   one of five answers. A certificate, which `check` accepts: the claim is shown. A
+          refutation, which `refute --drift` accepts. Lines `conflict SERVER REQUEST SERVER REPLY`,
+          and then `nothing fits`: what the claim grants isn't true in this capture. `no evidence
+          groups K of G false_max F`: no more groups of servers have a sample than may be wrong. Or
+          `open P Q hull LO HI`: neither is found, and no certificate is accepted. With --human the
+          lines of conflicts and of what is open have milliseconds and times as 2026-11-22T06:46:09Z
 Status:   0 shown; 1 any other answer; 2 an input is refused, or over 100000 pieces are needed;
           3 out of memory; 4 a file or the output failed; 5 the command line is refused
 Example:  ntpaudit settle claim.json recording.pcap > certificate.json
