@@ -63,7 +63,8 @@ class Envelope(NamedTuple):
     hulls: list[Hull]
     servers: dict[str, tuple[list[int], list[int]]]
     least_ns: int | None
-    """The least bound that any certificate carries, if it was asked for; None if a piece has no hull with two ends."""
+    """The least bound that a certificate carries, if it was asked for and there is one; None also if a piece has no hull
+    with two ends."""
     worst: int
     """The piece that needs the least bound, or the first that is unbounded or empty."""
 
@@ -84,7 +85,7 @@ def read_hulls(text: bytes) -> Envelope:
     width = width_of(lines)
     hulls = [line.split() for line in lines[width :: width + 1]]
     _, bound, _, worst = closing[0].split()
-    least = closing[1].split() if bound != "none" and len(closing) > 1 else []
+    least = closing[1].split() if bound != "none" and closing[1:] not in ([], ["least_ns none"]) else []
     return Envelope([int(words[1]) for words in hulls], [int(words[2]) for words in hulls],
                     [read_hull(words[3:]) for words in hulls], {}, int(least[1]) if least else None,
                     int(least[3] if least else worst))

@@ -8,7 +8,7 @@ from collections import Counter, defaultdict
 from dataclasses import dataclass, field, replace
 
 from .answers import read_hulls
-from .claim import GREATEST_BOUND, Claim
+from .claim import Claim
 from .folder import CLAIM, JOINED, Copy, copy_named
 from .joining import join
 from .limit import Limit
@@ -191,17 +191,14 @@ class Draft:
                             "if it is one and the same clock, put them into one group.")
 
     def bound(self) -> int:
-        """The least bound that any certificate carries, rounded up to two digits."""
+        """The least bound that a certificate carries, rounded up to two digits."""
         envelope = read_hulls(self.program.run("envelope", CLAIM, self.capture, "--least", "--step", LONGEST).text)
         if envelope.least_ns is None:
-            begin, word = envelope.begins[envelope.worst], envelope.hulls[envelope.worst]
-            self.remark(f"bound_ns: no bound is carried, since the piece from {civil(begin)} is {word};", FOR_NOW)
+            begin, hull = envelope.begins[envelope.worst], envelope.hulls[envelope.worst]
+            why = f"the piece from {civil(begin)} is {hull}" if isinstance(hull, str) else "it is more than a claim can say"
+            self.remark(f"bound_ns: no bound is carried, since {why};", FOR_NOW)
             return NO_BOUND
-        least = ns_up_ms(envelope.least_ns)
-        if envelope.least_ns > GREATEST_BOUND:
-            self.remark(f"bound_ns: the least bound is {least} ms, more than a claim can say; {FOR_NOW}")
-            return NO_BOUND
-        self.remark(f"bound_ns: the least bound that any certificate carries is {least} ms; rounded up.")
+        self.remark(f"bound_ns: the least bound that a certificate carries is {ns_up_ms(envelope.least_ns)} ms; rounded up.")
         return round_up(envelope.least_ns)
 
     def leave_to_a_person(self, claim: Claim) -> None:

@@ -550,34 +550,19 @@ def test_own_faults(place):
     check("an error of one's own", status=(run(["python3", "-c", script], env=ENVIRONMENT)[0], 70))
 
 
-NO_EVIDENCE = """#!/bin/sh
-# stands in for a program whose settle says that there is no evidence
-[ "$1" = settle ] && {{ echo "no evidence groups 0 of 2 false_max 0"; exit 1; }}
-exec "{program}" "$@"
-"""
-
-
 def test_no_evidence(place):
     """A capture that says nothing: the verdict, its words, report.txt, and no refutation."""
     claim = {**json.loads((DATA / "clients-us.claim.json").read_text()), "client": "203.0.113.9"}
     (place / "claim.json").write_text(json.dumps(claim))
-    fake = place / "ntpaudit"
-    fake.write_text(NO_EVIDENCE.format(program=PROGRAM))
-    fake.chmod(0o755)
-    said = run([PROGRAM, "settle", place / "claim.json", DATA / "clients-us.pcap"])[1]
-    real = [PROGRAM] if said.startswith(b"no evidence ") else []
-    if not real:
-        skipped("no evidence by the program itself", "this program has no such answer yet")
-    for program in (fake, *real):
-        folder, env = folder_of(place, f"by {Path(program).parent.name}", claim=place / "claim.json"), {**ENVIRONMENT, "NTPAUDIT": str(program)}
-        status, out, _ = dossier("audit", folder, env=env)
-        row, entry = table(folder)[0], json.loads((folder / "audit.json").read_text())["entries"][0]
-        text = dossier("page", folder)[1].decode()
-        words = "".join(check_page("a page of no evidence", text).words)
-        check("no evidence", status=(status, 1), line=(out.decode(), f"no evidence   {folder}: no bound is carried, claimed 5 ms\n"), row=((row["verdict"], row["least_bound_ns"]), ("no evidence", None)),
-              report=((folder / "report.txt").read_text().startswith("no evidence groups 0 of "), True), refutation=((folder / "refutation.json").exists() or "refutation" in entry, False),
-              badge=('class="verdict no-evidence"' in text, True), said=("the capture says nothing about this clock. 0 of " in words, True), to_do=("names the right client" in row["to_do"] and "names the right client" in words, True),
-              csv=(",no evidence," in dossier("page", "--csv", folder)[1].decode(), True), verified=(dossier("verify", folder, env=env), (0, f"{folder}: verified\n".encode(), b"")))
+    folder = folder_of(place, "silent", claim=place / "claim.json")
+    status, out, _ = dossier("audit", folder)
+    row, entry = table(folder)[0], json.loads((folder / "audit.json").read_text())["entries"][0]
+    text = dossier("page", folder)[1].decode()
+    words = "".join(check_page("a page of no evidence", text).words)
+    check("no evidence", status=(status, 1), line=(out.decode(), f"no evidence   {folder}: no bound is carried, claimed 5 ms\n"), row=((row["verdict"], row["least_bound_ns"]), ("no evidence", None)),
+          report=((folder / "report.txt").read_text().startswith("no evidence groups 0 of "), True), refutation=((folder / "refutation.json").exists() or "refutation" in entry, False),
+          badge=('class="verdict no-evidence"' in text, True), said=("the capture says nothing about this clock. 0 of " in words, True), to_do=("names the right client" in row["to_do"] and "names the right client" in words, True),
+          csv=(",no evidence," in dossier("page", "--csv", folder)[1].decode(), True), verified=(dossier("verify", folder), (0, f"{folder}: verified\n".encode(), b"")))
 
 
 def test_browser(place):
