@@ -1,8 +1,9 @@
-"""Captures made to be slow, in families: the same exchanges at every run, as many as are asked for, and claims about them.
+"""Captures made to be slow, in families: the same exchanges at every run, as many as are asked for, and claims about
+them.
 
-tests/hostile tries the small ones of each family, and bench/hostile measures the large ones. An exchange stands here as the
-ends of its sample in ticks of 2^-32 s (a low end, which is its low mark too, and a high end) and as the nanoseconds at which
-its request was sent and its reply came. Nothing is shared with the program.
+tests/hostile tries the small ones of each family, and bench/hostile measures the large ones. An exchange stands here
+as the ends of its sample in ticks of 2^-32 s (a low end, which is its low mark too, and a high end) and as the
+nanoseconds at which its request was sent and its reply came. Nothing is shared with the program.
 """
 import struct
 from array import array
@@ -147,10 +148,10 @@ class Hostile(NamedTuple):
 
 
 def hairs(setting: Setting, count: int, gaps: tuple[int, ...]) -> Hostile:
-    """Two servers of the right time, and two far ahead that miss each other by a hair all along the span: the low ends of
-    one rise and fall with the clock's drift, and so do the high ends of the other, so many ticks below. If several numbers of
-    ticks are given each holds for some places, and where it's below zero the two meet. Two of the four servers may be wrong.
-    As soon as a piece is so long that the two meet its hull reaches to them."""
+    """Two servers of the right time, and two far ahead that miss each other by a hair all along the span: the low ends
+    of one rise and fall with the clock's drift, and so do the high ends of the other, so many ticks below. If several
+    numbers of ticks are given each holds for some places, and where it's below zero the two meet. Two of the four
+    servers may be wrong. As soon as a piece is so long that the two meet its hull reaches to them."""
     places = max(1, count // 4)
     spacing, begin = setting.spacing(places - 1), setting.begin * BILLION
     period = spacing * max(1, places // 16)
@@ -261,8 +262,8 @@ def conflicting(setting: Setting, count: int) -> Hostile:
 
 
 def in_pairs(setting: Setting, count: int) -> Hostile:
-    """The two servers of a pair contradict each other whenever they are asked, and nobody else, since by the next pair's turn
-    the clock may have drifted: as many covers as there are ways to choose."""
+    """The two servers of a pair contradict each other whenever they are asked, and nobody else, since by the next
+    pair's turn the clock may have drifted: as many covers as there are ways to choose."""
     spacing, begin = setting.spacing(count // 2), setting.begin * BILLION
     half = setting.drifted(WAY_NS * TICKS // BILLION) // 2 + 10
 

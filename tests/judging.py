@@ -57,8 +57,8 @@ def differs(ran: Ran, status: int, lines: list[str], error: bytes = b"") -> str:
 
 
 class Way(NamedTuple):
-    """How questions are asked: of which program, in which folder (with the capture in capture.pcap), how many seconds of the
-    processor a call may take, and whether the reading makes all pieces, where there are many."""
+    """How questions are asked: of which program, in which folder (with the capture in capture.pcap), how many seconds
+    of the processor a call may take, and whether the reading makes all pieces, where there are many."""
     program: str
     folder: Path
     limit: float
@@ -104,8 +104,8 @@ class Question:
         return ran
 
     def ends(self, bound_ns: int, is_needed: Callable[[Stop], bool] = lambda stop: False) -> tuple[list[int], Stop | None]:
-        """The ends of the pieces under a bound and where they stop. Where some thousands aren't enough and the rest isn't
-        needed, as many."""
+        """The ends of the pieces under a bound and where they stop. Where some thousands aren't enough and the rest
+        isn't needed, as many."""
         bound = pieces.bound_in_ticks(bound_ns)
         ends, stop = pieces.ends_of(self.span, self.hulls, bound, SOME)
         if stop and stop.is_over and (self.way.is_whole or is_needed(stop)):
@@ -179,8 +179,8 @@ def certificate_wrong(question: Question, claim: Claim, ran: Ran) -> str:
 
 
 def named_wrong(question: Question, printed: list[dict]) -> str:
-    """What is wrong with the samples that a certificate names. Of each piece they have the best ends, and where it isn't too
-    much to look at, and in three pieces always, they are the first that have."""
+    """What is wrong with the samples that a certificate names. Of each piece they have the best ends, and where it
+    isn't too much to look at, and in three pieces always, they are the first that have."""
     begins = [question.span[0], *(piece["upto"] for piece in printed)]
     is_little = len(printed) * len(question.samples) <= LOOKED_AT
     for number, (begin, piece) in enumerate(zip(begins, printed)):
@@ -234,8 +234,8 @@ def least_wrong(question: Question, line: str) -> str:
 
 
 def carried_wrong(question: Question, bound_ns: int) -> str:
-    """What is wrong with the certificate at the least bound. Where it has too many pieces for the reading to make, and some
-    course fits, the program's own is held to it piece by piece."""
+    """What is wrong with the certificate at the least bound. Where it has too many pieces for the reading to make, and
+    some course fits, the program's own is held to it piece by piece."""
     _, stop = question.ends(bound_ns)
     if stop is None:
         return ""

@@ -1,10 +1,10 @@
-"""The certificate of fewest pieces and the least bound, restated: section 11 of docs/DEFINITIONS.md on pieces that are as
-long as they can be.
+"""The certificate of fewest pieces and the least bound, restated: section 11 of docs/DEFINITIONS.md on pieces that are
+as long as they can be.
 
-This shares nothing with the program. A certificate may have 100,000 pieces, each of them sought by some hulls, so a hull is
-made here of two sorted lists a server (`Hulls`), and not by looking at every sample: tests/courses holds such hulls to those
-of tests/rules.py. What is sought is what the rules say, by doubling and halving, and nothing more. Times are in ticks of
-2^-32 s.
+This shares nothing with the program. A certificate may have 100,000 pieces, each of them sought by some hulls, so a
+hull is made here of two sorted lists a server (`Hulls`), and not by looking at every sample: tests/courses holds such
+hulls to those of tests/rules.py. What is sought is what the rules say, by doubling and halving, and nothing more.
+Times are in ticks of 2^-32 s.
 """
 import heapq
 import json
@@ -28,8 +28,8 @@ Hull = tuple[int, int] | tuple[()] | None
 
 
 class Side:
-    """The greatest of a server's low ends over any piece. A window moves to the piece's farther end: the last one, where
-    twice its middle is at most twice the piece's, and else the first."""
+    """The greatest of a server's low ends over any piece. A window moves to the piece's farther end: the last one,
+    where twice its middle is at most twice the piece's, and else the first."""
 
     def __init__(self, ppb: int, windows: Iterable[tuple[tuple[int, int], int]]) -> None:
         by_middle = sorted(windows, key=lambda pair: sum(pair[0]))
@@ -116,8 +116,8 @@ class Stop(NamedTuple):
 
 
 def farthest(is_good: Callable[[int], bool], known: int, last: int, guess: int) -> int:
-    """The greatest good number up to a last one, where `known` is good, and all after the first bad one are bad. It's sought
-    from a guess by doubling steps, and then by halving."""
+    """The greatest good number up to a last one, where `known` is good, and all after the first bad one are bad. It's
+    sought from a guess by doubling steps, and then by halving."""
     below, over, way = known, last + 1, 1
     if below < guess < over and not is_good(guess):
         over = guess
@@ -164,9 +164,9 @@ def fewest(claim: Claim, samples: list[Sample]) -> tuple[dict | None, Stop | Non
 
 
 def neediest(hulls: Hulls, begin: int, end: int, most: int) -> tuple[int, int, int] | None:
-    """The piece of one tick that needs most, of those with a hull: what it needs, and its ends; None where none has one.
-    A piece within a piece needs no more, so the one that needs most is halved until it has one tick. After so many turns it
-    is the neediest of those in the middle of what was halved."""
+    """The piece of one tick that needs most, of those with a hull: what it needs, and its ends; None where none has
+    one. A piece within a piece needs no more, so the one that needs most is halved until it has one tick. After so
+    many turns it is the neediest of those in the middle of what was halved."""
     def with_need(*piece: int) -> list[tuple[int, tuple[int, ...]]]:
         need = need_of(hulls.over(*piece))
         return [] if need is None else [(-need, piece)]
@@ -188,8 +188,8 @@ def neediest(hulls: Hulls, begin: int, end: int, most: int) -> tuple[int, int, i
 
 
 def least(claim: Claim, samples: list[Sample], step: int) -> tuple[int, int] | None:
-    """The least bound in nanoseconds, and the piece of so many seconds that it is told for. Where no course fits there may
-    be several such bounds, and this is one."""
+    """The least bound in nanoseconds, and the piece of so many seconds that it is told for. Where no course fits there
+    may be several such bounds, and this is one."""
     hulls, span = Hulls(claim, samples), rules.span_of(claim)
 
     def is_carried(bound_ns: int) -> bool:
@@ -227,8 +227,8 @@ def last_piece(span: tuple[int, int], step: int) -> int:
 
 
 def has_property(claim: Claim, samples: list[Sample], told: tuple[int, int] | None, step: int) -> bool:
-    """Whether what is told of a least bound and its piece has the property that makes it one: at the bound a certificate,
-    one nanosecond below it none, and there the pieces stop in this piece."""
+    """Whether what is told of a least bound and its piece has the property that makes it one: at the bound a
+    certificate, one nanosecond below it none, and there the pieces stop in this piece."""
     hulls, span = Hulls(claim, samples), rules.span_of(claim)
     if told is None:
         return ends_of(span, hulls, bound_in_ticks(MOST_BOUND_NS))[1] is not None
