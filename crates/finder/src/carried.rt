@@ -72,8 +72,8 @@ pub fn least_bound<S: SampleSource>(
 
 /// The least bound, by the tables of the servers, looked for from a number of nanoseconds on.
 ///
-/// Every other try is the likely one by what the last one showed. The others double the distance
-/// from the start or halve what is left, so that there are at most some two hundred.
+/// Three tries of four are the likely ones by what the last one showed. The others double the
+/// distance from the start or halve what is left, so that there are at most some four hundred.
 fn least_bound_by(
     alloc: Global,
     tables: &[BestTable],
@@ -101,13 +101,13 @@ fn least_bound_by(
     let mut bound_ns = MOST_BOUND_NS;
     let mut tick = claim.first as u64;
     let mut likely = start;
-    let mut is_likely = true;
+    let mut turn = 0u8;
     while least < bound_ns {
-        let near = if is_likely { likely } else { start };
+        let near = if turn % 4 == 3 { start } else { likely };
         let tried_ns = trial(least, bound_ns, near, 0);
         let tried = try_bound(alloc, tables, claim, start, tried_ns)?;
         likely = tried.likely;
-        is_likely = !is_likely;
+        turn = turn.wrapping_add(1);
         match tried.stop {
             None => bound_ns = tried_ns,
             Some(stop) => {

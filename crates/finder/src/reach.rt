@@ -26,8 +26,8 @@ pub(crate) enum Reach {
 }
 
 /// Takes one longest piece after another, by the tables of the servers. Each is looked for first
-/// at the length of the one before, then as far from there as the lengths last changed; and each
-/// look-up goes on from where the last one ended.
+/// at the length of the one before the last, since lengths often take turns, then as far from there
+/// as the last one was; and each look-up goes on from where the last one ended.
 pub(crate) fn longest_ends(
     alloc: Global,
     tables: &[BestTable],
@@ -42,7 +42,8 @@ pub(crate) fn longest_ends(
     let last = claim.last as u64;
     let mut begin = claim.first as u64;
     let mut length = last;
-    let mut change = last;
+    let mut earlier = last;
+    let mut missed = last;
     let mut places = Places::new();
     let mut ends: Vec<i128> = Vec::new(alloc);
     while ends.len() < MAX_PIECES {
@@ -51,9 +52,10 @@ pub(crate) fn longest_ends(
         if !is_inside(claim.bound, hull) {
             return Ok(Reach::Stuck { begin, end, hull });
         }
-        let near = begin.saturating_add(length);
-        let reached = longest_end(tables, &mut places, claim, begin, end, near, change);
-        change = length.abs_diff(reached.saturating_sub(begin));
+        let near = begin.saturating_add(earlier);
+        let reached = longest_end(tables, &mut places, claim, begin, end, near, missed);
+        missed = near.abs_diff(reached);
+        earlier = length;
         length = reached.saturating_sub(begin);
         begin = reached;
         ends.push(i128::from(begin))?;
