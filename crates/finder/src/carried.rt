@@ -11,21 +11,19 @@ ghost use Rattle.finder.specs.Piece.{IsStep};
 ghost use Rattle.finder.specs.Reach.{AreTablesFor, IsTabled};
 ghost use Rattle.finder.specs.Samples.{AreSamplesOf};
 
+use crate::guess::Guess;
 use crate::laws::{
     best_entries_show_as_much, best_hulls_hold_the_error, pieces_within_have_no_wider_hulls,
 };
-use crate::least::reach_of;
 use crate::longest::tables_for;
-use crate::neediest::{in_nanoseconds, likely_bound};
+use crate::neediest::likely_bound;
 use crate::reach::{Reach, longest_ends};
 use crate::trial::trial;
-use certificate::MAX_PIECES;
 use checker::laws::{pieces_give_the_verdict, wider_bounds_hold_too};
 use claim_file::Claim;
 use courses::Groups;
 use era_unfold::laws::{more_nanoseconds_have_no_fewer_ticks, nanoseconds_lie_between_their_ticks};
 use era_unfold::{TICKS_PER_SECOND, ns_down};
-use intersection::kinds::Hull;
 use sample_interval::SampleSource;
 use span_cover::laws::best_samples_are_the_first_best;
 use std::alloc::{AllocError, Global};
@@ -70,10 +68,9 @@ pub fn least_bound<S: SampleSource>(
     Ok(found)
 }
 
-/// The least bound, by the tables of the servers, looked for from a number of nanoseconds on.
-///
-/// Three tries of four are the likely ones by what the last one showed. The others double the
-/// distance from the start or halve what is left, so that there are at most some four hundred.
+/// The least bound, by the tables of the servers, looked for from a number of nanoseconds on, by
+/// some ten or twenty certificates: every fourth try halves what is left, so that there are at most
+/// two hundred.
 fn least_bound_by(
     alloc: Global,
     tables: &[BestTable],
@@ -93,22 +90,20 @@ fn least_bound_by(
     wider_bounds_hold_too();
     nanoseconds_lie_between_their_ticks();
     more_nanoseconds_have_no_fewer_ticks();
-    let widest = try_bound(alloc, tables, claim, start, MOST_BOUND_NS)?;
-    if widest.stop.is_some() {
+    let mut guess = Guess::of_start(start);
+    let widest = try_bound(alloc, tables, claim, &mut guess, MOST_BOUND_NS)?;
+    if widest.is_some() {
         return Ok(None);
     }
+    let mut guess = Guess::of_start(start);
     let mut least = 0;
     let mut bound_ns = MOST_BOUND_NS;
     let mut tick = claim.first as u64;
-    let mut likely = start;
     let mut turn = 0u8;
     while least < bound_ns {
-        let near = if turn % 4 == 3 { start } else { likely };
-        let tried_ns = trial(least, bound_ns, near, 0);
-        let tried = try_bound(alloc, tables, claim, start, tried_ns)?;
-        likely = tried.likely;
+        let tried_ns = trial(least, bound_ns, guess.bound_at(turn), 0);
         turn = turn.wrapping_add(1);
-        match tried.stop {
+        match try_bound(alloc, tables, claim, &mut guess, tried_ns)? {
             None => bound_ns = tried_ns,
             Some(stop) => {
                 least = tried_ns + 1;
@@ -119,29 +114,21 @@ fn least_bound_by(
     Ok(Some(LeastCarried { bound_ns, tick }))
 }
 
-/// What comes of a bound.
-#[derive(Clone, Copy)]
-struct Tried {
-    /// The Unix tick at which the longest pieces stop; none if they reach the span's end.
-    stop: Option<u64>,
-    /// Which bound is likely the least one by this, in nanoseconds.
-    likely: u64,
-}
-
-/// Takes the longest pieces with a bound of this many nanoseconds.
+/// Takes the longest pieces with a bound of this many nanoseconds, of which the guess takes note. If
+/// they don't reach the span's end, the Unix tick at which they stop.
 fn try_bound(
     alloc: Global,
     tables: &[BestTable],
     claim: &Claim,
-    start: u64,
+    guess: &mut Guess,
     bound_ns: u64,
-) -> Result<Tried, AllocError>
+) -> Result<Option<u64>, AllocError>
     requires claim { IsLawful (claim_data claim.now) }
     requires tables { IsTabled (claim_data claim.now) tables.now }
     requires in_range { bound_ns ≤ max_bound_ns }
-    ensures { IfOk result (λ tried. (samples : List TheSample) →
+    ensures { IfOk result (λ stop. (samples : List TheSample) →
         AreTablesFor samples (claim_data claim.now) tables.now →
-        MatchOption tried.stop (IsCarried samples (with_bound (claim_data claim.now) bound_ns))
+        MatchOption stop (IsCarried samples (with_bound (claim_data claim.now) bound_ns))
         (λ tick. StopsAt samples (with_bound (claim_data claim.now) bound_ns) (pos tick))) }
 {
     best_samples_are_the_first_best();
@@ -152,43 +139,18 @@ fn try_bound(
     nanoseconds_lie_between_their_ticks();
     let claim = claim_with(alloc, claim, bound_ns)?;
     match longest_ends(alloc, tables, &claim)? {
-        Reach::End(ends) => Ok(Tried {
-            stop: None,
-            likely: scaled(start, bound_ns, ends.len() as u64, MAX_PIECES as u64),
-        }),
-        Reach::Stuck { begin, hull, .. } => Ok(Tried {
-            stop: Some(begin),
-            likely: likely_over(hull, bound_ns),
-        }),
-        Reach::TooLong { begin } => {
-            let first = claim.first as u64;
-            let last = claim.last as u64;
-            Ok(Tried {
-                stop: Some(begin),
-                likely: scaled(
-                    start,
-                    bound_ns,
-                    last.saturating_sub(first),
-                    begin.saturating_sub(first),
-                ),
-            })
+        Reach::End(ends) => {
+            guess.see_end(alloc, tables, &claim, ends.as_slice())?;
+            Ok(None)
         }
-    }
-}
-
-/// What a bound is beyond the start grows by the ratio of two numbers: pieces are about as long as
-/// what is left of the bound.
-fn scaled(start: u64, bound_ns: u64, times: u64, over: u64) -> u64 {
-    let beyond = u128::from(bound_ns.saturating_sub(start)) * u128::from(times);
-    let scaled = u128::from(start).saturating_add(beyond / u128::from(over.max(1)));
-    scaled.min(u128::from(MOST_BOUND_NS)) as u64
-}
-
-/// The bound that a hull needs, or else this one.
-fn likely_over(hull: Hull, bound_ns: u64) -> u64 {
-    match hull {
-        Hull::Bounded { lo, hi } => in_nanoseconds(reach_of(lo, hi)),
-        Hull::Unbounded | Hull::Empty => bound_ns,
+        Reach::Stuck { begin, hull, .. } => {
+            guess.see_stuck(hull);
+            Ok(Some(begin))
+        }
+        Reach::TooLong { begin, ends } => {
+            guess.see_too_long(alloc, tables, &claim, bound_ns, ends.as_slice())?;
+            Ok(Some(begin))
+        }
     }
 }
 

@@ -34,6 +34,7 @@ mod envelope;
 mod fault;
 mod fewest;
 mod found;
+mod guess;
 mod hull;
 pub mod laws;
 mod least;

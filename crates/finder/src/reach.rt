@@ -21,13 +21,14 @@ pub(crate) enum Reach {
     /// To a tick after which the error isn't shown to be within the bound: the piece of one tick,
     /// and its hull.
     Stuck { begin: u64, end: u64, hull: Hull },
-    /// To this tick before the span's end, by as many as a certificate may have.
-    TooLong { begin: u64 },
+    /// To this tick before the span's end, by as many as a certificate may have. These are their
+    /// ends.
+    TooLong { begin: u64, ends: Vec<i128> },
 }
 
 /// Takes one longest piece after another, by the tables of the servers. Each is looked for first
-/// at the length of the one before the last, since lengths often take turns, then as far from there
-/// as the last one was; and each look-up goes on from where the last one ended.
+/// at the length of the one before, then as far from there as the lengths last changed; and each
+/// look-up goes on from where the last one ended.
 pub(crate) fn longest_ends(
     alloc: Global,
     tables: &[BestTable],
@@ -42,8 +43,7 @@ pub(crate) fn longest_ends(
     let last = claim.last as u64;
     let mut begin = claim.first as u64;
     let mut length = last;
-    let mut earlier = last;
-    let mut missed = last;
+    let mut change = last;
     let mut places = Places::new();
     let mut ends: Vec<i128> = Vec::new(alloc);
     while ends.len() < MAX_PIECES {
@@ -52,10 +52,9 @@ pub(crate) fn longest_ends(
         if !is_inside(claim.bound, hull) {
             return Ok(Reach::Stuck { begin, end, hull });
         }
-        let near = begin.saturating_add(earlier);
-        let reached = longest_end(tables, &mut places, claim, begin, end, near, missed);
-        missed = near.abs_diff(reached);
-        earlier = length;
+        let near = begin.saturating_add(length);
+        let reached = longest_end(tables, &mut places, claim, begin, end, near, change);
+        change = length.abs_diff(reached.saturating_sub(begin));
         length = reached.saturating_sub(begin);
         begin = reached;
         ends.push(i128::from(begin))?;
@@ -63,5 +62,5 @@ pub(crate) fn longest_ends(
             return Ok(Reach::End(ends));
         }
     }
-    Ok(Reach::TooLong { begin })
+    Ok(Reach::TooLong { begin, ends })
 }

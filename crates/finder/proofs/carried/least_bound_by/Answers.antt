@@ -26,5 +26,5 @@ returns c samples tabled =
     }) samples claim c.requires.claim tabled.of_claim (record { bound_ns = l.bound_ns; tick = l.tick })
     l.invariant.small (l.invariant.carried samples tabled)
     (subst (λ (n : ℕ). IsFirst samples claim n (pos l.tick)) same (l.invariant.first samples tabled))
-    (none_of _ _ c.in_ok-widest.widest.stop (sym c.is_some.ensures ∙ c.if-is_some.false)
+    (none_of _ _ c.in_ok-widest.widest (sym c.is_some.ensures ∙ c.if-is_some.false)
     (c.in_ok-widest.ensures samples tabled))
