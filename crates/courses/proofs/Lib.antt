@@ -38,3 +38,4 @@ pub mod FirstImpossible
 pub mod PassingNumbers
 pub mod Numbering
 pub mod HeardGroups
+pub mod GroupRefutation

@@ -51,7 +51,7 @@ passes : (b : Bool) → b ≡ false → not b ≡ true
 passes true e = absurd cc
 passes false e = refl
 
-isnt : (b : Bool) → not b ≡ true → b ≡ false
+pub isnt : (b : Bool) → not b ≡ true → b ≡ false
 isnt true e = absurd cc
 isnt false e = refl
 

@@ -4,14 +4,15 @@
 -- It is accepted if some course of events shows it: one in which no server is false but these, the
 -- error drifts as the claim grants, and at the reading it is the refutation's. Whether there is one
 -- is settled by pairs of marks: what the refutation says is a low mark and a high mark of its own.
-use Rattle.std.specs.Prelude.{◌≡◌, ℕ, pos, ◌*ℤ◌, false, List, ◌∷◌, All}
+use Rattle.std.specs.Prelude.{◌≡◌, ℕ, pos, ◌*ℤ◌, Bool, false, List, ◌∷◌, All}
 use Rattle.certificate.specs.Refutation.{RefutationData}
 use Rattle.checker.specs.Course.{Course, Fits}
 use Rattle.checker.specs.Refutation.{is_liar, IsAgainst, SharesRequests}
 use Rattle.claim_file.specs.Claim.{ClaimData}
+use Rattle.courses.specs.Cover.{is_of}
 use Rattle.courses.specs.TrueMarks.{true_exchanges, low_marks, high_marks}
 use Rattle.courses.specs.TrueMarks.{AreAllCompatible, DoAgree}
-use Rattle.marks.specs.Mark.{IsPossible, AreCompatible}
+use Rattle.marks.specs.Mark.{low_mark, high_mark, IsPossible, AreCompatible}
 use Rattle.marks.specs.declared.mark.Mark.{Mark}
 use Rattle.pairing.specs.declared.exchange.Exchange.{Exchange}
 use Rattle.sample_interval.specs.Moment.{error_of}
@@ -42,6 +43,16 @@ pub record IsRefutedByMarks (claim : ClaimData) (xs : List Exchange) (refutation
   pub compatible : AreAllCompatible claim.drift_ppb
       (mark_of refutation ∷ low_marks claim.reading (is_liar refutation.liars) xs)
       (mark_of refutation ∷ high_marks claim.reading (is_liar refutation.liars) xs)
+
+-- a mark, as a low one and as a high one, is compatible with both marks of an exchange
+pub record IsCompatibleWith (claim : ClaimData) (mark : Mark) (x : Exchange) : Type 0 where
+  pub as_low : AreCompatible claim.drift_ppb mark (high_mark claim.reading x)
+  pub as_high : AreCompatible claim.drift_ppb (low_mark claim.reading x) mark
+
+-- so it is with the marks of each exchange with a server of a group outside a set
+abbrev pub IsCompatibleOutside : ClaimData → List Exchange → (ℕ → Bool) → Mark → Type 0
+IsCompatibleOutside claim xs is_in mark =
+    All (IsCompatibleWith claim mark) (true_exchanges (is_of claim is_in) xs)
 
 -- ---- the courses that it stands for
 

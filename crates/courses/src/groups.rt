@@ -1,10 +1,14 @@
 //! A set of groups.
 
-ghost use Rattle.std.specs.Prelude.{◌≡◌, ◌==◌, ◌||◌, ◌<◌, ◌≤◌, ℕ, count_by};
+ghost use Rattle.std.specs.Prelude.{◌≡◌, ◌==◌, ◌||◌, ◌<◌, ◌≤◌, ℕ, count_by, length};
+ghost use Rattle.claim_file.specs.Claim.{IsLawful, data_of as claim_data};
 ghost use Rattle.span_cover.specs.Group.{numbers_below};
+ghost use Rattle.courses.specs.Cover.{is_of, servers_of};
 ghost use Rattle.courses.specs.Groups.{holds};
 
 use crate::members::{both, first, has, size, with};
+use arrayvec::ArrayVec;
+use claim_file::Claim;
 
 /// A set of groups, which have numbers from 0 to 31.
 #[derive(Clone, Copy, Default)]
@@ -38,5 +42,28 @@ impl Groups {
         ensures exact { result ≡ count_by (holds self.now) (numbers_below groups) }
     {
         size(both(self.bits, first(groups)))
+    }
+
+    /// Whether the group of a server is in the set.
+    pub(crate) fn has_server(self, claim: &Claim, server: u8) -> bool
+        requires claim { IsLawful (claim_data claim.now) }
+        requires listed { server < length claim.now.servers.items }
+        ensures { result ≡ is_of (claim_data claim.now) (holds self) server }
+    {
+        self.contains(claim.groups[usize::from(server)])
+    }
+
+    /// The servers of these groups, in their order.
+    pub fn servers(self, claim: &Claim) -> ArrayVec<u8, 32>
+        requires { IsLawful (claim_data claim.now) }
+        ensures exact { result.items ≡ servers_of (claim_data claim.now) (holds self) }
+    {
+        let mut servers = ArrayVec::new();
+        for server in 0..claim.servers.len() as u8 {
+            if self.has_server(claim, server) {
+                servers.push(server);
+            }
+        }
+        servers
     }
 }

@@ -172,7 +172,7 @@ pub fn false_groups_are_a_cover()
 {}
 
 /// With every server of a cover's groups false, nothing contradicts, and no more groups hold a
-/// false server than the cover has.
+/// false server than the cover has. With those of other groups false, something does.
 pub fn covers_leave_agreement()
     ensures agree { (claim : ClaimData) (xs : List Exchange) (is_in : ℕ → Bool) →
         IsCover claim xs is_in →
@@ -180,6 +180,9 @@ pub fn covers_leave_agreement()
     ensures few { (claim : ClaimData) (is_in : ℕ → Bool) →
         false_group_count claim.groups (λ server. is_in (slice_index claim.groups server))
         ≤ size_of claim is_in }
+    ensures needed { (claim : ClaimData) (xs : List Exchange) (is_in : ℕ → Bool) →
+        DoAgree claim (λ server. is_in (slice_index claim.groups server)) xs →
+        IsCover claim xs is_in }
 {}
 
 /// A course fits the exchanges and the claim exactly if some cover has no more groups than may be

@@ -13,7 +13,8 @@
 //!
 //! Which groups can't all be right is a graph, [`Conflicts`], which finds groups that account for
 //! it if they are false (specs/Conflicts). [`conflicts_of`] makes it of the exchanges, and by it
-//! [`course_fits`] settles whether any course fits.
+//! [`course_fits`] settles whether any course fits, and [`check_refutation_by_conflicts`], in one
+//! pass, whether a refutation stands that takes whole groups for false.
 //!
 //! Where no more groups have an exchange than may be false, exchanges are no evidence: every error
 //! is possible (specs/Evidence). [`groups_with_exchanges`] tells which have one.
@@ -35,6 +36,7 @@ mod cover_search;
 mod evidence;
 mod evidence_laws;
 mod fits;
+mod group_refutation;
 mod groups;
 mod kept_marks;
 pub mod laws;
@@ -50,6 +52,7 @@ pub use conflicts::Conflicts;
 pub use contradiction::{Contradiction, first_contradiction};
 pub use evidence::groups_with_exchanges;
 pub use fits::course_fits;
+pub use group_refutation::check_refutation_by_conflicts;
 pub use groups::Groups;
 pub use refutation::check_refutation_with_drift;
 pub use table::conflicts_of;

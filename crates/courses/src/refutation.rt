@@ -68,7 +68,7 @@ fn do_agree<X: ToExchange>(
 }
 
 /// The mark that a refutation sets: its error at its reading.
-fn mark_of(refutation: &Refutation) -> Mark
+pub(crate) fn mark_of(refutation: &Refutation) -> Mark
     ensures exact { result ≡ mark_of (refutation_data refutation.now) }
     ensures range { IsWithinRange result }
 {

@@ -1,18 +1,21 @@
 //! Refutations with drift that are found.
 
-ghost use Rattle.std.specs.Prelude.{◌≡◌, ◌<◌, ◌≤◌, true, length, map, All, IfOk, IfSome};
+ghost use Rattle.std.specs.Prelude.{◌≡◌, true, length, map, All, IfOk, IfSome};
 ghost use Rattle.certificate.specs.Refutation.{data_of as refutation_data};
 ghost use Rattle.claim_file.specs.Claim.{IsLawful, data_of as claim_data};
+ghost use Rattle.courses.specs.ConflictTable.{IsConflictTable};
+ghost use Rattle.courses.specs.ConflictsView.{data_of};
+ghost use Rattle.courses.specs.Cover.{servers_of};
 ghost use Rattle.courses.specs.DriftRefutation.{IsRefutedWithDrift};
 ghost use Rattle.courses.specs.DriftSettlement.{SettlesWithDrift};
+ghost use Rattle.courses.specs.Groups.{holds};
 ghost use Rattle.pairing.specs.Exchange.{IsLawful as IsLawfulExchange};
 
-use crate::leeway::{false_groups, group_of, leeways_at, tightest};
+use crate::leeway::{false_groups, leeways_at, tightest};
 use crate::side::Side;
-use arrayvec::ArrayVec;
 use certificate::Refutation;
 use claim_file::Claim;
-use courses::{Groups, check_refutation_with_drift};
+use courses::{Conflicts, Groups, check_refutation_by_conflicts, conflicts_of};
 use pairing::ToExchange;
 use std::alloc::{AllocError, Global};
 
@@ -36,8 +39,8 @@ pub struct Place {
 /// refutation stands, that is the answer. So none may be found though there is one, if it lies
 /// elsewhere, if its error is next to the bound, or if 64 bits don't hold it.
 ///
-/// It looks twice at each exchange for each place, and takes the memory of
-/// `check_refutation_with_drift`.
+/// The marks are gathered and held against each other once, with the memory of
+/// `courses::conflicts_of`. Then it looks twice at each exchange for each place and side.
 pub fn find_refutation_with_drift<X: ToExchange>(
     alloc: Global,
     exchanges: &[X],
@@ -52,50 +55,80 @@ pub fn find_refutation_with_drift<X: ToExchange>(
     ensures settles { IfOk result (λ sought. IfSome sought (λ found. SettlesWithDrift
         (claim_data claim.now) (map X.shown exchanges.now) (refutation_data found) true)) }
 {
+    let conflicts = conflicts_of(alloc, exchanges, claim)?;
+    Ok(find_by_conflicts(exchanges, claim, &conflicts, places))
+}
+
+/// The same, by what [`courses::conflicts_of`] makes of the same exchanges. It takes no memory.
+fn find_by_conflicts<X: ToExchange>(
+    exchanges: &[X],
+    claim: &Claim,
+    conflicts: &Conflicts,
+    places: &[Place],
+) -> Option<Refutation>
+    requires claim { IsLawful (claim_data claim.now) }
+    requires exchanges { All (IsLawfulExchange (length claim.now.servers.items))
+        (map X.shown exchanges.now) }
+    requires groups { (data_of conflicts.now).groups ≡ length claim.now.groups.items }
+    requires table { IsConflictTable (claim_data claim.now) (map X.shown exchanges.now)
+        (data_of conflicts.now).is_broken (data_of conflicts.now).is_edge }
+    ensures { IfSome result (λ found. SettlesWithDrift
+        (claim_data claim.now) (map X.shown exchanges.now) (refutation_data found) true) }
+{
     for place in places {
         for side in [Side::Above, Side::Below] {
-            if let Some(found) = find_at(alloc, exchanges, claim, *place, side)? {
-                return Ok(Some(found));
+            if let Some(found) = find_at(exchanges, claim, conflicts, *place, side) {
+                return Some(found);
             }
         }
     }
-    Ok(None)
+    None
 }
 
 /// A refutation at a place, with an error on one side of zero, that stands, if one is found.
 fn find_at<X: ToExchange>(
-    alloc: Global,
     exchanges: &[X],
     claim: &Claim,
+    conflicts: &Conflicts,
     place: Place,
     side: Side,
-) -> Result<Option<Refutation>, AllocError>
+) -> Option<Refutation>
     requires claim { IsLawful (claim_data claim.now) }
     requires exchanges { All (IsLawfulExchange (length claim.now.servers.items))
         (map X.shown exchanges.now) }
-    ensures { IfOk result (λ sought. IfSome sought (λ found. SettlesWithDrift
-        (claim_data claim.now) (map X.shown exchanges.now) (refutation_data found) true)) }
+    requires groups { (data_of conflicts.now).groups ≡ length claim.now.groups.items }
+    requires table { IsConflictTable (claim_data claim.now) (map X.shown exchanges.now)
+        (data_of conflicts.now).is_broken (data_of conflicts.now).is_edge }
+    ensures { IfSome result (λ found. SettlesWithDrift
+        (claim_data claim.now) (map X.shown exchanges.now) (refutation_data found) true) }
 {
     let leeways = leeways_at(exchanges, claim, side, place.reading);
-    if let Some(refutation) = candidate(claim, place, side, &leeways) {
-        if check_refutation_with_drift(alloc, exchanges, claim, &refutation)? {
-            return Ok(Some(refutation));
-        }
+    let false_groups = false_groups(claim, place.cover, &leeways);
+    let refutation = candidate(claim, place.reading, side, &leeways, false_groups)?;
+    if check_refutation_by_conflicts(exchanges, claim, conflicts, false_groups, &refutation) {
+        Some(refutation)
+    } else {
+        None
     }
-    Ok(None)
 }
 
-/// The refutation at a place with its cover's groups false, and those that let least be, if its
-/// error is beyond the bound.
-fn candidate(claim: &Claim, place: Place, side: Side, leeways: &[i128; 32]) -> Option<Refutation>
+/// The refutation at a reading with these groups false, if its error is beyond the bound.
+fn candidate(
+    claim: &Claim,
+    reading: u64,
+    side: Side,
+    leeways: &[i128; 32],
+    false_groups: Groups,
+) -> Option<Refutation>
     requires { IsLawful (claim_data claim.now) }
+    ensures { IfSome result (λ made. made.liars.items
+        ≡ servers_of (claim_data claim.now) (holds false_groups)) }
 {
-    let false_groups = false_groups(claim, place.cover, leeways);
     let group = tightest(leeways, false_groups)?;
     Some(Refutation {
         error: error_beyond(claim, side, leeways[usize::from(group)])?,
-        liars: servers_of(claim, false_groups),
-        reading: place.reading,
+        liars: false_groups.servers(claim),
+        reading,
     })
 }
 
@@ -108,17 +141,4 @@ fn error_beyond(claim: &Claim, side: Side, most: i128) -> Option<i64>
     } else {
         None
     }
-}
-
-/// The servers of these groups, in their order.
-fn servers_of(claim: &Claim, groups: Groups) -> ArrayVec<u8, 32>
-    requires { IsLawful (claim_data claim.now) }
-{
-    let mut servers = ArrayVec::new();
-    for server in 0..claim.servers.len() as u8 {
-        if groups.contains(group_of(claim, server)) {
-            servers.push(server);
-        }
-    }
-    servers
 }
