@@ -60,7 +60,7 @@ pub fn find_refutation_with_drift<X: ToExchange>(
 }
 
 /// The same, by what [`courses::conflicts_of`] makes of the same exchanges. It takes no memory.
-fn find_by_conflicts<X: ToExchange>(
+pub(crate) fn find_by_conflicts<X: ToExchange>(
     exchanges: &[X],
     claim: &Claim,
     conflicts: &Conflicts,

@@ -4,6 +4,8 @@ ghost use Rattle.std.specs.Prelude.{◌≡◌, ◌≤◌, true, length, map, All
 ghost use Rattle.certificate.specs.Refutation.{data_of as refutation_data};
 ghost use Rattle.claim_file.specs.Claim.{IsLawful, data_of as claim_data};
 ghost use Rattle.checker.specs.Traceability.{samples_of};
+ghost use Rattle.courses.specs.ConflictTable.{IsConflictTable};
+ghost use Rattle.courses.specs.ConflictsView.{data_of};
 ghost use Rattle.courses.specs.DriftSettlement.{SettlesWithDrift};
 ghost use Rattle.courses.specs.Evidence.{count_with_exchange};
 ghost use Rattle.finder.specs.Reach.{IsTabled};
@@ -11,7 +13,7 @@ ghost use Rattle.finder.specs.Samples.{AreSamplesOf};
 ghost use Rattle.finder.specs.Settlement.{Settles};
 ghost use Rattle.pairing.specs.Exchange.{IsLawful as IsLawfulExchange, most_exchanges};
 
-use crate::drift_refutation::{Place, find_refutation_with_drift};
+use crate::drift_refutation::{Place, find_by_conflicts};
 use crate::fault::FindFault;
 use crate::fewest::{Fewest, fewest_by};
 use crate::laws::samples_of_exchanges_keep_limits;
@@ -101,6 +103,9 @@ fn refutation_of<X: ToExchange>(
     requires claim { IsLawful (claim_data claim.now) }
     requires exchanges { All (IsLawfulExchange (length claim.now.servers.items))
         (map X.shown exchanges.now) }
+    requires groups { (data_of conflicts.now).groups ≡ length claim.now.groups.items }
+    requires table { IsConflictTable (claim_data claim.now) (map X.shown exchanges.now)
+        (data_of conflicts.now).is_broken (data_of conflicts.now).is_edge }
     requires tables { IsTabled (claim_data claim.now) tables.now }
     ensures { IfOk result (λ sought. IfSome sought (λ found. SettlesWithDrift
         (claim_data claim.now) (map X.shown exchanges.now) (refutation_data found) true)) }
@@ -121,7 +126,7 @@ fn refutation_of<X: ToExchange>(
             places.push(Place { cover, reading })?;
         }
     }
-    find_refutation_with_drift(alloc, exchanges, claim, &places)
+    Ok(find_by_conflicts(exchanges, claim, conflicts, &places))
 }
 
 /// Settles a claim: by a certificate if there is one, or else by a refutation with drift if one is
