@@ -17,5 +17,5 @@ complete -c ntpaudit -n "__fish_seen_subcommand_from find" -l refutation -d 'Fin
 complete -c ntpaudit -n "__fish_seen_subcommand_from envelope" -l servers -d 'Show each server'
 complete -c ntpaudit -n "__fish_seen_subcommand_from refute" -l drift -d 'Let the error drift as the claim grants'
 complete -c ntpaudit -n "__fish_seen_subcommand_from check refute" -r -l sums -d 'Hold each file to its SHA-256'
-complete -c ntpaudit -n "__fish_seen_subcommand_from envelope" -l least -d 'Add the least bound of any certificate'
+complete -c ntpaudit -n "__fish_seen_subcommand_from envelope" -l least -d 'Add the least bound that a certificate carries'
 complete -c ntpaudit -n "__fish_seen_subcommand_from samples at envelope settle find check refute" -l human -s H -d 'Show milliseconds and times of the day'

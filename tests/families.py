@@ -41,7 +41,8 @@ Claim = dict
 
 
 class Exchanges:
-    """Exchanges in columns: servers, nanoseconds of request and reply, receive and transmit timestamps in Unix ticks."""
+    """Exchanges in columns: servers, nanoseconds of request and reply, receive and transmit timestamps in Unix
+    ticks."""
 
     def __init__(self, rows: Iterable[Row]) -> None:
         self.servers, columns = array("B"), [array("Q") for _ in range(4)]
@@ -65,7 +66,8 @@ class Exchanges:
 
         def window(nanoseconds: int) -> tuple[int, int]:
             return nanoseconds * TICKS // BILLION - allowance, ceiling((nanoseconds + 1) * TICKS, BILLION) + allowance
-        return [Sample(server, window(asked), window(answered), t2, t3, DISTANCE) for server, asked, answered, t2, t3 in self.rows()]
+        return [Sample(server, window(asked), window(answered), t2, t3, DISTANCE)
+                for server, asked, answered, t2, t3 in self.rows()]
 
 
 REQUEST, REPLY = struct.Struct(">II90sQ"), struct.Struct(">II74sQQQ")
@@ -84,8 +86,8 @@ def address(server: int) -> bytes:
 def blocks(exchanges: Exchanges) -> Iterator[bytes]:
     """The capture, some exchanges at a time: each request and then its reply, big-endian, in nanoseconds."""
     asks = [LENGTHS + frame(CLIENT, address(s), (40000, 123), b"\x23" + bytes(39)) for s in range(MOST_SERVERS)]
-    answers = [LENGTHS + frame(address(s), CLIENT, (123, 40000), struct.pack(">BBbbII4sQ", 0x24, 1, 6, -32, 0, 0, b"GPS", 0))
-               for s in range(MOST_SERVERS)]
+    answer = struct.pack(">BBbbII4sQ", 0x24, 1, 6, -32, 0, 0, b"GPS", 0)
+    answers = [LENGTHS + frame(address(s), CLIENT, (123, 40000), answer) for s in range(MOST_SERVERS)]
     yield struct.pack(">IHHIIII", 0xA1B23C4D, 2, 4, 0, 0, 262144, 1)
     out = bytearray()
     for mark, (server, asked, answered, receive, transmit) in enumerate(exchanges.rows(), 0x5000000000000001):
@@ -122,7 +124,8 @@ class Setting(NamedTuple):
     def claim(self, bound_ns: int, **changes: object) -> Claim:
         return {"client": "192.0.2.10", "servers": [f"192.0.2.{101 + server}" for server in range(self.servers)],
                 "false_max": self.false_max, "from": spelled(self.begin), "to": spelled(self.begin + self.seconds),
-                "bound_ns": min(max(0, bound_ns), 10**15), "drift_ppb": self.ppb, "reading_ns": self.reading_ns, **changes}
+                "bound_ns": min(max(0, bound_ns), 10**15), "drift_ppb": self.ppb, "reading_ns": self.reading_ns,
+                **changes}
 
     def drifted(self, ticks: int) -> int:
         """What the clock can have drifted over so many ticks."""
@@ -172,7 +175,8 @@ def hairs(setting: Setting, count: int, gaps: tuple[int, ...]) -> Hostile:
             else:
                 yield server, moment - WAY_NS, moment, ahead - WIDTH, ahead
     far = 2 * (base + setting.drifted(period * TICKS // BILLION)) * BILLION // TICKS + 10
-    return Hostile(Exchanges(rows()), {"zero": setting.claim(0), "middle": setting.claim(setting.need(places - 1)), "far": setting.claim(far)})
+    return Hostile(Exchanges(rows()), {"zero": setting.claim(0), "middle": setting.claim(setting.need(places - 1)),
+                                       "far": setting.claim(far)})
 
 
 def four(ppb: int, seconds: int = DAY, begin: int = BEGIN) -> Setting:
@@ -198,7 +202,8 @@ def equal(setting: Setting, count: int) -> Hostile:
     begin = setting.begin * BILLION
     rows = ((number % setting.servers, begin, begin + WAY_NS, -WIDTH, WIDTH) for number in range(count))
     need = setting.need(1)
-    return Hostile(Exchanges(rows), {"zero": setting.claim(0), "need": setting.claim(need), "less": setting.claim(need // 2),
+    return Hostile(Exchanges(rows), {"zero": setting.claim(0), "need": setting.claim(need),
+                                     "less": setting.claim(need // 2),
                                      "nobody": setting.claim(need, false_max=setting.servers),
                                      "one-left": setting.claim(need, false_max=setting.servers - 1)})
 
@@ -206,20 +211,22 @@ def equal(setting: Setting, count: int) -> Hostile:
 def one_moment(setting: Setting, count: int) -> Hostile:
     """All exchanges at one moment, each with other ends."""
     begin = setting.begin * BILLION
-    rows = ((number % setting.servers, begin, begin + WAY_NS, -WIDTH + number * 7 % 10_007, WIDTH - number * 11 % 10_009)
-            for number in range(count))
+    rows = ((number % setting.servers, begin, begin + WAY_NS,
+             -WIDTH + number * 7 % 10_007, WIDTH - number * 11 % 10_009) for number in range(count))
     need = setting.need(1)
-    return Hostile(Exchanges(rows), {"zero": setting.claim(0), "need": setting.claim(need), "least": setting.claim(9_776_000)})
+    return Hostile(Exchanges(rows), {"zero": setting.claim(0), "need": setting.claim(need),
+                                     "least": setting.claim(9_776_000)})
 
 
 def nested(setting: Setting, count: int) -> Hostile:
     """Each exchange begins after the one before it, and ends before it: all lie around the middle of the span."""
     begin, length = setting.begin * BILLION, setting.seconds * BILLION
     inward = max(1, (length - BILLION // 100) // (2 * count + 2))
-    rows = ((number % setting.servers, begin + number * inward, begin + length - number * inward, -WIDTH - number % 3, WIDTH + number % 5)
-            for number in range(count))
+    rows = ((number % setting.servers, begin + number * inward, begin + length - number * inward,
+             -WIDTH - number % 3, WIDTH + number % 5) for number in range(count))
     need = setting.need(1)
-    return Hostile(Exchanges(rows), {"zero": setting.claim(0), "width": setting.claim(WIDTH * BILLION // TICKS), "need": setting.claim(need)})
+    return Hostile(Exchanges(rows), {"zero": setting.claim(0), "width": setting.claim(WIDTH * BILLION // TICKS),
+                                     "need": setting.claim(need)})
 
 
 def wide_windows(count: int) -> Hostile:
@@ -254,11 +261,14 @@ def conflicting(setting: Setting, count: int) -> Hostile:
     spacing, begin = setting.spacing(count), setting.begin * BILLION
     step = 4 * TICKS + 4 * setting.drifted(spacing * setting.servers * TICKS // BILLION)
     rows = ((number % setting.servers, begin + number * spacing, begin + number * spacing + WAY_NS,
-             -WIDTH + number % setting.servers * step, WIDTH + number % setting.servers * step) for number in range(count))
+             -WIDTH + number % setting.servers * step, WIDTH + number % setting.servers * step)
+            for number in range(count))
     most, need = setting.servers - 1, setting.need(count // setting.servers)
     far = need + most * step * BILLION // TICKS
-    return Hostile(Exchanges(rows), {"none": setting.claim(need, false_max=0), "some": setting.claim(need, false_max=setting.servers // 2),
-                                     "all-but-one": setting.claim(need, false_max=most), "far": setting.claim(far, false_max=most)})
+    return Hostile(Exchanges(rows), {"none": setting.claim(need, false_max=0),
+                                     "some": setting.claim(need, false_max=setting.servers // 2),
+                                     "all-but-one": setting.claim(need, false_max=most),
+                                     "far": setting.claim(far, false_max=most)})
 
 
 def in_pairs(setting: Setting, count: int) -> Hostile:
@@ -274,7 +284,8 @@ def in_pairs(setting: Setting, count: int) -> Hostile:
             low, high = (-WIDTH - half, -half) if side else (half, WIDTH + half)
             yield number % setting.servers, asked, asked + WAY_NS, low - place % 3, high + place % 2
     need = setting.need(max(1, count // setting.servers), 2 * WIDTH)
-    return Hostile(Exchanges(rows()), {"zero": setting.claim(0), "half": setting.claim(need // 2), "need": setting.claim(need),
+    return Hostile(Exchanges(rows()), {"zero": setting.claim(0), "half": setting.claim(need // 2),
+                                       "need": setting.claim(need),
                                        "fewer": setting.claim(need, false_max=setting.servers // 2 - 1)})
 
 
@@ -283,9 +294,11 @@ def staggered(setting: Setting, count: int) -> Hostile:
     spacing, begin = setting.spacing(count), setting.begin * BILLION
     shift = WIDTH // (2 * setting.servers)
     rows = ((number % setting.servers, begin + number * spacing, begin + number * spacing + WAY_NS,
-             -WIDTH + number % setting.servers * shift, WIDTH + number % setting.servers * shift) for number in range(count))
+             -WIDTH + number % setting.servers * shift, WIDTH + number % setting.servers * shift)
+            for number in range(count))
     need = setting.need(count // setting.servers, 2 * WIDTH)
-    return Hostile(Exchanges(rows), {"zero": setting.claim(0), "half": setting.claim(need // 2), "need": setting.claim(need),
+    return Hostile(Exchanges(rows), {"zero": setting.claim(0), "half": setting.claim(need // 2),
+                                     "need": setting.claim(need),
                                      "fewer": setting.claim(need, false_max=setting.servers // 2)})
 
 
@@ -294,9 +307,11 @@ def last_conflicts(setting: Setting, count: int) -> Hostile:
     spacing, begin = setting.spacing(count), setting.begin * BILLION
     last = 4 * WIDTH + 2 * setting.drifted(2 * spacing * TICKS // BILLION)
     rows = ((number % setting.servers, begin + number * spacing, begin + number * spacing + WAY_NS,
-             -WIDTH + (last if number == count - 1 else 0), WIDTH + (last if number == count - 1 else 0)) for number in range(count))
+             -WIDTH + (last if number == count - 1 else 0), WIDTH + (last if number == count - 1 else 0))
+            for number in range(count))
     need = setting.need(count // setting.servers)
-    return Hostile(Exchanges(rows), {"none": setting.claim(need, false_max=0), "one": setting.claim(need), "zero": setting.claim(0)})
+    return Hostile(Exchanges(rows), {"none": setting.claim(need, false_max=0), "one": setting.claim(need),
+                                     "zero": setting.claim(0)})
 
 
 # ---- many pieces

@@ -30,7 +30,6 @@ WAIT = 20
 
 FEW_COVERS = 4
 FAST_REFUTATION = 200
-KINDS = {b'{"pieces"': "shown", b'{"error"': "refuted", b"open ": "open", b"no evidence ": "no evidence", b"conflict ": "nothing fits"}
 
 Ran = tuple[int | str, bytes, bytes]
 Case = tuple[str, str]
@@ -40,7 +39,8 @@ Case = tuple[str, str]
 def kind_of(ran: Ran) -> str:
     if ran == (2, b"", f"ntpaudit: {settlement.OVER}\n".encode()):
         return "over"
-    return next((kind for start, kind in KINDS.items() if ran[1].startswith(start)), f"no answer: {short(ran)}")
+    kind = settlement.kind_of(ran[1])
+    return kind if kind in settlement.KINDS.values() else f"{kind}: {short(ran)}"
 
 
 def text_of(lines: list[str]) -> bytes:
@@ -96,14 +96,16 @@ class Question:
         return marks.smallest_covers(self.claim, self.conflicts)
 
     def call(self, command: str, *words: object, claim: Path | None = None, given: bytes = b"") -> Ran:
-        """Runs a command on the claim and the capture. Its limit is of the processor's time, which no other load changes."""
+        """Runs a command on the claim and the capture. Its limit is of the processor's time, which no other load
+        changes."""
         began, limit = seconds_of_children(), int(self.way.limit)
         ran = run([self.way.program, command, claim or self.file, self.capture, *words], given, timeout=WAIT * limit,
                   preexec_fn=lambda: resource.setrlimit(resource.RLIMIT_CPU, (limit, limit + 1)))
         self.times.append((seconds_of_children() - began, f"{self.name}: {command} {' '.join(map(str, words))}"))
         return ran
 
-    def ends(self, bound_ns: int, is_needed: Callable[[Stop], bool] = lambda stop: False) -> tuple[list[int], Stop | None]:
+    def ends(self, bound_ns: int,
+             is_needed: Callable[[Stop], bool] = lambda stop: False) -> tuple[list[int], Stop | None]:
         """The ends of the pieces under a bound and where they stop. Where some thousands aren't enough and the rest
         isn't needed, as many."""
         bound = pieces.bound_in_ticks(bound_ns)
@@ -122,8 +124,7 @@ def settle_case(question: Question) -> Iterator[Case]:
     kind = kind_of(ran)
     yield f"settle: {kind}", settle_wrong(question, ran, kind)
     if kind == "shown":
-        status, report, _ = question.call("check", "/dev/stdin", given=ran[1])
-        yield "check of what settle printed", "" if (status, report[-12:]) == (0, b"verdict yes\n") else short((status, report))
+        yield "check of what settle printed", unaccepted(question, ran[1])
     if kind == "refuted":
         judged = question.call("refute", "/dev/stdin", "--drift", given=ran[1])
         yield "refute --drift of what settle printed", differs(judged, 0, ["refuted yes"])
@@ -181,25 +182,34 @@ def certificate_wrong(question: Question, claim: Claim, ran: Ran) -> str:
 def named_wrong(question: Question, printed: list[dict]) -> str:
     """What is wrong with the samples that a certificate names. Of each piece they have the best ends, and where it
     isn't too much to look at, and in three pieces always, they are the first that have."""
+    claim, samples = question.claim, question.samples
     begins = [question.span[0], *(piece["upto"] for piece in printed)]
-    is_little = len(printed) * len(question.samples) <= LOOKED_AT
+    is_little = len(printed) * len(samples) <= LOOKED_AT
     for number, (begin, piece) in enumerate(zip(begins, printed)):
         entries, end = piece["entries"], piece["upto"]
         if is_little or number in (0, len(printed) // 2, len(printed) - 1):
-            if entries != rules.best_entries(question.claim, question.samples, begin, end):
+            if entries != rules.best_entries(claim, samples, begin, end):
                 return f"piece {number} names other samples"
-        elif rules.intervals(question.claim, question.samples, entries, begin, end) != question.hulls.intervals(begin, end):
+        elif rules.intervals(claim, samples, entries, begin, end) != question.hulls.intervals(begin, end):
             return f"piece {number} names samples with other ends"
     return ""
+
+
+def unaccepted(question: Question, certificate: bytes) -> str:
+    """What `check` says of a certificate, if that isn't yes."""
+    status, report, _ = question.call("check", "/dev/stdin", given=certificate)
+    return "" if (status, report[-12:]) == (0, b"verdict yes\n") else short((status, report))
 
 
 # ---- envelope
 
 
-def envelope_lines(question: Question) -> list[str]:
+def envelope_lines(question: Question, with_servers: bool = False) -> list[str]:
     lines, needs = [], []
     for number, (begin, end) in enumerate(rules.pieces_of(question.claim, question.step)):
         found = question.hulls.over(begin, end)
+        if with_servers:
+            lines += [f"{number} {line}" for line in server_lines(question, begin, end)]
         needs.append(pieces.need_of(found))
         lines.append(f"{number} {begin // TICKS} {end // TICKS} {rules.hull_words(found)}")
     if None in needs:
@@ -208,13 +218,19 @@ def envelope_lines(question: Question) -> list[str]:
     return [*lines, f"bound_ns {max(in_ns)} piece {in_ns.index(max(in_ns))}"]
 
 
+def server_lines(question: Question, begin: int, end: int) -> list[str]:
+    return [f"{question.claim['servers'][server]} {low} {high}"
+            for server, (low, high) in question.hulls.intervals(begin, end).items()]
+
+
 def envelope_case(question: Question) -> Iterator[Case]:
-    """`envelope --least`, and with `--servers`."""
+    """`envelope` alone, with `--servers`, and with `--least`."""
     words = "--step", question.step
     ran, lines = question.call("envelope", *words, "--least"), envelope_lines(question)
     status = int(lines[-1].startswith("bound_ns none"))
-    plain = question.call("envelope", *words)
-    yield "envelope", differs(plain, status, lines)
+    yield "envelope", differs(question.call("envelope", *words), status, lines)
+    by_servers = question.call("envelope", *words, "--servers")
+    yield "envelope --servers", differs(by_servers, status, envelope_lines(question, True))
     *rest, line = ran[1].decode().splitlines() or [""]
     yield "envelope --least", differs((ran[0], text_of(rest), ran[2]), status, lines) or least_wrong(question, line)
 
@@ -239,13 +255,18 @@ def carried_wrong(question: Question, bound_ns: int) -> str:
     _, stop = question.ends(bound_ns)
     if stop is None:
         return ""
-    if not stop.is_over or question.way.is_whole or not question.covers:
-        return "" if stop.is_over and not question.way.is_whole else f"least_ns {bound_ns}, and the pieces stop at {stop}"
+    is_unknown = stop.is_over and not question.way.is_whole
+    if not is_unknown:
+        return f"least_ns {bound_ns}, and the pieces stop at {stop}"
+    if not question.covers:
+        return ""
     claim = {**question.claim, "bound_ns": bound_ns}
     file = question.way.folder / "least.json"
     file.write_text(json.dumps(claim))
     ran = question.call("settle", claim=file)
-    return certificate_wrong(question, claim, ran) if kind_of(ran) == "shown" else f"settle at the least bound {bound_ns}: {short(ran)}"
+    if kind_of(ran) != "shown":
+        return f"settle at the least bound {bound_ns}: {short(ran)}"
+    return certificate_wrong(question, claim, ran)
 
 
 def below_wrong(question: Question, bound_ns: int, piece: int) -> str:
@@ -276,8 +297,7 @@ def find_case(question: Question, step: int | None = None) -> Iterator[Case]:
             return
     is_right = kind_of(ran) == "shown" and ran[0] == 0 and pieces.ends_in(ran[1]) == [end for _, end in cut]
     yield "find", named_wrong(question, json.loads(ran[1])["pieces"]) if is_right else short(ran)
-    status, report, _ = question.call("check", "/dev/stdin", given=ran[1])
-    yield "check of what find printed", "" if (status, report[-12:]) == (0, b"verdict yes\n") else short((status, report))
+    yield "check of what find printed", unaccepted(question, ran[1])
 
 
 def at_case(question: Question) -> Iterator[Case]:
@@ -285,38 +305,54 @@ def at_case(question: Question) -> Iterator[Case]:
     begin, last = (place // TICKS for place in question.span)
     for second in sorted({begin, (begin + last) // 2, last}):
         place = second * TICKS
-        found = [f"{question.claim['servers'][server]} {low} {high}"
-                 for server, (low, high) in question.hulls.intervals(place, place).items()]
-        ran = question.call("at", families.spelled(second))
-        yield f"at {second}", differs(ran, 0, [*found, f"hull {rules.hull_words(question.hulls.over(place, place))}"])
+        lines = [*server_lines(question, place, place), f"hull {rules.hull_words(question.hulls.over(place, place))}"]
+        yield f"at {second}", differs(question.call("at", families.spelled(second)), 0, lines)
 
 
 def samples_case(question: Question) -> Iterator[Case]:
     lines = []
     for number, (sample, records) in enumerate(zip(question.samples, question.records)):
-        fields = (number, question.claim["servers"][sample.server], *records, "offset", *sample.offset, "delay", *sample.delay,
-                  "low", sample.low, "high", sample.high)
+        fields = (number, question.claim["servers"][sample.server], *records, "offset", *sample.offset,
+                  "delay", *sample.delay, "low", sample.low, "high", sample.high)
         lines.append(" ".join(map(str, fields)))
     known = len(lines)
-    lines.append(f"records {2 * known} requests {known} replies {known} samples {known} version 0 leap 0 stratum 0 precision 0 "
-                 "zero 0 norequest 0 ambiguous 0 warnings 0")
+    lines.append(f"records {2 * known} requests {known} replies {known} samples {known} version 0 leap 0 stratum 0 "
+                 "precision 0 zero 0 norequest 0 ambiguous 0 warnings 0")
     yield "samples", differs(question.call("samples"), 0, lines)
 
 
 def refute_case(question: Question) -> Iterator[Case]:
-    """`refute --drift` of the greatest error that all servers but those of a cover let be, and of one tick more."""
-    if not question.covers:
-        return
-    claim, reading = question.claim, sum(question.span) // 2
-    named = settlement.servers_of(claim, question.covers[0])
-    greatest = marks.greatest_error(claim, question.samples, named, reading)
-    for error in (greatest, greatest + 1) if greatest is not None and abs(greatest) < 2**62 else ():
-        tried = {"error": error, "false": named, "reading": reading}
-        wanted = marks.stands_with_drift(claim, question.samples, tried)
-        ran = question.call("refute", "/dev/stdin", "--drift", given=json.dumps(tried).encode())
-        yield f"refute --drift of {tried}", differs(ran, int(not wanted), ["refuted yes" if wanted else "refuted no"])
-    ran = question.call("find", "--refutation")
-    yield "find --refutation", "" if ran[0] in (0, 1) and not ran[2] else short(ran)
+    """`refute`, with `--drift` and without, of the greatest error that all servers but those of a cover let be, and of
+    one tick more; and `find --refutation`."""
+    claim, samples = question.claim, question.samples
+    if question.covers:
+        reading, named = sum(question.span) // 2, settlement.servers_of(claim, question.covers[0])
+        greatest = marks.greatest_error(claim, samples, named, reading)
+        for error in (greatest, greatest + 1) if greatest is not None and abs(greatest) < 2**62 else ():
+            tried = {"error": error, "false": named, "reading": reading}
+            for words, stands in ((["--drift"], marks.stands_with_drift), ([], rules.stands)):
+                is_right = stands(claim, samples, tried)
+                ran = question.call("refute", "/dev/stdin", *words, given=json.dumps(tried).encode())
+                wanted = ["refuted yes" if is_right else "refuted no"]
+                yield f"refute {' '.join(words)} of {tried}", differs(ran, int(not is_right), wanted)
+    yield "find --refutation", sought_wrong(question, question.call("find", "--refutation"))
+
+
+def sought_wrong(question: Question, ran: Ran) -> str:
+    """What is wrong with what `find --refutation` finds. Of many samples only what is next to the bound is made here,
+    and what lies beyond has to stand."""
+    claim, samples = question.claim, question.samples
+    over = rules.bound_of(claim) + 1
+    liars = rules.liars(samples, over)
+    if rules.group_count(claim, liars) <= claim["false_max"]:
+        found = {"error": over, "false": liars, "reading": question.span[0]}
+    elif len(samples) <= FAST_REFUTATION:
+        found = rules.refutation(claim, samples)
+    else:
+        found = None if ran[0] else json.loads(ran[1])
+        if found and not rules.stands(claim, samples, found):
+            return f"{found}, which doesn't stand"
+    return differs(ran, int(not found), [rules.compact(found) if found else "nothing refutation"])
 
 
 CASES = settle_case, envelope_case, find_case, at_case, samples_case, refute_case

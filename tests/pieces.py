@@ -58,12 +58,14 @@ class Hulls:
         self.sides = {}
         for server in sorted({sample.server for sample in samples} & {server for group in left for server in group}):
             own = [sample for sample in samples if sample.server == server]
-            self.sides[server] = (Side(ppb, [(s.sent, s.low) for s in own]), Side(ppb, [(s.received, -s.high) for s in own]))
+            self.sides[server] = (Side(ppb, [(s.sent, s.low) for s in own]),
+                                  Side(ppb, [(s.received, -s.high) for s in own]))
         self.groups = [known for group in left if (known := [server for server in group if server in self.sides])]
 
     def intervals(self, begin: int, end: int) -> dict[int, tuple[int, int]]:
         """The interval of each server that has a sample."""
-        return {server: (low.greatest(begin, end), -high.greatest(begin, end)) for server, (low, high) in self.sides.items()}
+        return {server: (low.greatest(begin, end), -high.greatest(begin, end))
+                for server, (low, high) in self.sides.items()}
 
     def over(self, begin: int, end: int) -> Hull:
         """The hull: None where it's unbounded, () where it's empty."""
@@ -78,7 +80,8 @@ class Hulls:
 
 def meeting(intervals: list[tuple[int, int]], wanted: int) -> Hull:
     """The first and the last point that lie in so many of these intervals."""
-    ends = sorted([(low, 0) for low, high in intervals if low <= high] + [(high, 1) for low, high in intervals if low <= high])
+    whole = [(low, high) for low, high in intervals if low <= high]
+    ends = sorted([(low, 0) for low, _ in whole] + [(high, 1) for _, high in whole])
     count, first, last = 0, None, None
     for point, is_high in ends:
         if is_high:
@@ -252,7 +255,8 @@ def least_line(claim: Claim, samples: list[Sample], step: int) -> str:
     return f"least_ns {found[0]} piece {found[1]}" if found else "least_ns none"
 
 
-def envelope_lines(claim: Claim, samples: list[Sample], step: int, with_servers: bool, with_least: bool = False) -> list[str]:
+def envelope_lines(claim: Claim, samples: list[Sample], step: int, with_servers: bool,
+                   with_least: bool = False) -> list[str]:
     """The lines of `envelope`."""
     lines = rules.envelope_lines(claim, samples, step, with_servers)
     return lines + ([least_line(claim, samples, step)] if with_least else [])

@@ -56,8 +56,8 @@ def pieces_of(claim, step):
 
 
 class Sample:
-    """An exchange: its server, the windows in which the request left and the reply came, the reply's two timestamps, and
-    its root distance. Where the clock doesn't drift its error lies between `low` and `high`."""
+    """An exchange: its server, the windows in which the request left and the reply came, the reply's two timestamps,
+    and its root distance. Where the clock doesn't drift its error lies between `low` and `high`."""
 
     def __init__(self, server, sent, received, t2, t3, distance):
         self.server, self.sent, self.received = server, sent, received
@@ -92,8 +92,8 @@ def moved_high(claim, sample, begin, end):
 
 
 def best_entries(claim, samples, begin, end, among=None):
-    """For each server that has a sample, of all or of these numbers: the first sample with the greatest low end over the
-    piece, and the first with the least high end."""
+    """For each server that has a sample, of all or of these numbers: the first sample with the greatest low end over
+    the piece, and the first with the least high end."""
     lows, highs = {}, {}
     for k, sample in enumerate(samples):
         if among is None or k in among:
@@ -109,8 +109,8 @@ def intervals(claim, samples, entries, begin, end):
 
 
 def hull(claim, samples, entries, begin, end):
-    """The hull over the groups of the entries, where an interval of a group is what all its servers have in common: None
-    where it's unbounded, () where it's empty."""
+    """The hull over the groups of the entries, where an interval of a group is what all its servers have in common:
+    None where it's unbounded, () where it's empty."""
     of_servers, of_groups = intervals(claim, samples, entries, begin, end), []
     for group in groups_of(claim):
         if own := [of_servers[server] for server in group if server in of_servers]:
@@ -185,7 +185,8 @@ def envelope(claim, samples, step):
     pieces = []
     for begin, end in pieces_of(claim, step):
         entries = best_entries(claim, samples, begin, end)
-        pieces.append((begin, end, intervals(claim, samples, entries, begin, end), hull(claim, samples, entries, begin, end)))
+        of_piece = claim, samples, entries, begin, end
+        pieces.append((begin, end, intervals(*of_piece), hull(*of_piece)))
     without = [k for k, (*_, found) in enumerate(pieces) if not found]
     if without:
         return pieces, None, without[0]
@@ -229,8 +230,9 @@ def refutation(claim, samples):
     over = bound_of(claim) + 1
     ends = {sample.sent[0] - t - sample.distance for sample in samples for t in (sample.t2, sample.t3)} | \
            {sample.received[1] - t + sample.distance for sample in samples for t in (sample.t2, sample.t3)}
-    tried = sorted(e for e in ends | {over} if e >= over) + sorted((e for e in ends | {-over} if e <= -over), reverse=True)
-    for error in tried:
+    above = sorted(e for e in ends | {over} if e >= over)
+    below = sorted((e for e in ends | {-over} if e <= -over), reverse=True)
+    for error in above + below:
         named = liars(samples, error)
         if group_count(claim, named) <= claim["false_max"] and -2**63 <= error < 2**63:
             return {"error": error, "false": named, "reading": span_of(claim)[0]}

@@ -95,7 +95,7 @@ def envelope(lines, servers):
 
 
 def bound(row):
-    """The last lines: the least bound, and the least that any certificate carries."""
+    """The last lines: the least bound, and the least that a certificate carries."""
     name, amount, *rest = row.split(" ")
     return " ".join([name.removesuffix("_ns"), *([amount] if amount == "none" else [milliseconds(int(amount)), "ms"]), *rest])
 
