@@ -68,10 +68,10 @@ pub(crate) fn in_nanoseconds(ticks: u128) -> u64
     nanoseconds_of(ticks).min(u128::from(MOST_BOUND_NS)) as u64
 }
 
-/// How many stretches may be cut for each of some covers: all in all 8 for each sample and
-/// 1,000,000 besides.
+/// How many stretches may be cut for each of some covers: all in all 4 for each sample and 100,000
+/// besides.
 pub(crate) fn most_stretches(samples: usize, covers: usize) -> usize {
-    samples.saturating_mul(8).saturating_add(1_000_000) / covers.max(1)
+    samples.saturating_mul(4).saturating_add(100_000) / covers.max(1)
 }
 
 /// The tick that needs most where the groups of a cover have no say, if some tick needs a bound; or
