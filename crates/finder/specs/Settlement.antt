@@ -95,7 +95,7 @@ module _ (claim : ClaimData) (xs : List Exchange) where
   IsSettledAs (left_open begin end hull) = IsLeftOpen begin end hull
 
   -- A course fits, and as many pieces as a certificate may have don't reach the span's end: none
-  -- that may be written is accepted. No refutation was found either.
+  -- that may be written is accepted. Whether a refutation was looked for, no clause says.
   pub record HasTooManyPieces : Type 0 where
     pub heard : IsHeard
     pub course : SomeCourse claim xs

@@ -18,14 +18,18 @@ use sweep::{BestTable, Places};
 /// What the bounds that were tried have shown of the least one, in nanoseconds.
 #[derive(Clone, Copy)]
 pub(crate) struct Guess {
-    /// Where the search began.
-    start: u64,
+    /// The last bound with which the pieces came too short; at first, where the search begins.
+    short: u64,
+    /// How many ticks they came.
+    reached: u64,
     /// Below this the pieces are those of the last try that came too short.
     low: u64,
     /// Down to this the pieces are those of the last certificate.
     high: u64,
     /// How many pieces that certificate has; 0 if there is none.
     pieces: u64,
+    /// Where the pieces would reach the span's end, if they grow with each nanosecond.
+    line: Option<u64>,
     /// Which bound is likely the least one.
     likely: u64,
 }
@@ -34,10 +38,12 @@ impl Guess {
     /// The search begins here, and nothing is tried.
     pub(crate) fn of_start(start: u64) -> Guess {
         Guess {
-            start,
+            short: start,
+            reached: 0,
             low: 0,
             high: MOST_BOUND_NS,
             pieces: 0,
+            line: None,
             likely: start,
         }
     }
@@ -76,7 +82,10 @@ impl Guess {
         self.likely = match self.by_pieces(high, pieces) {
             Some(likely) => likely,
             None if self.low == 0 => high.saturating_sub(1),
-            None => self.low.saturating_add(high.saturating_sub(self.low) / 2),
+            None => match self.line {
+                Some(line) => line.min(high.saturating_sub(1)),
+                None => self.low.saturating_add(high.saturating_sub(self.low) / 2),
+            },
         };
         self.high = high;
         self.pieces = pieces;
@@ -132,27 +141,35 @@ impl Guess {
         let place = place_of(needs.len() as u64, span.saturating_sub(reached), span);
         let farther = needs.as_slice().get(place).copied().unwrap_or(0);
         self.low = needs.as_slice().first().copied().unwrap_or(0);
-        let likely = if self.high.saturating_sub(self.low) < self.low.saturating_sub(bound_ns) {
-            self.low
-        } else if bound_ns.saturating_add(1) < farther {
-            farther
+        let skipped = self.low.saturating_sub(bound_ns);
+        self.line = if bound_ns.saturating_add(1) < farther {
+            None
         } else {
-            self.scaled(bound_ns, span, reached)
+            Some(self.by_reach(bound_ns, span, reached))
+        };
+        let likely = if self.high.saturating_sub(self.low) < skipped {
+            self.low
+        } else {
+            self.line.unwrap_or(farther)
         };
         self.likely = if likely < self.high {
             likely
         } else {
             self.middle()
         };
+        self.short = bound_ns;
+        self.reached = reached;
         Ok(())
     }
 
-    /// What a bound is beyond the start grows by the ratio of two lengths: pieces are about as long
-    /// as what is left of the bound.
-    fn scaled(self, bound_ns: u64, span: u64, reached: u64) -> u64 {
-        let beyond = u128::from(bound_ns.saturating_sub(self.start)) * u128::from(span);
-        let scaled = u128::from(self.start).saturating_add(beyond / u128::from(reached.max(1)));
-        scaled.min(u128::from(MOST_BOUND_NS)) as u64
+    /// The bound with which the pieces reach the span's end, if they go on growing as they did from
+    /// the last try that came too short to one with this bound that came so many ticks.
+    fn by_reach(self, bound_ns: u64, span: u64, reached: u64) -> u64 {
+        let more = u128::from(bound_ns.saturating_sub(self.short));
+        let farther = u128::from(reached.saturating_sub(self.reached).max(1));
+        let left = u128::from(span.saturating_sub(reached));
+        let bound = u128::from(bound_ns).saturating_add(left * more / farther + 1);
+        bound.min(u128::from(MOST_BOUND_NS)) as u64
     }
 }
 

@@ -91,7 +91,7 @@ fn groups_heard<X: ToExchange>(exchanges: &[X], claim: &Claim) -> u8
 }
 
 /// A refutation with drift, if one is found: for each cover at both ends of the tick that needs
-/// most without it, and at these readings.
+/// most with it left out, and at these readings.
 fn refutation_of<X: ToExchange>(
     alloc: Global,
     exchanges: &[X],
