@@ -3,7 +3,7 @@ from __future__ import annotations
 
 from typing import NamedTuple
 
-from .entry import NO_EVIDENCE, NOTHING_FITS, OPEN, REFUTED, YES, Hull, Refutation, Verdict
+from .entry import NO_EVIDENCE, NOTHING_FITS, OPEN, REFUTED, YES, Answer, Hull, Refutation
 from .folder import REFUTATION
 from .typed import read_typed
 
@@ -22,11 +22,11 @@ def read_counts(line: str) -> dict[str, int]:
 
 
 class Settled(NamedTuple):
-    """What `settle` says: its verdict; and a refutation; or the conflicts, each with the server and the record of a
+    """What `settle` says: its answer; and a refutation; or the conflicts, each with the server and the record of a
     request and the server and the record of a reply; or a tick that is left open, in Unix ticks, and its hull; or how
     many groups have a sample."""
 
-    verdict: Verdict
+    answer: Answer
     refutation: Refutation | None = None
     conflicts: list[tuple[str, int, str, int]] = []
     tick: int = 0

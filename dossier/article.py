@@ -7,7 +7,9 @@ from collections.abc import Iterable, Iterator
 from . import folder as files
 from .alerts import warning_words
 from .answers import Envelope, read_envelope
-from .entry import NO_EVIDENCE, NOT_VERIFIED, NOTHING_FITS, OPEN, REFUSED, REFUTED, YES, Entry, Reason, Record
+from .backing import backing
+from .entry import (NO_EVIDENCE, NOT_VERIFIED, NOTHING_FITS, OPEN, REFUSED, REFUTED, UNSUPPORTED, YES, Entry, Reason,
+                    Record)
 from .evidence import evidence
 from .figure import fails_of, legend, picture, stroke
 from .folder import ENVELOPE, REPORT, Folder
@@ -17,12 +19,12 @@ from .ranges import ranges_of
 from .signature import GOOD, NONE, UNSEEN, Signature, in_words
 from .support import support
 from .table import Row
-from .text import count
+from .text import capital, count
 from .units import range_ms
-from .words import capital, fit, sentence, span, to_do
+from .words import fit, sentence, span, to_do
 
-SYMBOLS = {YES: "\u2713", REFUTED: "\u2717", NOTHING_FITS: "\u2205", NO_EVIDENCE: "\u2026", OPEN: "?",
-           NOT_VERIFIED: "\u2014", REFUSED: "!"}
+SYMBOLS = {YES: "\u2713", UNSUPPORTED: "\u2260", REFUTED: "\u2717", NOTHING_FITS: "\u2205", NO_EVIDENCE: "\u2026",
+           OPEN: "?", NOT_VERIFIED: "\u2014", REFUSED: "!"}
 MOST_CONFLICTS = 20
 
 COUNTS = {
@@ -150,11 +152,10 @@ def servers(entry: Entry, envelope: Envelope) -> Html:
 
 def granted(folder: Folder, record: Record, entry: Entry) -> Html:
     """The premises, each with what supports it, and with room for a signature."""
-    kept, found = evidence(folder), []
+    kept, backed, found = evidence(folder), backing(folder, record.inputs), []
     for premise in premises(entry.claim):
-        where = kept.get(premise.name, "")
-        known = joined([premise.known, *support(premise.name, folder, record, entry, where)], element("br"))
-        found.append([premise.granted, element("span", known, class_="free"), where, ""])
+        known = joined([premise.known, *support(premise.name, backed, record, entry)], element("br"))
+        found.append([premise.granted, element("span", known, class_="free"), kept.get(premise.name, ""), ""])
     columns = {"Granted": "granted", "How one comes to know it": "", "Where the evidence is kept": "sign",
                "Name, date, signature": "sign"}
     return lines([
@@ -176,12 +177,12 @@ def again(record: Record, entry: Entry) -> Html:
     step = str(entry.envelope_step)
     calls = [["settle", files.CLAIM, capture],
              ["envelope", files.CLAIM, capture, "--servers", "--least", "--step", step]]
-    if entry.verdict == YES:
+    if entry.answer == YES:
         calls.insert(1, ["check", files.CLAIM, capture, files.CERTIFICATE])
     if entry.verdict == NOTHING_FITS:
         calls.append(["settle", files.CLAIM_OF_DRIFT, capture])
     if entry.refutation:
-        claim = files.CLAIM if entry.verdict == REFUTED else files.CLAIM_OF_0
+        claim = files.CLAIM if entry.answer == REFUTED else files.CLAIM_OF_0
         calls.append(["refute", claim, capture, files.REFUTATION, "--drift"])
     return lines([
         element("h3", "To see it again"),

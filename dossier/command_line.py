@@ -27,7 +27,7 @@ ABOUT = """Puts many audits by ntpaudit together: folders with a claim and captu
   ntpaudit-dossier verify web-1                                               a year later
 
 docs/DOSSIER.md has more. Statuses are those of ntpaudit: 0 yes, 1 no yes, 2 an input is refused, 3 out of memory, 4 a
-device, 5 the command line; the status of several folders is the worst of theirs."""
+device, 5 the command line. Of several folders it is 1 if any clock isn't shown, else the worst."""
 LEAPS = "the list of leap seconds; the system's if it is left out"
 FOLDER = "a folder with claim.json and captures, and what an audit wrote beside them"
 

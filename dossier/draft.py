@@ -4,8 +4,8 @@ from __future__ import annotations
 import ipaddress
 import json
 import os
-from collections import Counter, defaultdict
-from dataclasses import dataclass, field, replace
+from collections import defaultdict
+from dataclasses import dataclass, replace
 
 from .answers import read_hulls
 from .claim import Claim
@@ -17,6 +17,7 @@ from .recording import SECOND, Recording, read_recording
 from .scratch import scratch
 from .text import count, plain
 from .text import reference as letters
+from .traffic import Traffic, number_of, read_traffic
 from .typed import said
 from .units import DAY, civil, ns_up_ms
 
@@ -41,39 +42,6 @@ class Wanted:
     whole_days: bool
     drift_ppb: int
     reading_ns: int
-
-
-@dataclass
-class Traffic:
-    """What a capture holds of NTP: who asked, who answered whom, and which references a server named to a client."""
-
-    packets: int = 0
-    asked: Counter[str] = field(default_factory=Counter)
-    answered: dict[str, Counter[str]] = field(default_factory=lambda: defaultdict(Counter))
-    references: dict[tuple[str, str], set[tuple[int, str]]] = field(default_factory=lambda: defaultdict(set))
-
-
-def read_traffic(program: Program, capture: str) -> Traffic:
-    seen = Traffic()
-
-    def take(block: bytes) -> None:
-        for line in block.decode("ascii").splitlines():
-            words = line.split(" ", 12)
-            if words[0] == "records":
-                seen.packets = int(words[3])
-                continue
-            (source, source_port), (destination, destination_port) = (word.split(":") for word in words[2:4])
-            if words[5] == "m3" and destination_port == "123":
-                seen.asked[source] += 1
-            elif words[5] == "m4" and source_port == "123":
-                seen.answered[destination][source] += 1
-                seen.references[destination, source].add((int(words[7][1:]), words[11]))
-    program.blocks(take, "list", capture)
-    return seen
-
-
-def by_number(address: str) -> int:
-    return int(ipaddress.IPv4Address(address))
 
 
 def upstream(stratum: int, reference: str) -> str | None:
@@ -129,7 +97,7 @@ class Draft:
         client = self.choose(seen, wanted.client)
         if client is None:
             return None
-        servers = sorted((server for server, _ in seen.answered[client].most_common(MOST_SERVERS)), key=by_number)
+        servers = sorted((server for server, _ in seen.answered[client].most_common(MOST_SERVERS)), key=number_of)
         if len(seen.answered[client]) > MOST_SERVERS:
             self.remark(f"A claim names at most {MOST_SERVERS} servers: those that answered least are left out.")
         claim = Claim(client, servers, 0, civil(0), civil(0), 0, wanted.drift_ppb, wanted.reading_ns)
@@ -151,7 +119,7 @@ class Draft:
         if not seen.asked:
             self.remark(f"No NTP client asks anybody in it: {count(seen.packets, 'NTP packet')}.")
             return None
-        clients = sorted(seen.asked, key=lambda address: (-seen.asked[address], by_number(address)))
+        clients = seen.by_number()
         chosen = client or clients[0]
         if client is None and len(clients) > 1:
             self.remark(f"{len(clients)} clients ask in it; this is a claim for the one that asks most,",
@@ -159,7 +127,7 @@ class Draft:
         if client is not None or len(clients) > 1:
             for address in clients:
                 servers = count(len(seen.answered[address]), "server answers", "servers answer")
-                self.remark(f"{address} asks {count(seen.asked[address], 'time')}, and {servers} it.")
+                self.remark(f"{address} asks {count(seen.asked[address].total(), 'time')}, and {servers} it.")
         if not seen.answered.get(chosen):
             self.remark(f"Nobody answers {plain(chosen)}.")
             return None
@@ -186,7 +154,7 @@ class Draft:
                     kinds[reference].add(server)
         for reference, servers in kinds.items():
             if len(servers) > 1:
-                names = ", ".join(sorted(servers, key=by_number))
+                names = ", ".join(sorted(servers, key=number_of))
                 self.remark(f"{names} name one kind of reference clock ({letters(reference)}):",
                             "if it is one and the same clock, put them into one group.")
 

@@ -10,12 +10,14 @@ from collections.abc import Callable
 from dataclasses import dataclass
 
 from . import VERSION
+from .backing import Backing, backing
 from .claim import Claim, parts_of
 from .entry import Entry, LeapList, Options, Record, Refusal
 from .evidence import evidence_files
 from .fault import DEVICE, Fault, fault
 from .folder import CLAIM, JOINED, Folder, is_capture
 from .joining import join
+from .judgement import Setting
 from .program import Program, now, sum_of_file
 from .recording import read_recording
 from .settling import Settling
@@ -70,21 +72,22 @@ def take_inputs(folder: Folder) -> Inputs:
     return taken
 
 
-def make(taken: Inputs, options: Options, leaps: LeapList, program: Program, earlier: Earlier) -> list[Entry]:
+def make(taken: Inputs, options: Options, leaps: LeapList, backed: Backing, program: Program,
+         earlier: Earlier) -> list[Entry]:
     """All answers, and their files in the current folder."""
     capture, joined = next(iter(taken.copies.values())), {}
     if len(taken.copies) > 1:
         join(program.caller, taken.copies)
         capture, joined = JOINED, {JOINED: sum_of_file(JOINED)}
     sums = {CLAIM: taken.sums[CLAIM], capture: joined.get(JOINED) or taken.sums[taken.capture]}
-    recording = read_recording(program, CLAIM, capture, wants_request=True)
+    setting = Setting(read_recording(program, CLAIM, capture, wants_request=True), leaps, backed)
     with open(CLAIM, "rb") as opened:
         claim: Claim = read_typed(CLAIM, Claim, opened.read())
     entries = []
     for part in parts_of(claim, options.days):
         settling = Settling(part, capture, program, options.step, sums, earlier(part.name))
         settling.left |= joined
-        entries.append(settling.settle(recording, leaps))
+        entries.append(settling.settle(setting))
     return entries
 
 
@@ -98,7 +101,8 @@ class Making:
     def record(self, earlier: Earlier = no_earlier) -> Record:
         """What the program answers; a fault if there is no verdict."""
         self.taken = take_inputs(self.folder)
-        return self.of(make(self.taken, self.options, self.leaps, self.program, earlier))
+        backed = backing(self.folder, self.taken.sums)
+        return self.of(make(self.taken, self.options, self.leaps, backed, self.program, earlier))
 
     def of(self, entries: list[Entry], refusal: Refusal | None = None) -> Record:
         return Record(VERSION, self.program.made, self.options, self.taken.sums, self.taken.capture, self.made,

@@ -9,7 +9,8 @@ from dataclasses import dataclass
 from .article import article, badge, short_article
 from .audit import change_of
 from .call import Caller
-from .entry import NO_EVIDENCE, NOT_VERIFIED, NOTHING_FITS, OPEN, REFUSED, REFUTED, YES, Made, read_record
+from .entry import (NO_EVIDENCE, NOT_VERIFIED, NOTHING_FITS, OPEN, REFUSED, REFUTED, UNSUPPORTED, YES, Made,
+                    read_record)
 from .fault import REFUSED as INPUT_REFUSED, Fault
 from .folder import Folder
 from .known import Known
@@ -20,13 +21,14 @@ from .program import now, sum_of
 from .remedies import remedy
 from .signature import GOOD, NONE, STRANGER, UNFIT, UNSEEN, Signature, Signers
 from .style import PAGE
-from .table import Row, as_csv, as_json, row_of, row_without_verdict
+from .table import Row, as_csv, badness_of, as_json, row_of, row_without_verdict
 from .text import count
 from .units import ns_ms, ns_up_ms
 from .verify import Verifier, audit_json
 
 MEANINGS = {
     YES: "shown: in every course of events that fits the capture",
+    UNSUPPORTED: "a yes against which the folder's own evidence speaks",
     REFUTED: "not shown, and by nothing in the capture: a course of events fits it that breaks the claim",
     NOTHING_FITS: "no course of events fits: something that the claim grants isn't true",
     NO_EVIDENCE: "the capture says nothing about the clock",
@@ -107,19 +109,28 @@ def write_page(folders: list[str], given: argparse.Namespace, known: Known, limi
     looking = Looking(known, Signers(given.signers, caller), limit, verifier)
     for folder in folders:
         looking.look(folder)
-    rows = [section.row for section in looking.sections]
+    sections = worst_first(looking.sections)
+    rows = [section.row for section in sections]
     if given.json:
         text = as_json(rows)
     elif given.csv:
         text = as_csv(rows)
     else:
-        text = page(looking.sections, given.title, len(folders), given.signers is not None)
+        text = page(sections, given.title, len(folders), given.signers is not None)
     data = text.encode("utf-8", "backslashreplace")
     if given.output:
         write_named(given.output, data)
     else:
         sys.stdout.buffer.write(data)
     return looking.status
+
+
+def worst_first(found: list[Section]) -> list[Section]:
+    """The sections folder by folder, those of the worst folder first, and of two that are as bad in their own order."""
+    badness: dict[str, tuple[int, int]] = {}
+    for row in (section.row for section in found):
+        badness[row.machine] = min(badness_of(row), badness.get(row.machine, badness_of(row)))
+    return sorted(found, key=lambda section: badness[section.row.machine])
 
 
 def page(found: list[Section], title: str, folders: int, is_looked_at: bool) -> str:

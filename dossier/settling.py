@@ -7,12 +7,12 @@ from dataclasses import replace
 from . import folder as files
 from .answers import read_settled
 from .claim import GREATEST_BOUND, Part
-from .entry import NOTHING_FITS, REFUTED, YES, Entry, LeapList
+from .entry import NO_EVIDENCE, NOTHING_FITS, REFUTED, YES, Entry
 from .fault import MISSING, Fault, fault
 from .folder import Copy
-from .judgement import Texts, judge, more_drift
+from .judgement import Setting, Texts, judge, more_drift
 from .program import Program, sum_of
-from .recording import Recording
+from .traffic import read_traffic
 
 MANY_PIECES = 10_000
 """The envelope has pieces of 1, 4, 16, .. s, the least with which it has no more than these."""
@@ -31,7 +31,7 @@ class Settling:
         self.sums = dict(sums)
         self.left: dict[str, str] = {}
 
-    def settle(self, recording: Recording, leaps: LeapList) -> Entry:
+    def settle(self, setting: Setting) -> Entry:
         """Makes all calls and leaves all files."""
         if self.part.name != ".":
             os.mkdir(self.part.name)
@@ -39,7 +39,7 @@ class Settling:
         texts = self.decide()
         words = ("envelope", self.claim, self.capture, "--servers", "--least", "--step", str(self.step))
         texts = texts._replace(envelope=self.keep(files.ENVELOPE, self.call(*words)))
-        return judge(self.part, recording, texts, self.step, leaps, self.left)
+        return judge(self.part, setting, texts, self.step, self.left)
 
     def keep(self, name: str, data: bytes) -> bytes:
         """Leaves a file of this part."""
@@ -67,20 +67,22 @@ class Settling:
         """What `settle` says, and what the checkers say about it. At a yes the same claim with the bound 0 is settled
         too, and where nothing fits the same claim with more drift: with any bound, since that is ignored."""
         text = self.call("settle", self.claim, self.capture)
-        verdict = read_settled(text).verdict
-        if verdict == YES:
+        answer = read_settled(text).answer
+        if answer == YES:
             self.keep(files.CERTIFICATE, text)
             words = ("check", self.claim, self.capture, self.part.within(files.CERTIFICATE))
             said = self.confirmed(b"\nverdict yes\n", *words)
             other = self.settled(files.CLAIM_OF_0, bound_ns=0)
-            if read_settled(other).verdict == REFUTED:
+            if read_settled(other).answer == REFUTED:
                 other, _ = self.contest(files.CLAIM_OF_0, other)
             return Texts(text, self.keep(files.REPORT, said), other)
-        if verdict == REFUTED:
+        if answer == REFUTED:
             text, said = self.contest(files.CLAIM, text)
             return Texts(text, self.keep(files.REPORT, said))
         texts = Texts(text, self.keep(files.REPORT, text))
-        if verdict == NOTHING_FITS:
+        if answer == NO_EVIDENCE:
+            return texts._replace(traffic=read_traffic(self.program, self.capture))
+        if answer == NOTHING_FITS:
             granted = {"drift_ppb": more_drift(self.part.claim), "bound_ns": GREATEST_BOUND}
             return texts._replace(other=self.settled(files.CLAIM_OF_DRIFT, **granted))
         return texts

@@ -64,6 +64,7 @@ th{font-weight:600;color:var(--soft)}
 .why td{padding:0 0 10px 18px}
 .verdict{display:inline-block;padding:0 9px;border:2px solid;border-radius:5px;font-weight:700;white-space:nowrap}
 .yes{color:var(--good)}
+.unsupported{color:var(--ink);background:var(--hull);border-color:var(--hulledge)}
 .refuted{color:var(--paper);background:var(--bad);border-color:var(--bad)}
 .nothing-fits{color:var(--bad);border-style:double}
 .open{color:var(--bad);border-style:dashed}

@@ -12,6 +12,7 @@ from datetime import datetime, timedelta, timezone
 from pathlib import Path
 
 from audits import ENVIRONMENT, PROGRAM, SCRIPT, capture_of, check, check_page, dossier, folder_of, parts_left, skipped, table
+from leaps import leap_list
 from tally import ROOT, run
 
 # ---- signatures
@@ -57,7 +58,7 @@ def test_signatures(place):
     check("signer and time on a page", row=(f">alice@example.org <span>{day}</span> <span>{hour}</span></span></td>" in text, True),
           said=(f'<p class="signed">Signed at {at} by alice@example.org, with the key' in text, True),
           others=([text.count(f">{words}<") for words in ("nobody", "doesn\u2019t fit", "by a stranger")], [1, 1, 1]))
-    rows = json.loads(dossier("page", "--json", "--signers", signers, *folders)[1])
+    rows = table(*folders, "--signers", signers)
     check("signatures as JSON", rows=([row["signature"] for row in rows], ["good", "unfit", "none", "stranger"]),
           signer=((rows[0]["signer"], rows[0]["signed_at"]), ("alice@example.org", at)))
     text = dossier("page", good, unsigned)[1].decode()
@@ -217,19 +218,6 @@ def test_older_records(place):
 
 # ---- leap seconds
 
-FROM_1900 = 2_208_988_800
-
-
-def leap_list(path, good_until, *seconds):
-    """A list of leap seconds, each as the Unix second after it and the difference to TAI, with its own sum."""
-    rows = [f"{time + FROM_1900} {offset}" for time, offset in ((63072000, 10), *seconds)]
-    head = [str(63072000 + FROM_1900), str(good_until + FROM_1900)]
-    digest = hashlib.sha1("".join([*head, *(row.replace(" ", "") for row in rows)]).encode()).hexdigest()
-    own = " ".join(digest[k : k + 8].lstrip("0") for k in range(0, 40, 8))
-    path.write_text("\n".join([f"#\tA list", f"#$\t{head[0]}", f"#@\t{head[1]}", "#", *(f"{row}\t# a day" for row in rows), f"#h\t{own}", ""]))
-    return path
-
-
 MINUTE = {"client": "192.0.2.10", "servers": ["192.0.2.1"], "false_max": 0, "from": "2001-09-09T01:46:40Z", "to": "2001-09-09T01:47:44Z",
           "bound_ns": 60_000_000, "drift_ppb": 100_000, "reading_ns": 0}
 FIRST, LAST = 1_000_000_000, 1_000_000_064
@@ -252,7 +240,7 @@ def test_leap_seconds(place):
     for number, (wanted, until, seconds) in enumerate(cases):
         list_ = leap_list(place / f"{number}.list", until, *seconds)
         status, says, kinds, out = leap_of(folder, list_)
-        check(f"leap seconds {wanted} until {until} {seconds}", status=(status, 0), says=(says, wanted), warned=("leap-second" in kinds, wanted == "within"),
+        check(f"leap seconds {wanted} until {until} {seconds}", status=(status, int(wanted != "none")), says=(says, wanted), warned=("leap-second" in kinds, wanted == "within"),
               again=(b"(unchanged)" in out, False), verified=(dossier("verify", "--leap-seconds", list_, folder)[0], 0))
         text = dossier("page", folder)[1].decode()
         page = "".join(check_page(f"a page with leap seconds {wanted}", text).words)

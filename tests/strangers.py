@@ -561,7 +561,7 @@ def test_no_evidence(place):
     words = "".join(check_page("a page of no evidence", text).words)
     check("no evidence", status=(status, 1), line=(out.decode(), f"no evidence   {folder}: no bound is carried, claimed 5 ms\n"), row=((row["verdict"], row["least_bound_ns"]), ("no evidence", None)),
           report=((folder / "report.txt").read_text().startswith("no evidence groups 0 of "), True), refutation=((folder / "refutation.json").exists() or "refutation" in entry, False),
-          badge=('class="verdict no-evidence"' in text, True), said=("the capture says nothing about this clock. 0 of " in words, True), to_do=("names the right client" in row["to_do"] and "names the right client" in words, True),
+          badge=('class="verdict no-evidence"' in text, True), said=("the capture says nothing about this clock. 203.0.113.9 asks nobody in this capture: 192.0.2.10 does." in words, True), to_do=("names the right client" in row["to_do"] and "names the right client" in words, True),
           csv=(",no evidence," in dossier("page", "--csv", folder)[1].decode(), True), verified=(dossier("verify", folder), (0, f"{folder}: verified\n".encode(), b"")))
 
 
