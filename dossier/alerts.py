@@ -67,6 +67,11 @@ def drift(found: Alert) -> str:
             "evidence. That is more than the claim grants (`drift_ppb`).")
 
 
+def oscillator(found: Alert) -> str:
+    return (f"The claim grants {found.count:,} parts in 10^9, which is an oscillator alone. The client's own "
+            "corrections are NOT in it, unless evidence of its configuration says how small they are.")
+
+
 def step(found: Alert) -> str:
     more = f", the first of {found.count:,} steps" if found.count > 1 else ""
     at = shown_time(found.before // SECOND)
@@ -91,7 +96,7 @@ def reference(found: Alert) -> str:
 WORDS: dict[str, Callable[[Alert], str]] = {
     "outside": outside, "no-drift": no_drift, "falls": falls, "far": far, "leap": leap, "leap-second": leap_second,
     "leap-ends": leap_ends, "sources": sources, "reference": reference, "apart": apart, "drift": drift,
-    "reading": reading, "step": step,
+    "reading": reading, "step": step, "oscillator": oscillator,
 }
 TO_DO = {
     "drift": "Grant as much drift as the evidence has, and audit again.",

@@ -7,9 +7,11 @@ import sys
 from collections.abc import Callable
 from typing import TYPE_CHECKING, NoReturn
 
+from .claim import GREATEST_DRIFT, OSCILLATOR
 from .fault import DEVICE, MEMORY, MISSING, USAGE, Fault, Stopped, fault
 from .known import Known, state_of
 from .limit import SECONDS, Limit
+from .measurement import LEAST_READING, read_measurement
 from .program import Program, find_program, now
 
 if TYPE_CHECKING:
@@ -20,7 +22,8 @@ INTERRUPTED = 130
 ABOUT = """Puts many audits by ntpaudit together: folders with a claim and captures, and one page for a person to read.
 
   tcpdump -i eth0 --time-stamp-precision=nano -w web-1/f.pcap udp port 123    record (Ctrl-C when it is enough)
-  ntpaudit-dossier draft web-1/f.pcap > web-1/claim.json                      a claim to start from: read it, fix it
+  ntpaudit-dossier draft --chrony /etc/chrony/chrony.conf web-1/f.pcap > web-1/claim.json
+                                                                              a claim to start from: read it, fix it
   ntpaudit-dossier audit web-1                                                the audit
   ntpaudit-dossier page web-1 > dossier.html                                  the page
   ntpaudit-dossier sign web-1 --key ~/.ssh/id_ed25519                         who answers for it (if you like)
@@ -45,19 +48,22 @@ def parser() -> Parser:
     draft.add_argument("--client", metavar="ADDRESS", help="the client; the one that asks most if it is left out")
     draft.add_argument("--day", action="store_true", help="claim whole days (UTC)")
     draft.add_argument("--drift-ppb", type=int, metavar="N",
-                       help="oscillator and client together, in parts of 10^9; by the client's configuration, else "
-                            "100000")
+                       help="oscillator and client together, in parts of 10^9; else by the client's configuration; "
+                            "else the oscillator alone")
     client = draft.add_mutually_exclusive_group()
     client.add_argument("--chrony", action="append", metavar="FILE",
                         help="chronyd's configuration, which limits the drift")
     client.add_argument("--ntpd", action="append", metavar="FILE", help="ntpd's configuration")
     draft.add_argument("--tracking", action="append", metavar="FILE", help="chronyd's tracking.log, or its messages")
-    draft.add_argument("--oscillator-ppb", type=in_range(0, 500_000_000), default=100_000, metavar="N",
-                       help="the oscillator alone, to which the configuration adds; 100000 if it is left out")
+    draft.add_argument("--oscillator-ppb", type=in_range(0, GREATEST_DRIFT), default=OSCILLATOR, metavar="N",
+                       help=f"the oscillator alone, to which the configuration adds; {OSCILLATOR} if it is left out")
     draft.add_argument("--evidence", metavar="FILE",
                        help="write what was read from the client's files to FILE, for evidence.json")
-    draft.add_argument("--reading-ns", type=int, default=100_000, metavar="N",
-                       help="how far records' times may be from the clock, in nanoseconds; 100000 if it is left out")
+    reading = draft.add_mutually_exclusive_group()
+    reading.add_argument("--reading-ns", type=int, default=LEAST_READING, metavar="N",
+                         help="how far records' times may be from the clock, in nanoseconds; "
+                              f"{LEAST_READING} if it is left out")
+    reading.add_argument("--measured", metavar="FILE", help="what `measure -o` left, which has that number")
     audit = commands.add_parser("audit", help="audit folders")
     audit.add_argument("folders", nargs="+", metavar="FOLDER", help=FOLDER)
     audit.add_argument("--step", type=in_range(1, 86_400), metavar="N",
@@ -213,12 +219,17 @@ def correction_of(given: argparse.Namespace) -> Correction | None:
 
 def run_draft(given: argparse.Namespace, program: Program) -> int:
     from .correction import correction_text
-    from .draft import DRIFT, Wanted, claim_text, draft
+    from .draft import Wanted, claim_text, draft
     from .placing import write_named
     found = correction_of(given)
-    proposed = found.drift_ppb if found else DRIFT
+    measured = read_measurement(given.measured, program.limit) if given.measured else None
+    proposed = found.drift_ppb if found else given.oscillator_ppb
     drift_ppb = proposed if given.drift_ppb is None else given.drift_ppb
-    claim, remarks = draft(program, given.captures, Wanted(given.client, given.day, drift_ppb, given.reading_ns))
+    wanted = Wanted(given.client, given.day, drift_ppb, found is None and given.drift_ppb is None,
+                    measured.reading_ns if measured else given.reading_ns, bool(measured))
+    claim, remarks = draft(program, given.captures, wanted)
+    if claim and measured:
+        remarks.append(f"reading_ns is {claim.reading_ns}: {measured.sentence()}")
     if claim and found:
         remarks += found.sentences() + found.cautions(claim.first, claim.last)
     for remark in remarks:

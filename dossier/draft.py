@@ -26,9 +26,9 @@ LONGEST = "86400"
 """Seconds of an envelope's pieces at the most."""
 NO_BOUND = 1_000_000_000
 """Nanoseconds that stand in a draft for which no bound is known."""
-DRIFT = 100_000
-"""Parts in 10^9 that stand in a draft if nothing is known of the client: an oscillator alone."""
 UNKNOWN = "00000000"
+NOT_IN_IT = ("the client's own corrections are NOT in it. `--chrony FILE` or `--ntpd FILE` reads them; chronyd makes "
+             "up to 83,333,334 unless `maxslewrate` is set.")
 FOR_NOW = "one second stands there for now."
 References = dict[str, set[tuple[int, str]]]
 """Of each server the strata and reference identifiers that it named."""
@@ -41,7 +41,10 @@ class Wanted:
     client: str | None
     whole_days: bool
     drift_ppb: int
+    is_oscillator: bool
+    """Whether that is the oscillator's part alone, since nothing is known of the client."""
     reading_ns: int
+    is_measured: bool
 
 
 def upstream(stratum: int, reference: str) -> str | None:
@@ -97,6 +100,8 @@ class Draft:
         client = self.choose(seen, wanted.client)
         if client is None:
             return None
+        if wanted.is_oscillator:
+            self.remarks.insert(0, f"drift_ppb is {wanted.drift_ppb}, an oscillator alone: {NOT_IN_IT}")
         servers = sorted((server for server, _ in seen.answered[client].most_common(MOST_SERVERS)), key=number_of)
         if len(seen.answered[client]) > MOST_SERVERS:
             self.remark(f"A claim names at most {MOST_SERVERS} servers: those that answered least are left out.")
@@ -111,7 +116,7 @@ class Draft:
         claim = replace(claim, from_=civil(first), to=civil(last))
         keep(claim, self.program.limit)
         claim = replace(claim, bound_ns=self.bound())
-        self.leave_to_a_person(claim)
+        self.leave_to_a_person(claim, wanted)
         return claim
 
     def choose(self, seen: Traffic, client: str | None) -> str | None:
@@ -169,14 +174,16 @@ class Draft:
         self.remark(f"bound_ns: the least bound that a certificate carries is {ns_up_ms(envelope.least_ns)} ms; rounded up.")
         return round_up(envelope.least_ns)
 
-    def leave_to_a_person(self, claim: Claim) -> None:
+    def leave_to_a_person(self, claim: Claim, wanted: Wanted) -> None:
         """What only a person can answer for."""
         groups = count(len(claim.grouped), "group")
-        self.remark(f"drift_ppb is {claim.drift_ppb}: how fast the clock may gain or lose,",
-                    "its oscillator's data sheet and the NTP client's corrections together.",
-                    "Nothing in a capture shows it.")
-        self.remark(f"reading_ns is {claim.reading_ns}: how far a record's time may be from what the clock showed.",
-                    "It has to be measured on that machine.")
+        if not wanted.is_oscillator:
+            self.remark(f"drift_ppb is {claim.drift_ppb}: how fast the clock may gain or lose,",
+                        "its oscillator's data sheet and the NTP client's corrections together.",
+                        "Nothing in a capture shows it.")
+        if not wanted.is_measured:
+            self.remark(f"reading_ns is {claim.reading_ns}: how far a record's time may be from what the clock showed.",
+                        "It has to be measured on that machine.")
         self.remark(f"false_max is {claim.false_max}: fewer than half of {groups} of servers may be wrong.",
                     "Whether no more were is for a person to say.")
         self.remark("groups: servers of one operator, or on one reference clock, belong together.",
@@ -204,9 +211,9 @@ def draft(program: Program, captures: list[str], wanted: Wanted) -> tuple[Claim 
         if len(copies) > 1:
             join(program.caller, {f"{os.path.basename(path)} ({copy})": copy for copy, path in copies.items()})
         drafting = Draft(program, JOINED if len(copies) > 1 else "0.pcap")
-        claim = drafting.claim(wanted)
         if len(copies) > 1:
-            drafting.remarks.insert(0, f"{len(copies)} captures were joined in order of time.")
+            drafting.remark(f"{len(copies)} captures were joined in order of time.")
+        claim = drafting.claim(wanted)
         return claim, drafting.remarks
 
 

@@ -10,7 +10,7 @@ from typing import Literal, NamedTuple
 
 from .answers import Envelope, Settled, read_advice, read_envelope, read_settled
 from .backing import Backing, against
-from .claim import GREATEST_DRIFT, Claim, Part
+from .claim import GREATEST_DRIFT, OSCILLATOR, Claim, Part
 from .entry import (AGAINST, FEW, NO_EVIDENCE, NOTHING_FITS, OPEN, REFUTED, UNSUPPORTED, YES, Alert, Entry, Hull,
                     LeapList, Piece, Reason, Server, Verdict)
 from .leap import look_up
@@ -21,7 +21,7 @@ from .units import bound_ticks
 
 FAR = 10
 """A piece is far from the samples if the nearest is farther than this part of the span."""
-MORE, LEAST_DRIFT = 10, 100_000
+MORE = 10
 """So many times the claim's drift is tried where nothing fits, or that of an oscillator alone."""
 
 
@@ -50,7 +50,7 @@ class Setting(NamedTuple):
 
 def more_drift(claim: Claim) -> int:
     """The drift that is tried where nothing fits, in parts of 10^9."""
-    return min(max(MORE * claim.drift_ppb, LEAST_DRIFT), GREATEST_DRIFT)
+    return min(max(MORE * claim.drift_ppb, OSCILLATOR), GREATEST_DRIFT)
 
 
 def judge(part: Part, setting: Setting, texts: Texts, step: int, outputs: dict[str, str]) -> Entry:
@@ -60,7 +60,7 @@ def judge(part: Part, setting: Setting, texts: Texts, step: int, outputs: dict[s
     settled, envelope = read_settled(texts.settled), read_envelope(texts.envelope)
     advice = read_advice(texts.report) if settled.answer == YES else {}
     servers = servers_of(claim, recording)
-    warned = [*warnings(claim, recording, envelope, advice), *against(setting.backing, claim, leap, setting.leaps)]
+    warned = [*warnings(claim, setting, envelope, advice), *against(setting.backing, claim, leap, setting.leaps)]
     reason = reason_of(claim, servers, settled, envelope, texts, recording)
     if settled.answer == YES and any(warning.kind in AGAINST for warning in warned):
         reason = Reason("evidence")
@@ -165,8 +165,9 @@ def servers_of(claim: Claim, recording: Recording) -> list[Server]:
             for number, address in enumerate(claim.servers)]
 
 
-def warnings(claim: Claim, recording: Recording, envelope: Envelope, advice: dict[str, str]) -> Iterator[Alert]:
+def warnings(claim: Claim, setting: Setting, envelope: Envelope, advice: dict[str, str]) -> Iterator[Alert]:
     """What stands beside a verdict, whatever it is."""
+    recording, backed = setting.recording, setting.backing
     if recording.first is not None and recording.last is not None:
         before, after = recording.first - claim.first * SECOND, claim.last * SECOND - recording.last
         if before > 0 or after > 0:
@@ -185,6 +186,8 @@ def warnings(claim: Claim, recording: Recording, envelope: Envelope, advice: dic
         yield Alert("reference", reference=advice["reference"])
     if apart := [server for server, seen in ranges_of(envelope).items() if seen.apart]:
         yield Alert("apart", servers=apart)
+    if 0 < claim.drift_ppb <= OSCILLATOR and not backed.read:
+        yield Alert("oscillator", claim.drift_ppb)
 
 
 def far_pieces(claim: Claim, recording: Recording, envelope: Envelope) -> Iterator[Alert]:

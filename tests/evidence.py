@@ -367,6 +367,11 @@ def test_measuring(place):
         said = "".join(check_page("a page with a measurement", text).words)
         check("a measurement on a page", said=(f"{found.greatest_ns} at the most" in said.replace(",", ""), True), machine=(f"that {found.machine} sent itself" in said, True),
               more=("That is more than the claim grants." in said, is_more), where=("measured.json, by Ann" in said, True))
+    for name, (text, status, reading) in {"a measurement": (json.dumps(asdict(large)), 0, 130_000), "what is none": ("{}", 2, None), "nothing": ("", 2, None)}.items():
+        (place / "measured.json").write_text(text)
+        got, claim, err = drafted(folder / "f.pcap", "--measured", place / "measured.json")
+        check(f"a draft by {name}", status=(got, status), reading=(claim.get("reading_ns"), reading), said=(f"reading_ns is 130000: 1,000 packets that web-1" in err, not status))
+    check("a draft by a number and a measurement", status=(drafted(folder / "f.pcap", "--measured", place / "measured.json", "--reading-ns", "5")[0], 5))
     (folder / "measured.json").write_text(json.dumps({**asdict(small), "greatest_ns": 1}))
     check("a measurement that was changed", shown=(b"Measured:" in dossier("page", folder)[1], False))
 

@@ -505,7 +505,7 @@ def test_hostile_inputs(place):
     fifo = place / "fifo"
     os.mkfifo(fifo)
     capture, claim = DATA / "clients-us.pcap", DATA / "clients-us.claim.json"
-    for words in (["draft", fifo], ["draft", "--chrony", fifo, capture], ["picture", claim, fifo], ["picture", fifo, capture], ["verify", place, "--signers", fifo], ["audit", "--leap-seconds", fifo, place],
+    for words in (["draft", fifo], ["draft", "--chrony", fifo, capture], ["draft", "--measured", fifo, capture], ["picture", claim, fifo], ["picture", fifo, capture], ["verify", place, "--signers", fifo], ["audit", "--leap-seconds", fifo, place],
                   ["draft", "/dev/zero"], ["picture", "/dev/zero", capture]):
         status, out, err = limited(*words, timeout=20)
         check(f"a file that is none: {words[0]} {[str(word) for word in words[1:]]}", status=(status, 2), line=(b" is a " in err and err.count(b"\n") == 1, True), output=(out, b""))

@@ -79,6 +79,16 @@ def test_unsupported(place):
     check("evidence against what isn't a yes", row=(table(folder)[0]["verdict"], "refuted"), warned=("may move the clock" in " ".join(table(folder)[0]["warnings"]), True))
 
 
+def test_oscillator(place):
+    """A claim whose drift is an oscillator's alone says so on the page, unless the folder has evidence of the client."""
+    slow = {**SETUP, "drift_ppb": 90_000, "oscillator_ppb": 80_000, "configuration": {"client": "chronyd", "files": {}, "slew_ppb": 10_000}}
+    for name, evidence, drift, is_warned in (("alone", {}, 100_000, True), ("with more", {}, 600_000, False), ("with evidence", {"drift": slow}, 100_000, False)):
+        folder = good_folder(place, name, evidence, drift_ppb=drift)
+        status, row = dossier("audit", folder)[0], table(folder)[0]
+        text = "".join(check_page(f"a page of an oscillator {name}", dossier("page", folder)[1].decode()).words)
+        check(f"an oscillator {name}", status=(status, 0), json=(any("corrections are NOT in it" in words for words in row["warnings"]), is_warned), page=("corrections are NOT in it" in text, is_warned))
+
+
 def silent_folders(place):
     """Folders that say nothing of the clock, each with what is said."""
     empty = good_folder(place, "empty")
@@ -139,4 +149,4 @@ def test_many_together(place):
     shutil.rmtree(day)
 
 
-VERDICT_TESTS = [test_unsupported, test_nothing_seen, test_many_together]
+VERDICT_TESTS = [test_unsupported, test_oscillator, test_nothing_seen, test_many_together]
