@@ -7,6 +7,7 @@ import sys
 from collections.abc import Callable
 from typing import TYPE_CHECKING, NoReturn
 
+from . import VERSION
 from .claim import GREATEST_DRIFT, OSCILLATOR
 from .fault import DEVICE, MEMORY, MISSING, USAGE, Fault, Stopped, fault
 from .known import Known, state_of
@@ -42,7 +43,8 @@ class Parser(argparse.ArgumentParser):
 
 def parser() -> Parser:
     top = Parser(prog="ntpaudit-dossier", description=ABOUT, formatter_class=argparse.RawDescriptionHelpFormatter)
-    commands = top.add_subparsers(dest="command", required=True, metavar="COMMAND", prog=top.prog)
+    top.add_argument("--version", action="store_true", help="print the versions of dossier and program")
+    commands = top.add_subparsers(dest="command", metavar="COMMAND", prog=top.prog)
     draft = commands.add_parser("draft", help="print a claim to start from")
     draft.add_argument("captures", nargs="+", metavar="CAPTURE", help="classic pcap files of one client")
     draft.add_argument("--client", metavar="ADDRESS", help="the client; the one that asks most if it is left out")
@@ -112,6 +114,8 @@ def parser() -> Parser:
     picture.add_argument("capture", metavar="CAPTURE", help="a classic pcap file")
     picture.add_argument("--step", type=in_range(1, 86_400), default=64, metavar="N",
                          help="seconds of each piece; 64 if it is left out")
+    own_help = commands.add_parser("help", help="print help")
+    own_help.add_argument("topic", nargs="?", choices=list(commands.choices), metavar="COMMAND", help="a command")
     return top
 
 
@@ -127,7 +131,7 @@ def in_range(least: int, most: int) -> Callable[[str], int]:
 def main(words: list[str]) -> int:
     """Runs a command, and gives its status."""
     try:
-        status = run(parser().parse_args(words))
+        status = run(parsed(words))
         sys.stdout.flush()
         return status
     except Fault as found:
@@ -150,6 +154,17 @@ def main(words: list[str]) -> int:
         return MISSING
 
 
+def parsed(words: list[str]) -> argparse.Namespace:
+    """The command line, or an end with help or with a fault."""
+    top = parser()
+    given = top.parse_args(words)
+    if given.command == "help":
+        top.parse_args([*filter(None, [given.topic]), "--help"])
+    if not given.command and not given.version:
+        top.error("no command: `ntpaudit-dossier help` has them")
+    return given
+
+
 def say(line: str) -> None:
     from .text import plain
     try:
@@ -163,6 +178,9 @@ def run(given: argparse.Namespace) -> int:
     if given.command in ("audit", "page", "verify", "sign"):
         return run_on_folders(given, [tidy(folder) for folder in given.folders], limit)
     program = find_program(limit)
+    if given.version:
+        print(f"ntpaudit-dossier, form {VERSION} of audit.json\n{program.made.version}, SHA-256 {program.made.sha256}")
+        return 0
     if given.command == "measure":
         from .measuring import Wanted, measure
         return measure(program, Wanted(given.interface, given.count, given.load), given.output)

@@ -11,7 +11,7 @@ from .audit import change_of
 from .call import Caller
 from .entry import (NO_EVIDENCE, NOT_VERIFIED, NOTHING_FITS, OPEN, REFUSED, REFUTED, UNSUPPORTED, YES, Made,
                     read_record)
-from .fault import REFUSED as INPUT_REFUSED, Fault
+from .fault import REFUSED as INPUT_REFUSED, Fault, fault
 from .folder import Folder
 from .known import Known
 from .limit import Limit
@@ -58,7 +58,7 @@ class Looking:
     def __init__(self, known: Known, signers: Signers, limit: Limit, verifier: Verifier | None):
         self.known, self.signers, self.limit, self.verifier = known, signers, limit, verifier
         self.sections: list[Section] = []
-        self.status = 0
+        self.status, self.has_audit = 0, False
 
     def look(self, path: str) -> None:
         """Adds the sections of a folder, whatever stands in it."""
@@ -74,7 +74,7 @@ class Looking:
 
     def look_in(self, path: str, folder: Folder, signature: Signature) -> None:
         data = audit_json(folder)
-        record = read_record(data)
+        record, self.has_audit = read_record(data), True
         if self.verifier:
             why, _ = self.verifier.verify(folder)
         elif not self.known.has(sum_of(data)):
@@ -104,7 +104,7 @@ class Looking:
 def write_page(folders: list[str], given: argparse.Namespace, known: Known, limit: Limit,
                verifier: Verifier | None = None) -> int:
     """Prints the page or the table, or writes it whole. The status is 2 if a folder was refused for what stands in
-    it."""
+    it, or if none has an audit."""
     caller = verifier.program.caller if verifier else Caller(limit)
     looking = Looking(known, Signers(given.signers, caller), limit, verifier)
     for folder in folders:
@@ -122,6 +122,8 @@ def write_page(folders: list[str], given: argparse.Namespace, known: Known, limi
         write_named(given.output, data)
     else:
         sys.stdout.buffer.write(data)
+    if not looking.has_audit:
+        raise fault("none of these folders has an audit")
     return looking.status
 
 

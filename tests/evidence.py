@@ -7,6 +7,8 @@ import json
 import os
 import re
 import shutil
+import signal
+import subprocess
 import time
 from datetime import datetime, timedelta, timezone
 from pathlib import Path
@@ -376,6 +378,44 @@ def test_measuring(place):
     check("a measurement that was changed", shown=(b"Measured:" in dossier("page", folder)[1], False))
 
 
+STILL = """#!/bin/sh
+# stands in for tcpdump: listens, and never records
+echo "listening on lo" >&2
+exec sleep 60
+"""
+
+
+def test_measure_broken_off(place):
+    """Ctrl-C in `measure` prints one line, whatever it keeps busy."""
+    (place / "tcpdump").write_text(STILL)
+    (place / "tcpdump").chmod(0o755)
+    call = subprocess.Popen([SCRIPT, "measure", "--load", "--count", "100000"], env={**ENVIRONMENT, "PATH": f"{place}:{os.environ['PATH']}"},
+                            stdout=subprocess.PIPE, stderr=subprocess.PIPE, start_new_session=True)
+    time.sleep(1.5)
+    os.killpg(call.pid, signal.SIGINT)
+    out, err = call.communicate(timeout=60)
+    check("Ctrl-C in measure", status=(call.returncode, 130), said=((out, err), (b"", b"ntpaudit-dossier: broken off; what is done isn't done again by the next call\n")))
+
+
+def test_no_route(place):
+    """Where nothing can be sent, or nothing leaves, the line says why."""
+    from dossier.fault import Fault
+    from dossier.measuring import matched
+    for interface, said in (("eth7", "0 of 9 packets were recorded, so nothing is measured: no route to 192.0.2.1 leads over eth7, or nobody answers for its gateway"),
+                            ("lo", "0 of 9 packets were recorded, so nothing is measured")):
+        try:
+            seen = matched([1] * 9, {}, interface)
+        except Fault as fault:
+            seen = fault.words
+        check(f"nothing recorded on {interface}", said=(seen, said))
+    if run(["unshare", "-n", "true"])[0] or not shutil.which("ip") or why_no_recording():
+        skipped("measure without a route", "there are no namespaces, no ip, or no right to record")
+        return
+    make = "ip link add one type veth peer name two && ip link set one up && ip link set two up && ip addr add 10.1.1.1/24 dev one"
+    status, out, err = run(["unshare", "-n", "sh", "-c", f'{make} && exec "$0" measure --interface one --count 10', SCRIPT], env=ENVIRONMENT)
+    check("measure without a route", run=((status, out, err.count(b"\n")), (4, b"", 1)), said=(b"no route to 192.0.2.1 leads over" in err, True))
+
+
 def test_no_right(place):
     """Without the right to record one line says so."""
     nobody = [] if os.geteuid() else ["setpriv", "--reuid=65534", "--regid=65534", "--clear-groups"]
@@ -517,5 +557,5 @@ def test_auditing(place):
     check("the sections of AUDITING.md that a page names", there=([name for name in named if name not in headings], []), count=(len(set(named)) > 2, True))
 
 
-EVIDENCE_TESTS = [test_signatures, test_ended_keys, test_allowed_signers, test_signing_again, test_signed_evidence, test_older_records, test_elsewhere, test_leap_seconds, test_lists, test_measure, test_measuring, test_no_right,
+EVIDENCE_TESTS = [test_signatures, test_ended_keys, test_allowed_signers, test_signing_again, test_signed_evidence, test_older_records, test_elsewhere, test_leap_seconds, test_lists, test_measure, test_measuring, test_no_right, test_measure_broken_off, test_no_route,
                   test_client, test_steps, test_copies, test_auditing]

@@ -8,9 +8,9 @@ import io
 import json
 import shutil
 
-from audits import capture_of, check, check_page, dossier, folder_of, table
+from audits import PROGRAM, capture_of, check, check_page, dossier, folder_of, table
 from leaps import LATER, leap_list
-from tally import DATA
+from tally import DATA, run
 
 FIRST = 1_000_000_000
 GOOD = [f"{server}:-1000..1000@{FIRST + second}" for second in (10, 40) for server in (1, 2, 3, 4)]
@@ -89,6 +89,24 @@ def test_oscillator(place):
         check(f"an oscillator {name}", status=(status, 0), json=(any("corrections are NOT in it" in words for words in row["warnings"]), is_warned), page=("corrections are NOT in it" in text, is_warned))
 
 
+def test_no_audit(place):
+    """A page of folders none of which has an audit has status 2, with a line; and so have help and version theirs."""
+    bare = good_folder(place, "bare")
+    for form in ((), ("--json",), ("--csv",)):
+        status, out, err = dossier("page", *form, bare, place / "missing")
+        check(f"a page of no audit {form}", status=(status, 2), error=(err, b"ntpaudit-dossier: none of these folders has an audit\n"), output=(bool(out), True))
+    refused = good_folder(place, "refused")
+    (refused / "f.pcap").unlink()
+    dossier("audit", refused)
+    check("a page of a refusal that was audited", status=(dossier("page", refused, bare)[0], 0))
+    asked = [dossier("help", "page"), dossier("page", "--help")]
+    check("help of a command", same=(asked[0], asked[1]), status=(asked[0][0], 0), first=(asked[0][1].startswith(b"usage: ntpaudit-dossier page "), True))
+    check("help", same=(dossier("help"), dossier("--help")), unknown=(dossier("help", "nothing")[0], 5), none=(dossier()[0], 5))
+    status, out, err = dossier("--version")
+    program = run([PROGRAM, "--version"])[1].splitlines()[0]
+    check("version", run=((status, err), (0, b"")), lines=(out.splitlines()[0], b"ntpaudit-dossier, form 7 of audit.json"), program=(out.splitlines()[1].startswith(program + b", SHA-256 "), True))
+
+
 def silent_folders(place):
     """Folders that say nothing of the clock, each with what is said."""
     empty = good_folder(place, "empty")
@@ -149,4 +167,4 @@ def test_many_together(place):
     shutil.rmtree(day)
 
 
-VERDICT_TESTS = [test_unsupported, test_oscillator, test_nothing_seen, test_many_together]
+VERDICT_TESTS = [test_unsupported, test_no_audit, test_oscillator, test_nothing_seen, test_many_together]
