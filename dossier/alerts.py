@@ -6,7 +6,7 @@ from collections.abc import Callable
 from .entry import Alert
 from .recording import SECOND
 from .support import named
-from .text import capital, count, is_or_are
+from .text import capital, count, is_or_are, plain
 from .text import reference as letters
 from .units import between, civil, ns_ms, shown_time, span_of_seconds
 
@@ -72,6 +72,12 @@ def oscillator(found: Alert) -> str:
             "corrections are NOT in it, unless evidence of its configuration says how small they are.")
 
 
+def torn(found: Alert) -> str:
+    more = f", and so do {count(found.count - 1, 'other')}" if found.count > 1 else ""
+    return (f"{plain(found.file)} ends inside a record, and counts up to there (byte {found.place:,}){more}. It was "
+            "cut off, or is still being written (`tcpdump -U` writes whole records).")
+
+
 def step(found: Alert) -> str:
     more = f", the first of {found.count:,} steps" if found.count > 1 else ""
     at = shown_time(found.before // SECOND)
@@ -96,7 +102,7 @@ def reference(found: Alert) -> str:
 WORDS: dict[str, Callable[[Alert], str]] = {
     "outside": outside, "no-drift": no_drift, "falls": falls, "far": far, "leap": leap, "leap-second": leap_second,
     "leap-ends": leap_ends, "sources": sources, "reference": reference, "apart": apart, "drift": drift,
-    "reading": reading, "step": step, "oscillator": oscillator,
+    "reading": reading, "step": step, "oscillator": oscillator, "torn": torn,
 }
 TO_DO = {
     "drift": "Grant as much drift as the evidence has, and audit again.",

@@ -172,7 +172,8 @@ def counts(entry: Entry) -> Html:
 
 def again(record: Record, entry: Entry) -> Html:
     """The calls that settle it, for whoever wants to make them by hand in the folder."""
-    capture = record.capture if entry.part == "." else f"../{record.capture}"
+    is_own = f"{entry.part}/{files.JOINED}" in entry.outputs
+    capture = files.JOINED if is_own else record.capture if entry.part == "." else f"../{record.capture}"
     capture = f"./{capture}" if capture.startswith("-") else capture
     step = str(entry.envelope_step)
     calls = [["settle", files.CLAIM, capture],

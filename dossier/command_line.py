@@ -22,7 +22,8 @@ INTERRUPTED = 130
 
 ABOUT = """Puts many audits by ntpaudit together: folders with a claim and captures, and one page for a person to read.
 
-  tcpdump -i eth0 --time-stamp-precision=nano -w web-1/f.pcap udp port 123    record (Ctrl-C when it is enough)
+  tcpdump -i eth0 -U --time-stamp-precision=nano -w web-1/f.pcap 'udp port 123 or (vlan and udp port 123)'
+                                                                              record (Ctrl-C when it is enough)
   ntpaudit-dossier draft --chrony /etc/chrony/chrony.conf web-1/f.pcap > web-1/claim.json
                                                                               a claim to start from: read it, fix it
   ntpaudit-dossier audit web-1                                                the audit
@@ -46,7 +47,7 @@ def parser() -> Parser:
     top.add_argument("--version", action="store_true", help="print the versions of dossier and program")
     commands = top.add_subparsers(dest="command", metavar="COMMAND", prog=top.prog)
     draft = commands.add_parser("draft", help="print a claim to start from")
-    draft.add_argument("captures", nargs="+", metavar="CAPTURE", help="classic pcap files of one client")
+    draft.add_argument("captures", nargs="+", metavar="CAPTURE", help="captures of one client")
     draft.add_argument("--client", metavar="ADDRESS", help="the client; the one that asks most if it is left out")
     draft.add_argument("--day", action="store_true", help="claim whole days (UTC)")
     draft.add_argument("--drift-ppb", type=int, metavar="N",
@@ -111,7 +112,7 @@ def parser() -> Parser:
                          help="write it as JSON to FILE too, for evidence.json to name")
     picture = commands.add_parser("picture", help="print the picture of a claim and a capture, as SVG")
     picture.add_argument("claim", metavar="CLAIM", help="a JSON file")
-    picture.add_argument("capture", metavar="CAPTURE", help="a classic pcap file")
+    picture.add_argument("capture", metavar="CAPTURE", help="a capture")
     picture.add_argument("--step", type=in_range(1, 86_400), default=64, metavar="N",
                          help="seconds of each piece; 64 if it is left out")
     own_help = commands.add_parser("help", help="print help")

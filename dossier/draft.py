@@ -7,10 +7,11 @@ import os
 from collections import defaultdict
 from dataclasses import dataclass, replace
 
+from .alerts import warning_words
 from .answers import read_hulls
+from .captures import audited
 from .claim import Claim
-from .folder import CLAIM, JOINED, Copy, copy_named
-from .joining import join
+from .folder import CLAIM, Copy, copy_named
 from .limit import Limit
 from .program import Program
 from .recording import SECOND, Recording, read_recording
@@ -208,9 +209,11 @@ def draft(program: Program, captures: list[str], wanted: Wanted) -> tuple[Claim 
         copies = {f"{number}.pcap": path for number, path in enumerate(captures)}
         for copy, path in copies.items():
             copy_named(path, copy, program.limit)
-        if len(copies) > 1:
-            join(program.caller, {f"{os.path.basename(path)} ({copy})": copy for copy, path in copies.items()})
-        drafting = Draft(program, JOINED if len(copies) > 1 else "0.pcap")
+        whole = audited({f"{os.path.basename(path)} ({copy})" if len(copies) > 1 else os.path.basename(path): copy
+                         for copy, path in copies.items()}, program.caller)
+        drafting = Draft(program, whole.path)
+        for warning in whole.torn:
+            drafting.remark(warning_words(warning))
         if len(copies) > 1:
             drafting.remark(f"{len(copies)} captures were joined in order of time.")
         claim = drafting.claim(wanted)

@@ -36,7 +36,7 @@ Few = Annotated[list[Address], length(0, FEW)]
 def is_left(name: str) -> bool:
     """Whether an audit leaves a file of this name, seen from the record's folder."""
     day, _, file = name.rpartition("/")
-    return name == JOINED or (file in LEFT | {CLAIM} and matching(r"\d{4}-\d\d-\d\d")(day) if day else file in LEFT)
+    return file in LEFT | {CLAIM} and matching(r"\d{4}-\d\d-\d\d")(day) if day else file in LEFT
 
 
 Left = Annotated[str, is_left]
@@ -98,7 +98,7 @@ class Alert:
     """A warning that stands beside a verdict."""
 
     kind: Literal["outside", "no-drift", "falls", "far", "leap", "leap-second", "leap-ends", "sources", "reference",
-                  "apart", "drift", "reading", "step", "oscillator"]
+                  "apart", "drift", "reading", "step", "oscillator", "torn"]
     count: Count = 0
     record: Count = 0
     before: Nanoseconds = 0
@@ -108,6 +108,8 @@ class Alert:
     reference: Annotated[str, matching("[0-9a-f]{0,8}")] = ""
     seconds: list[tuple[Seconds, Annotated[int, within(-9, 9)]]] = field(default_factory=list)
     servers: list[Address] = field(default_factory=list)
+    file: Annotated[str, or_nothing(is_name)] = ""
+    place: Count = 0
 
 
 AGAINST = frozenset({"drift", "reading", "step", "leap-second", "leap-ends"})
@@ -207,7 +209,7 @@ class Record:
     inputs: dict[Name, Sum]
     """The SHA-256 of each input, by its name."""
     capture: Annotated[str, or_nothing(is_name)]
-    """The capture that was read: the one input, or the file in which several were joined."""
+    """The capture that was read: the one input, or the file that was made of all."""
     made: Time
     seconds: Annotated[float, within(0, 10**9)]
     signed: Annotated[str, or_nothing(is_time)]

@@ -6,10 +6,12 @@ picture that is stretched, and the words stand beside it at parts of the width.
 """
 from __future__ import annotations
 
+import os
 import sys
 from collections.abc import Callable, Collection
 
 from .answers import Envelope, read_envelope
+from .captures import audited
 from .cells import Cell, cells_of
 from .claim import Claim
 from .folder import CLAIM, LIMITS, copy_named
@@ -255,7 +257,8 @@ def print_picture(program: Program, claim: str, capture: str, step: int) -> int:
     with scratch():
         copy_named(claim, CLAIM, program.limit, LIMITS[CLAIM])
         copy_named(capture, "0.pcap", program.limit)
-        text = program.run("envelope", CLAIM, "0.pcap", "--servers", "--step", str(step)).text
+        whole = audited({os.path.basename(capture): "0.pcap"}, program.caller)
+        text = program.run("envelope", CLAIM, whole.path, "--servers", "--step", str(step)).text
         with open(CLAIM, "rb") as opened:
             given: Claim = read_typed(CLAIM, Claim, opened.read())
     label = f"The error of the clock of {given.client}"

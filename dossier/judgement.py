@@ -40,12 +40,13 @@ class Texts(NamedTuple):
     """Who asks whom, by `list`, if there is no evidence."""
 
 
-class Setting(NamedTuple):
-    """What a verdict is seen beside: what the capture holds, a list of leap seconds, and the folder's own evidence."""
+class Beside(NamedTuple):
+    """What a verdict is seen beside: a list of leap seconds, the folder's own evidence, and captures that were cut
+    off."""
 
-    recording: Recording
     leaps: LeapList
     backing: Backing
+    torn: list[Alert]
 
 
 def more_drift(claim: Claim) -> int:
@@ -53,14 +54,17 @@ def more_drift(claim: Claim) -> int:
     return min(max(MORE * claim.drift_ppb, OSCILLATOR), GREATEST_DRIFT)
 
 
-def judge(part: Part, setting: Setting, texts: Texts, step: int, outputs: dict[str, str]) -> Entry:
+def judge(part: Part, recording: Recording, beside: Beside, texts: Texts, step: int,
+          outputs: dict[str, str]) -> Entry:
     """The entry that the program's texts come to, beside what else is known."""
-    claim, recording = part.claim, setting.recording
-    leap = look_up(setting.leaps, claim, recording)
+    claim, leap = part.claim, look_up(beside.leaps, part.claim, recording)
     settled, envelope = read_settled(texts.settled), read_envelope(texts.envelope)
     advice = read_advice(texts.report) if settled.answer == YES else {}
     servers = servers_of(claim, recording)
-    warned = [*warnings(claim, setting, envelope, advice), *against(setting.backing, claim, leap, setting.leaps)]
+    warned = [*beside.torn, *warnings(claim, recording, envelope, advice),
+              *against(beside.backing, claim, leap, beside.leaps)]
+    if 0 < claim.drift_ppb <= OSCILLATOR and not beside.backing.read:
+        warned.append(Alert("oscillator", claim.drift_ppb))
     reason = reason_of(claim, servers, settled, envelope, texts, recording)
     if settled.answer == YES and any(warning.kind in AGAINST for warning in warned):
         reason = Reason("evidence")
@@ -106,7 +110,7 @@ def reason_of(claim: Claim, servers: list[Server], settled: Settled, envelope: E
     """Of what isn't a yes by the program: why, and what shows it."""
     if settled.answer == REFUTED:
         reason = why_refuted(bound_ticks(claim.bound_ns), envelope)
-        return beside(claim, recording) or reason if reason.why == "exceeds" else reason
+        return away(claim, recording) or reason if reason.why == "exceeds" else reason
     if settled.answer == OPEN:
         return Reason("tick", tick=settled.tick, hull=settled.hull)
     if settled.answer == NO_EVIDENCE:
@@ -116,7 +120,7 @@ def reason_of(claim: Claim, servers: list[Server], settled: Settled, envelope: E
     return None
 
 
-def beside(claim: Claim, recording: Recording) -> Reason | None:
+def away(claim: Claim, recording: Recording) -> Reason | None:
     """The reason if all packets were recorded before the span, or all after it."""
     if recording.first is None or recording.last is None:
         return None
@@ -165,9 +169,8 @@ def servers_of(claim: Claim, recording: Recording) -> list[Server]:
             for number, address in enumerate(claim.servers)]
 
 
-def warnings(claim: Claim, setting: Setting, envelope: Envelope, advice: dict[str, str]) -> Iterator[Alert]:
+def warnings(claim: Claim, recording: Recording, envelope: Envelope, advice: dict[str, str]) -> Iterator[Alert]:
     """What stands beside a verdict, whatever it is."""
-    recording, backed = setting.recording, setting.backing
     if recording.first is not None and recording.last is not None:
         before, after = recording.first - claim.first * SECOND, claim.last * SECOND - recording.last
         if before > 0 or after > 0:
@@ -186,8 +189,6 @@ def warnings(claim: Claim, setting: Setting, envelope: Envelope, advice: dict[st
         yield Alert("reference", reference=advice["reference"])
     if apart := [server for server, seen in ranges_of(envelope).items() if seen.apart]:
         yield Alert("apart", servers=apart)
-    if 0 < claim.drift_ppb <= OSCILLATOR and not backed.read:
-        yield Alert("oscillator", claim.drift_ppb)
 
 
 def far_pieces(claim: Claim, recording: Recording, envelope: Envelope) -> Iterator[Alert]:

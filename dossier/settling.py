@@ -2,6 +2,7 @@
 from __future__ import annotations
 
 import os
+from collections.abc import Callable
 from dataclasses import replace
 
 from . import folder as files
@@ -10,8 +11,9 @@ from .claim import GREATEST_BOUND, Part
 from .entry import NO_EVIDENCE, NOTHING_FITS, REFUTED, YES, Entry
 from .fault import MISSING, Fault, fault
 from .folder import Copy
-from .judgement import Setting, Texts, judge, more_drift
-from .program import Program, sum_of
+from .judgement import Beside, Texts, judge, more_drift
+from .program import Program, sum_of, sum_of_file
+from .recording import read_recording
 from .traffic import read_traffic
 
 MANY_PIECES = 10_000
@@ -31,15 +33,20 @@ class Settling:
         self.sums = dict(sums)
         self.left: dict[str, str] = {}
 
-    def settle(self, setting: Setting) -> Entry:
-        """Makes all calls and leaves all files."""
+    def settle(self, beside: Beside, cut_to: Callable[[str], bool] | None) -> Entry:
+        """Makes all calls and leaves all files. A day is settled on its own records."""
         if self.part.name != ".":
             os.mkdir(self.part.name)
             self.keep(files.CLAIM, self.part.claim.text)
+        own = self.part.within(files.JOINED)
+        if cut_to and cut_to(own):
+            self.capture, self.sums[own] = own, sum_of_file(own)
+            self.left[own] = self.sums[own]
+        recording = read_recording(self.program, self.claim, self.capture, wants_request=True)
         texts = self.decide()
         words = ("envelope", self.claim, self.capture, "--servers", "--least", "--step", str(self.step))
         texts = texts._replace(envelope=self.keep(files.ENVELOPE, self.call(*words)))
-        return judge(self.part, setting, texts, self.step, self.left)
+        return judge(self.part, recording, beside, texts, self.step, self.left)
 
     def keep(self, name: str, data: bytes) -> bytes:
         """Leaves a file of this part."""

@@ -79,7 +79,7 @@ def why_no_evidence(entry: Entry, found: Reason) -> str:
         begin, end = map(shown_time, found.recorded)
         return f"No packet was recorded within the span: they are from {begin} to {end}, and times are UTC."
     if not counts.get("records"):
-        return "The capture is empty: it has no record at all."
+        return "Nothing was recorded: there is no record at all."
     if not counts.get("requests"):
         if found.asked:
             return f"{client} asks none of the claim's servers: it asks {', '.join(found.asked)}."

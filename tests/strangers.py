@@ -104,8 +104,7 @@ def test_hidden_capture(place):
         forge(folder, hide)
         status, out, _ = dossier("verify", folder)
         check(f"a verdict about {capture}", verified=(b": verified" in out, False), status=(status in (1, 2, 4, 70), True))
-    if shutil.which("mergecap"):
-        check("a wrong join", line=(b"joined.pcap: from byte 24 on (line 1) it is" in dossier("verify", joined)[1], True))
+    check("a wrong join", line=(b"joined.pcap: from byte 24 on (line 1) it is" in dossier("verify", joined)[1], True))
 
 
 def test_swapped_record(place):
@@ -363,14 +362,14 @@ def test_programs(place):
     """Programs of the folder aren't run, and one that doesn't end is ended with all that it began."""
     folder = folder_of(place, "host")
     shutil.copy(folder / "f.pcap", folder / "g.pcap")
-    for name in ("mergecap", "ssh-keygen", "tcpdump"):
+    for name in ("zstd", "ssh-keygen", "tcpdump"):
         (folder / name).write_text(f'#!/bin/sh\ntouch "{place}/owned"\n')
         (folder / name).chmod(0o755)
     path = {**ENVIRONMENT, "PATH": f".::{os.environ['PATH']}"}
     for cwd, named in ((place, "host"), (folder, ".")):
         status, _, _ = dossier("audit", "--again", named, cwd=cwd, env=path)
         dossier("verify", named, cwd=cwd, env=path)
-        check(f"programs of the folder, called in {cwd.name}", owned=((place / "owned").exists(), False), status=(status, 1 if shutil.which("mergecap") else 70))
+        check(f"programs of the folder, called in {cwd.name}", owned=((place / "owned").exists(), False), status=(status, 1))
     slow = place / "slow"
     slow.write_text(f'#!/bin/sh\n[ "$1" = --version ] && exec "{PROGRAM}" "$1"\nsleep 314 & echo $! >> "{place}/sleeping"\nwait\n')
     slow.chmod(0o755)
@@ -536,7 +535,9 @@ def test_own_faults(place):
     limit.room = 100
     check("room", over=(is_taken(lambda data: limit.take(101), ""), False))
     lines = ["f.pcap is a FIFO", "f.pcap is too big: it has more than 1 bytes", "audit.json isn't one that is taken (inputs)", "not done within 600 s (--limit)", "f.pcap has changed meanwhile", "the folder is a link: name the folder itself",
-             "out of memory", "it can't be worked on (x)", "its copies and answers take more than 1 bytes", "no folder for private copies can be made (x): TMPDIR names another place", "report.txt can't be written (x)", "f.pcap can't be read (x)"]
+             "out of memory", "it can't be worked on (x)", "its copies and answers take more than 1 bytes", "no folder for private copies can be made (x): TMPDIR names another place", "report.txt can't be written (x)", "f.pcap can't be read (x)",
+             "f.pcap is damaged from byte 24 on, so it can't be joined with the others", "f.pcap.zst is packed by zstd, which isn't installed to unpack it", "f.pcap.gz can't be unpacked: its gzip is damaged", "f.pcapng has frames of several kinds",
+             "f.pcapng has packets without a time", "f.pcapng has times that are coarser than microseconds", "f.pcapng is damaged at byte 9", "f.pcapng has a block that is damaged", "f.pcapng has a packet that is damaged"]
     check("remedies of these", missing=([line for line in lines if not remedy(f"ntpaudit-dossier: {line}")[0]], []))
     pidfd_open = os.pidfd_open
 

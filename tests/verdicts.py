@@ -116,7 +116,7 @@ def silent_folders(place):
     length = 16 + int.from_bytes(whole[32:36], "little")
     (unanswered / "f.pcap").write_bytes(whole[:24] + b"".join(whole[at : at + length] for at in range(24, len(whole), 2 * length)))
     return {
-        empty: "The capture is empty: it has no record at all.",
+        empty: "Nothing was recorded: there is no record at all.",
         good_folder(place, "client", client="192.0.2.11"): "192.0.2.11 asks nobody in this capture: 192.0.2.10 does.",
         good_folder(place, "servers", servers=["203.0.113.1", "203.0.113.2"]): "192.0.2.10 asks none of the claim's servers: it asks 192.0.2.1, 192.0.2.2, 192.0.2.3, 192.0.2.4.",
         unanswered: "The servers never answered: 8 requests, and no reply.",
