@@ -11,11 +11,12 @@ from .backing import backing
 from .entry import (NO_EVIDENCE, NOT_VERIFIED, NOTHING_FITS, OPEN, REFUSED, REFUTED, UNSUPPORTED, YES, Entry, Reason,
                     Record)
 from .evidence import evidence
-from .figure import fails_of, legend, picture, stroke
+from .figure import legend, picture, stroke
 from .folder import ENVELOPE, REPORT, Folder
 from .markup import Html, element, joined, lines, minus, with_code
 from .premises import premises
 from .ranges import ranges_of
+from .recording import SECOND
 from .signature import GOOD, NONE, UNSEEN, Signature, in_words
 from .support import support
 from .table import Row
@@ -116,9 +117,15 @@ def figure(name: str, entry: Entry, envelope: Envelope) -> Html:
     return element("figure", lines([
         "",
         element("figcaption", label),
-        picture(envelope, entry.claim.bound_ns, name, label),
-        legend(list(envelope.servers), fails_of(envelope, entry.claim.bound_ns)),
+        picture(envelope, entry.claim.bound_ns, name, label, steps_of(entry)),
+        legend(envelope, entry.claim.bound_ns),
         ""]))
+
+
+def steps_of(entry: Entry) -> list[int]:
+    """When the clock was stepped, in Unix seconds: by what the capture shows, or by what the client logged."""
+    seen = [entry.reason.between[1]] if entry.reason and entry.reason.between else []
+    return seen + [warning.before // SECOND for warning in entry.warnings if warning.kind == "step"]
 
 
 def rows(columns: dict[str, str], found: Iterable[Iterable[object]], name: str = "") -> Html:

@@ -68,6 +68,8 @@ class Reason:
     apart: list[Address] = field(default_factory=list)
     """Where nothing fits: the drift that was tried; each conflict, with the server and the record of a request and
     those of a reply; and the servers that are apart."""
+    between: tuple[Seconds, Seconds] | None = None
+    """`step`: when records show it, the last before it and the first after it that contradict each other."""
     heard: Count = 0
     asking: Few = field(default_factory=list)
     asked: Few = field(default_factory=list)

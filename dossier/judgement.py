@@ -6,9 +6,9 @@ from __future__ import annotations
 
 from collections.abc import Iterator
 from operator import sub
-from typing import Literal, NamedTuple
+from typing import NamedTuple
 
-from .answers import Envelope, Settled, read_advice, read_envelope, read_settled
+from .answers import Envelope, Settled, read_advice, read_between, read_envelope, read_settled
 from .backing import Backing, against
 from .claim import GREATEST_DRIFT, OSCILLATOR, Claim, Part
 from .entry import (AGAINST, FEW, NO_EVIDENCE, NOTHING_FITS, OPEN, REFUTED, UNSUPPORTED, YES, Alert, Entry, Hull,
@@ -35,6 +35,8 @@ class Texts(NamedTuple):
     other: bytes = b""
     """The answer of `settle` to another claim: at a yes with the bound 0, where nothing fits with more drift and
     the greatest bound."""
+    human: bytes = b""
+    """The answer of `settle --human`, if nothing fits."""
     envelope: bytes = b""
     traffic: Traffic | None = None
     """Who asks whom, by `list`, if there is no evidence."""
@@ -116,7 +118,7 @@ def reason_of(claim: Claim, servers: list[Server], settled: Settled, envelope: E
     if settled.answer == NO_EVIDENCE:
         return silent(claim, settled.heard, texts.traffic or Traffic())
     if settled.answer == NOTHING_FITS:
-        return why_nothing_fits(claim, servers, settled, read_settled(texts.other).answer != NOTHING_FITS)
+        return why_nothing_fits(claim, servers, settled, texts)
     return None
 
 
@@ -144,7 +146,7 @@ def why_refuted(bound: int, envelope: Envelope) -> Reason:
     return Reason("exceeds") if off is None else Reason("off", piece_of(envelope, off))
 
 
-def why_nothing_fits(claim: Claim, servers: list[Server], settled: Settled, fits_with_more: bool) -> Reason:
+def why_nothing_fits(claim: Claim, servers: list[Server], settled: Settled, texts: Texts) -> Reason:
     """`apart` with the servers of groups that are in conflict with themselves or with most others, if these are the
     minority and in each conflict; else `drift` if a course fits with more drift; `step` if each group is in conflict
     with itself; else `many`."""
@@ -158,8 +160,11 @@ def why_nothing_fits(claim: Claim, servers: list[Server], settled: Settled, fits
     if 2 * len(apart) < len(heard) and all(a in apart or b in apart for a, b in pairs):
         names = [server.address for server in servers if server.group in apart]
         return Reason("apart", drift_ppb=tried, conflicts=conflicts, apart=names)
-    why: Literal["drift", "step", "many"] = "drift" if fits_with_more else "step" if broken == heard else "many"
-    return Reason(why, drift_ppb=tried, conflicts=conflicts)
+    if read_settled(texts.other).answer != NOTHING_FITS:
+        return Reason("drift", drift_ppb=tried, conflicts=conflicts)
+    if broken != heard:
+        return Reason("many", drift_ppb=tried, conflicts=conflicts)
+    return Reason("step", drift_ppb=tried, conflicts=conflicts, between=read_between(texts.human))
 
 
 def servers_of(claim: Claim, recording: Recording) -> list[Server]:

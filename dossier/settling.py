@@ -91,6 +91,7 @@ class Settling:
             return texts._replace(traffic=read_traffic(self.program, self.capture))
         if answer == NOTHING_FITS:
             granted = {"drift_ppb": more_drift(self.part.claim), "bound_ns": GREATEST_BOUND}
+            texts = texts._replace(human=self.call("settle", "--human", self.claim, self.capture))
             return texts._replace(other=self.settled(files.CLAIM_OF_DRIFT, **granted))
         return texts
 

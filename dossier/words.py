@@ -113,7 +113,9 @@ def why_nothing_fits(found: Reason) -> str:
     if found.why == "drift":
         return f"With {drift} a course of events would fit: the claim grants too little drift."
     if found.why == "step":
-        return f"Every server is in conflict with itself, and would be with {drift}: so it is if the clock was stepped."
+        when = f", after {shown_time(found.between[0])} and by {shown_time(found.between[1])}" if found.between else ""
+        return (f"Every server is in conflict with itself, and would be with {drift}: so it is if the clock was stepped"
+                f"{when}.")
     return f"More servers are in conflict than the claim takes for wrong: there {is_or_are(number)} {conflicts}."
 
 
@@ -125,7 +127,7 @@ def to_do(entry: Entry) -> str:
         return " ".join(alerts.TO_DO[warning.kind] for warning in entry.warnings if warning.kind in AGAINST)
     least = f"A bound of {ns_up_ms(entry.least_ns)} ms is the least that a certificate carries. " \
         if entry.least_ns is not None and entry.verdict != NO_EVIDENCE else ""
-    return least + TO_DO[entry.reason.why]
+    return least + TO_DO[entry.reason.why] + cut_at(entry.reason)
 
 
 TIGHTER = "For a tighter one ask nearer servers, more of them, or more often; or grant less drift, if that is true."
@@ -142,11 +144,20 @@ TO_DO = {
              "and name more servers. Those that follow one another belong into one group.",
     "drift": "Grant as much as the oscillator and the client's corrections can make: `ntpaudit-dossier draft "
              "--chrony` or `--ntpd` reads them of the client's configuration.",
-    "step": "Look for the step in the client's messages (`System clock was stepped`), cut the capture there with "
-            "`editcap -A` and `-B`, and claim the time before and the time after by themselves.",
+    "step": "Look for the step in the client's messages (`System clock was stepped`). ",
     "many": "See in the conflicts which servers are in most, and in the picture how far off. Grant that they were "
             "wrong (`false_max`) and name more; or the claim grants too little of `reading_ns`.",
 }
+
+
+def cut_at(found: Reason) -> str:
+    """The commands that cut a capture where a step was seen."""
+    if not found.between:
+        return ""
+    before, after = shown_time(found.between[1]), shown_time(found.between[1] + 1)
+    return (f"`editcap -F pcap -A '{after}Z' f.pcap after.pcap` keeps what came after, and `editcap -F pcap -B "
+            f"'{before}Z' f.pcap before.pcap` what came before (`-F nsecpcap` if it has nanoseconds): claim each by "
+            "itself. With `--days` only the day of the step is lost.")
 
 
 def fit(entry: Entry) -> str:

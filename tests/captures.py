@@ -5,6 +5,7 @@ tests/dossier calls them, each in a folder of its own. The pcapng files are writ
 import gzip
 import json
 import random
+import re
 import shutil
 import struct
 
@@ -136,6 +137,26 @@ def test_torn(place):
     check("a draft of a torn capture", status=(status, 0), told=(b"\nf.pcap ends inside a record" in b"\n" + err, True))
 
 
+def test_step(place):
+    """Where a step is seen it is said after and by when, it is drawn, and the commands that cut there leave two claims that hold."""
+    for name, size in (("forwards", 50 * MS), ("backwards", -50 * MS)):
+        words = [f"{server}:{low}..{low + 9}@{second}" for second in range(NOON, NOON + 1200, 30) for low in [size if second > NOON + 600 else 0] for server in (1, 2)]
+        folder = days_of(place, name, words, to="2001-09-09T12:19:30Z")
+        dossier("audit", folder)
+        row, text = table(folder)[0], dossier("page", folder)[1].decode()
+        check(f"a step {name}", verdict=(row["verdict"], "nothing fits"), said=("so it is if the clock was stepped, after 2001-09-09 12:00:00 and by 2001-09-09 12:10:30." in row["reason"], True),
+              drawn=(len(re.findall(r'class="step" d="M(\d+) 0V', text)), 1), at=(abs(int(re.search(r'class="step" d="M(\d+) 0V', text)[1]) / 10_000 * 1170 - 630) < 1, True), verified=(dossier("verify", folder)[0], 0))
+        commands = re.findall(r"`(editcap [^`]*)`", row["to_do"])
+        check(f"commands that cut at a step {name}", count=(len(commands), 2))
+        if not shutil.which("editcap"):
+            skipped("captures that are cut at a step", "editcap isn't installed")
+            continue
+        for command, made, times in zip(commands, ("after", "before"), ({"from": "2001-09-09T12:10:31Z"}, {"to": "2001-09-09T12:10:00Z"})):
+            status, _, err = run(["sh", "-c", command.replace("-F pcap", "-F nsecpcap")], cwd=folder)
+            half = folder_of(place, f"{name} {made}", folder / f"{made}.pcap", folder / "claim.json", **times)
+            check(f"what was recorded {made} a step {name}", run=((status, err), (0, b"")), audit=(dossier("audit", half)[0], 0))
+
+
 DAY, NOON = 86_400, 1_000_000_000 - 1_000_000_000 % 86_400 + 43_200
 MS = 4_294_967
 
@@ -234,4 +255,4 @@ def test_hostile_captures(place):
     check("a gzip that grows", said=(seen, ["bomb.pcap.gz is too big: it has more than 10,000,000 bytes"]), left=((place / "bomb.gz.unpacked").stat().st_size <= 10_000_000, True))
 
 
-CAPTURE_TESTS = [test_people_have, test_units, test_torn, test_own_records, test_many_exchanges, test_hostile_captures]
+CAPTURE_TESTS = [test_people_have, test_units, test_torn, test_step, test_own_records, test_many_exchanges, test_hostile_captures]
