@@ -216,6 +216,50 @@ def test_many_exchanges(place):
     check("so many exchanges by days", status=(status, lambda status: status in (0, 1)), error=(err, b""), lines=(len(out.splitlines()), 2), refused=(b"refused" in out, False))
 
 
+def linux_sll(whole):
+    """The same capture as `-i any` records it."""
+    found = whole[:20] + struct.pack("<I", 113)
+    for record in records_of(whole):
+        seconds, part, captured, length = struct.unpack("<IIII", record[:16])
+        found += struct.pack("<IIII", seconds, part, captured + 2, length + 2) + bytes((0, 0, 0, 1, 0, 6)) + record[22:28] + bytes(2) + record[28:]
+    return found
+
+
+NEEDED = {
+    "magic": (lambda whole: run(["editcap", "-F", "snoop", "-", "-"], whole)[1], "editcap"), "version": (lambda whole: whole[:6] + b"\x05\x00" + whole[8:], "editcap"), "link": (linux_sll, "editcap"),
+    "joined by cat": (lambda whole: halves(whole), "head"),
+    "too many": (lambda whole: whole + (struct.pack("<IIII", 1_795_331_030, 0, 1, 60) + b"x") * 4_000_001, "tcpdump"),
+}
+"""Of each remedy a capture that needs it, made of a good one, and the tool that its commands call."""
+
+
+def halves(whole):
+    records = records_of(whole)
+    return whole[:24] + b"".join(records[: len(records) // 2]) + whole[:24] + b"".join(records[len(records) // 2 :])
+
+
+def test_remedies_work(place):
+    """Each command that a remedy names, on a capture that needs it: what comes out is audited."""
+    from dossier.remedies import REMEDIES, remedy
+    whole = (DATA / "clients-us.pcap").read_bytes()
+    for name, (spoil, tool) in NEEDED.items():
+        if not shutil.which(tool):
+            skipped(f"the remedy of a capture: {name}", f"{tool} isn't installed")
+            continue
+        folder = folder_of(place, name)
+        (folder / "f.pcap").write_bytes(spoil(whole))
+        status, out, _ = dossier("audit", folder)
+        place_of = (re.findall(rb" at (\d+)", out) or [b"0"])[0].decode()
+        commands = [command for command in re.findall(r"`([^`]*)`", remedy(out.decode())[1]) if command.startswith((tool, "tail")) and "g.pcap" in command + "g.pcap" * command.startswith("tail")]
+        ran = [run(["sh", "-c", command.replace("PLACE", place_of)], cwd=folder)[0] for command in commands]
+        (folder / "f.pcap").unlink()
+        again, said, _ = dossier("audit", folder)
+        check(f"the remedy of a capture: {name}", refused=(status, 2), commands=(bool(commands), True), ran=(set(ran), {0}), audited=(again, 0), verdict=(said.decode().split(":")[0].split()[0], "yes"))
+    named = " ".join(known.what for known in REMEDIES)
+    check("no remedy writes another format", editcap=([command for command in re.findall(r"`(editcap [^`]*)`", named) if "-F pcap" not in command], []),
+          filters=([command for command in re.findall(r"`(tcpdump -[^`]*-w[^`]*)`", named) if "vlan and udp port 123" not in command], []))
+
+
 def test_hostile_captures(place):
     """Packed and other captures of a stranger's: refused, with the file's own name, or settled; nothing else comes of them."""
     nano = (DATA / "vlan-ns.pcap").read_bytes()
@@ -255,4 +299,4 @@ def test_hostile_captures(place):
     check("a gzip that grows", said=(seen, ["bomb.pcap.gz is too big: it has more than 10,000,000 bytes"]), left=((place / "bomb.gz.unpacked").stat().st_size <= 10_000_000, True))
 
 
-CAPTURE_TESTS = [test_people_have, test_units, test_torn, test_step, test_own_records, test_many_exchanges, test_hostile_captures]
+CAPTURE_TESTS = [test_people_have, test_units, test_torn, test_step, test_own_records, test_many_exchanges, test_remedies_work, test_hostile_captures]
