@@ -89,6 +89,12 @@ def apart(found: Alert) -> str:
     return f"{' and '.join(found.servers)} {'stands' if len(found.servers) == 1 else 'stand'} apart: {its} the hull."
 
 
+def interleaved(found: Alert) -> str:
+    answer, line = ("answers", "its line") if len(found.servers) == 1 else ("answer", "their lines")
+    return (f"{' and '.join(found.servers)} mostly {answer} in interleaved mode, of which nothing follows: take "
+            f"`xleave` out of {line} in chrony.conf, and record again.")
+
+
 def sources(found: Alert) -> str:
     return (f"Only {count(found.count, 'server has', 'servers have')} a sample. "
             "With fewer than four there is none to spare: it takes three to outvote one that is wrong.")
@@ -103,6 +109,7 @@ WORDS: dict[str, Callable[[Alert], str]] = {
     "outside": outside, "no-drift": no_drift, "falls": falls, "far": far, "leap": leap, "leap-second": leap_second,
     "leap-ends": leap_ends, "sources": sources, "reference": reference, "apart": apart, "drift": drift,
     "reading": reading, "step": step, "oscillator": oscillator, "torn": torn,
+    "interleaved": interleaved,
 }
 TO_DO = {
     "drift": "Grant as much drift as the evidence has, and audit again.",

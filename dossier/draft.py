@@ -11,6 +11,7 @@ from .alerts import warning_words
 from .answers import read_hulls
 from .captures import audited
 from .claim import Claim
+from .entry import Alert
 from .folder import CLAIM, Copy, copy_named
 from .limit import Limit
 from .program import Program
@@ -103,6 +104,8 @@ class Draft:
             return None
         if wanted.is_oscillator:
             self.remarks.insert(0, f"drift_ppb is {wanted.drift_ppb}, an oscillator alone: {NOT_IN_IT}")
+        if mode := seen.interleaving(client, sorted(seen.answered[client], key=number_of)):
+            self.remark(warning_words(Alert("interleaved", servers=mode)))
         servers = sorted((server for server, _ in seen.answered[client].most_common(MOST_SERVERS)), key=number_of)
         if len(seen.answered[client]) > MOST_SERVERS:
             self.remark(f"A claim names at most {MOST_SERVERS} servers: those that answered least are left out.")

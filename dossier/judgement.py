@@ -39,7 +39,7 @@ class Texts(NamedTuple):
     """The answer of `settle --human`, if nothing fits."""
     envelope: bytes = b""
     traffic: Traffic | None = None
-    """Who asks whom, by `list`, if there is no evidence."""
+    """Who asks whom, by `list`, if there is no evidence, or many replies have no request."""
 
 
 class Beside(NamedTuple):
@@ -65,6 +65,8 @@ def judge(part: Part, recording: Recording, beside: Beside, texts: Texts, step: 
     servers = servers_of(claim, recording)
     warned = [*beside.torn, *warnings(claim, recording, envelope, advice),
               *against(beside.backing, claim, leap, beside.leaps)]
+    if texts.traffic and (mode := texts.traffic.interleaving(claim.client, claim.servers)):
+        warned.append(Alert("interleaved", servers=mode))
     if 0 < claim.drift_ppb <= OSCILLATOR and not beside.backing.read:
         warned.append(Alert("oscillator", claim.drift_ppb))
     reason = reason_of(claim, servers, settled, envelope, texts, recording)

@@ -13,7 +13,7 @@ from .fault import MISSING, Fault, fault
 from .folder import Copy
 from .judgement import Beside, Texts, judge, more_drift
 from .program import Program, sum_of, sum_of_file
-from .recording import read_recording
+from .recording import Recording, read_recording
 from .traffic import read_traffic
 
 MANY_PIECES = 10_000
@@ -44,6 +44,8 @@ class Settling:
             self.left[own] = self.sums[own]
         recording = read_recording(self.program, self.claim, self.capture, wants_request=True)
         texts = self.decide()
+        if read_settled(texts.settled).answer == NO_EVIDENCE or do_many_miss(recording, len(self.part.claim.servers)):
+            texts = texts._replace(traffic=read_traffic(self.program, self.capture))
         words = ("envelope", self.claim, self.capture, "--servers", "--least", "--step", str(self.step))
         texts = texts._replace(envelope=self.keep(files.ENVELOPE, self.call(*words)))
         return judge(self.part, recording, beside, texts, self.step, self.left)
@@ -87,8 +89,6 @@ class Settling:
             text, said = self.contest(files.CLAIM, text)
             return Texts(text, self.keep(files.REPORT, said))
         texts = Texts(text, self.keep(files.REPORT, text))
-        if answer == NO_EVIDENCE:
-            return texts._replace(traffic=read_traffic(self.program, self.capture))
         if answer == NOTHING_FITS:
             granted = {"drift_ppb": more_drift(self.part.claim), "bound_ns": GREATEST_BOUND}
             texts = texts._replace(human=self.call("settle", "--human", self.claim, self.capture))
@@ -115,6 +115,11 @@ class Settling:
             return self.judged(*words).endswith(b"refuted yes\n")
         except Fault:
             return False
+
+
+def do_many_miss(recording: Recording, servers: int) -> bool:
+    """Whether so many replies have no request that they may be most of one server's."""
+    return 2 * servers * recording.counts.get("norequest", 0) > recording.counts.get("replies", 0)
 
 
 def envelope_step_of(part: Part) -> int:

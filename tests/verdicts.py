@@ -10,7 +10,7 @@ import shutil
 
 from audits import PROGRAM, capture_of, check, check_page, dossier, folder_of, table
 from leaps import LATER, leap_list
-from tally import DATA, run
+from tally import DATA, ROOT, run
 
 FIRST = 1_000_000_000
 GOOD = [f"{server}:-1000..1000@{FIRST + second}" for second in (10, 40) for server in (1, 2, 3, 4)]
@@ -107,6 +107,21 @@ def test_no_audit(place):
     check("version", run=((status, err), (0, b"")), lines=(out.splitlines()[0], b"ntpaudit-dossier, form 7 of audit.json"), program=(out.splitlines()[1].startswith(program + b", SHA-256 "), True))
 
 
+def test_interleaved(place):
+    """A server that answers in interleaved mode is named by draft and page, with what to set: by what a real chronyd sent."""
+    capture = ROOT / "tests" / "client" / "interleaved.pcap"
+    said = "10.9.0.1 mostly answers in interleaved mode, of which nothing follows: take `xleave` out of its line"
+    status, out, err = dossier("draft", "--client", "10.9.0.2", capture)
+    check("a draft of interleaved mode", status=(status, 0), said=(said in err.decode(), True), named=("10.9.0.3 mostly" in err.decode(), False))
+    claim = {"client": "10.9.0.2", "servers": ["10.9.0.1", "10.9.0.3"], "false_max": 0, **{name: json.loads(out)[name] for name in ("from", "to")}, "bound_ns": 10**9}
+    for name, changes, is_warned in (("both", {}, True), ("one", {"servers": ["10.9.0.1"]}, True), ("other", {"servers": ["10.9.0.3"]}, False)):
+        folder = folder_of(place, name, capture, **{**CLAIM, **claim, **changes})
+        dossier("audit", folder)
+        row, text = table(folder)[0], dossier("page", folder)[1].decode()
+        shown = "".join(check_page(f"a page of interleaved mode: {name}", text).words)
+        check(f"interleaved mode: {name}", json=(any(said in words for words in row["warnings"]), is_warned), page=("10.9.0.1 mostly answers in interleaved mode" in shown, is_warned), verified=(dossier("verify", folder)[0], 0))
+
+
 def silent_folders(place):
     """Folders that say nothing of the clock, each with what is said."""
     empty = good_folder(place, "empty")
@@ -167,4 +182,4 @@ def test_many_together(place):
     shutil.rmtree(day)
 
 
-VERDICT_TESTS = [test_unsupported, test_no_audit, test_oscillator, test_nothing_seen, test_many_together]
+VERDICT_TESTS = [test_unsupported, test_interleaved, test_no_audit, test_oscillator, test_nothing_seen, test_many_together]
