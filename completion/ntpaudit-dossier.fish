@@ -30,6 +30,7 @@ complete -c ntpaudit-dossier -n "__fish_seen_subcommand_from audit page verify s
 complete -c ntpaudit-dossier -n "__fish_seen_subcommand_from audit page verify sign" -x -l limit
 complete -c ntpaudit-dossier -n "__fish_seen_subcommand_from page" -l json
 complete -c ntpaudit-dossier -n "__fish_seen_subcommand_from page" -l csv
+complete -c ntpaudit-dossier -n "__fish_seen_subcommand_from page" -r -l split
 complete -c ntpaudit-dossier -n "__fish_seen_subcommand_from page" -l verify
 complete -c ntpaudit-dossier -n "__fish_seen_subcommand_from page" -x -l title
 complete -c ntpaudit-dossier -n "__fish_seen_subcommand_from page measure" -r -l output

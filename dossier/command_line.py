@@ -82,6 +82,8 @@ def parser() -> Parser:
     form = page.add_mutually_exclusive_group()
     form.add_argument("--json", action="store_true", help="the table as JSON")
     form.add_argument("--csv", action="store_true", help="the table as CSV")
+    form.add_argument("--split", metavar="DIR",
+                      help="write a page of the table into DIR (index.html), and beside it a page for each folder")
     page.add_argument("--verify", action="store_true", help="verify the folders first; else what is known here counts")
     page.add_argument("--title", default="Clock dossier", metavar="TEXT", help="the page's heading")
     page.add_argument("-o", "--output", metavar="FILE",
@@ -192,6 +194,8 @@ def run(given: argparse.Namespace) -> int:
 
 
 def run_on_folders(given: argparse.Namespace, folders: list[str], limit: Limit) -> int:
+    if given.command == "page" and given.split and given.output:
+        raise fault("--split takes no --output: it writes into a folder", USAGE)
     known = Known(state_of(given.state), writes=given.command != "page" or given.verify)
     if given.command == "sign":
         from .signing import sign_all

@@ -99,9 +99,9 @@ class Outline(HTMLParser):
         self.words.append(words)
 
 
-def check_page(name, text):
+def check_page(name, text, links=()):
     page = Outline(text)
-    check(f"{name} is well-formed", wrong=(page.wrong, []), ids=(len(page.ids), len(set(page.ids))), fetched=(page.fetched, []),
+    check(f"{name} is well-formed", wrong=(page.wrong, []), ids=(len(page.ids), len(set(page.ids))), fetched=(page.fetched, list(links)),
           scripts=(page.tags & {"script", "img", "iframe", "object", "link"}, set()), style=("url(" in text or "@import" in text, False))
     if shutil.which("tidy"):
         status, _, err = run(["tidy", "-e", "-q", "--drop-empty-elements", "no", "--show-warnings", "no"], text.encode())

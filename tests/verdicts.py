@@ -6,6 +6,7 @@ tests/dossier calls them, each in a folder of its own.
 import csv
 import io
 import json
+import re
 import shutil
 
 from audits import PROGRAM, capture_of, check, check_page, dossier, folder_of, table
@@ -122,6 +123,56 @@ def test_interleaved(place):
         check(f"interleaved mode: {name}", json=(any(said in words for words in row["warnings"]), is_warned), page=("10.9.0.1 mostly answers in interleaved mode" in shown, is_warned), verified=(dossier("verify", folder)[0], 0))
 
 
+def test_split(place):
+    """A page of the table, and a page for each folder, linked; whatever stands in the folders and in the place."""
+    folders = [good_folder(place, "good"), good_folder(place, "<b>wrong</b>".replace("/", "-"), bound_ns=1), place / "missing"]
+    days = folder_of(place, "days", DATA / "clients-us.pcap", DATA / "clients-us.claim.json", **{"from": "2026-11-22T07:03:36Z", "to": "2026-11-24T00:00:00Z"})
+    dossier("audit", *folders)
+    dossier("audit", "--days", days)
+    made = place / "made" / "pages"
+    check("page --split", run=(dossier("page", "--split", made, *folders, days), (0, b"", b"")), files=(sorted(path.name for path in made.iterdir()), [f"{number:05}.html" for number in (1, 2, 3, 4)] + ["index.html"]))
+    index = (made / "index.html").read_text()
+    check_page("the page of the table", index, ["00002.html", "00004.html", "00004.html", "00003.html", "00001.html"])
+    check("the page of the table alone", articles=(index.count("<article"), 0), badges=([index.count(f'class="verdict {kind}"') for kind in ("yes", "refuted", "no-evidence", "refused")], [2, 3, 2, 2]), brief=(bool(re.search(r">\d warnings?<", index)), True))
+    whole = dossier("page", *folders, days)[1].decode()
+    for number, articles in ((1, 1), (2, 1), (3, 1), (4, 2)):
+        text = (made / f"{number:05}.html").read_text()
+        check_page(f"the page of folder {number}", text, ["index.html"])
+        own = re.findall(r"<article.*?</article>", text, flags=re.S)
+        check(f"the page of folder {number} has what the one page has", count=(len(own), articles), same=(all(article in whole for article in own), True))
+    check("page --split again", run=(dossier("page", "--split", made, folders[0])[0], 0), articles=((made / "00001.html").read_text().count("<article"), 1))
+    check("page --split and --output", status=(dossier("page", "--split", made, "-o", place / "x", folders[0])[0], 5), json=(dossier("page", "--split", made, "--json", folders[0])[0], 5))
+    (place / "file").write_text("kept")
+    status, _, err = dossier("page", "--split", place / "file", folders[0])
+    check("page --split into a file", status=(status, 4), line=((b"can't be written" in err, err.count(b"\n")), (True, 1)), kept=((place / "file").read_text(), "kept"))
+    check("page --split of no audit", status=(dossier("page", "--split", place / "none", place / "missing")[0], 2))
+
+
+TEN = {
+    "good": ({}, {}, "yes"), "outvoted server": ({}, {"words": [word.replace("4:-1000..1000", "4:900000000..900001000") for word in GOOD]}, "yes"),
+    "30 ms off": ({}, {"words": [word.replace("-1000..1000", "128849018..128850018") for word in GOOD], "bound_ns": 5_000_000}, "refuted"),
+    "stepped": ({}, {"words": [word if number < 4 else word.replace("-1000..1000", "900000000..900001000") for number, word in enumerate(GOOD)]}, "nothing fits"),
+    "contradictory": ({}, {"words": [word if number % 2 else word.replace("-1000..1000", "900000000..900001000") for number, word in enumerate(GOOD)]}, "nothing fits"),
+    "empty": ({}, {"bytes": 24}, "no evidence"), "wrong client": ({}, {"client": "192.0.2.11"}, "no evidence"), "local time": ({}, {"from": "2001-09-09T03:46:45Z", "to": "2001-09-09T03:47:20Z"}, "no evidence"),
+    "evidence against it": ({"drift": SETUP}, {}, "unsupported"), "torn": ({}, {"bytes": -50}, "yes"),
+}
+"""Ten folders, each with the verdict that an engineer on call wants at three in the night."""
+
+
+def test_ten(place):
+    folders = []
+    for name, (evidence, changes, _) in TEN.items():
+        size, words = changes.pop("bytes", None), changes.pop("words", GOOD)
+        folders.append(good_folder(place, name, evidence, words, **changes))
+        if size is not None:
+            (folders[-1] / "f.pcap").write_bytes((folders[-1] / "f.pcap").read_bytes()[:size])
+    status, out, err = dossier("audit", *folders)
+    rows = table(*folders)
+    check("ten folders", status=(status, 1), error=(err, b""), verdicts=({row["machine"].rpartition("/")[2]: row["verdict"] for row in rows}, {name: verdict for name, (_, _, verdict) in TEN.items()}),
+          warned=([name for name, row in zip(TEN, rows) if any("stands apart" in words or "ends inside a record" in words for words in row["warnings"])], ["outvoted server", "torn"]),
+          verified=(dossier("verify", *folders)[0], 0))
+
+
 def silent_folders(place):
     """Folders that say nothing of the clock, each with what is said."""
     empty = good_folder(place, "empty")
@@ -182,4 +233,4 @@ def test_many_together(place):
     shutil.rmtree(day)
 
 
-VERDICT_TESTS = [test_unsupported, test_interleaved, test_no_audit, test_oscillator, test_nothing_seen, test_many_together]
+VERDICT_TESTS = [test_ten, test_split, test_unsupported, test_interleaved, test_no_audit, test_oscillator, test_nothing_seen, test_many_together]
