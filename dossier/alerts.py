@@ -6,10 +6,9 @@ from collections.abc import Callable
 from .entry import Alert
 from .recording import SECOND
 from .support import named
-from .text import count
+from .text import capital, count, is_or_are, plain
 from .text import reference as letters
-from .units import shown_time, span_of_seconds
-from .words import between, capital, is_or_are
+from .units import between, civil, ns_ms, shown_time, span_of_seconds
 
 ON_DRIFT = "There it rests on the drift that the claim grants, and on nothing recorded."
 
@@ -37,7 +36,7 @@ def falls(found: Alert) -> str:
 
 def far(found: Alert) -> str:
     by = span_of_seconds(found.distance / SECOND)
-    where = f", {between(found.piece)}" if found.piece else ""
+    where = f", {between(found.piece.from_, found.piece.to)}" if found.piece else ""
     pieces = f"{count(found.count, 'piece')} {is_or_are(found.count)}"
     return (f"{pieces} farther from every sample than a tenth of the span; "
             f"the farthest{where}, by {by}. {ON_DRIFT}")
@@ -53,6 +52,49 @@ def leap_second(found: Alert) -> str:
             "No such span can be claimed.")
 
 
+def leap_ends(found: Alert) -> str:
+    return (f"The list of leap seconds was good until {civil(found.before // SECOND)[:10]} only, and the span or the "
+            "exchanges go on beyond that.")
+
+
+def reading(found: Alert) -> str:
+    return (f"Records were measured as late as {ns_ms(found.count)} ms after the clock was read, by the folder's own "
+            "evidence. That is more than the claim grants (`reading_ns`).")
+
+
+def drift(found: Alert) -> str:
+    return (f"Oscillator and client together may move the clock by {found.count:,} parts in 10^9, by the folder's own "
+            "evidence. That is more than the claim grants (`drift_ppb`).")
+
+
+def oscillator(found: Alert) -> str:
+    return (f"The claim grants {found.count:,} parts in 10^9, which is an oscillator alone. The client's own "
+            "corrections are NOT in it, unless evidence of its configuration says how small they are.")
+
+
+def torn(found: Alert) -> str:
+    more = f", and so do {count(found.count - 1, 'other')}" if found.count > 1 else ""
+    return (f"{plain(found.file)} ends inside a record, and counts up to there (byte {found.place:,}){more}. It was "
+            "cut off, or is still being written (`tcpdump -U` writes whole records).")
+
+
+def step(found: Alert) -> str:
+    more = f", the first of {found.count:,} steps" if found.count > 1 else ""
+    at = shown_time(found.before // SECOND)
+    return f"The client logged a step of the clock at {at}{more}. No drift covers a step."
+
+
+def apart(found: Alert) -> str:
+    its = "its range never meets" if len(found.servers) == 1 else "their ranges never meet"
+    return f"{' and '.join(found.servers)} {'stands' if len(found.servers) == 1 else 'stand'} apart: {its} the hull."
+
+
+def interleaved(found: Alert) -> str:
+    answer, line = ("answers", "its line") if len(found.servers) == 1 else ("answer", "their lines")
+    return (f"{' and '.join(found.servers)} mostly {answer} in interleaved mode, of which nothing follows: take "
+            f"`xleave` out of {line} in chrony.conf, and record again.")
+
+
 def sources(found: Alert) -> str:
     return (f"Only {count(found.count, 'server has', 'servers have')} a sample. "
             "With fewer than four there is none to spare: it takes three to outvote one that is wrong.")
@@ -65,8 +107,18 @@ def reference(found: Alert) -> str:
 
 WORDS: dict[str, Callable[[Alert], str]] = {
     "outside": outside, "no-drift": no_drift, "falls": falls, "far": far, "leap": leap, "leap-second": leap_second,
-    "sources": sources, "reference": reference,
+    "leap-ends": leap_ends, "sources": sources, "reference": reference, "apart": apart, "drift": drift,
+    "reading": reading, "step": step, "oscillator": oscillator, "torn": torn,
+    "interleaved": interleaved,
 }
+TO_DO = {
+    "drift": "Grant as much drift as the evidence has, and audit again.",
+    "reading": "Grant as much as was measured, and audit again.",
+    "step": "Claim the time before the step and the time after it by themselves.",
+    "leap-second": "Claim another span.",
+    "leap-ends": "Name a list that is good for the span (`--leap-seconds`), or bring the system's up to date.",
+}
+"""What to do about each warning that takes a yes away."""
 
 
 def warning_words(found: Alert) -> str:

@@ -7,22 +7,25 @@ from collections.abc import Iterable, Iterator
 from . import folder as files
 from .alerts import warning_words
 from .answers import Envelope, read_envelope
-from .entry import NO_EVIDENCE, NOT_VERIFIED, NOTHING_FITS, OPEN, REFUSED, REFUTED, YES, Entry, Reason, Record
+from .backing import backing
+from .entry import (NO_EVIDENCE, NOT_VERIFIED, NOTHING_FITS, OPEN, REFUSED, REFUTED, UNSUPPORTED, YES, Entry, Reason,
+                    Record)
 from .evidence import evidence
-from .figure import fails_of, legend, picture, stroke
+from .figure import legend, picture, stroke
 from .folder import ENVELOPE, REPORT, Folder
 from .markup import Html, element, joined, lines, minus, with_code
 from .premises import premises
 from .ranges import ranges_of
+from .recording import SECOND
 from .signature import GOOD, NONE, UNSEEN, Signature, in_words
 from .support import support
 from .table import Row
-from .text import count
+from .text import capital, count
 from .units import range_ms
-from .words import capital, fit, sentence, span, to_do
+from .words import fit, sentence, span, to_do
 
-SYMBOLS = {YES: "\u2713", REFUTED: "\u2717", NOTHING_FITS: "\u2205", NO_EVIDENCE: "\u2026", OPEN: "?",
-           NOT_VERIFIED: "\u2014", REFUSED: "!"}
+SYMBOLS = {YES: "\u2713", UNSUPPORTED: "\u2260", REFUTED: "\u2717", NOTHING_FITS: "\u2205", NO_EVIDENCE: "\u2026",
+           OPEN: "?", NOT_VERIFIED: "\u2014", REFUSED: "!"}
 MOST_CONFLICTS = 20
 
 COUNTS = {
@@ -114,9 +117,15 @@ def figure(name: str, entry: Entry, envelope: Envelope) -> Html:
     return element("figure", lines([
         "",
         element("figcaption", label),
-        picture(envelope, entry.claim.bound_ns, name, label),
-        legend(list(envelope.servers), fails_of(envelope, entry.claim.bound_ns)),
+        picture(envelope, entry.claim.bound_ns, name, label, steps_of(entry)),
+        legend(envelope, entry.claim.bound_ns),
         ""]))
+
+
+def steps_of(entry: Entry) -> list[int]:
+    """When the clock was stepped, in Unix seconds: by what the capture shows, or by what the client logged."""
+    seen = [entry.reason.between[1]] if entry.reason and entry.reason.between else []
+    return seen + [warning.before // SECOND for warning in entry.warnings if warning.kind == "step"]
 
 
 def rows(columns: dict[str, str], found: Iterable[Iterable[object]], name: str = "") -> Html:
@@ -150,11 +159,10 @@ def servers(entry: Entry, envelope: Envelope) -> Html:
 
 def granted(folder: Folder, record: Record, entry: Entry) -> Html:
     """The premises, each with what supports it, and with room for a signature."""
-    kept, found = evidence(folder), []
+    kept, backed, found = evidence(folder), backing(folder, record.inputs), []
     for premise in premises(entry.claim):
-        where = kept.get(premise.name, "")
-        known = joined([premise.known, *support(premise.name, folder, record, entry, where)], element("br"))
-        found.append([premise.granted, element("span", known, class_="free"), where, ""])
+        known = joined([premise.known, *support(premise.name, backed, record, entry)], element("br"))
+        found.append([premise.granted, element("span", known, class_="free"), kept.get(premise.name, ""), ""])
     columns = {"Granted": "granted", "How one comes to know it": "", "Where the evidence is kept": "sign",
                "Name, date, signature": "sign"}
     return lines([
@@ -171,17 +179,18 @@ def counts(entry: Entry) -> Html:
 
 def again(record: Record, entry: Entry) -> Html:
     """The calls that settle it, for whoever wants to make them by hand in the folder."""
-    capture = record.capture if entry.part == "." else f"../{record.capture}"
+    is_own = f"{entry.part}/{files.JOINED}" in entry.outputs
+    capture = files.JOINED if is_own else record.capture if entry.part == "." else f"../{record.capture}"
     capture = f"./{capture}" if capture.startswith("-") else capture
     step = str(entry.envelope_step)
     calls = [["settle", files.CLAIM, capture],
              ["envelope", files.CLAIM, capture, "--servers", "--least", "--step", step]]
-    if entry.verdict == YES:
+    if entry.answer == YES:
         calls.insert(1, ["check", files.CLAIM, capture, files.CERTIFICATE])
     if entry.verdict == NOTHING_FITS:
         calls.append(["settle", files.CLAIM_OF_DRIFT, capture])
     if entry.refutation:
-        claim = files.CLAIM if entry.verdict == REFUTED else files.CLAIM_OF_0
+        claim = files.CLAIM if entry.answer == REFUTED else files.CLAIM_OF_0
         calls.append(["refute", claim, capture, files.REFUTATION, "--drift"])
     return lines([
         element("h3", "To see it again"),

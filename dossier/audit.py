@@ -64,7 +64,7 @@ def audit_folder(path: str, wanted: Wanted, program: Program) -> Audited:
             program.limit.begin()  # (what is left to do doesn't depend on the folder)
         if is_signed:
             take_away(folder.place, files.SIGNATURE)
-        text, stale = record_text(record), [*LEFT, files.JOINED, *(old.outputs if old else ())]
+        text, stale = record_text(record), [*LEFT, *(old.outputs if old else ())]
         made: dict[str, Iterable[bytes]] = {name: blocks_of(name) for name in record.outputs}
         place(folder, {**made, files.AUDIT: [text]}, set(stale) - record.outputs.keys())
     wanted.known.add(sum_of(text))
@@ -108,7 +108,7 @@ def change_of(folder: Folder, record: Record) -> str:
             return f"{name} isn't there"
         if folder.sum(name) != sum_:
             return f"{name} was changed since the audit ({short(folder.sum(name))}, {files.AUDIT} has {short(sum_)})"
-    more = next(filter(folder.has, sorted((LEFT | {files.JOINED}) - record.outputs.keys())), None)
+    more = next(filter(folder.has, sorted(LEFT - record.outputs.keys())), None)
     return f"{more} isn't of this audit: {files.AUDIT} has no sum of it" if more else ""
 
 

@@ -11,6 +11,8 @@ from .units import DAY, civil, day_of, seconds_of
 
 GREATEST_BOUND, GREATEST_DRIFT = 10**15, 500_000_000
 """What a claim can grant, in nanoseconds and in parts of 10^9."""
+OSCILLATOR = 100_000
+"""Parts in 10^9 by which an oscillator alone gains or loses at most, by most data sheets."""
 COMPACT = json.JSONEncoder(separators=(",", ":"))
 
 

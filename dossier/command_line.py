@@ -7,9 +7,12 @@ import sys
 from collections.abc import Callable
 from typing import TYPE_CHECKING, NoReturn
 
+from . import VERSION
+from .claim import GREATEST_DRIFT, OSCILLATOR
 from .fault import DEVICE, MEMORY, MISSING, USAGE, Fault, Stopped, fault
 from .known import Known, state_of
 from .limit import SECONDS, Limit
+from .measurement import LEAST_READING, read_measurement
 from .program import Program, find_program, now
 
 if TYPE_CHECKING:
@@ -19,15 +22,17 @@ INTERRUPTED = 130
 
 ABOUT = """Puts many audits by ntpaudit together: folders with a claim and captures, and one page for a person to read.
 
-  tcpdump -i eth0 --time-stamp-precision=nano -w web-1/f.pcap udp port 123    record (Ctrl-C when it is enough)
-  ntpaudit-dossier draft web-1/f.pcap > web-1/claim.json                      a claim to start from: read it, fix it
+  tcpdump -i eth0 -U --time-stamp-precision=nano -w web-1/f.pcap 'udp port 123 or (vlan and udp port 123)'
+                                                                              record (Ctrl-C when it is enough)
+  ntpaudit-dossier draft --chrony /etc/chrony/chrony.conf web-1/f.pcap > web-1/claim.json
+                                                                              a claim to start from: read it, fix it
   ntpaudit-dossier audit web-1                                                the audit
   ntpaudit-dossier page web-1 > dossier.html                                  the page
   ntpaudit-dossier sign web-1 --key ~/.ssh/id_ed25519                         who answers for it (if you like)
   ntpaudit-dossier verify web-1                                               a year later
 
 docs/DOSSIER.md has more. Statuses are those of ntpaudit: 0 yes, 1 no yes, 2 an input is refused, 3 out of memory, 4 a
-device, 5 the command line; the status of several folders is the worst of theirs."""
+device, 5 the command line. Of several folders it is 1 if any clock isn't shown, else the worst."""
 LEAPS = "the list of leap seconds; the system's if it is left out"
 FOLDER = "a folder with claim.json and captures, and what an audit wrote beside them"
 
@@ -39,25 +44,29 @@ class Parser(argparse.ArgumentParser):
 
 def parser() -> Parser:
     top = Parser(prog="ntpaudit-dossier", description=ABOUT, formatter_class=argparse.RawDescriptionHelpFormatter)
-    commands = top.add_subparsers(dest="command", required=True, metavar="COMMAND", prog=top.prog)
+    top.add_argument("--version", action="store_true", help="print the versions of dossier and program")
+    commands = top.add_subparsers(dest="command", metavar="COMMAND", prog=top.prog)
     draft = commands.add_parser("draft", help="print a claim to start from")
-    draft.add_argument("captures", nargs="+", metavar="CAPTURE", help="classic pcap files of one client")
+    draft.add_argument("captures", nargs="+", metavar="CAPTURE", help="captures of one client")
     draft.add_argument("--client", metavar="ADDRESS", help="the client; the one that asks most if it is left out")
     draft.add_argument("--day", action="store_true", help="claim whole days (UTC)")
     draft.add_argument("--drift-ppb", type=int, metavar="N",
-                       help="oscillator and client together, in parts of 10^9; by the client's configuration, else "
-                            "100000")
+                       help="oscillator and client together, in parts of 10^9; else by the client's configuration; "
+                            "else the oscillator alone")
     client = draft.add_mutually_exclusive_group()
     client.add_argument("--chrony", action="append", metavar="FILE",
                         help="chronyd's configuration, which limits the drift")
     client.add_argument("--ntpd", action="append", metavar="FILE", help="ntpd's configuration")
     draft.add_argument("--tracking", action="append", metavar="FILE", help="chronyd's tracking.log, or its messages")
-    draft.add_argument("--oscillator-ppb", type=in_range(0, 500_000_000), default=100_000, metavar="N",
-                       help="the oscillator alone, to which the configuration adds; 100000 if it is left out")
+    draft.add_argument("--oscillator-ppb", type=in_range(0, GREATEST_DRIFT), default=OSCILLATOR, metavar="N",
+                       help=f"the oscillator alone, to which the configuration adds; {OSCILLATOR} if it is left out")
     draft.add_argument("--evidence", metavar="FILE",
                        help="write what was read from the client's files to FILE, for evidence.json")
-    draft.add_argument("--reading-ns", type=int, default=100_000, metavar="N",
-                       help="how far records' times may be from the clock, in nanoseconds; 100000 if it is left out")
+    reading = draft.add_mutually_exclusive_group()
+    reading.add_argument("--reading-ns", type=int, default=LEAST_READING, metavar="N",
+                         help="how far records' times may be from the clock, in nanoseconds; "
+                              f"{LEAST_READING} if it is left out")
+    reading.add_argument("--measured", metavar="FILE", help="what `measure -o` left, which has that number")
     audit = commands.add_parser("audit", help="audit folders")
     audit.add_argument("folders", nargs="+", metavar="FOLDER", help=FOLDER)
     audit.add_argument("--step", type=in_range(1, 86_400), metavar="N",
@@ -73,6 +82,8 @@ def parser() -> Parser:
     form = page.add_mutually_exclusive_group()
     form.add_argument("--json", action="store_true", help="the table as JSON")
     form.add_argument("--csv", action="store_true", help="the table as CSV")
+    form.add_argument("--split", metavar="DIR",
+                      help="write a page of the table into DIR (index.html), and beside it a page for each folder")
     page.add_argument("--verify", action="store_true", help="verify the folders first; else what is known here counts")
     page.add_argument("--title", default="Clock dossier", metavar="TEXT", help="the page's heading")
     page.add_argument("-o", "--output", metavar="FILE",
@@ -103,9 +114,11 @@ def parser() -> Parser:
                          help="write it as JSON to FILE too, for evidence.json to name")
     picture = commands.add_parser("picture", help="print the picture of a claim and a capture, as SVG")
     picture.add_argument("claim", metavar="CLAIM", help="a JSON file")
-    picture.add_argument("capture", metavar="CAPTURE", help="a classic pcap file")
+    picture.add_argument("capture", metavar="CAPTURE", help="a capture")
     picture.add_argument("--step", type=in_range(1, 86_400), default=64, metavar="N",
                          help="seconds of each piece; 64 if it is left out")
+    own_help = commands.add_parser("help", help="print help")
+    own_help.add_argument("topic", nargs="?", choices=list(commands.choices), metavar="COMMAND", help="a command")
     return top
 
 
@@ -121,7 +134,7 @@ def in_range(least: int, most: int) -> Callable[[str], int]:
 def main(words: list[str]) -> int:
     """Runs a command, and gives its status."""
     try:
-        status = run(parser().parse_args(words))
+        status = run(parsed(words))
         sys.stdout.flush()
         return status
     except Fault as found:
@@ -144,6 +157,17 @@ def main(words: list[str]) -> int:
         return MISSING
 
 
+def parsed(words: list[str]) -> argparse.Namespace:
+    """The command line, or an end with help or with a fault."""
+    top = parser()
+    given = top.parse_args(words)
+    if given.command == "help":
+        top.parse_args([*filter(None, [given.topic]), "--help"])
+    if not given.command and not given.version:
+        top.error("no command: `ntpaudit-dossier help` has them")
+    return given
+
+
 def say(line: str) -> None:
     from .text import plain
     try:
@@ -157,6 +181,9 @@ def run(given: argparse.Namespace) -> int:
     if given.command in ("audit", "page", "verify", "sign"):
         return run_on_folders(given, [tidy(folder) for folder in given.folders], limit)
     program = find_program(limit)
+    if given.version:
+        print(f"ntpaudit-dossier, form {VERSION} of audit.json\n{program.made.version}, SHA-256 {program.made.sha256}")
+        return 0
     if given.command == "measure":
         from .measuring import Wanted, measure
         return measure(program, Wanted(given.interface, given.count, given.load), given.output)
@@ -167,6 +194,8 @@ def run(given: argparse.Namespace) -> int:
 
 
 def run_on_folders(given: argparse.Namespace, folders: list[str], limit: Limit) -> int:
+    if given.command == "page" and given.split and given.output:
+        raise fault("--split takes no --output: it writes into a folder", USAGE)
     known = Known(state_of(given.state), writes=given.command != "page" or given.verify)
     if given.command == "sign":
         from .signing import sign_all
@@ -213,12 +242,17 @@ def correction_of(given: argparse.Namespace) -> Correction | None:
 
 def run_draft(given: argparse.Namespace, program: Program) -> int:
     from .correction import correction_text
-    from .draft import DRIFT, Wanted, claim_text, draft
+    from .draft import Wanted, claim_text, draft
     from .placing import write_named
     found = correction_of(given)
-    proposed = found.drift_ppb if found else DRIFT
+    measured = read_measurement(given.measured, program.limit) if given.measured else None
+    proposed = found.drift_ppb if found else given.oscillator_ppb
     drift_ppb = proposed if given.drift_ppb is None else given.drift_ppb
-    claim, remarks = draft(program, given.captures, Wanted(given.client, given.day, drift_ppb, given.reading_ns))
+    wanted = Wanted(given.client, given.day, drift_ppb, found is None and given.drift_ppb is None,
+                    measured.reading_ns if measured else given.reading_ns, bool(measured))
+    claim, remarks = draft(program, given.captures, wanted)
+    if claim and measured:
+        remarks.append(f"reading_ns is {claim.reading_ns}: {measured.sentence()}")
     if claim and found:
         remarks += found.sentences() + found.cautions(claim.first, claim.last)
     for remark in remarks:

@@ -12,6 +12,7 @@ from .client import Configuration
 from .fault import Fault, fault
 from .tracking import Tracking
 from .typed import Count, Mangled, Time, said
+from .units import seconds_of
 
 
 @dataclass(frozen=True)
@@ -37,6 +38,11 @@ class Correction:
         words = [client.in_words(self.configuration),
                  f"With {self.oscillator_ppb:,} of the oscillator that is a drift of {self.drift_ppb:,}."]
         return words + ([tracking.in_words(self.tracking)] if self.tracking else [])
+
+    def steps_within(self, first: int, last: int) -> list[int]:
+        """The Unix seconds of the steps in a span, as the client logged them."""
+        steps = tracking.within(self.tracking, first, last) if self.tracking else []
+        return [seconds_of(time) for time, _, _ in steps]
 
     def cautions(self, first: int, last: int) -> list[str]:
         """What a person has to look at, over a span of Unix seconds."""

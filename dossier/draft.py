@@ -4,19 +4,22 @@ from __future__ import annotations
 import ipaddress
 import json
 import os
-from collections import Counter, defaultdict
-from dataclasses import dataclass, field, replace
+from collections import defaultdict
+from dataclasses import dataclass, replace
 
+from .alerts import warning_words
 from .answers import read_hulls
+from .captures import audited
 from .claim import Claim
-from .folder import CLAIM, JOINED, Copy, copy_named
-from .joining import join
+from .entry import Alert
+from .folder import CLAIM, Copy, copy_named
 from .limit import Limit
 from .program import Program
 from .recording import SECOND, Recording, read_recording
 from .scratch import scratch
 from .text import count, plain
 from .text import reference as letters
+from .traffic import Traffic, number_of, read_traffic
 from .typed import said
 from .units import DAY, civil, ns_up_ms
 
@@ -25,9 +28,9 @@ LONGEST = "86400"
 """Seconds of an envelope's pieces at the most."""
 NO_BOUND = 1_000_000_000
 """Nanoseconds that stand in a draft for which no bound is known."""
-DRIFT = 100_000
-"""Parts in 10^9 that stand in a draft if nothing is known of the client: an oscillator alone."""
 UNKNOWN = "00000000"
+NOT_IN_IT = ("the client's own corrections are NOT in it. `--chrony FILE` or `--ntpd FILE` reads them; chronyd makes "
+             "up to 83,333,334 unless `maxslewrate` is set.")
 FOR_NOW = "one second stands there for now."
 References = dict[str, set[tuple[int, str]]]
 """Of each server the strata and reference identifiers that it named."""
@@ -40,40 +43,10 @@ class Wanted:
     client: str | None
     whole_days: bool
     drift_ppb: int
+    is_oscillator: bool
+    """Whether that is the oscillator's part alone, since nothing is known of the client."""
     reading_ns: int
-
-
-@dataclass
-class Traffic:
-    """What a capture holds of NTP: who asked, who answered whom, and which references a server named to a client."""
-
-    packets: int = 0
-    asked: Counter[str] = field(default_factory=Counter)
-    answered: dict[str, Counter[str]] = field(default_factory=lambda: defaultdict(Counter))
-    references: dict[tuple[str, str], set[tuple[int, str]]] = field(default_factory=lambda: defaultdict(set))
-
-
-def read_traffic(program: Program, capture: str) -> Traffic:
-    seen = Traffic()
-
-    def take(block: bytes) -> None:
-        for line in block.decode("ascii").splitlines():
-            words = line.split(" ", 12)
-            if words[0] == "records":
-                seen.packets = int(words[3])
-                continue
-            (source, source_port), (destination, destination_port) = (word.split(":") for word in words[2:4])
-            if words[5] == "m3" and destination_port == "123":
-                seen.asked[source] += 1
-            elif words[5] == "m4" and source_port == "123":
-                seen.answered[destination][source] += 1
-                seen.references[destination, source].add((int(words[7][1:]), words[11]))
-    program.blocks(take, "list", capture)
-    return seen
-
-
-def by_number(address: str) -> int:
-    return int(ipaddress.IPv4Address(address))
+    is_measured: bool
 
 
 def upstream(stratum: int, reference: str) -> str | None:
@@ -129,7 +102,11 @@ class Draft:
         client = self.choose(seen, wanted.client)
         if client is None:
             return None
-        servers = sorted((server for server, _ in seen.answered[client].most_common(MOST_SERVERS)), key=by_number)
+        if wanted.is_oscillator:
+            self.remarks.insert(0, f"drift_ppb is {wanted.drift_ppb}, an oscillator alone: {NOT_IN_IT}")
+        if mode := seen.interleaving(client, sorted(seen.answered[client], key=number_of)):
+            self.remark(warning_words(Alert("interleaved", servers=mode)))
+        servers = sorted((server for server, _ in seen.answered[client].most_common(MOST_SERVERS)), key=number_of)
         if len(seen.answered[client]) > MOST_SERVERS:
             self.remark(f"A claim names at most {MOST_SERVERS} servers: those that answered least are left out.")
         claim = Claim(client, servers, 0, civil(0), civil(0), 0, wanted.drift_ppb, wanted.reading_ns)
@@ -143,7 +120,7 @@ class Draft:
         claim = replace(claim, from_=civil(first), to=civil(last))
         keep(claim, self.program.limit)
         claim = replace(claim, bound_ns=self.bound())
-        self.leave_to_a_person(claim)
+        self.leave_to_a_person(claim, wanted)
         return claim
 
     def choose(self, seen: Traffic, client: str | None) -> str | None:
@@ -151,7 +128,7 @@ class Draft:
         if not seen.asked:
             self.remark(f"No NTP client asks anybody in it: {count(seen.packets, 'NTP packet')}.")
             return None
-        clients = sorted(seen.asked, key=lambda address: (-seen.asked[address], by_number(address)))
+        clients = seen.by_number()
         chosen = client or clients[0]
         if client is None and len(clients) > 1:
             self.remark(f"{len(clients)} clients ask in it; this is a claim for the one that asks most,",
@@ -159,7 +136,7 @@ class Draft:
         if client is not None or len(clients) > 1:
             for address in clients:
                 servers = count(len(seen.answered[address]), "server answers", "servers answer")
-                self.remark(f"{address} asks {count(seen.asked[address], 'time')}, and {servers} it.")
+                self.remark(f"{address} asks {count(seen.asked[address].total(), 'time')}, and {servers} it.")
         if not seen.answered.get(chosen):
             self.remark(f"Nobody answers {plain(chosen)}.")
             return None
@@ -186,7 +163,7 @@ class Draft:
                     kinds[reference].add(server)
         for reference, servers in kinds.items():
             if len(servers) > 1:
-                names = ", ".join(sorted(servers, key=by_number))
+                names = ", ".join(sorted(servers, key=number_of))
                 self.remark(f"{names} name one kind of reference clock ({letters(reference)}):",
                             "if it is one and the same clock, put them into one group.")
 
@@ -201,14 +178,16 @@ class Draft:
         self.remark(f"bound_ns: the least bound that a certificate carries is {ns_up_ms(envelope.least_ns)} ms; rounded up.")
         return round_up(envelope.least_ns)
 
-    def leave_to_a_person(self, claim: Claim) -> None:
+    def leave_to_a_person(self, claim: Claim, wanted: Wanted) -> None:
         """What only a person can answer for."""
         groups = count(len(claim.grouped), "group")
-        self.remark(f"drift_ppb is {claim.drift_ppb}: how fast the clock may gain or lose,",
-                    "its oscillator's data sheet and the NTP client's corrections together.",
-                    "Nothing in a capture shows it.")
-        self.remark(f"reading_ns is {claim.reading_ns}: how far a record's time may be from what the clock showed.",
-                    "It has to be measured on that machine.")
+        if not wanted.is_oscillator:
+            self.remark(f"drift_ppb is {claim.drift_ppb}: how fast the clock may gain or lose,",
+                        "its oscillator's data sheet and the NTP client's corrections together.",
+                        "Nothing in a capture shows it.")
+        if not wanted.is_measured:
+            self.remark(f"reading_ns is {claim.reading_ns}: how far a record's time may be from what the clock showed.",
+                        "It has to be measured on that machine.")
         self.remark(f"false_max is {claim.false_max}: fewer than half of {groups} of servers may be wrong.",
                     "Whether no more were is for a person to say.")
         self.remark("groups: servers of one operator, or on one reference clock, belong together.",
@@ -233,12 +212,14 @@ def draft(program: Program, captures: list[str], wanted: Wanted) -> tuple[Claim 
         copies = {f"{number}.pcap": path for number, path in enumerate(captures)}
         for copy, path in copies.items():
             copy_named(path, copy, program.limit)
+        whole = audited({f"{os.path.basename(path)} ({copy})" if len(copies) > 1 else os.path.basename(path): copy
+                         for copy, path in copies.items()}, program.caller)
+        drafting = Draft(program, whole.path)
+        for warning in whole.torn:
+            drafting.remark(warning_words(warning))
         if len(copies) > 1:
-            join(program.caller, {f"{os.path.basename(path)} ({copy})": copy for copy, path in copies.items()})
-        drafting = Draft(program, JOINED if len(copies) > 1 else "0.pcap")
+            drafting.remark(f"{len(copies)} captures were joined in order of time.")
         claim = drafting.claim(wanted)
-        if len(copies) > 1:
-            drafting.remarks.insert(0, f"{len(copies)} captures were joined in order of time.")
         return claim, drafting.remarks
 
 

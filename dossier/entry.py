@@ -12,25 +12,31 @@ from .folder import AUDIT, CLAIM, JOINED, LEFT, LIMITS
 from .typed import (Address, Count, Mangled, Name, Nanoseconds, Seconds, Small, Sum, Text, Ticks, Time, is_name,
                     is_time, length, mangled, matching, or_nothing, parsed, said, typed, within)
 
-Verdict = Literal["yes", "refuted", "nothing fits", "no evidence", "open"]
+Answer = Literal["yes", "refuted", "nothing fits", "no evidence", "open"]
+"""What the program says."""
+Verdict = Literal[Answer, "unsupported"]
 YES: Final = "yes"
+UNSUPPORTED: Final = "unsupported"
+"""A yes against which the folder's own evidence speaks."""
 REFUTED: Final = "refuted"
 NOTHING_FITS: Final = "nothing fits"
 NO_EVIDENCE: Final = "no evidence"
 OPEN: Final = "open"
-ANSWERED = (YES, REFUTED, NOTHING_FITS, NO_EVIDENCE, OPEN)
+ANSWERED = (YES, UNSUPPORTED, REFUTED, NOTHING_FITS, NO_EVIDENCE, OPEN)
 REFUSED, NOT_VERIFIED = "refused", "not verified"
 """There is no verdict; and there is one that nobody made or verified here."""
 
 Hull = tuple[Ticks, Ticks] | Literal["unbounded", "empty"]
 """Two ends in ticks, or a word."""
 Day = Annotated[str, matching(r"\d{4}-\d\d-\d\d")]
+FEW = 8
+Few = Annotated[list[Address], length(0, FEW)]
 
 
 def is_left(name: str) -> bool:
     """Whether an audit leaves a file of this name, seen from the record's folder."""
     day, _, file = name.rpartition("/")
-    return name == JOINED or (file in LEFT | {CLAIM} and matching(r"\d{4}-\d\d-\d\d")(day) if day else file in LEFT)
+    return file in LEFT | {CLAIM} and matching(r"\d{4}-\d\d-\d\d")(day) if day else file in LEFT
 
 
 Left = Annotated[str, is_left]
@@ -50,7 +56,8 @@ class Piece:
 class Reason:
     """Why it isn't a yes, and what shows it."""
 
-    why: Literal["exceeds", "unbounded", "off", "apart", "drift", "step", "many", "tick", "silent"]
+    why: Literal["exceeds", "unbounded", "off", "apart", "drift", "step", "many", "tick", "silent", "beside",
+                 "evidence"]
     piece: Piece | None = None
     """`off`: the first piece whose hull lies beyond the bound as a whole."""
     tick: Ticks = 0
@@ -61,8 +68,15 @@ class Reason:
     apart: list[Address] = field(default_factory=list)
     """Where nothing fits: the drift that was tried; each conflict, with the server and the record of a request and
     those of a reply; and the servers that are apart."""
+    between: tuple[Seconds, Seconds] | None = None
+    """`step`: when records show it, the last before it and the first after it that contradict each other."""
     heard: Count = 0
-    """`silent`: how many groups have a sample."""
+    asking: Few = field(default_factory=list)
+    asked: Few = field(default_factory=list)
+    """`silent`: how many groups have a sample; and if the client asked none of its servers, who asks in the capture,
+    and whom the client asks."""
+    recorded: tuple[Seconds, Seconds] | None = None
+    """`beside`: when the first NTP packet was recorded and the last, both outside of the span."""
 
 
 @dataclass(frozen=True)
@@ -85,7 +99,8 @@ class Refutation:
 class Alert:
     """A warning that stands beside a verdict."""
 
-    kind: Literal["outside", "no-drift", "falls", "far", "leap", "leap-second", "sources", "reference"]
+    kind: Literal["outside", "no-drift", "falls", "far", "leap", "leap-second", "leap-ends", "sources", "reference",
+                  "apart", "drift", "reading", "step", "oscillator", "torn", "interleaved"]
     count: Count = 0
     record: Count = 0
     before: Nanoseconds = 0
@@ -94,6 +109,14 @@ class Alert:
     piece: Piece | None = None
     reference: Annotated[str, matching("[0-9a-f]{0,8}")] = ""
     seconds: list[tuple[Seconds, Annotated[int, within(-9, 9)]]] = field(default_factory=list)
+    servers: list[Address] = field(default_factory=list)
+    file: Annotated[str, or_nothing(is_name)] = ""
+    place: Count = 0
+
+
+AGAINST = frozenset({"drift", "reading", "step", "leap-second", "leap-ends"})
+"""The warnings that take a yes away: by the folder's own evidence something that the claim grants isn't so, or isn't
+known."""
 
 
 @dataclass(frozen=True)
@@ -146,6 +169,13 @@ class Entry:
         if (self.reason is None) != (self.verdict == YES) or "samples" not in self.counts:
             raise Mangled(f"entry {self.part}")
 
+    @property
+    def answer(self) -> Answer:
+        """What the program says, of which the verdict was made."""
+        if self.verdict == UNSUPPORTED:
+            return YES
+        return REFUTED if self.reason and self.reason.why == "beside" else self.verdict
+
 
 @dataclass(frozen=True)
 class Refusal:
@@ -181,7 +211,7 @@ class Record:
     inputs: dict[Name, Sum]
     """The SHA-256 of each input, by its name."""
     capture: Annotated[str, or_nothing(is_name)]
-    """The capture that was read: the one input, or the file in which several were joined."""
+    """The capture that was read: the one input, or the file that was made of all."""
     made: Time
     seconds: Annotated[float, within(0, 10**9)]
     signed: Annotated[str, or_nothing(is_time)]

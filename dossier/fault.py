@@ -4,6 +4,9 @@ from __future__ import annotations
 REFUSED, MEMORY, DEVICE, USAGE, MISSING = 2, 3, 4, 5, 70
 """Statuses: an input is refused, out of memory, a device, the command line, something isn't installed."""
 
+NOT_SHOWN = 1
+"""The status of a clock that isn't shown, and of a difference."""
+
 OWN = "ntpaudit-dossier: "
 
 
@@ -22,6 +25,11 @@ class Fault(Exception):
     def of(self, what: str) -> Fault:
         """The same of something that is named."""
         return fault(f"{what}: {self.words}", self.status)
+
+
+def summed(one: int, other: int) -> int:
+    """The status of two folders together: a clock that isn't shown is worse than any fault."""
+    return NOT_SHOWN if NOT_SHOWN in (one, other) else max(one, other)
 
 
 class Stopped(BaseException):

@@ -6,12 +6,15 @@ picture that is stretched, and the words stand beside it at parts of the width.
 """
 from __future__ import annotations
 
+import os
 import sys
 from collections.abc import Callable, Collection
 
 from .answers import Envelope, read_envelope
+from .captures import audited
 from .cells import Cell, cells_of
 from .claim import Claim
+from .entry import Hull
 from .folder import CLAIM, LIMITS, copy_named
 from .judgement import is_beyond
 from .markup import Html, element, lines, minus
@@ -29,7 +32,13 @@ WIDTH, HEIGHT, TOP, STRIP, FOOT = 10_000, 300, 10, 12, 40
 LEAST = 6
 """Pixels of a stroke at least, so that a short interval is seen."""
 
-COLOURS, DASHES = 7, 4
+COLOURS, DASHES = 8, 4
+MARGIN = 84
+"""Pixels at the left for words: no stroke crosses them."""
+NARROW = 10
+"""The bound isn't drawn if it is so many times as wide as the hull, which would be a line then."""
+APART = 13
+"""Pixels between two lines of words at least."""
 Height = Callable[[float], float]
 """The height in the picture, in pixels from its top, of an error in ticks."""
 
@@ -47,8 +56,9 @@ def path(kind: str, drawn: str) -> Html:
 HULL = [path("hull", "M0 2H26V12H0Z"), path("edge", "M0 2H26M0 12H26")]
 
 
-def picture(envelope: Envelope, bound_ns: int, name: str, label: str) -> Html:
-    """The picture, with ids that begin with a name of its own."""
+def picture(envelope: Envelope, bound_ns: int, name: str, label: str, steps: Collection[int] = ()) -> Html:
+    """The picture, with ids that begin with a name of its own, and steps of the clock at some Unix seconds. Its words
+    stand at the left of it."""
     bound = bound_ticks(bound_ns)
     cells = cells_of(envelope, bound)
     low, high = extent(cells, bound)
@@ -58,7 +68,8 @@ def picture(envelope: Envelope, bound_ns: int, name: str, label: str) -> Html:
     hull = band(cells, y)
     inner = [path("hull", hull), *strokes(cells, y), path("edge", hull)]
     inner += [line(y(mark), "grid" if mark else "zero") for mark, _ in ms_marks(low, high)]
-    inner += [line(y(side), "bound") for side in (bound, -bound)]
+    inner += [line(y(side), "bound") for side in (bound, -bound) if low <= side <= high]
+    inner += [path("step", f"M{x(part)} 0V{HEIGHT}") for part in parts_of(envelope, steps)]
     drawn = lines([
         "",
         element("title", label, id=f"{name}-t"),
@@ -66,9 +77,9 @@ def picture(envelope: Envelope, bound_ns: int, name: str, label: str) -> Html:
         stretched(TOP, HEIGHT, inner),
         element("rect", class_="frame", y=TOP, width="100%", height=HEIGHT),
         stretched(TOP + HEIGHT, STRIP, marks(cells)),
-        *words(envelope, bound, bound_ns, low, high, y), ""])
+        *words(envelope, bound_ns, steps, low, high, y), ""])
     return element("svg", drawn, xmlns=XMLNS, class_="picture", width="100%", height=TOP + HEIGHT + STRIP + FOOT,
-                   role="img", aria_labelledby=f"{name}-t {name}-d")
+                   overflow="visible", role="img", aria_labelledby=f"{name}-t {name}-d")
 
 
 XMLNS = "http://www.w3.org/2000/svg"
@@ -80,11 +91,25 @@ def stretched(top: int, height: int, drawn: list[Html]) -> Html:
                    preserveAspectRatio="none")
 
 
+def parts_of(envelope: Envelope, times: Collection[int]) -> list[float]:
+    """Where Unix seconds lie in the picture, those that do, from 0 to 1."""
+    first, last = envelope.begins[0], envelope.ends[-1]
+    return [(time - first) / max(1, last - first) for time in times if first <= time <= last]
+
+
+def is_shown(hulls: Collection[Hull | None], bound: int) -> bool:
+    """Whether the bound is in the picture."""
+    ends = [end for hull in hulls if isinstance(hull, tuple) for end in hull]
+    return not ends or 2 * bound <= NARROW * (max(ends) - min(ends))
+
+
 def extent(cells: list[Cell], bound: int) -> tuple[int, int]:
-    """What is shown, in ticks: the hull and the bound, the servers that go not much beyond them, and a margin. The
-    others go through the picture, or stand outside."""
-    low = min([-bound, *(cell.hull[0] for cell in cells if cell.hull)])
-    high = max([bound, *(cell.hull[1] for cell in cells if cell.hull)])
+    """What is shown, in ticks: the hull, the bound if the hull can be seen beside it, the servers that go not much
+    beyond them, and a margin. The others go through the picture, or stand outside."""
+    hulls = [cell.hull for cell in cells]
+    bounds = (-bound, bound) if is_shown(hulls, bound) else ()
+    drawn = [*bounds, *(end for hull in hulls if hull for end in hull)]
+    low, high = min(drawn), max(drawn)
     most = (high - low) * 8 // 5
     for place in range(len(cells[0].servers)):
         own = [ends for cell in cells if (ends := cell.servers[place])]
@@ -169,17 +194,19 @@ def marks(cells: list[Cell]) -> list[Html]:
     return drawn
 
 
-def words(envelope: Envelope, bound: int, bound_ns: int, low: int, high: int, y: Height) -> list[Html]:
-    """What is written: milliseconds at the left, the bound at the right, times below."""
-    first, last = envelope.begins[0], envelope.ends[-1]
+def words(envelope: Envelope, bound_ns: int, steps: Collection[int], low: int, high: int, y: Height) -> list[Html]:
+    """What is written: milliseconds and the bound at the left, times below."""
+    first, last, bound = envelope.begins[0], envelope.ends[-1], bound_ticks(bound_ns)
     bottom = TOP + HEIGHT + STRIP
-    drawn = []
+    sides = [(y(side), sign) for side, sign in ((bound, "+"), (-bound, "\u2212")) if low <= side <= high]
+    if len(sides) == 2 and sides[1][0] - sides[0][0] < APART:
+        sides = [(y(0), "\u00b1")]
+    drawn = [beside(height, f"{sign}{ns_ms(bound_ns)} ms", "claimed") for height, sign in sides]
     for mark, text in ms_marks(low, high):
-        if 12 < y(mark) < HEIGHT - 4:
-            drawn.append(element("text", minus(text), "" if mark else " ms", x=4, y=f"{TOP + y(mark) - 3:.1f}"))
-    for side, sign, shift in ((bound, "+", -4), (-bound, "\u2212", 13))[: 2 if bound else 1]:
-        drawn.append(element("text", f"claimed {sign}{ns_ms(bound_ns)} ms", class_="claimed", x="100%", dx=-4,
-                             y=f"{TOP + y(side) + shift:.1f}", text_anchor="end"))
+        if all(abs(y(mark) - height) >= APART for height, _ in sides):
+            drawn.append(beside(y(mark), f"{minus(text)} ms"))
+    for part in parts_of(envelope, steps):
+        drawn.append(element("text", "step", class_="claimed", x=f"{100 * part:.2f}%", y=TOP - 3, text_anchor="middle"))
     for time, text in time_marks(first, last) if first < last else [(first, shown_time(first)[11:])]:
         part = 100 * (time - first) / max(1, last - first)
         anchor = "start" if part < 6 else "end" if part > 94 else "middle"
@@ -188,6 +215,10 @@ def words(envelope: Envelope, bound: int, bound_ns: int, low: int, high: int, y:
     days = " to ".join(sorted({shown_time(time)[:10] for time in (first, last)}))
     drawn.append(element("text", f"UTC, {days}", x="50%", y=bottom + 34, text_anchor="middle"))
     return drawn
+
+
+def beside(height: float, text: str, kind: str = "") -> Html:
+    return element("text", text, class_=kind, x=-6, y=f"{TOP + height + 4:.1f}", text_anchor="end")
 
 
 def described(envelope: Envelope, bound_ns: int) -> str:
@@ -213,16 +244,19 @@ def swatch(drawn: list[Html]) -> Html:
     return element("svg", *drawn, width=26, height=14, aria_hidden="true")
 
 
-def items(names: list[str], fails: Collection[str]) -> list[tuple[list[Html], str]]:
+def items(envelope: Envelope, bound_ns: int) -> list[tuple[list[Html], str]]:
     """What stands for what: something drawn, and its name."""
-    servers = [([path(f"server {server_class(place)}", "M0 7H26")], name) for place, name in enumerate(names)]
+    servers = [([path(f"server {server_class(place)}", "M0 7H26")], name)
+               for place, name in enumerate(envelope.servers)]
+    fails, shows = fails_of(envelope, bound_ns), is_shown(envelope.hulls, bound_ticks(bound_ns))
     failing = [([path(f"mark {kind}", "M0 7H26")], text) for kind, text in MARKS.items() if kind in fails]
-    return [(HULL, "hull"), *servers, ([path("bound", "M0 7H26")], "claimed bound"), *failing]
+    bound = f"claimed bound, {ns_ms(bound_ns)} ms{'' if shows else ': beyond this picture'}"
+    return [(HULL, "hull"), *servers, ([path("bound", "M0 7H26")], bound), *failing]
 
 
-def legend(names: list[str], fails: Collection[str]) -> Html:
+def legend(envelope: Envelope, bound_ns: int) -> Html:
     """The legend beside a picture in a page."""
-    listed = (element("li", swatch(drawn), " ", text) for drawn, text in items(names, fails))
+    listed = (element("li", swatch(drawn), " ", text) for drawn, text in items(envelope, bound_ns))
     return element("ul", *listed, class_="legend")
 
 
@@ -236,7 +270,7 @@ def fails_of(envelope: Envelope, bound_ns: int) -> set[str]:
 def standing_alone(envelope: Envelope, bound_ns: int, label: str, wide: int = 900) -> Html:
     """The picture as a file of its own, with its legend in it."""
     top, across, written = 36, 10, []
-    for drawn, text in items(list(envelope.servers), fails_of(envelope, bound_ns)):
+    for drawn, text in items(envelope, bound_ns):
         if across + 52 + 7 * len(text) > wide:
             top, across = top + 20, 10
         named = element("text", text, x=32, y=12)
@@ -244,7 +278,8 @@ def standing_alone(envelope: Envelope, bound_ns: int, label: str, wide: int = 90
         across += 52 + 7 * len(text)
     height = top + TOP + HEIGHT + STRIP + FOOT
     drawn_inside = lines(["", picture(envelope, bound_ns, "p", label), ""])
-    inner = element("svg", drawn_inside, x=10, y=top, width=wide - 20, height=height - top)
+    inner = element("svg", drawn_inside, x=MARGIN + 10, y=top, width=wide - MARGIN - 20, height=height - top,
+                    overflow="visible")
     paper = element("rect", class_="paper", width="100%", height="100%")
     parts = lines(["", element("style", PICTURE), paper, *written, inner, ""])
     return element("svg", parts, xmlns=XMLNS, width=wide, height=height)
@@ -255,7 +290,8 @@ def print_picture(program: Program, claim: str, capture: str, step: int) -> int:
     with scratch():
         copy_named(claim, CLAIM, program.limit, LIMITS[CLAIM])
         copy_named(capture, "0.pcap", program.limit)
-        text = program.run("envelope", CLAIM, "0.pcap", "--servers", "--step", str(step)).text
+        whole = audited({os.path.basename(capture): "0.pcap"}, program.caller)
+        text = program.run("envelope", CLAIM, whole.path, "--servers", "--step", str(step)).text
         with open(CLAIM, "rb") as opened:
             given: Claim = read_typed(CLAIM, Claim, opened.read())
     label = f"The error of the clock of {given.client}"

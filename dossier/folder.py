@@ -27,13 +27,13 @@ CLAIM_OF_DRIFT = "more-drift.claim.json"
 AUDIT = "audit.json"
 SIGNATURE = f"{AUDIT}.sig"
 JOINED = "joined.pcap"
-LEFT = frozenset({CERTIFICATE, REPORT, ENVELOPE, REFUTATION, CLAIM_OF_0, CLAIM_OF_DRIFT})
+LEFT = frozenset({CERTIFICATE, REPORT, ENVELOPE, REFUTATION, CLAIM_OF_0, CLAIM_OF_DRIFT, JOINED})
 """What an audit leaves of each claim."""
-OWN = LEFT | {AUDIT, SIGNATURE, JOINED}
+OWN = LEFT | {AUDIT, SIGNATURE}
 """What stands in a folder besides the inputs."""
 
-CAPTURE = re.compile(r"[^.].*\.(pcap|pcapng|cap)[0-9]*", re.DOTALL)
-"""Names of captures: also `f.pcap1` and so on, as `tcpdump -C` writes them."""
+CAPTURE = re.compile(r"[^.].*\.(pcap|pcapng|cap)[0-9]*(\.(gz|zst))?", re.DOTALL)
+"""Names of captures: also `f.pcap1` and so on, as `tcpdump -C` writes them, and packed ones."""
 
 SMALL, JSON, LARGE = 1 << 16, 1 << 24, 1 << 30
 LIMITS = {CLAIM: SMALL, EVIDENCE: SMALL, CLAIM_OF_0: SMALL, CLAIM_OF_DRIFT: SMALL, REFUTATION: SMALL, SIGNATURE: SMALL,

@@ -6,19 +6,22 @@ from __future__ import annotations
 
 from collections.abc import Iterator
 from operator import sub
-from typing import Literal, NamedTuple
+from typing import NamedTuple
 
-from .answers import Envelope, Settled, read_advice, read_hulls, read_settled
-from .claim import GREATEST_DRIFT, Claim, Part
-from .entry import (NO_EVIDENCE, NOTHING_FITS, OPEN, REFUTED, YES, Alert, Entry, Hull, Leap, LeapList, Piece, Reason,
-                    Server)
-from .leap import WITHIN, look_up
+from .answers import Envelope, Settled, read_advice, read_between, read_envelope, read_settled
+from .backing import Backing, against
+from .claim import GREATEST_DRIFT, OSCILLATOR, Claim, Part
+from .entry import (AGAINST, FEW, NO_EVIDENCE, NOTHING_FITS, OPEN, REFUTED, UNSUPPORTED, YES, Alert, Entry, Hull,
+                    LeapList, Piece, Reason, Server, Verdict)
+from .leap import look_up
+from .ranges import ranges_of
 from .recording import SECOND, Recording
+from .traffic import Traffic, number_of
 from .units import bound_ticks
 
 FAR = 10
 """A piece is far from the samples if the nearest is farther than this part of the span."""
-MORE, LEAST_DRIFT = 10, 100_000
+MORE = 10
 """So many times the claim's drift is tried where nothing fits, or that of an oscillator alone."""
 
 
@@ -32,35 +35,65 @@ class Texts(NamedTuple):
     other: bytes = b""
     """The answer of `settle` to another claim: at a yes with the bound 0, where nothing fits with more drift and
     the greatest bound."""
+    human: bytes = b""
+    """The answer of `settle --human`, if nothing fits."""
     envelope: bytes = b""
+    traffic: Traffic | None = None
+    """Who asks whom, by `list`, if there is no evidence, or many replies have no request."""
+
+
+class Beside(NamedTuple):
+    """What a verdict is seen beside: a list of leap seconds, the folder's own evidence, and captures that were cut
+    off."""
+
+    leaps: LeapList
+    backing: Backing
+    torn: list[Alert]
 
 
 def more_drift(claim: Claim) -> int:
     """The drift that is tried where nothing fits, in parts of 10^9."""
-    return min(max(MORE * claim.drift_ppb, LEAST_DRIFT), GREATEST_DRIFT)
+    return min(max(MORE * claim.drift_ppb, OSCILLATOR), GREATEST_DRIFT)
 
 
-def judge(part: Part, recording: Recording, texts: Texts, step: int, leaps: LeapList, outputs: dict[str, str]) -> Entry:
-    """The entry that the program's texts come to, with what a list of leap seconds says."""
-    claim, leap = part.claim, look_up(leaps, part.claim, recording)
-    settled, envelope = read_settled(texts.settled), read_hulls(texts.envelope)
-    advice = read_advice(texts.report) if settled.verdict == YES else {}
+def judge(part: Part, recording: Recording, beside: Beside, texts: Texts, step: int,
+          outputs: dict[str, str]) -> Entry:
+    """The entry that the program's texts come to, beside what else is known."""
+    claim, leap = part.claim, look_up(beside.leaps, part.claim, recording)
+    settled, envelope = read_settled(texts.settled), read_envelope(texts.envelope)
+    advice = read_advice(texts.report) if settled.answer == YES else {}
     servers = servers_of(claim, recording)
+    warned = [*beside.torn, *warnings(claim, recording, envelope, advice),
+              *against(beside.backing, claim, leap, beside.leaps)]
+    if texts.traffic and (mode := texts.traffic.interleaving(claim.client, claim.servers)):
+        warned.append(Alert("interleaved", servers=mode))
+    if 0 < claim.drift_ppb <= OSCILLATOR and not beside.backing.read:
+        warned.append(Alert("oscillator", claim.drift_ppb))
+    reason = reason_of(claim, servers, settled, envelope, texts, recording)
+    if settled.answer == YES and any(warning.kind in AGAINST for warning in warned):
+        reason = Reason("evidence")
     return Entry(
         part=part.name,
-        verdict=settled.verdict,
+        verdict=verdict_of(settled, reason),
         claim=claim,
         envelope_step=step,
-        least_ns=None if settled.verdict == NOTHING_FITS else envelope.least_ns,
+        least_ns=None if settled.answer == NOTHING_FITS else envelope.least_ns,
         worst=piece_of(envelope, envelope.worst),
         counts=recording.counts,
         servers=servers,
         leap=leap,
-        reason=reason_of(claim, servers, settled, envelope, texts.other),
-        refutation=read_settled(texts.other).refutation if settled.verdict == YES else settled.refutation,
-        warnings=[*warnings(claim, recording, envelope, advice), *leap_warnings(leap)],
+        reason=reason,
+        refutation=read_settled(texts.other).refutation if settled.answer == YES else settled.refutation,
+        warnings=warned,
         outputs=outputs,
     )
+
+
+def verdict_of(settled: Settled, reason: Reason | None) -> Verdict:
+    """The program's answer, but where a yes has evidence against it, or nothing was recorded within the span."""
+    if reason and reason.why == "evidence":
+        return UNSUPPORTED
+    return NO_EVIDENCE if reason and reason.why == "beside" else settled.answer
 
 
 def piece_of(envelope: Envelope, k: int) -> Piece:
@@ -76,17 +109,35 @@ def is_off(hull: Hull, bound: int) -> bool:
     return not isinstance(hull, str) and (hull[0] > bound or hull[1] < -bound)
 
 
-def reason_of(claim: Claim, servers: list[Server], settled: Settled, envelope: Envelope, other: bytes) -> Reason | None:
-    """Of what isn't a yes: why, and what shows it."""
-    if settled.verdict == REFUTED:
-        return why_refuted(bound_ticks(claim.bound_ns), envelope)
-    if settled.verdict == OPEN:
+def reason_of(claim: Claim, servers: list[Server], settled: Settled, envelope: Envelope, texts: Texts,
+              recording: Recording) -> Reason | None:
+    """Of what isn't a yes by the program: why, and what shows it."""
+    if settled.answer == REFUTED:
+        reason = why_refuted(bound_ticks(claim.bound_ns), envelope)
+        return away(claim, recording) or reason if reason.why == "exceeds" else reason
+    if settled.answer == OPEN:
         return Reason("tick", tick=settled.tick, hull=settled.hull)
-    if settled.verdict == NO_EVIDENCE:
-        return Reason("silent", heard=settled.heard)
-    if settled.verdict == NOTHING_FITS:
-        return why_nothing_fits(claim, servers, settled, read_settled(other).verdict != NOTHING_FITS)
+    if settled.answer == NO_EVIDENCE:
+        return silent(claim, settled.heard, texts.traffic or Traffic())
+    if settled.answer == NOTHING_FITS:
+        return why_nothing_fits(claim, servers, settled, texts)
     return None
+
+
+def away(claim: Claim, recording: Recording) -> Reason | None:
+    """The reason if all packets were recorded before the span, or all after it."""
+    if recording.first is None or recording.last is None:
+        return None
+    is_beside = recording.last < claim.first * SECOND or claim.last * SECOND < recording.first
+    return Reason("beside", recorded=(recording.first // SECOND, recording.last // SECOND)) if is_beside else None
+
+
+def silent(claim: Claim, heard: int, seen: Traffic) -> Reason:
+    """The reason if too few servers have a sample. If the client asks none of them, who asks is named, and whom."""
+    asked = list(seen.asked.get(claim.client, ()))
+    if any(server in asked for server in claim.servers):
+        return Reason("silent", heard=heard)
+    return Reason("silent", heard=heard, asking=seen.by_number()[:FEW], asked=sorted(asked, key=number_of)[:FEW])
 
 
 def why_refuted(bound: int, envelope: Envelope) -> Reason:
@@ -97,7 +148,7 @@ def why_refuted(bound: int, envelope: Envelope) -> Reason:
     return Reason("exceeds") if off is None else Reason("off", piece_of(envelope, off))
 
 
-def why_nothing_fits(claim: Claim, servers: list[Server], settled: Settled, fits_with_more: bool) -> Reason:
+def why_nothing_fits(claim: Claim, servers: list[Server], settled: Settled, texts: Texts) -> Reason:
     """`apart` with the servers of groups that are in conflict with themselves or with most others, if these are the
     minority and in each conflict; else `drift` if a course fits with more drift; `step` if each group is in conflict
     with itself; else `many`."""
@@ -111,8 +162,11 @@ def why_nothing_fits(claim: Claim, servers: list[Server], settled: Settled, fits
     if 2 * len(apart) < len(heard) and all(a in apart or b in apart for a, b in pairs):
         names = [server.address for server in servers if server.group in apart]
         return Reason("apart", drift_ppb=tried, conflicts=conflicts, apart=names)
-    why: Literal["drift", "step", "many"] = "drift" if fits_with_more else "step" if broken == heard else "many"
-    return Reason(why, drift_ppb=tried, conflicts=conflicts)
+    if read_settled(texts.other).answer != NOTHING_FITS:
+        return Reason("drift", drift_ppb=tried, conflicts=conflicts)
+    if broken != heard:
+        return Reason("many", drift_ppb=tried, conflicts=conflicts)
+    return Reason("step", drift_ppb=tried, conflicts=conflicts, between=read_between(texts.human))
 
 
 def servers_of(claim: Claim, recording: Recording) -> list[Server]:
@@ -140,11 +194,8 @@ def warnings(claim: Claim, recording: Recording, envelope: Envelope, advice: dic
         yield Alert("sources", int(advice["sources"]))
     if "reference" in advice:
         yield Alert("reference", reference=advice["reference"])
-
-
-def leap_warnings(leap: Leap) -> Iterator[Alert]:
-    if leap.says == WITHIN:
-        yield Alert("leap-second", seconds=leap.seconds)
+    if apart := [server for server, seen in ranges_of(envelope).items() if seen.apart]:
+        yield Alert("apart", servers=apart)
 
 
 def far_pieces(claim: Claim, recording: Recording, envelope: Envelope) -> Iterator[Alert]:

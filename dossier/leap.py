@@ -6,6 +6,7 @@ by then.
 from __future__ import annotations
 
 import hashlib
+import os
 from typing import Final
 
 from .claim import Claim
@@ -17,7 +18,8 @@ from .recording import SECOND, Recording
 from .typed import is_text
 from .units import civil
 
-SYSTEM = "/usr/share/zoneinfo/leap-seconds.list"
+SYSTEM = os.environ.get("NTPAUDIT_LEAP_SECONDS") or "/usr/share/zoneinfo/leap-seconds.list"
+"""The system's list, or the one that the environment names."""
 FROM_1900 = 2_208_988_800
 """Seconds from 1900, by which lists count, to 1970."""
 

@@ -10,14 +10,15 @@ from collections.abc import Callable
 from dataclasses import dataclass
 
 from . import VERSION
+from .backing import Backing, backing
+from .captures import audited, cut
 from .claim import Claim, parts_of
 from .entry import Entry, LeapList, Options, Record, Refusal
 from .evidence import evidence_files
 from .fault import DEVICE, Fault, fault
 from .folder import CLAIM, JOINED, Folder, is_capture
-from .joining import join
+from .judgement import Beside
 from .program import Program, now, sum_of_file
-from .recording import read_recording
 from .settling import Settling
 from .typed import read_typed
 
@@ -53,10 +54,8 @@ class Inputs:
     sums: dict[str, str]
     copies: dict[str, str]
 
-    @property
-    def capture(self) -> str:
-        """The capture that is audited, by its name in the folder."""
-        return JOINED if len(self.copies) > 1 else next(iter(self.copies), "")
+    capture: str = ""
+    """The capture that is audited, by its name in the folder."""
 
 
 def take_inputs(folder: Folder) -> Inputs:
@@ -70,22 +69,34 @@ def take_inputs(folder: Folder) -> Inputs:
     return taken
 
 
-def make(taken: Inputs, options: Options, leaps: LeapList, program: Program, earlier: Earlier) -> list[Entry]:
+def make(taken: Inputs, options: Options, leaps: LeapList, backed: Backing, program: Program,
+         earlier: Earlier) -> list[Entry]:
     """All answers, and their files in the current folder."""
-    capture, joined = next(iter(taken.copies.values())), {}
-    if len(taken.copies) > 1:
-        join(program.caller, taken.copies)
-        capture, joined = JOINED, {JOINED: sum_of_file(JOINED)}
-    sums = {CLAIM: taken.sums[CLAIM], capture: joined.get(JOINED) or taken.sums[taken.capture]}
-    recording = read_recording(program, CLAIM, capture, wants_request=True)
-    with open(CLAIM, "rb") as opened:
-        claim: Claim = read_typed(CLAIM, Claim, opened.read())
+    name, copy = next(iter(taken.copies.items()))
+    parts = list(parts_of(read_claim(program, copy), options.days))
+    whole = audited(taken.copies, program.caller)
+    taken.capture = JOINED if whole.is_made else name
+    made = {JOINED: sum_of_file(JOINED)} if whole.is_made else {}
+    sums = {CLAIM: taken.sums[CLAIM], whole.path: made.get(JOINED) or taken.sums[name]}
+    beside = Beside(leaps, backed, whole.torn)
+    cuts = cut(whole.path, parts, program.limit) if options.days else [None]
     entries = []
-    for part in parts_of(claim, options.days):
-        settling = Settling(part, capture, program, options.step, sums, earlier(part.name))
-        settling.left |= joined
-        entries.append(settling.settle(recording, leaps))
+    for part, cut_to in zip(parts, cuts):
+        settling = Settling(part, whole.path, program, options.step, sums, earlier(part.name))
+        settling.left |= made
+        entries.append(settling.settle(beside, cut_to))
     return entries
+
+
+def read_claim(program: Program, capture: str) -> Claim:
+    """The claim. If it is none, the program says so in its own words."""
+    try:
+        with open(CLAIM, "rb") as opened:
+            claim: Claim = read_typed(CLAIM, Claim, opened.read())
+        return claim
+    except Fault:
+        program.run("samples", CLAIM, capture)
+        raise
 
 
 class Making:
@@ -98,7 +109,8 @@ class Making:
     def record(self, earlier: Earlier = no_earlier) -> Record:
         """What the program answers; a fault if there is no verdict."""
         self.taken = take_inputs(self.folder)
-        return self.of(make(self.taken, self.options, self.leaps, self.program, earlier))
+        backed = backing(self.folder, self.taken.sums)
+        return self.of(make(self.taken, self.options, self.leaps, backed, self.program, earlier))
 
     def of(self, entries: list[Entry], refusal: Refusal | None = None) -> Record:
         return Record(VERSION, self.program.made, self.options, self.taken.sums, self.taken.capture, self.made,

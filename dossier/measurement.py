@@ -2,11 +2,14 @@
 from __future__ import annotations
 
 import json
+import os
 from dataclasses import dataclass, field
 from typing import Literal
 
+from .folder import data_named
+from .limit import Limit
 from .text import count
-from .typed import Count, Text, Time, said
+from .typed import Count, Text, Time, read_typed, said
 
 LEAST_READING = 100_000
 """Nanoseconds below which none is proposed: what is received isn't measured."""
@@ -55,6 +58,12 @@ class Measurement:
                 f"were recorded {self.least_ns:,} ns after the clock was read at the least, {self.median_ns:,} in the "
                 f"median, {self.percent_99_ns:,} for 99 percent, and {self.greatest_ns:,} at the most. What is "
                 "received wasn't measured.")
+
+
+def read_measurement(path: str, limit: Limit) -> Measurement:
+    """What a file holds that the command line names."""
+    found: Measurement = read_typed(os.path.basename(path), Measurement, data_named(path, limit))
+    return found
 
 
 def measurement_text(found: Measurement) -> bytes:

@@ -3,6 +3,7 @@ by tcpdump, each record's time against what the clock read just before.
 """
 from __future__ import annotations
 
+import errno
 import os
 import signal
 import socket
@@ -14,9 +15,9 @@ from typing import NamedTuple
 
 from .call import ENVIRONMENT, find_tool
 from .draft import round_up
-from .fault import DEVICE, fault
+from .fault import DEVICE, Fault, fault
 from .measurement import LEAST_READING, Measurement, measurement_text
-from .placing import write_named
+from .placing import undisturbed, write_named
 from .program import Program, now
 from .recording import nanoseconds
 from .scratch import scratch
@@ -27,6 +28,7 @@ APART = 0.001
 """Seconds between two packets."""
 PATIENCE = 2.0
 """Seconds for which tcpdump is waited for at its end."""
+NO_ROUTE = (errno.ENETUNREACH, errno.EHOSTUNREACH)
 ELSEWHERE = "192.0.2.1"
 """An address of nobody's, for packets that leave by another interface. They live for one hop."""
 
@@ -64,7 +66,7 @@ def delays_of(program: Program, wanted: Wanted, busy: int) -> list[int]:
             with load(busy):
                 sent = send(sending, wanted)
             end(recording)
-        return matched(sent, recorded(program, capture))
+        return matched(sent, recorded(program, capture), wanted.interface)
 
 
 def bind(sending: socket.socket, interface: str) -> None:
@@ -77,7 +79,7 @@ def bind(sending: socket.socket, interface: str) -> None:
         sending.setsockopt(socket.IPPROTO_IP, socket.IP_TTL, 1)
         sending.bind(("", 0))
     except OSError as error:
-        raise fault(f"nothing can be sent by {interface} ({error.strerror})", DEVICE) from None
+        raise unsendable(interface, error) from None
 
 
 @contextmanager
@@ -116,10 +118,11 @@ def load(number: int) -> Iterator[list[int]]:
     busy: list[int] = []
     try:
         for _ in range(number):
-            process = os.fork()
-            if not process:
-                spin()
-            busy.append(process)
+            with undisturbed():  # (Ctrl-C is for the process that forks)
+                process = os.fork()
+                if not process:
+                    spin()
+                busy.append(process)
         yield busy
     finally:
         for process in busy:
@@ -147,8 +150,13 @@ def send(sending: socket.socket, wanted: Wanted) -> list[int]:
             read.append(at)
             time.sleep(APART)
     except OSError as error:
-        raise fault(f"nothing can be sent by {wanted.interface} ({error.strerror})", DEVICE) from None
+        raise unsendable(wanted.interface, error) from None
     return read
+
+
+def unsendable(interface: str, error: OSError) -> Fault:
+    why = f"no route to {ELSEWHERE} leads over it" if error.errno in NO_ROUTE else error.strerror
+    return fault(f"nothing can be sent by {interface} ({why})", DEVICE)
 
 
 def end(recording: subprocess.Popen[bytes]) -> None:
@@ -171,13 +179,14 @@ def recorded(program: Program, capture: str) -> dict[int, int]:
     return found
 
 
-def matched(sent: list[int], times: dict[int, int]) -> list[int]:
+def matched(sent: list[int], times: dict[int, int], interface: str = LOOPBACK) -> list[int]:
     """What lies between the reading of the clock and the record's time, of each packet that was recorded. A busy
     machine may drop some."""
     delays = [times[number] - at for number, at in enumerate(sent, 1) if number in times]
     if 10 * len(delays) < 9 * len(sent):
-        raise fault(f"{len(delays)} of {len(sent)} packets were recorded, so nothing is measured",
-                    DEVICE)
+        why = f": no route to {ELSEWHERE} leads over {interface}, or nobody answers for its gateway" \
+            if interface != LOOPBACK and not delays else ""
+        raise fault(f"{len(delays)} of {len(sent)} packets were recorded, so nothing is measured{why}", DEVICE)
     if min(delays) < 0:
         raise fault("a packet was recorded before the clock read the time at which it was sent, so "
                     "the clock was set meanwhile: measure again", DEVICE)

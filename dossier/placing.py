@@ -139,6 +139,14 @@ def take_away(folder: int, name: str) -> None:
                 os.rmdir(day, dir_fd=folder)
 
 
+def make_folder(path: str) -> None:
+    """Makes a folder that the command line names, if it isn't there."""
+    try:
+        os.makedirs(path, exist_ok=True)
+    except OSError as error:
+        raise unwritable(path, error) from None
+
+
 def write_named(path: str, data: bytes) -> None:
     """Writes a file that the command line names: straight into what is no regular file, such as a device; else whole or
     not at all. A link is followed first."""

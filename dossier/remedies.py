@@ -1,4 +1,5 @@
-"""What to do about a fault line. The words are those of docs/REFUSALS.md, shortened; it has the commands."""
+"""What to do about a fault line, in short: docs/REFUSALS.md has more. Each command here was tried on a capture that
+needs it."""
 from __future__ import annotations
 
 import re
@@ -14,26 +15,33 @@ class Remedy:
     what: str
 
 
+NANO = "(`-F nsecpcap` if it has nanoseconds)"
+REWRITE = f"`editcap -F pcap f.pcap g.pcap` {NANO}"
+"""No time becomes more exact by that."""
+
 REMEDIES = [
     Remedy(r"capture 1 torn-header", "The file has fewer than the 24 bytes of a capture's header.",
            "Record again, see whether tcpdump says `listening on`, and end it by Ctrl-C or `kill`, not by "
            "`kill -9`."),
-    Remedy(r"capture 2 magic", "The file isn't a classic capture.",
-           "pcapng: `editcap -F nsecpcap f.pcapng g.pcap` (`-F pcap` if it has microseconds). Compressed: "
-           "unpack it first."),
+    Remedy(r"capture 2 magic", "The file is a capture of another format, or none.",
+           f"See whether {REWRITE} reads it. What is packed by another program than gzip or zstd is unpacked first."),
     Remedy(r"capture 3 version", "The capture's version isn't 2.4: its header is most likely damaged.",
-           "Record again. If another tool reads the file, `editcap -F pcap f.pcap g.pcap` writes it anew."),
+           f"Record again. If another tool reads the file, {REWRITE} writes it anew."),
     Remedy(r"capture 4 link", "The frames aren't Ethernet frames; `-i any` records others.",
-           "Record on one Ethernet interface by its name."),
+           "Record on one Ethernet interface by its name. If that can't be, and `tcpdump -r f.pcap -c 1` says "
+           f"LINUX_SLL: `editcap -F pcap -C 0:2 -L -T ether f.pcap g.pcap` {NANO}."),
     Remedy(r"capture 5 torn-record",
            "The file ends inside a record: the recording was cut off, or copied while it grew.",
            "Record again and end the tool in order; or keep the part before: `head -c PLACE f.pcap > "
            "g.pcap`, with the number in the line."),
-    Remedy(r"capture [67] ", "A record's header can't be right: the file is damaged, or of a maker's own format.",
-           "See whether `editcap -F pcap f.pcap g.pcap` reads it; else fetch the file again, in binary mode."),
+    Remedy(r"capture [67] ", "A record's header can't be right: files were joined by `cat`, or the file is damaged, or "
+           "of a maker's own format.",
+           "Put files into the folder one by one; what was joined comes apart by `head -c $((PLACE - 16)) f.pcap > "
+           "g.pcap` and `tail -c +$((PLACE - 15)) f.pcap > h.pcap`, with the number in the line. Else see whether "
+           f"{REWRITE} reads it, or fetch the file again, in binary mode."),
     Remedy(r"capture 8 too-many", "The capture has more than 4,000,000 records.",
-           "Keep the NTP packets alone (`tcpdump -r f.pcap -w g.pcap udp port 123`), or cut it: `editcap "
-           "-c 4000000`."),
+           "`--days` cuts it. Or keep the NTP packets alone: `tcpdump -r f.pcap -w g.pcap 'udp port 123 or (vlan and "
+           "udp port 123)'` (with `--time-stamp-precision=nano` if it has nanoseconds)."),
     Remedy(r"claim 1 json", "claim.json is no JSON.", "`python3 -m json.tool claim.json` shows where."),
     Remedy(r"claim 2 field field 0", "claim.json has a name that isn't known, or is no object.",
            "See docs/FORMATS.md for its nine names."),
@@ -53,7 +61,7 @@ REMEDIES = [
     Remedy(r"certificate ", "The certificate isn't one.", "Audit the folder again."),
     Remedy(r"refutation ", "The refutation isn't one.", "Audit the folder again."),
     Remedy(r"exchanges over", "The capture has more than 1,000,000 exchanges of this client.",
-           "Cut the capture into parts with `editcap -i SECONDS`, and claim each part's span by itself."),
+           "`--days` settles each day by itself."),
     Remedy(r"pieces over", "It would take more than 100,000 pieces.",
            "Cut the span into days with `--days`, claim a wider bound, or take a larger `--step`."),
     Remedy(r"too-big claim", "claim.json has more than 65,536 bytes.", "See whether it is a claim at all."),
@@ -72,10 +80,15 @@ REMEDIES = [
     Remedy(r"no capture", "The folder has no file *.pcap.", "Put the recording there."),
     Remedy(r"no such folder|folder can't be read", "The folder can't be read.",
            "See whether its name is right, and who may read it."),
-    Remedy(r"mergecap isn't installed", "Several captures are joined by mergecap.",
-           "Install it (`apt install wireshark-common`), or join them beforehand."),
-    Remedy(r"no classic capture|can't be joined", "One of several captures can't be joined with the others.",
-           "`ntpaudit list` on each of them says what it is."),
+    Remedy(r"can't be joined", "One of several captures can't be joined with the others.",
+           "`ntpaudit list` on each of them says what it is. Take out what is none, or of another interface."),
+    Remedy(r"zstd, which isn't installed", "The capture is packed.", "Install zstd, or unpack it elsewhere."),
+    Remedy(r"can't be unpacked", "The packed capture is damaged.", "Fetch the file again, in binary mode."),
+    Remedy(r"frames of several kinds", "The capture is of several interfaces, not all of them Ethernet.",
+           "Record on one Ethernet interface by its name."),
+    Remedy(r"packets without a time|coarser than microseconds", "The times of the capture are of no use.",
+           "Record by tcpdump."),
+    Remedy(r"damaged", "The capture is damaged.", "Fetch the file again, in binary mode."),
     Remedy(r"can't be written", "The files of the audit can't be written.", "Make room, or see who may write there."),
     Remedy(r"worker", "The process that audited this folder was ended from outside.",
            "Call again: what is done isn't done again."),

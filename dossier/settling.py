@@ -2,17 +2,19 @@
 from __future__ import annotations
 
 import os
+from collections.abc import Callable
 from dataclasses import replace
 
 from . import folder as files
 from .answers import read_settled
 from .claim import GREATEST_BOUND, Part
-from .entry import NOTHING_FITS, REFUTED, YES, Entry, LeapList
+from .entry import NO_EVIDENCE, NOTHING_FITS, REFUTED, YES, Entry
 from .fault import MISSING, Fault, fault
 from .folder import Copy
-from .judgement import Texts, judge, more_drift
-from .program import Program, sum_of
-from .recording import Recording
+from .judgement import Beside, Texts, judge, more_drift
+from .program import Program, sum_of, sum_of_file
+from .recording import Recording, read_recording
+from .traffic import read_traffic
 
 MANY_PIECES = 10_000
 """The envelope has pieces of 1, 4, 16, .. s, the least with which it has no more than these."""
@@ -31,15 +33,22 @@ class Settling:
         self.sums = dict(sums)
         self.left: dict[str, str] = {}
 
-    def settle(self, recording: Recording, leaps: LeapList) -> Entry:
-        """Makes all calls and leaves all files."""
+    def settle(self, beside: Beside, cut_to: Callable[[str], bool] | None) -> Entry:
+        """Makes all calls and leaves all files. A day is settled on its own records."""
         if self.part.name != ".":
             os.mkdir(self.part.name)
             self.keep(files.CLAIM, self.part.claim.text)
+        own = self.part.within(files.JOINED)
+        if cut_to and cut_to(own):
+            self.capture, self.sums[own] = own, sum_of_file(own)
+            self.left[own] = self.sums[own]
+        recording = read_recording(self.program, self.claim, self.capture, wants_request=True)
         texts = self.decide()
+        if read_settled(texts.settled).answer == NO_EVIDENCE or do_many_miss(recording, len(self.part.claim.servers)):
+            texts = texts._replace(traffic=read_traffic(self.program, self.capture))
         words = ("envelope", self.claim, self.capture, "--servers", "--least", "--step", str(self.step))
         texts = texts._replace(envelope=self.keep(files.ENVELOPE, self.call(*words)))
-        return judge(self.part, recording, texts, self.step, leaps, self.left)
+        return judge(self.part, recording, beside, texts, self.step, self.left)
 
     def keep(self, name: str, data: bytes) -> bytes:
         """Leaves a file of this part."""
@@ -67,21 +76,22 @@ class Settling:
         """What `settle` says, and what the checkers say about it. At a yes the same claim with the bound 0 is settled
         too, and where nothing fits the same claim with more drift: with any bound, since that is ignored."""
         text = self.call("settle", self.claim, self.capture)
-        verdict = read_settled(text).verdict
-        if verdict == YES:
+        answer = read_settled(text).answer
+        if answer == YES:
             self.keep(files.CERTIFICATE, text)
             words = ("check", self.claim, self.capture, self.part.within(files.CERTIFICATE))
             said = self.confirmed(b"\nverdict yes\n", *words)
             other = self.settled(files.CLAIM_OF_0, bound_ns=0)
-            if read_settled(other).verdict == REFUTED:
+            if read_settled(other).answer == REFUTED:
                 other, _ = self.contest(files.CLAIM_OF_0, other)
             return Texts(text, self.keep(files.REPORT, said), other)
-        if verdict == REFUTED:
+        if answer == REFUTED:
             text, said = self.contest(files.CLAIM, text)
             return Texts(text, self.keep(files.REPORT, said))
         texts = Texts(text, self.keep(files.REPORT, text))
-        if verdict == NOTHING_FITS:
+        if answer == NOTHING_FITS:
             granted = {"drift_ppb": more_drift(self.part.claim), "bound_ns": GREATEST_BOUND}
+            texts = texts._replace(human=self.call("settle", "--human", self.claim, self.capture))
             return texts._replace(other=self.settled(files.CLAIM_OF_DRIFT, **granted))
         return texts
 
@@ -105,6 +115,11 @@ class Settling:
             return self.judged(*words).endswith(b"refuted yes\n")
         except Fault:
             return False
+
+
+def do_many_miss(recording: Recording, servers: int) -> bool:
+    """Whether so many replies have no request that they may be most of one server's."""
+    return 2 * servers * recording.counts.get("norequest", 0) > recording.counts.get("replies", 0)
 
 
 def envelope_step_of(part: Part) -> int:

@@ -11,7 +11,7 @@ from . import folder as files
 from .audit import change_of
 from .call import ENVIRONMENT, find_tool
 from .entry import read_record, record_text
-from .fault import DEVICE, USAGE, Fault, fault
+from .fault import DEVICE, NOT_SHOWN, USAGE, Fault, fault, summed
 from .folder import Copy, Folder
 from .known import Known
 from .limit import Limit
@@ -20,7 +20,7 @@ from .program import now, sum_of
 from .scratch import scratch
 from .signature import NAMESPACE, NO_KEYGEN
 from .text import plain
-from .verify import DIFFERS, audit_json
+from .verify import audit_json
 
 OF_A_PERSON = ("HOME", "TERM", "DISPLAY", "WAYLAND_DISPLAY", "XDG_RUNTIME_DIR", "SSH_AUTH_SOCK", "SSH_ASKPASS",
                "SSH_ASKPASS_REQUIRE", "SSH_SK_PROVIDER", "SSH_SK_HELPER")
@@ -36,11 +36,11 @@ def sign_all(folders: list[str], key: str, known: Known, limit: Limit) -> int:
         try:
             with Folder(path, limit) as folder:
                 line = sign(folder, key, known)
-                status = DIFFERS if line else 0
+                status = NOT_SHOWN if line else 0
         except Fault as found:
             line, status = found.line, found.status
         print(f"{plain(path)}: {plain(line or 'signed')}", flush=True)
-        worst = max(worst, status)
+        worst = summed(worst, status)
     return worst
 
 

@@ -1,15 +1,17 @@
-"""The look of pages and pictures: light, dark and printed. The colours are those that the colour-blind tell apart, and
-forms differ too (dashes, symbols, borders), for a printer without colour."""
+"""The look of pages and pictures: light, dark and printed. The colours are those of Okabe and Ito, which the
+colour-blind tell apart, the yellow darker on white; and forms differ too (dashes, symbols, borders), for a printer
+without colour."""
 
 from .markup import Html
 
 LIGHT = """--paper:#fff;--ink:#1b1b1b;--soft:#5c5c5c;--rule:#d5d5d5;--panel:#f5f5f3;
---hull:#ffe9a0;--hulledge:#a88400;--bound:#1b1b1b;
---bad:#b3261e;--good:#0b5e4a;--c0:#0072b2;--c1:#009e73;--c2:#c77f00;--c3:#d55e00;--c4:#b0498a;--c5:#3f9bd1;--c6:#666"""
+--hull:#e9e9e6;--hulledge:#77776f;--bound:#1b1b1b;--amber:#ffe9a0;
+--bad:#b3261e;--good:#0b5e4a;
+--c0:#0072b2;--c1:#d55e00;--c2:#009e73;--c3:#cc79a7;--c4:#56b4e9;--c5:#e69f00;--c6:#000;--c7:#b3a500"""
 DARK = """--paper:#16181a;--ink:#ececec;--soft:#a9a9a9;--rule:#3d4043;--panel:#202326;
---hull:#594d12;--hulledge:#d9b93a;--bound:#ececec;
+--hull:#33373b;--hulledge:#9aa0a6;--bound:#ececec;--amber:#594d12;
 --bad:#ff8a80;--good:#5fd3b3;
---c0:#5ab4f0;--c1:#3fd0a4;--c2:#f0b03c;--c3:#ff8c4a;--c4:#e796c4;--c5:#9bd7ff;--c6:#b5b5b5"""
+--c0:#3d9be0;--c1:#ff7f32;--c2:#00c48f;--c3:#e59cc5;--c4:#8fd0f7;--c5:#f5b52e;--c6:#fff;--c7:#f0e442"""
 
 PICTURE = Html(f""":root{{{LIGHT}}}
 @media(prefers-color-scheme:dark){{:root{{{DARK}}}}}
@@ -25,17 +27,18 @@ svg path{{vector-effect:non-scaling-stroke;fill:none}}
 svg .hull{{fill:var(--hull)}}
 .edge{{stroke:var(--hulledge);stroke-width:1.5}}
 .bound{{stroke:var(--bound);stroke-width:1.5;stroke-dasharray:7 4}}
-svg .claimed{{fill:var(--ink)}}
+svg .claimed{{fill:var(--ink);font-weight:600}}
 .server{{stroke-width:2}}
 .dense{{stroke-width:1;opacity:.45}}
 .wide{{stroke-width:1.5;opacity:.3}}
+.step{{stroke:var(--bad);stroke-width:2.5}}
 .mark{{stroke-width:12;stroke:var(--bad)}}
 .beyond{{stroke-dasharray:3 2}}
 .unbounded{{stroke-dasharray:1 5;stroke:var(--soft)}}
 .d1{{stroke-dasharray:6 3}}
 .d2{{stroke-dasharray:2 2}}
 .d3{{stroke-dasharray:9 2 2 2}}
-""" + "".join(f".c{k}{{stroke:var(--c{k})}}\n" for k in range(7)))
+""" + "".join(f".c{k}{{stroke:var(--c{k})}}\n" for k in range(8)))
 """What pictures need, in a page and alone."""
 
 PAGE = Html(PICTURE + """*{box-sizing:border-box}
@@ -64,6 +67,7 @@ th{font-weight:600;color:var(--soft)}
 .why td{padding:0 0 10px 18px}
 .verdict{display:inline-block;padding:0 9px;border:2px solid;border-radius:5px;font-weight:700;white-space:nowrap}
 .yes{color:var(--good)}
+.unsupported{color:var(--ink);background:var(--amber);border-color:var(--hulledge)}
 .refuted{color:var(--paper);background:var(--bad);border-color:var(--bad)}
 .nothing-fits{color:var(--bad);border-style:double}
 .open{color:var(--bad);border-style:dashed}
@@ -76,7 +80,7 @@ h2 .verdict{font-size:16px;vertical-align:3px;margin-left:6px}
 .warnings li{margin:4px 0;overflow-wrap:anywhere}
 figure{margin:22px 0 8px}
 figcaption{font-size:14px;color:var(--soft);margin-bottom:4px}
-.picture{display:block;overflow:visible}
+.picture{display:block;width:calc(100% - 84px);margin-left:84px}
 .legend{display:flex;flex-wrap:wrap;gap:2px 18px;list-style:none;padding:0;margin:8px 0;font-size:13px}
 .legend svg,td svg{vertical-align:-2px}
 td>span{white-space:nowrap}

@@ -1,39 +1,28 @@
 """What stands beside a person's word for a premise: what was looked up, measured, or read of the client, in sentences
-for the page. Nothing of it plays a part in a verdict."""
+for the page."""
 from __future__ import annotations
 
 from collections.abc import Iterator
-from typing import TypeVar
 
-from .correction import Correction
+from .backing import Backing
 from .entry import Entry, LeapList, Record
-from .evidence import named_in
-from .fault import Fault
-from .folder import Folder
 from .leap import EXPIRED, NONE
 from .markup import Html, element, joined, minus
-from .measurement import Measurement
-from .typed import read_typed
 from .units import civil, shown_time
 
-Kind = TypeVar("Kind")
 
-
-def support(name: str, folder: Folder, record: Record, entry: Entry, kept: str) -> Iterator[Html]:
-    """The sentences for a premise, as they stand on the page. Kept is what evidence.json says of it."""
+def support(name: str, found: Backing, record: Record, entry: Entry) -> Iterator[Html]:
+    """The sentences for a premise, as they stand on the page."""
     if name == "leap" and record.leap_seconds:
         yield said("Looked up:", looked_up(record.leap_seconds, entry))
-    for file in named_in(kept):
-        if file not in record.inputs or not file.endswith(".json"):
-            continue
-        if name == "reading" and (measured := of_kind(Measurement, folder, file)):
-            yield said("Measured:", measured.sentence())
-            yield from more(measured.greatest_ns > entry.claim.reading_ns)
-        if name == "drift" and (found := of_kind(Correction, folder, file)):
-            yield said("Read:", minus(" ".join(found.sentences())))
-            yield from more(found.drift_ppb > entry.claim.drift_ppb)
-            if cautions := found.cautions(entry.leap.from_, entry.leap.to):
-                yield said("To be seen to:", minus(" ".join(cautions)))
+    for measured in found.measured if name == "reading" else ():
+        yield said("Measured:", measured.sentence())
+        yield from more(measured.greatest_ns > entry.claim.reading_ns)
+    for read in found.read if name == "drift" else ():
+        yield said("Read:", minus(" ".join(read.sentences())))
+        yield from more(read.drift_ppb > entry.claim.drift_ppb)
+        if cautions := read.cautions(entry.leap.from_, entry.leap.to):
+            yield said("To be seen to:", minus(" ".join(cautions)))
 
 
 def said(what: str, words: str) -> Html:
@@ -42,15 +31,6 @@ def said(what: str, words: str) -> Html:
 
 def more(is_more: bool) -> list[Html]:
     return [element("b", "That is more than the claim grants.")] if is_more else []
-
-
-def of_kind(kind: type[Kind], folder: Folder, name: str) -> Kind | None:
-    """What a file that was audited holds, if it is of a kind."""
-    try:
-        found: Kind = read_typed(name, kind, folder.data(name))
-        return found
-    except Fault:
-        return None
 
 
 def looked_up(leaps: LeapList, entry: Entry) -> str:

@@ -7,7 +7,7 @@ import json
 from dataclasses import asdict, dataclass, field
 
 from .alerts import warning_words
-from .entry import Entry
+from .entry import NO_EVIDENCE, NOT_VERIFIED, NOTHING_FITS, OPEN, REFUSED, REFUTED, UNSUPPORTED, YES, Entry
 from .signature import Signature
 from .text import plain
 from .units import civil
@@ -37,6 +37,14 @@ class Row:
     signature: str = ""
     signer: str = ""
     signed_at: str = ""
+
+
+WORST_FIRST = (REFUTED, NOTHING_FITS, UNSUPPORTED, NO_EVIDENCE, OPEN, REFUSED, NOT_VERIFIED, YES)
+
+
+def badness_of(row: Row) -> tuple[int, int]:
+    """How bad a line is, the worst least: by its verdict, and then by how many warnings it has."""
+    return WORST_FIRST.index(row.verdict), -len(row.warnings)
 
 
 def signed_row(folder: str, day: str, found: Signature) -> Row:

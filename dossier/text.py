@@ -24,6 +24,14 @@ def reference(digits: str) -> str:
     return f"{digits}, {letters}" if letters.isalnum() else digits
 
 
+def capital(words: str) -> str:
+    return words[:1].upper() + words[1:]
+
+
+def is_or_are(number: int) -> str:
+    return "is" if number == 1 else "are"
+
+
 def count(number: int, one: str, many: str | None = None) -> str:
     """`1 server`, `4 servers`."""
     return f"{number:,} {one if number == 1 else many or one + 's'}"

@@ -103,11 +103,15 @@ def shown(time: str) -> str:
     return shown_time(seconds_of(time))
 
 
+def within(found: Tracking, first: int, last: int) -> list[Step]:
+    """The steps inside a span of Unix seconds. The log's times are cut to seconds."""
+    return [step for step in found.steps if first - 1 <= seconds_of(step[0]) <= last + 1]
+
+
 def cautions(found: Tracking, first: int, last: int) -> list[str]:
-    """What a person has to look at over a span of Unix seconds: the steps inside it, and whether the log covers it. The
-    log's times are cut to seconds."""
+    """What a person has to look at over a span of Unix seconds: the steps inside it, and whether the log covers it."""
     said = [f"A step{f' of {seconds} s' if seconds else ''} at {shown(time)} ({how}) is inside the span."
-            for time, seconds, how in found.steps if first - 1 <= seconds_of(time) <= last + 1]
+            for time, seconds, how in within(found, first, last)]
     if seconds_of(found.first) > first or seconds_of(found.last) + 1 < last:
         said.append("The log doesn't cover the whole span.")
     return said

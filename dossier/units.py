@@ -76,6 +76,14 @@ def day_of(seconds: int) -> str:
     return civil(seconds)[:10]
 
 
+def between(begin: int, end: int) -> str:
+    """`between .. and ..`, or `at ..` of one moment."""
+    if begin == end:
+        return f"at {shown_time(begin)}"
+    first, last = shown_time(begin), shown_time(end)
+    return f"between {first} and {last[11:] if first[:10] == last[:10] else last}"
+
+
 def span_of_seconds(seconds: float) -> str:
     """A length of time in words: `20.0 ms`, `12.5 s`, `3.2 min`, `5.0 h`, `2.1 days`."""
     if seconds < 1:

@@ -6,7 +6,7 @@ from dataclasses import replace
 from . import folder as files
 from .audit import change_of
 from .entry import LeapList, Record, read_record
-from .fault import DEVICE, Fault, fault
+from .fault import DEVICE, NOT_SHOWN, Fault, fault, summed
 from .folder import Folder
 from .known import Known
 from .leap import NONE as NO_LEAP, differing
@@ -17,7 +17,6 @@ from .signature import GOOD, NONE, UNSEEN, Signers, in_words
 from .text import plain
 from .typed import first_difference, said
 
-DIFFERS = 1
 SHOWN = 80
 """Characters of a value that are shown of a difference."""
 
@@ -125,7 +124,7 @@ def verify_all(folders: list[str], verifier: Verifier, signers: Signers) -> int:
         lines, status = lines_of(path, verifier, signers)
         for line in lines:
             print(f"{plain(path)}: {plain(line)}", flush=True)
-        worst = max(worst, status)
+        worst = summed(worst, status)
     return worst
 
 
@@ -142,7 +141,7 @@ def lines_of(path: str, verifier: Verifier, signers: Signers) -> tuple[list[str]
             found, others = verifier.verify(folder)
             notes += others
             findings += [found] if found else []
-        status = DIFFERS if findings else 0
+        status = NOT_SHOWN if findings else 0
     except Fault as found_fault:
         findings, status = [*findings, found_fault.line], found_fault.status
     return [*(findings or ["verified"]), *(f"({note})" for note in notes)], status

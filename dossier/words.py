@@ -5,20 +5,13 @@ within the bound. Refuted is: in one of them it isn't, so nothing in the capture
 """
 from __future__ import annotations
 
+from . import alerts
+from .alerts import warning_words
 from .claim import Claim
-from .entry import NO_EVIDENCE, NOTHING_FITS, REFUTED, YES, Entry, Piece, Reason, Refutation
+from .entry import AGAINST, NO_EVIDENCE, NOTHING_FITS, REFUTED, UNSUPPORTED, YES, Entry, Reason, Refutation
 from .folder import REFUTATION
-from .text import count
-from .units import TICKS, high_ms, low_ms, ns_ms, ns_up_ms, range_ms, shown_time
-
-
-def between(piece: Piece) -> str:
-    """The time of a piece: `between .. and ..`, or `at ..` of a piece of one moment."""
-    if piece.from_ == piece.to:
-        return f"at {shown_time(piece.from_)}"
-    end = shown_time(piece.to)
-    same_day = end[:10] == shown_time(piece.from_)[:10]
-    return f"between {shown_time(piece.from_)} and {end[11:] if same_day else end}"
+from .text import capital, count, is_or_are
+from .units import TICKS, between, high_ms, low_ms, ns_ms, ns_up_ms, range_ms, shown_time
 
 
 def span(claim: Claim) -> str:
@@ -37,10 +30,6 @@ def granted(claim: Claim) -> str:
     return "if its server was right" if servers == 1 else f"if none of {of} was wrong"
 
 
-def capital(words: str) -> str:
-    return words[:1].upper() + words[1:]
-
-
 def sentence(entry: Entry) -> str:
     """What a manager reads."""
     claim = entry.claim
@@ -49,9 +38,12 @@ def sentence(entry: Entry) -> str:
         said = f"{capital(span(claim))} {within}, {granted(claim)} and what else the claim grants is true."
         if entry.least_ns is None:
             return said
-        widest = f"{ns_up_ms(entry.least_ns)} ms, {between(entry.worst)}"
+        widest = f"{ns_up_ms(entry.least_ns)} ms, {between(entry.worst.from_, entry.worst.to)}"
         return (f"{said} Then the widest it may have been off was {widest}: no "
                 "certificate carries a lesser bound.")
+    if entry.verdict == UNSUPPORTED:
+        return (f"It isn't shown that {span(claim)} {within}. The capture would show it, {granted(claim)}; but the "
+                f"folder's own evidence speaks against what else the claim grants. {reason(entry)}")
     if entry.verdict == REFUTED:
         return f"The capture doesn't show that {span(claim)} {within}, and no certificate can. {reason(entry)}"
     if entry.verdict == NOTHING_FITS:
@@ -69,16 +61,35 @@ def reason(entry: Entry) -> str:
     found = entry.reason
     if not found:
         return ""
+    if entry.verdict == UNSUPPORTED:
+        return " ".join(warning_words(warning) for warning in entry.warnings if warning.kind in AGAINST)
     if entry.verdict == NO_EVIDENCE:
-        most = entry.claim.false_max
-        groups, have = count(len(entry.claim.grouped), "group"), "has" if found.heard == 1 else "have"
-        return (f"{found.heard} of {groups} of servers {have} a sample, and {most or 'none'} may be wrong: whatever "
-                "the error, a course of events fits.")
+        return why_no_evidence(entry, found)
     if found.hull is not None:
         is_word = isinstance(found.hull, str)
         left = f"the hull is {found.hull}" if is_word else f"errors from {range_ms(*found.hull)} are left open"
         return f"At {shown_time(found.tick // TICKS)} {left}."
     return why_nothing_fits(found) if entry.verdict == NOTHING_FITS else why_refuted(entry, found)
+
+
+def why_no_evidence(entry: Entry, found: Reason) -> str:
+    """What is missing: the recording at the time of the span, the client, its servers' replies, or enough of them."""
+    counts, client = entry.counts, entry.claim.client
+    if found.recorded:
+        begin, end = map(shown_time, found.recorded)
+        return f"No packet was recorded within the span: they are from {begin} to {end}, and times are UTC."
+    if not counts.get("records"):
+        return "Nothing was recorded: there is no record at all."
+    if not counts.get("requests"):
+        if found.asked:
+            return f"{client} asks none of the claim's servers: it asks {', '.join(found.asked)}."
+        others, do = ", ".join(found.asking) or "nobody", "do" if len(found.asking) > 1 else "does"
+        return f"{client} asks nobody in this capture: {others} {do}."
+    if not counts.get("replies"):
+        return f"The servers never answered: {count(counts['requests'], 'request')}, and no reply."
+    groups, have = count(len(entry.claim.grouped), "group"), "has" if found.heard == 1 else "have"
+    return (f"{found.heard} of {groups} of servers {have} a sample, and {entry.claim.false_max or 'none'} may be "
+            "wrong: whatever the error, a course of events fits.")
 
 
 def why_refuted(entry: Entry, found: Reason) -> str:
@@ -87,8 +98,9 @@ def why_refuted(entry: Entry, found: Reason) -> str:
     said = f"A course of events fits the exchanges {course_of(entry)}."
     if found.piece is None or isinstance(found.piece.hull, str):
         return said
-    return (f"{said} {capital(between(found.piece))} the error lay from {range_ms(*found.piece.hull)}, outside the "
-            "bound, if what the claim grants is true.")
+    when = capital(between(found.piece.from_, found.piece.to))
+    return (f"{said} {when} the error lay from {range_ms(*found.piece.hull)}, outside the bound, if what the claim "
+            "grants is true.")
 
 
 def why_nothing_fits(found: Reason) -> str:
@@ -101,7 +113,9 @@ def why_nothing_fits(found: Reason) -> str:
     if found.why == "drift":
         return f"With {drift} a course of events would fit: the claim grants too little drift."
     if found.why == "step":
-        return f"Every server is in conflict with itself, and would be with {drift}: so it is if the clock was stepped."
+        when = f", after {shown_time(found.between[0])} and by {shown_time(found.between[1])}" if found.between else ""
+        return (f"Every server is in conflict with itself, and would be with {drift}: so it is if the clock was stepped"
+                f"{when}.")
     return f"More servers are in conflict than the claim takes for wrong: there {is_or_are(number)} {conflicts}."
 
 
@@ -109,9 +123,11 @@ def to_do(entry: Entry) -> str:
     """What to do about it."""
     if not entry.reason:
         return ""
+    if entry.verdict == UNSUPPORTED:
+        return " ".join(alerts.TO_DO[warning.kind] for warning in entry.warnings if warning.kind in AGAINST)
     least = f"A bound of {ns_up_ms(entry.least_ns)} ms is the least that a certificate carries. " \
-        if entry.least_ns is not None else ""
-    return least + TO_DO[entry.reason.why]
+        if entry.least_ns is not None and entry.verdict != NO_EVIDENCE else ""
+    return least + TO_DO[entry.reason.why] + cut_at(entry.reason)
 
 
 TIGHTER = "For a tighter one ask nearer servers, more of them, or more often; or grant less drift, if that is true."
@@ -120,6 +136,7 @@ TO_DO = {
                  "became of their replies.",
     "silent": "See whether the claim names the right client, and whether the capture has replies: the counts tell "
               "what became of them. Name more servers, put fewer of them together, or grant fewer wrong ones.",
+    "beside": "See whether the claim's times are local ones, and whether this is the day's capture.",
     "off": "See in the picture how it went; claim a wider bound, or another span.",
     "tick": TIGHTER,
     "exceeds": TIGHTER,
@@ -127,20 +144,25 @@ TO_DO = {
              "and name more servers. Those that follow one another belong into one group.",
     "drift": "Grant as much as the oscillator and the client's corrections can make: `ntpaudit-dossier draft "
              "--chrony` or `--ntpd` reads them of the client's configuration.",
-    "step": "Look for the step in the client's messages (`System clock was stepped`), cut the capture there with "
-            "`editcap -A` and `-B`, and claim the time before and the time after by themselves.",
+    "step": "Look for the step in the client's messages (`System clock was stepped`). ",
     "many": "See in the conflicts which servers are in most, and in the picture how far off. Grant that they were "
             "wrong (`false_max`) and name more; or the claim grants too little of `reading_ns`.",
 }
 
 
-def is_or_are(number: int) -> str:
-    return "is" if number == 1 else "are"
+def cut_at(found: Reason) -> str:
+    """The commands that cut a capture where a step was seen."""
+    if not found.between:
+        return ""
+    before, after = shown_time(found.between[1]), shown_time(found.between[1] + 1)
+    return (f"`editcap -F pcap -A '{after}Z' f.pcap after.pcap` keeps what came after, and `editcap -F pcap -B "
+            f"'{before}Z' f.pcap before.pcap` what came before (`-F nsecpcap` if it has nanoseconds): claim each by "
+            "itself. With `--days` only the day of the step is lost.")
 
 
 def fit(entry: Entry) -> str:
     """What stands beside a yes: that it isn't empty."""
-    if entry.verdict != YES:
+    if entry.answer != YES:
         return ""
     if not entry.refutation:
         return "The yes isn't empty: the program says it only if a course of events fits the capture."

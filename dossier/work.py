@@ -4,7 +4,7 @@ from __future__ import annotations
 import signal
 from collections.abc import Generator
 
-from .fault import Stopped
+from .fault import Stopped, summed
 from .progress import Progress
 from .task import Done, Task
 from .team import Team
@@ -15,14 +15,14 @@ def stop(number: int, _: object) -> None:
 
 
 def audit_all(task: Task, jobs: int) -> int:
-    """Audits all folders and prints a line for each audit, in the order of the folders. The status is the worst."""
+    """Audits all folders and prints a line for each audit, in the order of the folders. The status is that of all."""
     signal.signal(signal.SIGTERM, stop)
     shown, worst = Progress(len(task.folders)), 0
     jobs = min(jobs, len(task.folders))
     results = one_by_one(task, shown) if jobs < 2 else side_by_side(task, jobs, shown)
     try:
         for done in results:
-            worst = max(worst, done.status)
+            worst = summed(worst, done.status)
             shown.clear()
             print("\n".join(done.lines), flush=True)
             shown.show()

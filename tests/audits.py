@@ -6,8 +6,10 @@ import shutil
 import tempfile
 import threading
 from html.parser import HTMLParser
+from pathlib import Path
 
 import tally
+from leaps import LATER, leap_list
 from tally import DATA, ROOT, program, run
 
 PROGRAM = program()
@@ -15,7 +17,8 @@ SCRIPT = ROOT / "ntpaudit-dossier"
 STATE = tempfile.mkdtemp(prefix="ntpaudit-state-")
 """Where the audits of tests are recorded: not in the user's own record."""
 atexit.register(shutil.rmtree, STATE, ignore_errors=True)
-ENVIRONMENT = {**os.environ, "XDG_STATE_HOME": STATE, "NTPAUDIT": PROGRAM, "PYTHONDONTWRITEBYTECODE": "1", "LC_ALL": "C.UTF-8"}
+ENVIRONMENT = {**os.environ, "XDG_STATE_HOME": STATE, "NTPAUDIT": PROGRAM, "PYTHONDONTWRITEBYTECODE": "1", "LC_ALL": "C.UTF-8",
+               "NTPAUDIT_LEAP_SECONDS": str(leap_list(Path(STATE) / "leap-seconds.list", LATER, (78_796_800, 11)))}
 WITHOUT_EVIDENCE = {"clients-us.few.claim.json", "vlan-ns.silent.claim.json"}
 """Claims of which their capture says nothing, so that there are no figures."""
 CLAIMS = sorted(claim for claim in DATA.glob("*.claim.json") if claim.name not in WITHOUT_EVIDENCE)
@@ -55,7 +58,10 @@ def capture_of(path, *words):
 
 
 def table(*folders):
-    return json.loads(dossier("page", "--json", *folders)[1])
+    """The table's lines, in the order of the folders."""
+    rows = json.loads(dossier("page", "--json", *folders)[1])
+    names = list(map(str, folders))
+    return sorted(rows, key=lambda row: names.index(row["machine"]) if row["machine"] in names else 0)
 
 
 def parts_left(parent):
@@ -93,9 +99,9 @@ class Outline(HTMLParser):
         self.words.append(words)
 
 
-def check_page(name, text):
+def check_page(name, text, links=()):
     page = Outline(text)
-    check(f"{name} is well-formed", wrong=(page.wrong, []), ids=(len(page.ids), len(set(page.ids))), fetched=(page.fetched, []),
+    check(f"{name} is well-formed", wrong=(page.wrong, []), ids=(len(page.ids), len(set(page.ids))), fetched=(page.fetched, list(links)),
           scripts=(page.tags & {"script", "img", "iframe", "object", "link"}, set()), style=("url(" in text or "@import" in text, False))
     if shutil.which("tidy"):
         status, _, err = run(["tidy", "-e", "-q", "--drop-empty-elements", "no", "--show-warnings", "no"], text.encode())

@@ -7,11 +7,14 @@ import json
 import os
 import re
 import shutil
+import signal
+import subprocess
 import time
 from datetime import datetime, timedelta, timezone
 from pathlib import Path
 
 from audits import ENVIRONMENT, PROGRAM, SCRIPT, capture_of, check, check_page, dossier, folder_of, parts_left, skipped, table
+from leaps import leap_list
 from tally import ROOT, run
 
 # ---- signatures
@@ -57,7 +60,7 @@ def test_signatures(place):
     check("signer and time on a page", row=(f">alice@example.org <span>{day}</span> <span>{hour}</span></span></td>" in text, True),
           said=(f'<p class="signed">Signed at {at} by alice@example.org, with the key' in text, True),
           others=([text.count(f">{words}<") for words in ("nobody", "doesn\u2019t fit", "by a stranger")], [1, 1, 1]))
-    rows = json.loads(dossier("page", "--json", "--signers", signers, *folders)[1])
+    rows = table(*folders, "--signers", signers)
     check("signatures as JSON", rows=([row["signature"] for row in rows], ["good", "unfit", "none", "stranger"]),
           signer=((rows[0]["signer"], rows[0]["signed_at"]), ("alice@example.org", at)))
     text = dossier("page", good, unsigned)[1].decode()
@@ -217,19 +220,6 @@ def test_older_records(place):
 
 # ---- leap seconds
 
-FROM_1900 = 2_208_988_800
-
-
-def leap_list(path, good_until, *seconds):
-    """A list of leap seconds, each as the Unix second after it and the difference to TAI, with its own sum."""
-    rows = [f"{time + FROM_1900} {offset}" for time, offset in ((63072000, 10), *seconds)]
-    head = [str(63072000 + FROM_1900), str(good_until + FROM_1900)]
-    digest = hashlib.sha1("".join([*head, *(row.replace(" ", "") for row in rows)]).encode()).hexdigest()
-    own = " ".join(digest[k : k + 8].lstrip("0") for k in range(0, 40, 8))
-    path.write_text("\n".join([f"#\tA list", f"#$\t{head[0]}", f"#@\t{head[1]}", "#", *(f"{row}\t# a day" for row in rows), f"#h\t{own}", ""]))
-    return path
-
-
 MINUTE = {"client": "192.0.2.10", "servers": ["192.0.2.1"], "false_max": 0, "from": "2001-09-09T01:46:40Z", "to": "2001-09-09T01:47:44Z",
           "bound_ns": 60_000_000, "drift_ppb": 100_000, "reading_ns": 0}
 FIRST, LAST = 1_000_000_000, 1_000_000_064
@@ -252,7 +242,7 @@ def test_leap_seconds(place):
     for number, (wanted, until, seconds) in enumerate(cases):
         list_ = leap_list(place / f"{number}.list", until, *seconds)
         status, says, kinds, out = leap_of(folder, list_)
-        check(f"leap seconds {wanted} until {until} {seconds}", status=(status, 0), says=(says, wanted), warned=("leap-second" in kinds, wanted == "within"),
+        check(f"leap seconds {wanted} until {until} {seconds}", status=(status, int(wanted != "none")), says=(says, wanted), warned=("leap-second" in kinds, wanted == "within"),
               again=(b"(unchanged)" in out, False), verified=(dossier("verify", "--leap-seconds", list_, folder)[0], 0))
         text = dossier("page", folder)[1].decode()
         page = "".join(check_page(f"a page with leap seconds {wanted}", text).words)
@@ -379,8 +369,51 @@ def test_measuring(place):
         said = "".join(check_page("a page with a measurement", text).words)
         check("a measurement on a page", said=(f"{found.greatest_ns} at the most" in said.replace(",", ""), True), machine=(f"that {found.machine} sent itself" in said, True),
               more=("That is more than the claim grants." in said, is_more), where=("measured.json, by Ann" in said, True))
+    for name, (text, status, reading) in {"a measurement": (json.dumps(asdict(large)), 0, 130_000), "what is none": ("{}", 2, None), "nothing": ("", 2, None)}.items():
+        (place / "measured.json").write_text(text)
+        got, claim, err = drafted(folder / "f.pcap", "--measured", place / "measured.json")
+        check(f"a draft by {name}", status=(got, status), reading=(claim.get("reading_ns"), reading), said=(f"reading_ns is 130000: 1,000 packets that web-1" in err, not status))
+    check("a draft by a number and a measurement", status=(drafted(folder / "f.pcap", "--measured", place / "measured.json", "--reading-ns", "5")[0], 5))
     (folder / "measured.json").write_text(json.dumps({**asdict(small), "greatest_ns": 1}))
     check("a measurement that was changed", shown=(b"Measured:" in dossier("page", folder)[1], False))
+
+
+STILL = """#!/bin/sh
+# stands in for tcpdump: listens, and never records
+echo "listening on lo" >&2
+exec sleep 60
+"""
+
+
+def test_measure_broken_off(place):
+    """Ctrl-C in `measure` prints one line, whatever it keeps busy."""
+    (place / "tcpdump").write_text(STILL)
+    (place / "tcpdump").chmod(0o755)
+    call = subprocess.Popen([SCRIPT, "measure", "--load", "--count", "100000"], env={**ENVIRONMENT, "PATH": f"{place}:{os.environ['PATH']}"},
+                            stdout=subprocess.PIPE, stderr=subprocess.PIPE, start_new_session=True)
+    time.sleep(1.5)
+    os.killpg(call.pid, signal.SIGINT)
+    out, err = call.communicate(timeout=60)
+    check("Ctrl-C in measure", status=(call.returncode, 130), said=((out, err), (b"", b"ntpaudit-dossier: broken off; what is done isn't done again by the next call\n")))
+
+
+def test_no_route(place):
+    """Where nothing can be sent, or nothing leaves, the line says why."""
+    from dossier.fault import Fault
+    from dossier.measuring import matched
+    for interface, said in (("eth7", "0 of 9 packets were recorded, so nothing is measured: no route to 192.0.2.1 leads over eth7, or nobody answers for its gateway"),
+                            ("lo", "0 of 9 packets were recorded, so nothing is measured")):
+        try:
+            seen = matched([1] * 9, {}, interface)
+        except Fault as fault:
+            seen = fault.words
+        check(f"nothing recorded on {interface}", said=(seen, said))
+    if run(["unshare", "-n", "true"])[0] or not shutil.which("ip") or why_no_recording():
+        skipped("measure without a route", "there are no namespaces, no ip, or no right to record")
+        return
+    make = "ip link add one type veth peer name two && ip link set one up && ip link set two up && ip addr add 10.1.1.1/24 dev one"
+    status, out, err = run(["unshare", "-n", "sh", "-c", f'{make} && exec "$0" measure --interface one --count 10', SCRIPT], env=ENVIRONMENT)
+    check("measure without a route", run=((status, out, err.count(b"\n")), (4, b"", 1)), said=(b"no route to 192.0.2.1 leads over" in err, True))
 
 
 def test_no_right(place):
@@ -524,5 +557,5 @@ def test_auditing(place):
     check("the sections of AUDITING.md that a page names", there=([name for name in named if name not in headings], []), count=(len(set(named)) > 2, True))
 
 
-EVIDENCE_TESTS = [test_signatures, test_ended_keys, test_allowed_signers, test_signing_again, test_signed_evidence, test_older_records, test_elsewhere, test_leap_seconds, test_lists, test_measure, test_measuring, test_no_right,
+EVIDENCE_TESTS = [test_signatures, test_ended_keys, test_allowed_signers, test_signing_again, test_signed_evidence, test_older_records, test_elsewhere, test_leap_seconds, test_lists, test_measure, test_measuring, test_no_right, test_measure_broken_off, test_no_route,
                   test_client, test_steps, test_copies, test_auditing]

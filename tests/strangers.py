@@ -104,8 +104,7 @@ def test_hidden_capture(place):
         forge(folder, hide)
         status, out, _ = dossier("verify", folder)
         check(f"a verdict about {capture}", verified=(b": verified" in out, False), status=(status in (1, 2, 4, 70), True))
-    if shutil.which("mergecap"):
-        check("a wrong join", line=(b"joined.pcap: from byte 24 on (line 1) it is" in dossier("verify", joined)[1], True))
+    check("a wrong join", line=(b"joined.pcap: from byte 24 on (line 1) it is" in dossier("verify", joined)[1], True))
 
 
 def test_swapped_record(place):
@@ -363,14 +362,14 @@ def test_programs(place):
     """Programs of the folder aren't run, and one that doesn't end is ended with all that it began."""
     folder = folder_of(place, "host")
     shutil.copy(folder / "f.pcap", folder / "g.pcap")
-    for name in ("mergecap", "ssh-keygen", "tcpdump"):
+    for name in ("zstd", "ssh-keygen", "tcpdump"):
         (folder / name).write_text(f'#!/bin/sh\ntouch "{place}/owned"\n')
         (folder / name).chmod(0o755)
     path = {**ENVIRONMENT, "PATH": f".::{os.environ['PATH']}"}
     for cwd, named in ((place, "host"), (folder, ".")):
         status, _, _ = dossier("audit", "--again", named, cwd=cwd, env=path)
         dossier("verify", named, cwd=cwd, env=path)
-        check(f"programs of the folder, called in {cwd.name}", owned=((place / "owned").exists(), False), status=(status, 1 if shutil.which("mergecap") else 70))
+        check(f"programs of the folder, called in {cwd.name}", owned=((place / "owned").exists(), False), status=(status, 1))
     slow = place / "slow"
     slow.write_text(f'#!/bin/sh\n[ "$1" = --version ] && exec "{PROGRAM}" "$1"\nsleep 314 & echo $! >> "{place}/sleeping"\nwait\n')
     slow.chmod(0o755)
@@ -505,7 +504,7 @@ def test_hostile_inputs(place):
     fifo = place / "fifo"
     os.mkfifo(fifo)
     capture, claim = DATA / "clients-us.pcap", DATA / "clients-us.claim.json"
-    for words in (["draft", fifo], ["draft", "--chrony", fifo, capture], ["picture", claim, fifo], ["picture", fifo, capture], ["verify", place, "--signers", fifo], ["audit", "--leap-seconds", fifo, place],
+    for words in (["draft", fifo], ["draft", "--chrony", fifo, capture], ["draft", "--measured", fifo, capture], ["picture", claim, fifo], ["picture", fifo, capture], ["verify", place, "--signers", fifo], ["audit", "--leap-seconds", fifo, place],
                   ["draft", "/dev/zero"], ["picture", "/dev/zero", capture]):
         status, out, err = limited(*words, timeout=20)
         check(f"a file that is none: {words[0]} {[str(word) for word in words[1:]]}", status=(status, 2), line=(b" is a " in err and err.count(b"\n") == 1, True), output=(out, b""))
@@ -536,7 +535,9 @@ def test_own_faults(place):
     limit.room = 100
     check("room", over=(is_taken(lambda data: limit.take(101), ""), False))
     lines = ["f.pcap is a FIFO", "f.pcap is too big: it has more than 1 bytes", "audit.json isn't one that is taken (inputs)", "not done within 600 s (--limit)", "f.pcap has changed meanwhile", "the folder is a link: name the folder itself",
-             "out of memory", "it can't be worked on (x)", "its copies and answers take more than 1 bytes", "no folder for private copies can be made (x): TMPDIR names another place", "report.txt can't be written (x)", "f.pcap can't be read (x)"]
+             "out of memory", "it can't be worked on (x)", "its copies and answers take more than 1 bytes", "no folder for private copies can be made (x): TMPDIR names another place", "report.txt can't be written (x)", "f.pcap can't be read (x)",
+             "f.pcap is damaged from byte 24 on, so it can't be joined with the others", "f.pcap.zst is packed by zstd, which isn't installed to unpack it", "f.pcap.gz can't be unpacked: its gzip is damaged", "f.pcapng has frames of several kinds",
+             "f.pcapng has packets without a time", "f.pcapng has times that are coarser than microseconds", "f.pcapng is damaged at byte 9", "f.pcapng has a block that is damaged", "f.pcapng has a packet that is damaged"]
     check("remedies of these", missing=([line for line in lines if not remedy(f"ntpaudit-dossier: {line}")[0]], []))
     pidfd_open = os.pidfd_open
 
@@ -561,7 +562,7 @@ def test_no_evidence(place):
     words = "".join(check_page("a page of no evidence", text).words)
     check("no evidence", status=(status, 1), line=(out.decode(), f"no evidence   {folder}: no bound is carried, claimed 5 ms\n"), row=((row["verdict"], row["least_bound_ns"]), ("no evidence", None)),
           report=((folder / "report.txt").read_text().startswith("no evidence groups 0 of "), True), refutation=((folder / "refutation.json").exists() or "refutation" in entry, False),
-          badge=('class="verdict no-evidence"' in text, True), said=("the capture says nothing about this clock. 0 of " in words, True), to_do=("names the right client" in row["to_do"] and "names the right client" in words, True),
+          badge=('class="verdict no-evidence"' in text, True), said=("the capture says nothing about this clock. 203.0.113.9 asks nobody in this capture: 192.0.2.10 does." in words, True), to_do=("names the right client" in row["to_do"] and "names the right client" in words, True),
           csv=(",no evidence," in dossier("page", "--csv", folder)[1].decode(), True), verified=(dossier("verify", folder), (0, f"{folder}: verified\n".encode(), b"")))
 
 

@@ -1,0 +1,144 @@
+"""Classic captures in the current folder, which is one's own: where their records lie, and captures made of them.
+
+A record is handed on as it was recorded. Where nanoseconds and microseconds come together, nanoseconds are cut, which
+only widens the windows of the records.
+"""
+from __future__ import annotations
+
+import mmap
+import os
+from bisect import bisect_left, bisect_right
+from collections.abc import Iterable, Iterator
+from heapq import merge
+from itertools import chain
+from operator import itemgetter
+from struct import Struct
+
+from .fault import fault
+from .folder import BLOCK, Copy
+from .limit import Limit
+
+MAGICS = {bytes.fromhex(magic): form for magic, form in (
+    ("d4c3b2a1", ("<", 10**6)), ("a1b2c3d4", (">", 10**6)), ("4d3cb2a1", ("<", 10**9)), ("a1b23c4d", (">", 10**9)))}
+"""Of the first four bytes the order of all others, and the units to a second."""
+HEADER, HEAD = 24, 16
+"""Bytes of a capture's header, and of a record's."""
+MOST_RECORDS, MOST_CAPTURED = 4_000_000, 262_144
+"""Records of a capture, and bytes of each, that the program takes."""
+OFTEN = 1 << 16
+"""Records between two looks at the time."""
+NEW_HEADER, NEW_HEAD = Struct("<IHHIIII"), Struct("<IIII")
+NEW_MAGIC = {10**6: 0xA1B2C3D4, 10**9: 0xA1B23C4D}
+
+Row = tuple[int, int, int]
+"""A record: its time in units since 1970, and where it begins and ends."""
+Runs = list[list[int]]
+"""Where records that follow one another begin and end."""
+
+
+class Classic:
+    """A capture in a file of one's own; nothing has to be one."""
+
+    def __init__(self, path: str, limit: Limit):
+        self.path, self.limit = path, limit
+        with open(path, "rb") as opened:
+            self.size = os.fstat(opened.fileno()).st_size
+            self.data: bytes | mmap.mmap = b""
+            if self.size:
+                self.data = mmap.mmap(opened.fileno(), self.size, access=mmap.ACCESS_READ)
+        self.order, self.unit = MAGICS.get(self.data[:4], ("<", 0))
+        self.is_one = self.unit > 0 and self.size >= HEADER
+
+    @property
+    def kind(self) -> tuple[int, int, int]:
+        """Its version, and the kind of its frames."""
+        major, minor, link = Struct(f"{self.order}HH12xI").unpack_from(self.data, 4)
+        return major, minor, link
+
+    def rows(self) -> Iterator[Row]:
+        """Its records, as far as they can be told apart."""
+        head, size, at, unit = Struct(f"{self.order}III").unpack_from, self.size - HEAD, HEADER, self.unit
+        number = 0
+        while at <= size:
+            seconds, part, captured = head(self.data, at)
+            end = at + HEAD + captured
+            if captured > MOST_CAPTURED or part >= unit or end > self.size:
+                return
+            yield seconds * unit + part, at, end
+            at = end
+            number += 1
+            if number % OFTEN == 0:
+                self.limit.left()
+
+    def end(self, most: int | None = None) -> int:
+        """Where its whole records end, of which no more may be looked for."""
+        end = HEADER
+        for number, (_, _, end) in enumerate(self.rows(), 1):
+            if number == most:
+                break
+        return end
+
+    def is_torn(self, end: int) -> bool:
+        """Whether it ends inside the record that begins there."""
+        head = self.data[end : end + HEAD]
+        captured = int.from_bytes(head[8:12], "little" if self.order == "<" else "big")
+        return 0 < len(head) < HEAD or (len(head) == HEAD and self.size - end - HEAD < captured <= MOST_CAPTURED)
+
+    def renewed(self, begin: int, end: int, unit: int) -> bytes:
+        """A record in the order and the unit of a new capture."""
+        if (self.order, self.unit) == ("<", unit):
+            return self.data[begin:end]
+        seconds, part, captured, length = Struct(f"{self.order}IIII").unpack_from(self.data, begin)
+        return NEW_HEAD.pack(seconds, part * unit // self.unit, captured, length) + self.data[begin + HEAD : end]
+
+
+def new_header(unit: int, kind: tuple[int, int, int]) -> bytes:
+    major, minor, link = kind
+    return NEW_HEADER.pack(NEW_MAGIC[unit], major, minor, 0, 0, MOST_CAPTURED, link)
+
+
+def write(path: str, blocks: Iterable[bytes], limit: Limit) -> None:
+    """Writes a file of one's own, many small blocks at once."""
+    with Copy(path, limit) as copy:
+        held, size = [], 0
+        for block in blocks:
+            held.append(block)
+            size += len(block)
+            if size > BLOCK:
+                copy.take(b"".join(held))
+                held, size = [], 0
+        copy.take(b"".join(held))
+
+
+def join(captures: dict[str, Classic], path: str, limit: Limit) -> None:
+    """Joins captures, by their names, in order of time. Of records of one time those of the first capture come
+    first."""
+    first = next(iter(captures.values()))
+    for name, capture in captures.items():
+        if not capture.is_one:
+            raise fault(f"{name} is no classic capture, so it can't be joined with the others")
+        if capture.kind != first.kind:
+            raise fault(f"{name} has other frames than {next(iter(captures))}, so it can't be joined with it")
+    unit = min(capture.unit for capture in captures.values())
+
+    def records(number: int, name: str, capture: Classic) -> Iterator[tuple[int, int, bytes]]:
+        of, end = 10**9 // capture.unit, HEADER
+        for time, begin, end in capture.rows():
+            yield time * of, number, capture.renewed(begin, end, unit)
+        if end != capture.size:
+            raise fault(f"{name} is damaged from byte {end} on, so it can't be joined with the others")
+    rows = merge(*(records(number, *of_name) for number, of_name in enumerate(captures.items())), key=itemgetter(0, 1))
+    write(path, chain([new_header(unit, first.kind)], map(itemgetter(2), rows)), limit)
+
+
+def runs_of(capture: Classic, spans: list[tuple[int, int]]) -> list[Runs]:
+    """Of each span of Unix seconds the records whose times lie in it. The spans have to be in order, as their ends."""
+    begins, ends = ([second * capture.unit for second in side] for side in zip(*spans))
+    found: list[Runs] = [[] for _ in spans]
+    for time, begin, end in capture.rows():
+        for runs in found[bisect_left(ends, time) : bisect_right(begins, time)]:
+            if runs and runs[-1][1] == begin:
+                runs[-1][1] = end
+            else:
+                runs.append([begin, end])
+    return found
