@@ -151,7 +151,7 @@ class Entry:
     envelope_step: Annotated[int, within(1, 86_400)]
     """Seconds of the envelope's pieces."""
     least_ns: Nanoseconds | None
-    """The least bound that any certificate carries; None if no course of events fits, or too few groups have a
+    """The least bound that a certificate carries; None if no course of events fits, or too few groups have a
     sample."""
     worst: Piece
     """The piece that needs the least bound, or the first that is unbounded or empty."""

@@ -166,7 +166,7 @@ fn add_pieces<S: SampleSource>(
 /// seconds and its hull in ticks of 2^-32 s; before it, if `servers` is true, a line for each
 /// server that has a sample, with its address and its interval in the piece; then the least bound
 /// in nanoseconds, and the first piece that needs it, or the first piece in which no bound holds;
-/// and last `least`, the least bound that any certificate carries, if it is asked for.
+/// and last `least`, the least bound that a certificate carries, if it is asked for.
 ///
 /// The envelope is of these samples, at most 1,000,000, and of this claim.
 #[tactic(auto, unfolding(crate::specs::Envelope::envelope_text))]
