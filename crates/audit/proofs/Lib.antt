@@ -2,15 +2,10 @@ pub mod Nanosecond
 pub mod Sample
 pub mod SampleLines
 pub mod Capture
-pub mod VerdictShowing
-pub mod SearchShowing
-pub mod RefutationShowing
 pub mod LeastShowing
 pub mod SettlementShowing
 pub mod EnvelopeShowing
-pub mod SeekShowing
 pub mod RunSteps
-pub mod Showing
 pub mod Status
 pub mod PacketParts
 pub mod RecordFrames
@@ -24,3 +19,8 @@ pub mod Headline
 pub mod Excess
 pub mod Opposition
 pub mod ClaimLimits
+pub mod Showing
+pub mod VerdictShowing
+pub mod SearchShowing
+pub mod RefutationShowing
+pub mod SeekShowing

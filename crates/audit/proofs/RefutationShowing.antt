@@ -5,14 +5,20 @@ use Rattle.certificate.specs.Refutation.{RefutationData}
 use Rattle.pairing.specs.Exchange.{SameRequest}
 use Rattle.checker.specs.Settlement.{Settles}
 use Rattle.courses.specs.DriftSettlement.{SettlesWithDrift}
+use Rattle.report.specs.declared.fault.Outcome.{Outcome}
+use Rattle.report.specs.declared.fault.Outcome.TheVariants.{Yes, No}
+use Rattle.audit.specs.Contested.{CourseContests, ShowsContested}
 use Rattle.audit.specs.Evidence.{EvidenceData}
-use Rattle.audit.specs.Question.{ShowsOf, refute_by}
-use Rattle.audit.specs.Refute.{refuted_outcome}
+use Rattle.audit.specs.Question.{ShowsOf}
+use Rattle.audit.specs.Refute.{GiveRefutation, IsContestedOf, IsSettledFor, IsUncontestedOf, refute, refuted_outcome}
+use Rattle.audit.specs.Second.{refutation_said, refutation_second}
+use Rattle.audit.proofs.Excess.{standing_beyond}
+use Rattle.audit.proofs.Showing.{of_inputs, refutation_is}
 
 module _ (refutation : RefutationData) (e : EvidenceData) (agree : AllPairs SameRequest e.collection.exchanges) where
   -- of one whose error never changes
   pub judgement_shows : (stands : Bool) → Settles e.claim e.collection.exchanges refutation stands →
-      ShowsOf (refute_by false refutation) e (refuted_outcome stands)
+      IsSettledFor false refutation e (refuted_outcome stands)
   judgement_shows true judged = record {
     accepted = judged.exact.0 refl;
     course = judged.course refl agree;
@@ -25,7 +31,7 @@ module _ (refutation : RefutationData) (e : EvidenceData) (agree : AllPairs Same
 
   -- of one whose error may drift
   pub drift_judgement_shows : (stands : Bool) → SettlesWithDrift e.claim e.collection.exchanges refutation stands →
-      ShowsOf (refute_by true refutation) e (refuted_outcome stands)
+      IsSettledFor true refutation e (refuted_outcome stands)
   drift_judgement_shows true judged = record {
     accepted = judged.exact.0 refl;
     course = judged.course refl agree;
@@ -35,3 +41,24 @@ module _ (refutation : RefutationData) (e : EvidenceData) (agree : AllPairs Same
     refused = λ refuted. true≢false (sym (judged.exact.1 refuted));
     shown_by_none = λ against course shows. true≢false (sym (judged.converse against course shows));
   }
+
+-- the bytes of any inputs that say the refutation and give the evidence show the same
+pub refutation_shown : CourseContests → (drift : Bool) (refutation : RefutationData) (e : EvidenceData) (outcome : Outcome) →
+    IsSettledFor drift refutation e outcome →
+    ShowsOf (refute drift) refutation_second (refutation_said refutation) e outcome
+refutation_shown contested drift refutation e Yes h claim second capture are = record {
+  stands = of_inputs e (GiveRefutation (IsContestedOf drift) second.remaining) (λ b f is. record {
+    refutation = refutation;
+    refutation_is = refutation_is refutation second.remaining are.second_is;
+    evidence = record { evidence = e; evidence_is = is; holds = h };
+  }) claim second capture are;
+  shown = of_inputs e ShowsContested (λ b f is bytes.
+      contested b f e.claim e.collection bytes is.claim_is is.collection_is (standing_beyond drift refutation e h))
+      claim second capture are;
+}
+refutation_shown contested drift refutation e No h claim second capture are =
+    of_inputs e (GiveRefutation (IsUncontestedOf drift) second.remaining) (λ b f is. record {
+      refutation = refutation;
+      refutation_is = refutation_is refutation second.remaining are.second_is;
+      evidence = record { evidence = e; evidence_is = is; holds = h };
+    }) claim second capture are

@@ -27,14 +27,13 @@ use Rattle.report.specs.Reading.{IsFromOutside, Reads}
 use Rattle.report.specs.Run.{RunState}
 use Rattle.report.specs.Runs.{HasClaim, HasLawfulHeader, IsBeforeCapture, IsBeforeSecond, IsUnwrittenAt, Runs}
 use Rattle.report.proofs.InputIntake.{takes_within}
-use Rattle.audit.specs.declared.question.Task.{Task}
-use Rattle.line_writer.specs.declared.field.Style.{Style}
 use Rattle.audit.specs.CaptureInput.{IsOfCapture, capture_read}
-use Rattle.audit.specs.Question as questions
 use Rattle.audit.specs.Evidence.{evidence_of}
-use Rattle.audit.specs.Question.{AskedData, HasSecond, IsOfSecond, IsTaskOf, QuestionData, TaskData, most_second, report_on, task_data}
+use Rattle.audit.specs.Question.{AskedData, Finding, no_finding}
+use Rattle.audit.specs.Second.{HasSecond, IsOfSecond, SecondData, SecondKind, most_second}
+use Rattle.audit.specs.Second.{no_second, certificate_second, refutation_second}
 use Rattle.audit.specs.Report.{IsMadeAfter, after_capture, after_claim, after_second, report_of_bytes, run_report}
-use Rattle.audit.specs.Finding.{Finding, IsFindingIn, IsFindingOf, no_finding}
+use Rattle.audit.specs.Finding.{IsFindingIn, IsFindingOf}
 
 -- ---- the fault of an answer
 
@@ -99,14 +98,14 @@ claim_taken (Err fault) made before after is h =
     subst (λ (m : Result Ready RunFault). TakesAtMost (most_read inputs.Claim max_claim m) before after) (sym is) h
 
 -- what is taken of a second input that was read is within its limit at any later answer
-pub second_taken : (question : QuestionData) (read : Task) (answer : Result Ready RunFault)
-    (before after : FeedState) → TakesAtMost (most_second question (Ok read)) before after →
-    TakesAtMost (most_second question answer) before after
-second_taken questions.check read answer before after h =
+pub second_taken : {V : Type 0} (kind : SecondKind) (read : V) (answer : Result Ready RunFault)
+    (before after : FeedState) → TakesAtMost (most_second {A = V} kind (Ok read)) before after →
+    TakesAtMost (most_second kind answer) before after
+second_taken no_second read answer before after h = h
+second_taken certificate_second read answer before after h =
     takes_within inputs.Certificate max_certificate answer before after h
-second_taken (questions.refute drift) read answer before after h =
+second_taken refutation_second read answer before after h =
     takes_within inputs.Refutation max_refutation answer before after h
-second_taken question read answer before after h = h
 
 -- the answer says about an input's length what was known once the text was made
 same_most : (which : Input) (limit : ℕ) (made : Result Ready RunFault) (answer : Result Outcome RunFault) →
@@ -115,12 +114,11 @@ same_most which limit (Ok m) answer (inl same) = sym (ap (most_read which limit)
 same_most which limit (Ok m) answer (inr (sent, is)) = sym (ap (most_read which limit) is)
 same_most which limit (Err fault) answer same = sym (ap (most_read which limit) same)
 
-same_most_second : (question : QuestionData) (made : Result Ready RunFault) (answer : Result Outcome RunFault) →
-    IsAnswerFor made answer → most_second question made ≡ most_second question answer
-same_most_second questions.check made answer stays = same_most inputs.Certificate max_certificate made answer stays
-same_most_second (questions.refute drift) made answer stays =
-    same_most inputs.Refutation max_refutation made answer stays
-same_most_second question made answer stays = refl
+same_most_second : (kind : SecondKind) (made : Result Ready RunFault) (answer : Result Outcome RunFault) →
+    IsAnswerFor made answer → most_second kind made ≡ most_second kind answer
+same_most_second no_second made answer stays = refl
+same_most_second certificate_second made answer stays = same_most inputs.Certificate max_certificate made answer stays
+same_most_second refutation_second made answer stays = same_most inputs.Refutation max_refutation made answer stays
 
 -- ---- what was lawful if memory is refused
 
@@ -136,11 +134,11 @@ claim_was_read P known (Ok claim) reads unread = inr (has_claim known claim read
 claim_was_read P known (Err fault) reads unread = inl unread
 
 -- the second input was read
-pub second_was_read : (known : Option (Result TaskData RunFault)) (task : Task) →
-    IfSome known (λ expected. Reads task_data expected (Ok task)) → IfSome known IsOk
-second_was_read None task reads = tt
-second_was_read (Some (Ok expected)) task reads = refl
-second_was_read (Some (Err fault)) task reads = cc
+pub second_was_read : {V : Type 0} (said : V → SecondData) (known : Option (Result SecondData RunFault)) (value : V) →
+    IfSome known (λ expected. Reads said expected (Ok value)) → IfSome known IsOk
+second_was_read said None value reads = tt
+second_was_read said (Some (Ok expected)) value reads = refl
+second_was_read said (Some (Err fault)) value reads = cc
 
 -- ---- the whole
 
@@ -162,11 +160,11 @@ pub record HasMade {T F : Type 0} (asked : AskedData) (finding : Finding) (befor
   pub second_untouched : IfErr made (λ fault. IsBeforeSecond fault → second' ≡ second)
   pub capture_untouched : IfErr made (λ fault. IsBeforeCapture fault → capture' ≡ capture)
   pub claim_at_most : TakesAtMost (most_read inputs.Claim max_claim made) before.claim after.claim
-  pub second_at_most : TakesAtMost (most_second asked.question made) before.second after.second
+  pub second_at_most : TakesAtMost (most_second asked.second made) before.second after.second
   pub capture_at_most : TakesAtMost most_taken before.capture after.capture
   pub claim_memory : made ≡ Err faults.Memory →
       ((second' ≡ second) × (capture' ≡ capture)) ⊎ HasClaim before.claim.remaining
-  pub second_memory : made ≡ Err faults.Memory → (capture' ≡ capture) ⊎ HasSecond asked.question before.second.remaining
+  pub second_memory : made ≡ Err faults.Memory → (capture' ≡ capture) ⊎ HasSecond asked.second before.second.remaining
   pub capture_memory : made ≡ Err faults.Memory → (capture' ≡ capture) ⊎ HasLawfulHeader before.capture.remaining
 
 module _ {T F : Type 0} (asked : AskedData) (finding : Finding) (before after : RunState)
@@ -186,7 +184,7 @@ module _ {T F : Type 0} (asked : AskedData) (finding : Finding) (before after : 
   -- what was made is published, and the promise is kept
   pub made_runs : HasMade asked finding before after second second' capture capture' made →
       Publishes before.sink after.sink made answer →
-      Runs (run_report asked finding before) (most_second asked.question answer) (HasSecond asked.question)
+      Runs (run_report asked finding before) (most_second asked.second answer) (HasSecond asked.second)
       before after second second' capture capture' answer
   made_runs h p = record {
     reports = run_reports h p;
@@ -199,7 +197,7 @@ module _ {T F : Type 0} (asked : AskedData) (finding : Finding) (before after : 
     claim_at_most = subst (λ (n : ℕ). TakesAtMost n before.claim after.claim)
         (same_most inputs.Claim max_claim made answer p.stays) h.claim_at_most;
     second_at_most = subst (λ (n : ℕ). TakesAtMost n before.second after.second)
-        (same_most_second asked.question made answer p.stays) h.second_at_most;
+        (same_most_second asked.second made answer p.stays) h.second_at_most;
     capture_at_most = h.capture_at_most;
     claim_memory = λ is. h.claim_memory (was_memory made answer p.stays is);
     second_memory = λ is. h.second_memory (was_memory made answer p.stays is);
@@ -241,16 +239,17 @@ same_refusal (Err other) fault unwritten (inr same) =
     subst (λ (f : RunFault). IsMadeFor (refused f) (Err fault)) (let is : fault ≡ other = cc in is)
     (refusal_for fault unwritten)
 
-module _ (style : Style) (finding : Finding) (claim : ClaimData) (fault : RunFault) where
+module _ {V : Type 0} (said : V → SecondData) (asked : AskedData) (finding : Finding) (claim : ClaimData)
+    (fault : RunFault) where
   -- the second input's refusal is what the bytes of the inputs call for
-  pub second_refusal : IsOfSecond fault → (second : Option (Result TaskData RunFault)) (capture : Option (List ℕ)) →
-      IfSome second (λ expected. Reads task_data expected (Err fault)) →
-      IfSome (after_second style finding claim second capture) (λ report. IsMadeFor report (Err fault))
+  pub second_refusal : IsOfSecond fault → (second : Option (Result SecondData RunFault)) (capture : Option (List ℕ)) →
+      IfSome second (λ expected. Reads said expected (Err fault)) →
+      IfSome (after_second asked finding claim second capture) (λ report. IsMadeFor report (Err fault))
   second_refusal of None capture reads = tt
   second_refusal of (Some (Err other)) capture reads =
-      same_refusal (let read : Result TaskData RunFault = Err other in read) fault (of_second_isnt_written fault of) reads
+      same_refusal (let read : Result SecondData RunFault = Err other in read) fault (of_second_isnt_written fault of) reads
   second_refusal of (Some (Ok known)) capture (inl outside) =
-      any_outside (after_second style finding claim (Some (Ok known)) capture) fault outside
+      any_outside (after_second asked finding claim (Some (Ok known)) capture) fault outside
   second_refusal of (Some (Ok known)) capture (inr is) = absurd cc
 
 module _ (asked : AskedData) (finding : Finding) (fault : RunFault) (of : IsOfClaim fault)
@@ -264,43 +263,45 @@ module _ (asked : AskedData) (finding : Finding) (fault : RunFault) (of : IsOfCl
       any_outside (after_claim asked finding (Ok known) second capture) fault outside
   claim_refusal (Ok known) (inr is) = absurd cc
 
-module _ (style : Style) (finding : Finding) (claim : ClaimData) (fault : RunFault) (of : IsOfCapture fault) where
-  refused_after : (task : TaskData) (read : Result Collection RunFault) → Reads held_data read (Err fault) →
-      IsMadeFor (after_capture style finding task claim read) (Err fault)
-  refused_after task read (inl outside) = made_outside (after_capture style finding task claim read) fault outside
-  refused_after task read (inr is) =
-      subst (λ (r : Result Collection RunFault). IsMadeFor (after_capture style finding task claim r) (Err fault))
+module _ (asked : AskedData) (finding : Finding) (claim : ClaimData) (fault : RunFault) (of : IsOfCapture fault) where
+  refused_after : (said : SecondData) (read : Result Collection RunFault) → Reads held_data read (Err fault) →
+      IsMadeFor (after_capture asked finding said claim read) (Err fault)
+  refused_after said read (inl outside) = made_outside (after_capture asked finding said claim read) fault outside
+  refused_after said read (inr is) =
+      subst (λ (r : Result Collection RunFault). IsMadeFor (after_capture asked finding said claim r) (Err fault))
       (sym is) (refusal_for fault (of_capture_isnt_written fault of))
 
   -- its refusal is what the bytes of the inputs call for
-  pub capture_refusal : (task : Task) (second : Option (Result TaskData RunFault)) (capture : Option (List ℕ)) →
-      IfSome second (λ expected. Reads task_data expected (Ok task)) →
+  pub capture_refusal : {V : Type 0} (said : V → SecondData) (value : V)
+      (second : Option (Result SecondData RunFault)) (capture : Option (List ℕ)) →
+      IfSome second (λ expected. Reads said expected (Ok value)) →
       IfSome capture (λ bytes. Reads held_data (capture_read claim bytes) (Err fault)) →
-      IfSome (after_second style finding claim second capture) (λ report. IsMadeFor report (Err fault))
-  capture_refusal task None capture read refused = tt
-  capture_refusal task (Some (Err other)) capture read refused = absurd cc
-  capture_refusal task (Some (Ok known)) None read refused = tt
-  capture_refusal task (Some (Ok known)) (Some bytes) read refused =
+      IfSome (after_second asked finding claim second capture) (λ report. IsMadeFor report (Err fault))
+  capture_refusal said value None capture read refused = tt
+  capture_refusal said value (Some (Err other)) capture read refused = absurd cc
+  capture_refusal said value (Some (Ok known)) None read refused = tt
+  capture_refusal said value (Some (Ok known)) (Some bytes) read refused =
       refused_after known (capture_read claim bytes) refused
 
 -- ---- no input is refused
 
-module _ (style : Style) (finding : Finding) (claim : ClaimData) (task : Task) (held : Held)
-    (made : Result Ready RunFault) where
+module _ {V : Type 0} (said : V → SecondData) (asked : AskedData) (finding : Finding) (claim : ClaimData) (value : V)
+    (held : Held) (made : Result Ready RunFault) where
   -- what was made of the evidence is what the bytes of the inputs call for
-  pub evidence_made : (second : Option (Result TaskData RunFault)) (capture : Option (List ℕ)) →
-      IfSome second (λ expected. Reads task_data expected (Ok task)) →
+  pub evidence_made : (second : Option (Result SecondData RunFault)) (capture : Option (List ℕ)) →
+      IfSome second (λ expected. Reads said expected (Ok value)) →
       IfSome capture (λ bytes. Reads held_data (capture_read claim bytes) (Ok held)) →
-      IsMadeFor (report_on style finding (task_data task) (evidence_of claim (held_data held))) made →
-      IfSome (after_second style finding claim second capture) (λ report. IsMadeFor report made)
+      IsMadeFor (asked.question.report asked.style finding (said value) (evidence_of claim (held_data held))) made →
+      IfSome (after_second asked finding claim second capture) (λ report. IsMadeFor report made)
   evidence_made None capture read collected is = tt
   evidence_made (Some (Err other)) capture read collected is = absurd cc
   evidence_made (Some (Ok known)) None read collected is = tt
   evidence_made (Some (Ok known)) (Some bytes) read collected is =
-      subst (λ (r : Result Collection RunFault). IsMadeFor (after_capture style finding known claim r) made)
+      subst (λ (r : Result Collection RunFault). IsMadeFor (after_capture asked finding known claim r) made)
       (sym collected)
-      (subst (λ (t : TaskData). IsMadeFor (report_on style finding t (evidence_of claim (held_data held))) made)
-      (let same : task_data task ≡ known = cc in same) is)
+      (subst (λ (s : SecondData). IsMadeFor
+      (asked.question.report asked.style finding s (evidence_of claim (held_data held))) made)
+      (let same : said value ≡ known = cc in same) is)
 
 -- a finding on the evidence is one on the bytes of the capture
 pub finding_after : (finding : Finding) (claim : ClaimData) (collection : Collection) (capture : Option (List ℕ)) →

@@ -13,10 +13,15 @@ use Rattle.checker.specs.Verdict.{verdict_of}
 use Rattle.checker.specs.declared.verdict.Verdict.TheVariants as verdicts
 use Rattle.finder.specs.Sought.{IsSought, NoneIsRefuted}
 use Rattle.report.specs.declared.fault.Outcome.{Outcome}
+use Rattle.report.specs.declared.fault.Outcome.TheVariants.{Yes, No}
+use Rattle.audit.specs.Contested.{CourseContests, ShowsContested}
 use Rattle.audit.specs.Evidence.{EvidenceData}
-use Rattle.audit.specs.Question.{ShowsOf, seek_refutation}
+use Rattle.audit.specs.Question.{ShowsOf}
 use Rattle.audit.specs.Refute.{IsContestedOf}
-use Rattle.audit.specs.Seek.{sought_in, sought_outcome}
+use Rattle.audit.specs.Second.{no_second, nothing_said}
+use Rattle.audit.specs.Seek.{IsIrrefutableOf, IsRefutableOf, IsSoughtOf, seek, sought_in, sought_outcome}
+use Rattle.audit.proofs.Excess.{standing_beyond}
+use Rattle.audit.proofs.Showing.{of_evidence, of_inputs}
 
 -- the laws on what is accepted
 pub record Laws : Type 0 where
@@ -50,7 +55,7 @@ module _ (laws : Laws) (e : EvidenceData) (limits : Limits e) where
   }
 
   shown : (found : Option Refutation) → Sought e found →
-      ShowsOf seek_refutation e (sought_outcome (option_map refutation_data found))
+      IsSoughtOf e (sought_outcome (option_map refutation_data found))
   shown (Some refutation) sought = record {
     refutation = refutation_data refutation;
     found_is = sym sought.exact;
@@ -61,5 +66,16 @@ module _ (laws : Laws) (e : EvidenceData) (limits : Limits e) where
 
   -- what the outcome of what was found shows
   pub search_shows : (found : Option Refutation) (outcome : Outcome) →
-      outcome ≡ sought_outcome (option_map refutation_data found) → Sought e found → ShowsOf seek_refutation e outcome
-  search_shows found outcome is sought = subst (ShowsOf seek_refutation e) (sym is) (shown found sought)
+      outcome ≡ sought_outcome (option_map refutation_data found) → Sought e found → IsSoughtOf e outcome
+  search_shows found outcome is sought = subst (IsSoughtOf e) (sym is) (shown found sought)
+
+-- the bytes of any inputs that give the evidence show the same
+pub search_shown : CourseContests → (e : EvidenceData) (outcome : Outcome) → IsSoughtOf e outcome →
+    ShowsOf seek no_second nothing_said e outcome
+search_shown contested e Yes h claim second capture are = record {
+  found = of_evidence IsRefutableOf e h claim second capture are;
+  shown = of_inputs e ShowsContested (λ b f is bytes.
+      contested b f e.claim e.collection bytes is.claim_is is.collection_is
+      (standing_beyond false h.refutation e h.stands)) claim second capture are;
+}
+search_shown contested e No h claim second capture are = of_evidence IsIrrefutableOf e h claim second capture are

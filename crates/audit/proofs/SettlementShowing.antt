@@ -21,7 +21,8 @@ use Rattle.report.specs.Reports.{refused}
 use Rattle.audit.specs.Check.{verdict_on}
 use Rattle.audit.specs.Evidence.{EvidenceData, samples_in}
 use Rattle.audit.specs.Find.{find_run_fault_of}
-use Rattle.audit.specs.Finding.{IsFindingOf, IsSettlementOf, no_finding}
+use Rattle.audit.specs.Finding.{IsFindingOf, IsSettlementOf}
+use Rattle.audit.specs.Question.{no_finding}
 use Rattle.audit.specs.Settle.{IsSettledOf}
 
 module _ (e : EvidenceData) (agree : AllPairs SameRequest e.collection.exchanges)

@@ -1,20 +1,27 @@
 -- What a verdict shows.
-use Rattle.std.proofs.Common.{◌≡◌, length, refl, sym, ap, subst}
+use Rattle.std.proofs.Common.{◌≡◌, List, ℕ, length, refl, sym, ap, subst}
 use Rattle.certificate.specs.Certificate.{CertificateData}
 use Rattle.claim_file.specs.Claim.{group_count}
 use Rattle.pairing.specs.Sources.{common_reference, source_count}
 use Rattle.checker.specs.Traceability.{IsVerdictOn}
 use Rattle.checker.specs.declared.verdict.Verdict.{Verdict}
 use Rattle.checker.specs.declared.verdict.Verdict.TheVariants as verdicts
+use Rattle.byte_stream.specs.Bytes.{IsBytes}
 use Rattle.report.specs.declared.fault.Outcome.{Outcome}
+use Rattle.report.specs.declared.fault.Outcome.TheVariants.{Yes, No}
 use Rattle.audit_text.specs.declared.check_report.Findings.{Findings}
-use Rattle.audit.specs.Check.{findings_on, outcome_of, verdict_on}
+use Rattle.audit.specs.Check.{HasVerdict, IsDenied, IsTracedByPieces, IsTracedTo, check, findings_on, outcome_of, verdict_on}
 use Rattle.audit.specs.Evidence.{EvidenceData, samples_in}
-use Rattle.audit.specs.Question.{ShowsOf, check_of}
+use Rattle.audit.specs.Question.{ShowsOf}
+use Rattle.audit.specs.Evidence.{OfClaimAndCapture}
+use Rattle.audit.specs.Headline.{IsShown, ShowsHeadline}
+use Rattle.audit.specs.Nanoseconds.{GivesNanoseconds}
+use Rattle.audit.specs.Second.{certificate_said, certificate_second}
+use Rattle.audit.proofs.Showing.{of_certificate_bytes, of_inputs, pieces_traced, traced_to}
 
 module _ (certificate : CertificateData) (e : EvidenceData) where
   shown : (verdict : Verdict) → IsVerdictOn e.claim (samples_in e) certificate verdict →
-      ShowsOf (check_of certificate) e (outcome_of verdict)
+      HasVerdict certificate e (outcome_of verdict)
   shown verdicts.Yes settled = record {
     verdict_is = sym settled.exact;
     whole = settled.yes refl;
@@ -30,8 +37,8 @@ module _ (certificate : CertificateData) (e : EvidenceData) where
 
   -- what the outcome of a verdict shows
   pub verdict_shows : (verdict : Verdict) (outcome : Outcome) → outcome ≡ outcome_of verdict →
-      IsVerdictOn e.claim (samples_in e) certificate verdict → ShowsOf (check_of certificate) e outcome
-  verdict_shows verdict outcome is settled = subst (ShowsOf (check_of certificate) e) (sym is) (shown verdict settled)
+      IsVerdictOn e.claim (samples_in e) certificate verdict → HasVerdict certificate e outcome
+  verdict_shows verdict outcome is settled = subst (HasVerdict certificate e) (sym is) (shown verdict settled)
 
   -- what is calculated, one by one
   pub record AreFindings (f : Findings) : Type 0 where
@@ -53,3 +60,31 @@ module _ (certificate : CertificateData) (e : EvidenceData) where
       } ≡ findings_on certificate e =
       rw (is.groups, is.sources, is.reference, is.pieces, is.verdict) refl in
       all
+
+  -- the bytes of any inputs that say the certificate and give the evidence show the same
+  pub verdict_shown : GivesNanoseconds → ShowsHeadline → (outcome : Outcome) → HasVerdict certificate e outcome →
+      ShowsOf check certificate_second (certificate_said certificate) e outcome
+  verdict_shown nanoseconds headline Yes h claim second capture are = record {
+    whole = of_inputs e IsTracedTo (λ b f is. traced_to nanoseconds b f e is certificate h) claim second capture are;
+    shown = of_inputs e (λ b f. IsBytes f → IsShown b f)
+        (λ b f is bytes. headline b f e.claim e.collection certificate bytes is.claim_is is.collection_is h.verdict_is)
+        claim second capture are;
+    by_pieces = of_certificate_bytes certificate (λ s. OfClaimAndCapture claim capture (λ b. IsTracedByPieces b s))
+        (λ s read. of_inputs e (λ b. IsTracedByPieces b s) (λ b f is. record {
+          certificate = certificate;
+          evidence = e;
+          certificate_is = read;
+          evidence_is = is;
+          accepted = h.verdict_is;
+          within = pieces_traced nanoseconds b f e is certificate h;
+        }) claim second capture are) second.remaining are.second_is;
+  }
+  verdict_shown nanoseconds headline No h claim second capture are =
+      of_certificate_bytes certificate (λ s. OfClaimAndCapture claim capture (λ b. IsDenied b s))
+      (λ s read. of_inputs e (λ b. IsDenied b s) (λ b f is. record {
+        certificate = certificate;
+        evidence = e;
+        certificate_is = read;
+        evidence_is = is;
+        verdict = h;
+      }) claim second capture are) second.remaining are.second_is

@@ -13,7 +13,8 @@ use Rattle.report.specs.declared.fault.Outcome.TheVariants.{Yes}
 use Rattle.report.specs.Reports.{Report, whole_text}
 use Rattle.line_writer.specs.declared.field.Style.{Style}
 use Rattle.audit_text.specs.Parts.{parts_text}
-use Rattle.audit.specs.Evidence.{EvidenceData, IsEvidenceOf, OfClaimAndCapture, samples_in}
+use Rattle.audit.specs.Evidence.{EvidenceData, GiveEvidence, OfClaimAndCapture, samples_in}
+use Rattle.audit.specs.Question.{QuestionData}
 
 -- the tick of 2^-32 s at which a Unix second begins
 abbrev pub tick_of : ℕ → ℤ
@@ -48,12 +49,13 @@ hull_at second e =
 abbrev pub IsHeldAt : ℕ → EvidenceData → Type 0
 IsHeldAt second e = HoldsError e.claim (samples_in e) (stretch_at second) (hull_at second e)
 
--- The bytes of claim and capture give evidence for which that holds.
-pub record IsHeldOf (second : ℕ) (claim capture : List ℕ) : Type 0 where
-  pub evidence : EvidenceData
-  pub evidence_is : IsEvidenceOf claim capture evidence
-  pub held : IsHeldAt second evidence
-
--- The hull holds the error, if these bytes are known.
+-- The bytes of claim and capture give evidence for which that holds, if they are known.
 abbrev pub IsHeld : ℕ → FeedState → FeedState → Type 0
-IsHeld second claim capture = OfClaimAndCapture claim capture (IsHeldOf second)
+IsHeld second claim capture = OfClaimAndCapture claim capture (GiveEvidence (IsHeldAt second))
+
+-- what does each server say about the clock at a Unix second?
+abbrev pub at : ℕ → QuestionData
+at unix_second = record {
+  report = λ style finding said e. at_report style unix_second e;
+  Shows = λ claim second capture outcome. IsHeld unix_second claim capture;
+}

@@ -21,13 +21,16 @@ use Rattle.report.specs.CertificateInput.{certificate_read}
 use Rattle.report.specs.ClaimInput.{claim_read}
 use Rattle.report.specs.declared.fault.Outcome.{Outcome}
 use Rattle.report.specs.declared.fault.Outcome.TheVariants as outcomes
-use Rattle.report.specs.Reports.{Report, whole_text}
+use Rattle.report.specs.declared.fault.RunFault.TheVariants.{Memory}
+use Rattle.report.specs.Reports.{Report, refused, whole_text}
 use Rattle.line_writer.specs.declared.field.Style.{Style}
 use Rattle.audit_text.specs.declared.check_report.Findings.{Findings}
 use Rattle.audit_text.specs.CheckReport.{check_text}
 use Rattle.audit.specs.CaptureInput.{capture_read}
 use Rattle.audit.specs.Evidence.{EvidenceData, IsEvidenceOf, OfClaimAndCapture, samples_in}
 use Rattle.audit.specs.Headline.{IsShown}
+use Rattle.audit.specs.Question.{QuestionData}
+use Rattle.audit.specs.Second.{SecondData, certificate_said}
 
 -- the outcome of a verdict
 abbrev pub outcome_of : Verdict → Outcome
@@ -127,3 +130,24 @@ pub record IsTraced (claim second capture : FeedState) : Type 0 where
 abbrev pub IsNotTraced : FeedState → FeedState → FeedState → Type 0
 IsNotTraced claim second capture =
     IfSome second.remaining (λ s. OfClaimAndCapture claim capture (λ c. IsDenied c s))
+
+-- what the outcome of a verdict shows of evidence, and of inputs
+abbrev pub HasVerdict : CertificateData → EvidenceData → Outcome → Type 0
+HasVerdict certificate e outcomes.Yes = HasVerdictYes certificate e
+HasVerdict certificate e outcomes.No = HasVerdictNo certificate e
+
+abbrev pub ShowsVerdict : FeedState → FeedState → FeedState → Outcome → Type 0
+ShowsVerdict claim second capture outcomes.Yes = IsTraced claim second capture
+ShowsVerdict claim second capture outcomes.No = IsNotTraced claim second capture
+
+-- the report on a certificate; nothing else is checked
+abbrev pub report_on : Style → SecondData → EvidenceData → Report
+report_on style (certificate_said certificate) e = check_report style certificate e
+report_on style said e = refused Memory
+
+-- does a certificate show the claim?
+abbrev pub check : QuestionData
+check = record {
+  report = λ style finding said e. report_on style said e;
+  Shows = ShowsVerdict;
+}

@@ -21,6 +21,7 @@ use Rattle.audit_text.specs.declared.least_line.LeastLine.{LeastLine}
 use Rattle.audit.specs.Evidence.{EvidenceData, GiveEvidence, OfClaimAndCapture, samples_in}
 use Rattle.audit.specs.Find.{find_run_fault_of}
 use Rattle.audit.specs.Least.{least_line_of}
+use Rattle.audit.specs.Question.{QuestionData}
 
 -- the outcome: yes if a bound holds
 abbrev pub bound_outcome : LeastBound → Outcome
@@ -71,3 +72,11 @@ pub record IsEnvelopeOf (step : ℕ) (outcome : Outcome) (e : EvidenceData) : Ty
 abbrev pub IsEnveloped : ℕ → Outcome → FeedState → FeedState → Type 0
 IsEnveloped step outcome claim capture =
     OfClaimAndCapture claim capture (GiveEvidence (IsEnvelopeOf step outcome))
+
+-- How far off may the clock have been, in pieces of this many seconds? What each server says may be
+-- shown, and the least bound that a certificate carries.
+abbrev pub envelope : ℕ → Bool → Bool → QuestionData
+envelope step servers least = record {
+  report = λ style finding said e. envelope_report style step servers least finding.least e;
+  Shows = λ claim second capture outcome. IsEnveloped step outcome claim capture;
+}

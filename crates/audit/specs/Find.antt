@@ -22,6 +22,7 @@ use Rattle.line_writer.specs.declared.field.Style.{Style}
 use Rattle.audit_text.specs.Nothing.{nothing_text}
 use Rattle.audit.specs.Check.{verdict_on}
 use Rattle.audit.specs.Evidence.{EvidenceData, GiveEvidence, OfClaimAndCapture, samples_in}
+use Rattle.audit.specs.Question.{QuestionData}
 
 -- what is found, in words: the certificate's compact text and a line feed, in any style, or the
 -- number of the piece that fails and its hull
@@ -80,3 +81,19 @@ IsFound step claim capture = OfClaimAndCapture claim capture (GiveEvidence (IsFo
 -- At a no nothing is found, if these bytes are known.
 abbrev pub IsNotFound : ℕ → FeedState → FeedState → Type 0
 IsNotFound step claim capture = OfClaimAndCapture claim capture (GiveEvidence (IsNotFoundOf step))
+
+-- what the outcome of a search shows of evidence, and of inputs
+abbrev pub IsSearchOf : ℕ → EvidenceData → Outcome → Type 0
+IsSearchOf step e outcomes.Yes = IsFoundOf step e
+IsSearchOf step e outcomes.No = IsNotFoundOf step e
+
+abbrev pub ShowsSearch : ℕ → FeedState → FeedState → Outcome → Type 0
+ShowsSearch step claim capture outcomes.Yes = IsFound step claim capture
+ShowsSearch step claim capture outcomes.No = IsNotFound step claim capture
+
+-- is there a certificate with pieces of this many seconds?
+abbrev pub find : ℕ → QuestionData
+find step = record {
+  report = λ style finding said e. find_report style step e;
+  Shows = λ claim second capture outcome. ShowsSearch step claim capture outcome;
+}

@@ -1,28 +1,16 @@
--- What was found that has no definition of its own: what settles a claim, and the least bound that
--- a certificate carries. A report may be one on a finding, and what the finding shows is said of
--- the evidence and of the bytes that give it.
-use Rattle.std.specs.Prelude.{◌≡◌, ◌⊎◌, ℕ, List, Option, None, Result, Ok, Err, IfSome}
+-- What a finding shows of the evidence, and of the bytes that give it.
+use Rattle.std.specs.Prelude.{◌≡◌, ◌⊎◌, ℕ, List, Option, Result, Ok, Err, IfSome}
 use Rattle.byte_stream.specs.State.{FeedState}
 use Rattle.claim_file.specs.Claim.{ClaimData}
 use Rattle.pairing.specs.Pairing.{Collection}
 use Rattle.finder.specs.Settlement.{HasTooManyPieces, SettledData}
-use Rattle.finder.specs.declared.carried.LeastCarried.{LeastCarried}
 use Rattle.finder.specs.declared.fault.FindFault.{FindFault}
 use Rattle.finder.specs.declared.fault.FindFault.TheVariants.{TooManyPieces, Memory}
 use Rattle.audit.specs.CaptureInput.{capture_read}
 use Rattle.audit.specs.Evidence.{EvidenceData, GiveEvidence, OfClaimAndCapture, evidence_of}
 use Rattle.audit.specs.Least.{IsLeastBoundOf}
+use Rattle.audit.specs.Question.{Finding, no_finding}
 use Rattle.audit.specs.Settle.{IsSettledFrom, IsSettledOf}
-
-pub record Finding : Type 0 where
-  -- what settles a claim, or why it isn't known
-  pub settled : Result SettledData FindFault
-  -- the least bound, if one was looked for
-  pub least : Option (Option LeastCarried)
-
--- nothing was found, for want of memory or because nothing was looked for
-abbrev pub no_finding : Finding
-no_finding = record { settled = Err Memory; least = None }
 
 -- ---- what it shows of evidence
 

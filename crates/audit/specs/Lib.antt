@@ -2,6 +2,7 @@ pub mod CaptureInput
 pub mod Evidence
 pub mod Samples
 pub mod Finished
+pub mod Second
 pub mod At
 pub mod Check
 pub mod Find

@@ -12,11 +12,14 @@ use Rattle.courses.specs.DriftTest.{is_refuted_with_drift}
 use Rattle.report.specs.RefutationInput.{refutation_read}
 use Rattle.report.specs.declared.fault.Outcome.{Outcome}
 use Rattle.report.specs.declared.fault.Outcome.TheVariants.{Yes, No}
-use Rattle.report.specs.Reports.{Report, whole_text}
+use Rattle.report.specs.declared.fault.RunFault.TheVariants.{Memory}
+use Rattle.report.specs.Reports.{Report, refused, whole_text}
 use Rattle.audit_text.specs.Refutation.{refuted_text}
 use Rattle.audit.specs.Check.{verdict_on}
 use Rattle.audit.specs.Contested.{ShowsContested}
 use Rattle.audit.specs.Evidence.{EvidenceData, GiveEvidence, OfClaimAndCapture}
+use Rattle.audit.specs.Question.{QuestionData}
+use Rattle.audit.specs.Second.{SecondData, refutation_said}
 
 -- the outcome for whether a refutation stands
 abbrev pub refuted_outcome : Bool → Outcome
@@ -84,3 +87,24 @@ pub record IsContested (drift : Bool) (claim second capture : FeedState) : Type 
 abbrev pub IsUncontested : Bool → FeedState → FeedState → FeedState → Type 0
 IsUncontested drift claim second capture =
     OfClaimAndCapture claim capture (GiveRefutation (IsUncontestedOf drift) second.remaining)
+
+-- what the outcome for a refutation shows of evidence, and of inputs
+abbrev pub IsSettledFor : Bool → RefutationData → EvidenceData → Outcome → Type 0
+IsSettledFor drift refutation e Yes = IsContestedOf drift refutation e
+IsSettledFor drift refutation e No = IsUncontestedOf drift refutation e
+
+abbrev pub ShowsRefutation : Bool → FeedState → FeedState → FeedState → Outcome → Type 0
+ShowsRefutation drift claim second capture Yes = IsContested drift claim second capture
+ShowsRefutation drift claim second capture No = IsUncontested drift claim second capture
+
+-- the report on a refutation; nothing else is judged
+abbrev pub report_on : Bool → SecondData → EvidenceData → Report
+report_on drift (refutation_said refutation) e = refute_report drift refutation e
+report_on drift said e = refused Memory
+
+-- does a refutation stand against the claim, and may the clock's error drift?
+abbrev pub refute : Bool → QuestionData
+refute drift = record {
+  report = λ style finding said e. report_on drift said e;
+  Shows = ShowsRefutation drift;
+}

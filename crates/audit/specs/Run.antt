@@ -7,9 +7,10 @@ use Rattle.report.specs.declared.fault.RunFault.{RunFault}
 use Rattle.report.specs.Run.{RunState}
 use Rattle.report.specs.Runs.{Runs}
 use Rattle.report.specs.Telling.{IsTold}
-use Rattle.audit.specs.Question.{AskedData, HasSecond, QuestionData, Shows, most_second, plainly}
+use Rattle.audit.specs.Question.{AskedData, Finding, QuestionData, plainly}
+use Rattle.audit.specs.Second.{HasSecond, most_second, no_second}
 use Rattle.audit.specs.Report.{run_report}
-use Rattle.audit.specs.Finding.{Finding, ShowsFinding}
+use Rattle.audit.specs.Finding.{ShowsFinding}
 
 -- A run may begin: each input may be pulled from, and its sink may be written to.
 pub record MayRun (before : RunState) : Type 0 where
@@ -25,14 +26,15 @@ pub record RunsFor {T F : Type 0} (asked : AskedData) (before after : RunState)
     (second second' : T) (capture capture' : F) (answer : Result Outcome RunFault) : Type 0 where
   pub finding : Finding
   pub found : ShowsFinding finding before.claim before.capture
-  pub runs : Runs (run_report asked finding before) (most_second asked.question answer)
-      (HasSecond asked.question) before after second second' capture capture' answer
+  pub runs : Runs (run_report asked finding before) (most_second asked.second answer)
+      (HasSecond asked.second) before after second second' capture capture' answer
 
 -- the same of a question without a second input, whose answer is for a program
 abbrev pub RunsAlone : {F : Type 0} → QuestionData → RunState → RunState → F → F →
     Result Outcome RunFault → Type 0
 RunsAlone question before after capture capture' answer =
-    RunsFor {T = Unit {0}} (plainly question) before after (tt {0}) (tt {0}) capture capture' answer
+    RunsFor {T = Unit {0}} (plainly question no_second) before after (tt {0}) (tt {0})
+    capture capture' answer
 
 -- What a caller of a whole command sees: all that a run promises, and its answer, reported by a
 -- line and a status.
@@ -45,4 +47,4 @@ AnswersFor asked before after second second' capture capture' err err' status =
 abbrev pub ShowsAt : ℕ → QuestionData → FeedState → FeedState → FeedState → Type 0
 ShowsAt status question claim second capture =
     (outcome : Outcome) → status ≡ status_of (Ok outcome)
-    → Shows question claim second capture outcome
+    → question.Shows claim second capture outcome

@@ -6,6 +6,7 @@ use Rattle.line_writer.specs.declared.field.Style.{Style}
 use Rattle.line_writer.specs.declared.field.Style.TheVariants.{Plain}
 use Rattle.audit_text.specs.Samples.{samples_text}
 use Rattle.audit.specs.Evidence.{EvidenceData}
+use Rattle.audit.specs.Question.{QuestionData}
 
 -- the report of `samples` on a claim and the exchanges of a capture
 abbrev pub samples_report : Style → EvidenceData → Report
@@ -14,3 +15,10 @@ samples_report style e = whole_text (samples_text style e.claim e.collection) Ye
 -- the same for a program, as it is ready to go out
 abbrev pub samples_ready : EvidenceData → Ready
 samples_ready e = record { text = samples_text Plain e.claim e.collection; outcome = Yes }
+
+-- what does each exchange say about the clock?
+abbrev pub samples : QuestionData
+samples = record {
+  report = λ style finding said e. samples_report style e;
+  Shows = λ claim second capture outcome. Unit {0};
+}

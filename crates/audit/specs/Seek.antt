@@ -12,6 +12,7 @@ use Rattle.audit_text.specs.Refutation.{no_refutation_text}
 use Rattle.audit.specs.Contested.{ShowsContested}
 use Rattle.audit.specs.Evidence.{EvidenceData, GiveEvidence, OfClaimAndCapture}
 use Rattle.audit.specs.Refute.{IsContestedOf}
+use Rattle.audit.specs.Question.{QuestionData}
 
 -- what is found, in words: the refutation's compact text and a line feed, or that there is none
 unfoldable pub sought_text : Option RefutationData → List ℕ
@@ -53,3 +54,19 @@ pub record IsRefutable (claim capture : FeedState) : Type 0 where
 -- At a no none is accepted, if these bytes are known.
 abbrev pub IsIrrefutable : FeedState → FeedState → Type 0
 IsIrrefutable claim capture = OfClaimAndCapture claim capture (GiveEvidence IsIrrefutableOf)
+
+-- what the outcome of the search shows of evidence, and of inputs
+abbrev pub IsSoughtOf : EvidenceData → Outcome → Type 0
+IsSoughtOf e Yes = IsRefutableOf e
+IsSoughtOf e No = IsIrrefutableOf e
+
+abbrev pub ShowsSought : FeedState → FeedState → Outcome → Type 0
+ShowsSought claim capture Yes = IsRefutable claim capture
+ShowsSought claim capture No = IsIrrefutable claim capture
+
+-- is there a refutation of the claim?
+abbrev pub seek : QuestionData
+seek = record {
+  report = λ style finding said e. seek_report e;
+  Shows = λ claim second capture outcome. ShowsSought claim capture outcome;
+}

@@ -22,6 +22,7 @@ use Rattle.audit.specs.Evidence.{EvidenceData, GiveEvidence, OfClaimAndCapture}
 use Rattle.audit.specs.Find.{find_run_fault_of}
 use Rattle.audit.specs.Headline.{IsShown}
 use Rattle.audit.specs.Refute.{IsContestedOf}
+use Rattle.audit.specs.Question.{QuestionData}
 
 -- in words: a certificate's or a refutation's compact text and a line feed, in any style, or lines
 unfoldable pub settled_text : Style → EvidenceData → SettledData → List ℕ
@@ -96,3 +97,10 @@ pub record IsSettledBy (outcome : Outcome) (claim capture : List ℕ) : Type 0 w
 -- the same of inputs, if their bytes are known
 abbrev pub IsSettled : Outcome → FeedState → FeedState → Type 0
 IsSettled outcome claim capture = OfClaimAndCapture claim capture (IsSettledBy outcome)
+
+-- is the claim shown, refuted, fitted by no course, without evidence, or does it stay open?
+abbrev pub settle : QuestionData
+settle = record {
+  report = λ style finding said e. settle_report style finding.settled e;
+  Shows = λ claim second capture outcome. IsSettled outcome claim capture;
+}

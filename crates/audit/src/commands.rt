@@ -1,27 +1,66 @@
-//! The engine of each command: one question, asked for a program, with std's hasher of a fixed key.
+//! The engines of some commands: one question, asked for a program, with std's hasher of a fixed
+//! key. And the engine of `check` with what its exit status says.
 
 ghost use Rattle.std.specs.Prelude.{◌≡◌, ◌≤◌, Ok, IfOk, true, false};
+ghost use Rattle.byte_stream.specs.State.{IsWritable};
 ghost use Rattle.finder.specs.Piece.{IsStep};
 ghost use Rattle.report.specs.Run.{no_feed, run_state};
-ghost use Rattle.audit.specs.At.{IsHeld};
-ghost use Rattle.audit.specs.Check.{IsNotTraced, IsTraced};
-ghost use Rattle.audit.specs.Envelope.{IsEnveloped};
-ghost use Rattle.audit.specs.Find.{IsFound, IsNotFound};
-ghost use Rattle.audit.specs.Question.{samples, at, find, check, refute, envelope, seek, settle, plainly};
-ghost use Rattle.audit.specs.Refute.{IsContested, IsUncontested};
-ghost use Rattle.audit.specs.Run.{MayRun, RunsAlone, RunsFor};
-ghost use Rattle.audit.specs.Seek.{IsIrrefutable, IsRefutable};
-ghost use Rattle.audit.specs.Settle.{IsSettled};
+ghost use Rattle.audit.specs.At.{IsHeld, at};
+ghost use Rattle.audit.specs.Check.{IsNotTraced, IsTraced, check};
+ghost use Rattle.audit.specs.Find.{IsFound, IsNotFound, find};
+ghost use Rattle.audit.specs.Question.{asked_of, plainly};
+ghost use Rattle.audit.specs.Refute.{IsContested, IsUncontested, refute};
+ghost use Rattle.audit.specs.Run.{AnswersFor, MayRun, RunsAlone, RunsFor, ShowsAt};
+ghost use Rattle.audit.specs.Samples.{samples};
+ghost use Rattle.audit.specs.Second.{certificate_second, refutation_second};
+ghost use Rattle.audit.specs.Seek.{IsIrrefutable, IsRefutable, seek};
 
-use crate::engine::run;
-use crate::question::{Asked, Question};
+use crate::engine::{Outputs, answer, run};
+use crate::question::{At, Check, Find, Refute, Samples, Seek};
 use crate::step::Step;
-use byte_stream::{Feed, ReadFeed, Sink};
+use byte_stream::{Feed, Sink};
 use line_writer::Style;
 use report::{Outcome, RunFault};
 use std::alloc::Global;
-use std::hash::{BuildHasherDefault, FoldHasher};
-use std::io;
+use std::hash::{BuildHasher, BuildHasherDefault, FoldHasher};
+
+/// Settles a certificate as `answer` does.
+///
+/// Status 0 is the theorem: in every course of events that fits the exchanges of the capture the
+/// clock's error is within the bound over the claimed span. And piece by piece of the certificate,
+/// in every course that fits what the piece names of these exchanges. `IsShown` says it in relations
+/// alone, with no word on how the bytes are read.
+pub fn answer_check<C: Feed, T: Feed, F: Feed, S: Sink, E: Sink, H: BuildHasher + Drop>(
+    alloc: Global,
+    style: Style,
+    claim: &mut C,
+    certificate: &mut T,
+    capture: F,
+    to: &mut Outputs<S, E>,
+    hasher: H,
+) -> (F, u8)
+    requires run { MayRun (run_state (C.state claim.old) (T.state certificate.old)
+        (F.state capture) (S.state to.old.out)) }
+    requires err { IsWritable (E.state to.old.err) }
+    ensures answers { AnswersFor (asked_of check certificate_second style)
+        (run_state (C.state claim.old) (T.state certificate.old)
+        (F.state capture) (S.state to.old.out))
+        (run_state (C.state claim.new) (T.state certificate.new)
+        (F.state result.0) (S.state to.new.out))
+        certificate.old certificate.new capture result.0
+        (E.state to.old.err) (E.state to.new.err) result.1 }
+    ensures traceable { result.1 ≡ 0 →
+        IsTraced (C.state claim.old) (T.state certificate.old) (F.state capture) }
+    ensures shows { ShowsAt result.1 check
+        (C.state claim.old) (T.state certificate.old) (F.state capture) }
+{
+    answer(alloc, Check, style, claim, certificate, capture, to, hasher)
+}
+
+/// A hasher of a fixed key.
+fn fixed() -> BuildHasherDefault<FoldHasher> {
+    BuildHasherDefault::<FoldHasher>::new()
+}
 
 /// Shows what each exchange of a capture says about the clock of the claim's client: a line for
 /// each sample, and the counts.
@@ -37,13 +76,16 @@ pub fn run_samples<C: Feed, F: Feed, S: Sink>(
         (run_state (C.state claim.new) no_feed (F.state result.0) (S.state out.new))
         capture result.0 result.1 }
 {
-    let hasher = BuildHasherDefault::<FoldHasher>::new();
-    let mut none = ReadFeed::new(io::empty());
-    let asked = Asked {
-        question: Question::Samples,
-        style: Style::Plain,
-    };
-    run(alloc, asked, claim, &mut none, capture, out, hasher)
+    run(
+        alloc,
+        Samples,
+        Style::Plain,
+        claim,
+        &mut (),
+        capture,
+        out,
+        fixed(),
+    )
 }
 
 /// Shows what each server says about the clock of the claim's client at one moment, by its best
@@ -65,13 +107,16 @@ pub fn run_at<C: Feed, F: Feed, S: Sink>(
     ensures held { IfOk result.1 (λ outcome.
         IsHeld second (C.state claim.old) (F.state capture)) }
 {
-    let hasher = BuildHasherDefault::<FoldHasher>::new();
-    let mut none = ReadFeed::new(io::empty());
-    let asked = Asked {
-        question: Question::At(second),
-        style: Style::Plain,
-    };
-    run(alloc, asked, claim, &mut none, capture, out, hasher)
+    run(
+        alloc,
+        At { second },
+        Style::Plain,
+        claim,
+        &mut (),
+        capture,
+        out,
+        fixed(),
+    )
 }
 
 /// Settles whether a certificate shows that the clock of the claim's client stayed within the
@@ -86,7 +131,7 @@ pub fn run_check<C: Feed, F: Feed, T: Feed, S: Sink>(
 ) -> (F, Result<Outcome, RunFault>)
     requires { MayRun (run_state
         (C.state claim.old) (T.state certificate.old) (F.state capture) (S.state out.old)) }
-    ensures runs { RunsFor (plainly check) (run_state
+    ensures runs { RunsFor (plainly check certificate_second) (run_state
         (C.state claim.old) (T.state certificate.old) (F.state capture) (S.state out.old))
         (run_state
         (C.state claim.new) (T.state certificate.new) (F.state result.0) (S.state out.new))
@@ -96,12 +141,16 @@ pub fn run_check<C: Feed, F: Feed, T: Feed, S: Sink>(
     ensures contradiction { result.1 ≡ Ok Outcome.No →
         IsNotTraced (C.state claim.old) (T.state certificate.old) (F.state capture) }
 {
-    let hasher = BuildHasherDefault::<FoldHasher>::new();
-    let asked = Asked {
-        question: Question::Check,
-        style: Style::Plain,
-    };
-    run(alloc, asked, claim, certificate, capture, out, hasher)
+    run(
+        alloc,
+        Check,
+        Style::Plain,
+        claim,
+        certificate,
+        capture,
+        out,
+        fixed(),
+    )
 }
 
 /// Settles whether a refutation stands against the claim: whether the clock of the claim's client
@@ -117,7 +166,7 @@ pub fn run_refute<C: Feed, F: Feed, T: Feed, S: Sink>(
 ) -> (F, Result<Outcome, RunFault>)
     requires { MayRun (run_state
         (C.state claim.old) (T.state refutation.old) (F.state capture) (S.state out.old)) }
-    ensures runs { RunsFor (plainly (refute false)) (run_state
+    ensures runs { RunsFor (plainly (refute false) refutation_second) (run_state
         (C.state claim.old) (T.state refutation.old) (F.state capture) (S.state out.old))
         (run_state
         (C.state claim.new) (T.state refutation.new) (F.state result.0) (S.state out.new))
@@ -127,72 +176,16 @@ pub fn run_refute<C: Feed, F: Feed, T: Feed, S: Sink>(
     ensures uncontested { result.1 ≡ Ok Outcome.No →
         IsUncontested false (C.state claim.old) (T.state refutation.old) (F.state capture) }
 {
-    let hasher = BuildHasherDefault::<FoldHasher>::new();
-    let asked = Asked {
-        question: Question::Refute { drift: false },
-        style: Style::Plain,
-    };
-    run(alloc, asked, claim, refutation, capture, out, hasher)
-}
-
-/// Settles whether a refutation stands against the claim if the clock's error may drift as the
-/// claim grants: the answer is `Yes` exactly if a course of events fits the exchanges in which just
-/// the servers that it names are false, and in which the clock is off by its error at its reading.
-/// The error is beyond the claimed bound, and the reading lies in the claimed span.
-pub fn run_refute_with_drift<C: Feed, F: Feed, T: Feed, S: Sink>(
-    alloc: Global,
-    claim: &mut C,
-    capture: F,
-    refutation: &mut T,
-    out: &mut S,
-) -> (F, Result<Outcome, RunFault>)
-    requires { MayRun (run_state
-        (C.state claim.old) (T.state refutation.old) (F.state capture) (S.state out.old)) }
-    ensures runs { RunsFor (plainly (refute true)) (run_state
-        (C.state claim.old) (T.state refutation.old) (F.state capture) (S.state out.old))
-        (run_state
-        (C.state claim.new) (T.state refutation.new) (F.state result.0) (S.state out.new))
-        refutation.old refutation.new capture result.0 result.1 }
-    ensures contested { result.1 ≡ Ok Outcome.Yes →
-        IsContested true (C.state claim.old) (T.state refutation.old) (F.state capture) }
-    ensures uncontested { result.1 ≡ Ok Outcome.No →
-        IsUncontested true (C.state claim.old) (T.state refutation.old) (F.state capture) }
-{
-    let hasher = BuildHasherDefault::<FoldHasher>::new();
-    let asked = Asked {
-        question: Question::Refute { drift: true },
-        style: Style::Plain,
-    };
-    run(alloc, asked, claim, refutation, capture, out, hasher)
-}
-
-/// Settles the claim: the answer is `Yes` with a certificate, which `check` accepts, as it accepts
-/// none of fewer pieces, or `No` with a refutation, which `refute --drift` accepts; with
-/// all conflicts, if no course of events fits the exchanges; or with a tick that stays open.
-///
-/// `Pieces` comes if a course fits and 100,000 pieces don't reach the span's end, after every other
-/// refusal.
-pub fn run_settle<C: Feed, F: Feed, S: Sink>(
-    alloc: Global,
-    claim: &mut C,
-    capture: F,
-    out: &mut S,
-) -> (F, Result<Outcome, RunFault>)
-    requires { MayRun (run_state (C.state claim.old) no_feed (F.state capture) (S.state out.old)) }
-    ensures runs { RunsAlone settle
-        (run_state (C.state claim.old) no_feed (F.state capture) (S.state out.old))
-        (run_state (C.state claim.new) no_feed (F.state result.0) (S.state out.new))
-        capture result.0 result.1 }
-    ensures settled { IfOk result.1 (λ outcome.
-        IsSettled outcome (C.state claim.old) (F.state capture)) }
-{
-    let hasher = BuildHasherDefault::<FoldHasher>::new();
-    let mut none = ReadFeed::new(io::empty());
-    let asked = Asked {
-        question: Question::Settle,
-        style: Style::Plain,
-    };
-    run(alloc, asked, claim, &mut none, capture, out, hasher)
+    run(
+        alloc,
+        Refute { drift: false },
+        Style::Plain,
+        claim,
+        refutation,
+        capture,
+        out,
+        fixed(),
+    )
 }
 
 /// Looks for a certificate of the claim in pieces of `step_s` seconds, from 1 to 86,400: the answer
@@ -219,13 +212,17 @@ pub fn run_find<C: Feed, F: Feed, S: Sink>(
     ensures empty { result.1 ≡ Ok Outcome.No →
         IsNotFound step_s (C.state claim.old) (F.state capture) }
 {
-    let hasher = BuildHasherDefault::<FoldHasher>::new();
-    let mut none = ReadFeed::new(io::empty());
-    let asked = Asked {
-        question: Question::Find(Step { seconds: step_s }),
-        style: Style::Plain,
-    };
-    run(alloc, asked, claim, &mut none, capture, out, hasher)
+    let step = Step { seconds: step_s };
+    run(
+        alloc,
+        Find { step },
+        Style::Plain,
+        claim,
+        &mut (),
+        capture,
+        out,
+        fixed(),
+    )
 }
 
 /// Looks for a refutation of the claim: the answer is `Yes` with the refutation, which stands, or
@@ -246,50 +243,14 @@ pub fn run_seek<C: Feed, F: Feed, S: Sink>(
     ensures none { result.1 ≡ Ok Outcome.No →
         IsIrrefutable (C.state claim.old) (F.state capture) }
 {
-    let hasher = BuildHasherDefault::<FoldHasher>::new();
-    let mut none = ReadFeed::new(io::empty());
-    let asked = Asked {
-        question: Question::Seek,
-        style: Style::Plain,
-    };
-    run(alloc, asked, claim, &mut none, capture, out, hasher)
-}
-
-/// Shows how far off the clock of the claim's client may have been in each piece of `step_s`
-/// seconds, from 1 to 86,400, and the least bound in nanoseconds that holds over the span; with
-/// `servers` also what each server says about each piece, and with `least` the least bound that a
-/// certificate carries. The answer is `Yes` if there is a bound that holds.
-///
-/// `Pieces` comes if the span has over 100,000 pieces of that length, after every other refusal.
-pub fn run_envelope<C: Feed, F: Feed, S: Sink>(
-    alloc: Global,
-    claim: &mut C,
-    capture: F,
-    step_s: u32,
-    servers: bool,
-    least: bool,
-    out: &mut S,
-) -> (F, Result<Outcome, RunFault>)
-    requires run { MayRun
-        (run_state (C.state claim.old) no_feed (F.state capture) (S.state out.old)) }
-    requires step { IsStep step_s }
-    ensures runs { RunsAlone (envelope step_s servers least)
-        (run_state (C.state claim.old) no_feed (F.state capture) (S.state out.old))
-        (run_state (C.state claim.new) no_feed (F.state result.0) (S.state out.new))
-        capture result.0 result.1 }
-    ensures holds { IfOk result.1 (λ outcome.
-        IsEnveloped step_s outcome (C.state claim.old) (F.state capture)) }
-{
-    let hasher = BuildHasherDefault::<FoldHasher>::new();
-    let mut none = ReadFeed::new(io::empty());
-    let step = Step { seconds: step_s };
-    let asked = Asked {
-        question: Question::Envelope {
-            step,
-            servers,
-            least,
-        },
-        style: Style::Plain,
-    };
-    run(alloc, asked, claim, &mut none, capture, out, hasher)
+    run(
+        alloc,
+        Seek,
+        Style::Plain,
+        claim,
+        &mut (),
+        capture,
+        out,
+        fixed(),
+    )
 }

@@ -16,12 +16,10 @@ ghost use Rattle.report.specs.Publication.{IsUnwritten};
 ghost use Rattle.report.specs.Reports.{is_claim, is_second, is_capture, is_device};
 ghost use Rattle.report.specs.Run.{run_state};
 ghost use Rattle.report.specs.Runs.{HasLawfulHeader, IsBeforeCapture, IsBeforeSecond};
-ghost use Rattle.audit.specs.Check.{IsTraced};
-ghost use Rattle.audit.specs.Question.{AsksNoSecond, HasSecond, Shows};
-ghost use Rattle.audit.specs.Question.{asked_of, data_of, most_second};
-ghost use Rattle.audit.specs.declared.question.Question.{Question};
+ghost use Rattle.audit.specs.Question.{asked_of};
 ghost use Rattle.audit.specs.Report.{IsMadeAfter, ShowsAfter};
 ghost use Rattle.audit.specs.Run.{AnswersFor, MayRun, RunsFor, ShowsAt};
+ghost use Rattle.audit.specs.Second.{HasSecond, most_second};
 
 use crate::capture_input::read_capture_from;
 use crate::evidence::Evidence;
@@ -30,9 +28,11 @@ use crate::laws::{
     bounds_of_bytes_hold_in_nanoseconds, course_beyond_the_bound_contests_the_claim,
     yes_shows_the_headline,
 };
-use crate::question::{Asked, make, read_task};
+use crate::question::Question;
+use crate::second::SecondSource;
 use byte_stream::{Feed, Sink};
 use claim_file::Claim;
+use line_writer::Style;
 use report::{Outcome, RunFault, read_claim_from, tell};
 use std::alloc::Global;
 use std::hash::BuildHasher;
@@ -48,9 +48,10 @@ pub struct Outputs<S, E> {
 
 /// Reads the second input and the capture for a claim that was read, or refused, and makes what
 /// goes out. The capture's feed is handed back beside it.
-fn make_report<T: Feed, F: Feed, H: BuildHasher + Drop>(
+fn make_report<Q: Question, T: SecondSource<Q::Second>, F: Feed, H: BuildHasher + Drop>(
     alloc: Global,
-    asked: Asked,
+    question: Q,
+    style: Style,
     claim: Result<Claim, RunFault>,
     second: &mut T,
     capture: F,
@@ -60,12 +61,11 @@ fn make_report<T: Feed, F: Feed, H: BuildHasher + Drop>(
     requires claim_fault { IfErr claim IsOfClaim }
     requires second { IsReadable (T.state second.old) }
     requires capture { IsReadable (F.state capture) }
-    ensures made { IsMadeAfter (asked_of asked) claim
+    ensures made { IsMadeAfter (asked_of (Q.asks question) Q.Second.kind style) claim
         (T.state second.old).remaining (F.state capture).remaining result.1 }
     ensures unwritten { IsUnwritten result.1 }
-    ensures shows { IfOk result.1 (λ made. IfOk claim (λ c.
-        ShowsAfter (data_of asked.question) (claim_data c)
-        (T.state second.old).remaining (F.state capture).remaining made.outcome)) }
+    ensures shows { IfOk result.1 (λ made. IfOk claim (λ c. ShowsAfter (Q.asks question)
+        (claim_data c) (T.state second.old) (F.state capture) made.outcome)) }
     ensures read { IfErr claim (λ fault. result.1 ≡ Err fault) }
     ensures unread { IfErr claim (λ fault. (second.new ≡ second.old) × (result.0 ≡ capture)) }
     ensures claim_device { is_device is_claim result.1 ≡ is_device is_claim claim }
@@ -77,13 +77,12 @@ fn make_report<T: Feed, F: Feed, H: BuildHasher + Drop>(
         IsBeforeSecond fault → second.new ≡ second.old) }
     ensures capture_untouched { IfErr result.1 (λ fault.
         IsBeforeCapture fault → result.0 ≡ capture) }
-    ensures unasked { AsksNoSecond (data_of asked.question) → second.new ≡ second.old }
-    ensures second_at_most { TakesAtMost (most_second (data_of asked.question) result.1)
+    ensures second_at_most { TakesAtMost (most_second Q.Second.kind result.1)
         (T.state second.old) (T.state second.new) }
     ensures capture_at_most { TakesAtMost most_taken
         (F.state capture) (F.state result.0) }
     ensures second_memory { result.1 ≡ Err RunFault.Memory →
-        (result.0 ≡ capture) ⊎ HasSecond (data_of asked.question) (T.state second.old).remaining }
+        (result.0 ≡ capture) ⊎ HasSecond Q.Second.kind (T.state second.old).remaining }
     ensures capture_memory { result.1 ≡ Err RunFault.Memory →
         (result.0 ≡ capture) ⊎ HasLawfulHeader (F.state capture).remaining }
 {
@@ -91,32 +90,40 @@ fn make_report<T: Feed, F: Feed, H: BuildHasher + Drop>(
         Ok(claim) => claim,
         Err(fault) => return (capture, Err(fault)),
     };
-    let task = match read_task(alloc, asked.question, second) {
-        Ok(task) => task,
+    let said = match second.read_second(alloc) {
+        Ok(said) => said,
         Err(fault) => return (capture, Err(fault)),
     };
     let (capture, collected) = read_capture_from(alloc, capture, &claim, hasher);
     match collected {
         Ok(held) => {
             let evidence = Evidence { claim, held };
-            (capture, make(alloc, asked.style, &task, evidence))
+            (capture, question.make(alloc, style, &said, evidence))
         }
         Err(fault) => (capture, Err(fault)),
     }
 }
 
 /// Answers a question by a claim, the question's second input and a capture: the text goes to
-/// `out`, in the style that is asked for, and the capture's feed is handed back. A question without
-/// a second input takes nothing of `second`.
+/// `out`, in this style, and the capture's feed is handed back. A question without a second input
+/// has `()` for `second`.
 ///
 /// The claim is read first, then the second input, then the capture; what stands later isn't read
 /// after a refusal. Nothing is written while more memory may be wanted. `Device` comes if a feed
 /// failed, and `Write(n)` if the sink failed after exactly n bytes of the text. The hash of the
 /// index of requests is keyed by two numbers of `hasher`: callers that don't trust the capture's
 /// writer should pass one with a random key.
-pub fn run<C: Feed, T: Feed, F: Feed, S: Sink, H: BuildHasher + Drop>(
+pub fn run<
+    Q: Question,
+    C: Feed,
+    T: SecondSource<Q::Second>,
+    F: Feed,
+    S: Sink,
+    H: BuildHasher + Drop,
+>(
     alloc: Global,
-    asked: Asked,
+    question: Q,
+    style: Style,
     claim: &mut C,
     second: &mut T,
     capture: F,
@@ -125,16 +132,15 @@ pub fn run<C: Feed, T: Feed, F: Feed, S: Sink, H: BuildHasher + Drop>(
 ) -> (F, Result<Outcome, RunFault>)
     requires { MayRun
         (run_state (C.state claim.old) (T.state second.old) (F.state capture) (S.state out.old)) }
-    ensures runs { RunsFor (asked_of asked)
+    ensures runs { RunsFor (asked_of (Q.asks question) Q.Second.kind style)
         (run_state (C.state claim.old) (T.state second.old) (F.state capture) (S.state out.old))
         (run_state (C.state claim.new) (T.state second.new) (F.state result.0) (S.state out.new))
         second.old second.new capture result.0 result.1 }
-    ensures shows { IfOk result.1 (Shows (data_of asked.question)
+    ensures shows { IfOk result.1 ((Q.asks question).Shows
         (C.state claim.old) (T.state second.old) (F.state capture)) }
-    ensures unasked { AsksNoSecond (data_of asked.question) → second.new ≡ second.old }
 {
     let claim = read_claim_from(alloc, claim);
-    let (capture, made) = make_report(alloc, asked, claim, second, capture, hasher);
+    let (capture, made) = make_report(alloc, question, style, claim, second, capture, hasher);
     bounds_of_bytes_hold_in_nanoseconds();
     yes_shows_the_headline();
     course_beyond_the_bound_contests_the_claim();
@@ -144,14 +150,18 @@ pub fn run<C: Feed, T: Feed, F: Feed, S: Sink, H: BuildHasher + Drop>(
 
 /// Answers a question as `run` does, with the text on `to.out`, and reports a fault on `to.err`.
 /// Beside the capture's feed stands the exit status.
-///
-/// Status 0 of a check is the theorem: in every course of events that fits the exchanges of the
-/// capture the clock's error is within the bound over the claimed span. And piece by piece of the
-/// certificate, in every course that fits what the piece names of these exchanges. `IsShown` says
-/// it in relations alone, with no word on how the bytes are read.
-pub fn answer<C: Feed, T: Feed, F: Feed, S: Sink, E: Sink, H: BuildHasher + Drop>(
+pub fn answer<
+    Q: Question,
+    C: Feed,
+    T: SecondSource<Q::Second>,
+    F: Feed,
+    S: Sink,
+    E: Sink,
+    H: BuildHasher + Drop,
+>(
     alloc: Global,
-    asked: Asked,
+    question: Q,
+    style: Style,
     claim: &mut C,
     second: &mut T,
     capture: F,
@@ -161,16 +171,22 @@ pub fn answer<C: Feed, T: Feed, F: Feed, S: Sink, E: Sink, H: BuildHasher + Drop
     requires run { MayRun (run_state
         (C.state claim.old) (T.state second.old) (F.state capture) (S.state to.old.out)) }
     requires err { IsWritable (E.state to.old.err) }
-    ensures answers { AnswersFor (asked_of asked)
+    ensures answers { AnswersFor (asked_of (Q.asks question) Q.Second.kind style)
         (run_state (C.state claim.old) (T.state second.old) (F.state capture) (S.state to.old.out))
         (run_state (C.state claim.new) (T.state second.new) (F.state result.0) (S.state to.new.out))
         second.old second.new capture result.0 (E.state to.old.err) (E.state to.new.err) result.1 }
-    ensures unasked { AsksNoSecond (data_of asked.question) → second.new ≡ second.old }
-    ensures traceable { asked.question ≡ Question.Check → result.1 ≡ 0 →
-        IsTraced (C.state claim.old) (T.state second.old) (F.state capture) }
-    ensures shows { ShowsAt result.1 (data_of asked.question)
+    ensures shows { ShowsAt result.1 (Q.asks question)
         (C.state claim.old) (T.state second.old) (F.state capture) }
 {
-    let (capture, answer) = run(alloc, asked, claim, second, capture, &mut to.out, hasher);
+    let (capture, answer) = run(
+        alloc,
+        question,
+        style,
+        claim,
+        second,
+        capture,
+        &mut to.out,
+        hasher,
+    );
     (capture, tell(&answer, &mut to.err))
 }

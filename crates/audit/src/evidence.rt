@@ -5,7 +5,7 @@ use pairing::Held;
 
 /// A claim, and the exchanges and counts of a capture that is held against it.
 #[derive(Drop)]
-pub(crate) struct Evidence {
+pub struct Evidence {
     /// The claim.
     pub(crate) claim: Claim,
     /// The exchanges of its client and its servers, and the counts.

@@ -1,9 +1,10 @@
 //! What goes out once all inputs are read.
 
-ghost use Rattle.std.specs.Prelude.{◌≡◌, IfOk};
+ghost use Rattle.std.specs.Prelude.{◌≡◌, MatchResult, IfOk, IfErr, Ok, Err};
 ghost use Rattle.byte_stream.specs.State.{IsWritable};
 ghost use Rattle.report.specs.Publication.{IsUnwritten, Publishes};
 ghost use Rattle.audit.specs.Evidence.{IsLawfulEvidence, evidence_data};
+ghost use Rattle.audit.specs.Report.{IsOfMaking};
 ghost use Rattle.audit.specs.Samples.{samples_ready};
 
 use crate::evidence::Evidence;
@@ -29,7 +30,7 @@ enum Kept {
 
 /// A text that is ready to go out, and its outcome. No more memory is needed for it.
 #[derive(Drop)]
-pub(crate) struct Finished {
+pub struct Finished {
     kept: Kept,
 }
 
@@ -60,8 +61,11 @@ impl Finished {
     }
 }
 
+/// What making a report comes to.
+pub type Making = Result<Finished, RunFault>;
+
 /// What was made whole, or the fault for which it wasn't.
-pub(crate) fn whole(made: Result<Made, RunFault>) -> Result<Finished, RunFault>
+pub(crate) fn whole(made: Result<Made, RunFault>) -> Making
     ensures { result ≡ made }
 {
     match made {
@@ -69,6 +73,22 @@ pub(crate) fn whole(made: Result<Made, RunFault>) -> Result<Finished, RunFault>
             kept: Kept::Whole(made),
         }),
         Err(fault) => Err(fault),
+    }
+}
+
+/// A text that was made whole, with its outcome; or it wasn't, for want of memory.
+pub(crate) fn told(text: Result<Vec<u8>, AllocError>, outcome: Outcome) -> Making
+    ensures made { MatchResult text
+        (λ t. result ≡ Ok (record { text = t.items; outcome = outcome }))
+        (λ e. result ≡ Err RunFault.Memory) }
+    ensures fault { IfErr result IsOfMaking }
+    ensures outcome { IfOk result (λ made. made.outcome ≡ outcome) }
+{
+    match text {
+        Ok(text) => Ok(Finished {
+            kept: Kept::Whole(Made { text, outcome }),
+        }),
+        Err(AllocError) => Err(RunFault::Memory),
     }
 }
 

@@ -2,19 +2,19 @@
 //!
 //! [`run`] reads the claim, then the question's second input if it has one, and then the capture,
 //! and writes its text, which is made whole before or, if it's the samples for a program, line by
-//! line as it goes out; [`answer`] does the same and reports the answer by an exit status. What is
-//! asked stands in `question`, a small module for each command, and beside it the style of the
-//! text, for a program or for a person; how a text is shown is said by audit_text. `specs/Run` says
-//! what a run needs and promises, `specs/Report` what it writes, and `specs/Question` what an
-//! outcome means. [`run_samples`], [`run_at`], [`run_check`], [`run_settle`], [`run_find`],
-//! [`run_refute`], [`run_seek`] and [`run_envelope`] are the engines of the commands, for a
-//! program, with a hasher of a fixed key.
+//! line as it goes out; [`answer`] does the same and reports the answer by an exit status. What may
+//! be asked is a [`Question`], a small module for each command in `question` and in `specs/`, and
+//! a text has a style, for a program or for a person; how it is shown is said by audit_text.
+//! `specs/Run` says what a run needs and promises, `specs/Report` what it writes, and
+//! `specs/Question` what a question is. [`answer_check`] is the theorem. [`run_samples`],
+//! [`run_at`], [`run_check`], [`run_find`], [`run_refute`] and [`run_seek`] are the engines of some
+//! commands, for a program, with a hasher of a fixed key.
 //!
 //! A run on feeds, as `run` of `worked_examples/src/engines/trial.rt`, which the gate runs:
 //!
 //! ```text
 //! let hasher = BuildHasherDefault::<FoldHasher>::new();
-//! audit::run(alloc, asked, &mut claim, &mut second, capture, out, hasher)
+//! audit::run(alloc, question, style, &mut claim, &mut second, capture, out, hasher)
 //! ```
 
 #![tactic(auto)]
@@ -29,13 +29,14 @@ mod least_line;
 mod question;
 mod sample_list;
 mod sample_output;
+mod second;
 mod step;
 
-pub use commands::{
-    run_at, run_check, run_envelope, run_find, run_refute, run_refute_with_drift, run_samples,
-    run_seek, run_settle,
-};
+pub use commands::{answer_check, run_at, run_check, run_find, run_refute, run_samples, run_seek};
 pub use engine::{Outputs, answer, run};
+pub use evidence::Evidence;
+pub use finished::{Finished, Making};
 pub use line_writer::Style;
-pub use question::{Asked, Question};
+pub use question::{At, Check, Envelope, Find, Question, Refute, Samples, Seek, Settle};
+pub use second::{SecondInput, SecondSource};
 pub use step::Step;

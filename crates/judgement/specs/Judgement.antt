@@ -15,7 +15,7 @@ use Rattle.audit.specs.Contested.{IsContestedShown}
 use Rattle.audit.specs.Headline.{IsShown}
 use Rattle.audit.specs.Refute.{GiveRefutation, IsContestedOf, IsUncontestedOf}
 use Rattle.audit.specs.Report.{report_of_bytes}
-use Rattle.audit.specs.Finding.{no_finding}
+use Rattle.audit.specs.Question.{no_finding}
 use Rattle.judgement.specs.Holding.{CountFaults, Feeds, IsSummed, IsUnjudgedFor, TakeAtMost, feeds}
 use Rattle.judgement.specs.Question.{asked_of, second_of}
 use Rattle.judgement.specs.Sums.{SumsData}

@@ -10,7 +10,7 @@ ghost use Rattle.judgement.specs.Sums.{data_of};
 use crate::inputs::{HeldInputs, hold_inputs};
 use crate::judgement::Judgement;
 use crate::sums::Sums;
-use audit::{Asked, Outputs, Style, answer};
+use audit::{Check, Outputs, Refute, Style, answer};
 use byte_stream::{Feed, ReadFeed, Sink};
 use report::tell;
 use std::alloc::Global;
@@ -32,14 +32,17 @@ fn judge<S: Sink, E: Sink, H: BuildHasher + Drop>(
         held.now.claim.items held.now.second.items held.now.capture.items
         (S.state to.old.out) (S.state to.new.out) (E.state to.old.err) (E.state to.new.err) result }
 {
-    let asked = Asked {
-        question: judgement.question(),
-        style,
-    };
     let mut claim = ReadFeed::new(held.claim.as_slice());
     let mut second = ReadFeed::new(held.second.as_slice());
     let capture = ReadFeed::new(held.capture.as_slice());
-    answer(alloc, asked, &mut claim, &mut second, capture, to, hasher).1
+    let (claim, second) = (&mut claim, &mut second);
+    match judgement {
+        Judgement::Check => answer(alloc, Check, style, claim, second, capture, to, hasher).1,
+        Judgement::Refute { drift } => {
+            let refute = Refute { drift };
+            answer(alloc, refute, style, claim, second, capture, to, hasher).1
+        }
+    }
 }
 
 /// Judges a certificate or a refutation by inputs that are held to their sums, and reports the

@@ -1,10 +1,9 @@
 //! The commands: operands and options, what help says about them, and what their words call for.
 
-use crate::invocation::{Invocation, Paths, SecondPath, SummedPaths};
-use audit::{Asked, Question, Step, Style};
+use crate::invocation::{Invocation, JudgedPaths, Paths};
+use audit::{At, Envelope, Find, Refute, Step, Style};
 use claim_file::read_time;
 use clap::{Arg, ArgAction, ArgMatches, Command};
-use judgement::Judgement;
 use std::alloc::{AllocError, Global};
 
 const PROGRAM_HELP: &str = "\
@@ -261,83 +260,48 @@ fn list(alloc: Global, matches: &ArgMatches) -> Result<Invocation, AllocError> {
     }
 }
 
-/// A question, and for whom the answer is written.
-fn asked(matches: &ArgMatches, question: Question) -> Asked {
+/// The claim and the capture that are named, and for whom the answer is written.
+fn paths(alloc: Global, matches: &ArgMatches) -> Result<Paths, AllocError> {
     let style = if matches.get_flag("human") {
         Style::Human
     } else {
         Style::Plain
     };
-    Asked { question, style }
+    Ok(Paths {
+        style,
+        claim: operand(alloc, matches, "CLAIM")?,
+        capture: operand(alloc, matches, "CAPTURE")?,
+    })
 }
 
-/// A question on the claim and the capture that are named.
-fn ask(alloc: Global, matches: &ArgMatches, question: Question) -> Result<Invocation, AllocError> {
-    let claim = operand(alloc, matches, "CLAIM")?;
-    let capture = operand(alloc, matches, "CAPTURE")?;
-    let paths = Paths {
-        claim,
-        second: None,
-        capture,
+/// The same, with the second input that the operand of this name names, and the file of sums.
+fn judged(alloc: Global, matches: &ArgMatches, name: &str) -> Result<JudgedPaths, AllocError> {
+    let evidence = paths(alloc, matches)?;
+    let second = operand(alloc, matches, name)?;
+    let sums = match matches.get_str("sums") {
+        Some(sums) => Some(String::from_str(alloc, sums)?),
+        None => None,
     };
-    Ok(Invocation::Ask(asked(matches, question), paths))
+    Ok(JudgedPaths {
+        evidence,
+        second,
+        sums,
+    })
 }
 
 /// What `at` calls for: its TIME is read before anything else is done.
 fn at(alloc: Global, matches: &ArgMatches) -> Result<Invocation, AllocError> {
     match read_time(matches.get_str("TIME").unwrap_or("")) {
-        Some(second) => ask(alloc, matches, Question::At(second)),
+        Some(second) => Ok(Invocation::At(At { second }, paths(alloc, matches)?)),
         None => Ok(Invocation::RefuseTime),
     }
 }
 
-/// What is judged on the claim, the capture and the operand of this name: with `--sums` by files
-/// that are held to their sums.
-fn judge(
-    alloc: Global,
-    matches: &ArgMatches,
-    judgement: Judgement,
-    name: &str,
-) -> Result<Invocation, AllocError> {
-    let claim = operand(alloc, matches, "CLAIM")?;
-    let second = SecondPath {
-        input: judgement.second(),
-        path: operand(alloc, matches, name)?,
-    };
-    let capture = operand(alloc, matches, "CAPTURE")?;
-    let asked = asked(matches, judgement.question());
-    match matches.get_str("sums") {
-        Some(sums) => {
-            let paths = SummedPaths {
-                claim,
-                second,
-                capture,
-                sums: String::from_str(alloc, sums)?,
-            };
-            Ok(Invocation::Judge(judgement, asked.style, paths))
-        }
-        None => {
-            let paths = Paths {
-                claim,
-                second: Some(second),
-                capture,
-            };
-            Ok(Invocation::Ask(asked, paths))
-        }
-    }
-}
-
-/// What `check` calls for.
-fn check(alloc: Global, matches: &ArgMatches) -> Result<Invocation, AllocError> {
-    judge(alloc, matches, Judgement::Check, "CERTIFICATE")
-}
-
 /// What `refute` calls for.
 fn refute(alloc: Global, matches: &ArgMatches) -> Result<Invocation, AllocError> {
-    let judgement = Judgement::Refute {
-        drift: matches.get_flag("drift"),
-    };
-    judge(alloc, matches, judgement, "REFUTATION")
+    let drift = matches.get_flag("drift");
+    let paths = judged(alloc, matches, "REFUTATION")?;
+    Ok(Invocation::Refute(Refute { drift }, paths))
 }
 
 /// The length of a piece that is asked for.
@@ -353,8 +317,10 @@ fn refuse_step(alloc: Global) -> Result<Invocation, AllocError> {
 /// What `find` calls for.
 fn find(alloc: Global, matches: &ArgMatches) -> Result<Invocation, AllocError> {
     match step_of(matches) {
-        Some(_) if matches.get_flag("refutation") => ask(alloc, matches, Question::Seek),
-        Some(step) => ask(alloc, matches, Question::Find(step)),
+        Some(_) if matches.get_flag("refutation") => {
+            Ok(Invocation::Seek(paths(alloc, matches)?))
+        }
+        Some(step) => Ok(Invocation::Find(Find { step }, paths(alloc, matches)?)),
         None => refuse_step(alloc),
     }
 }
@@ -364,22 +330,22 @@ fn envelope(alloc: Global, matches: &ArgMatches) -> Result<Invocation, AllocErro
     let Some(step) = step_of(matches) else {
         return refuse_step(alloc);
     };
-    let question = Question::Envelope {
+    let envelope = Envelope {
         step,
         servers: matches.get_flag("servers"),
         least: matches.get_flag("least"),
     };
-    ask(alloc, matches, question)
+    Ok(Invocation::Envelope(envelope, paths(alloc, matches)?))
 }
 
 /// What the words of the command line call for.
 pub(crate) fn invocation_of(alloc: Global, matches: &ArgMatches) -> Result<Invocation, AllocError> {
     match matches.subcommand() {
         Some(("list", words)) => list(alloc, words),
-        Some(("samples", words)) => ask(alloc, words, Question::Samples),
+        Some(("samples", words)) => Ok(Invocation::Samples(paths(alloc, words)?)),
         Some(("at", words)) => at(alloc, words),
-        Some(("settle", words)) => ask(alloc, words, Question::Settle),
-        Some(("check", words)) => check(alloc, words),
+        Some(("settle", words)) => Ok(Invocation::Settle(paths(alloc, words)?)),
+        Some(("check", words)) => Ok(Invocation::Check(judged(alloc, words, "CERTIFICATE")?)),
         Some(("find", words)) => find(alloc, words),
         Some(("refute", words)) => refute(alloc, words),
         Some(("envelope", words)) => envelope(alloc, words),

@@ -1,40 +1,27 @@
 //! What the words of a command line call for.
 
-use audit::{Asked, Style};
-use judgement::Judgement;
-use report::Input;
+use audit::{At, Envelope, Find, Refute, Style};
 
-/// The path of a second input.
-#[derive(Drop)]
-pub(crate) struct SecondPath {
-    /// Which input it is.
-    pub(crate) input: Input,
-    /// Where it lies.
-    pub(crate) path: String,
-}
-
-/// The paths of the files that a question is asked of.
+/// The paths of the files that a question is asked of, and for whom the answer is written.
 #[derive(Drop)]
 pub(crate) struct Paths {
+    /// The style of the answer.
+    pub(crate) style: Style,
     /// The claim's.
     pub(crate) claim: String,
-    /// That of the second input, if the question has one.
-    pub(crate) second: Option<SecondPath>,
     /// The capture's.
     pub(crate) capture: String,
 }
 
-/// The paths of files that are held to their sums.
+/// The same of a question with a second input.
 #[derive(Drop)]
-pub(crate) struct SummedPaths {
-    /// The claim's.
-    pub(crate) claim: String,
+pub(crate) struct JudgedPaths {
+    /// The others.
+    pub(crate) evidence: Paths,
     /// That of the certificate or refutation.
-    pub(crate) second: SecondPath,
-    /// The capture's.
-    pub(crate) capture: String,
-    /// That of the file of sums.
-    pub(crate) sums: String,
+    pub(crate) second: String,
+    /// That of the file of sums, if they are held to one.
+    pub(crate) sums: Option<String>,
 }
 
 /// What the words of a command line call for.
@@ -42,10 +29,22 @@ pub(crate) struct SummedPaths {
 pub(crate) enum Invocation {
     /// List a capture: the file of this path, or standard input.
     List(Option<String>),
-    /// Answer a question on a claim and a capture.
-    Ask(Asked, Paths),
-    /// Judge a certificate or a refutation, in this style, by files that are held to their sums.
-    Judge(Judgement, Style, SummedPaths),
+    /// Show the samples.
+    Samples(Paths),
+    /// Show what each server says at a moment.
+    At(At, Paths),
+    /// Settle the claim.
+    Settle(Paths),
+    /// Check a certificate.
+    Check(JudgedPaths),
+    /// Look for a certificate.
+    Find(Find, Paths),
+    /// Look for a refutation.
+    Seek(Paths),
+    /// Judge a refutation.
+    Refute(Refute, JudgedPaths),
+    /// Show how far off the clock may have been.
+    Envelope(Envelope, Paths),
     /// Show this text: help, or the version.
     Show(String),
     /// The command line is refused, for the reason in this text.

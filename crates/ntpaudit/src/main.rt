@@ -16,16 +16,16 @@ mod files;
 mod invocation;
 
 use crate::command_line::read_command_line;
-use crate::files::{Inputs, SummedInputs, open, open_inputs, open_summed};
-use crate::invocation::{Invocation, SummedPaths};
-use audit::{Outputs, Style, answer};
-use byte_stream::{ReadFeed, Sink, WriteSink};
+use crate::files::{Evidence, Judged, open, open_evidence, open_judged};
+use crate::invocation::{Invocation, JudgedPaths, Paths};
+use audit::{Outputs, Question, Refute, Samples, Seek, Settle, answer, answer_check};
+use byte_stream::{Feed, ReadFeed, Sink, WriteSink};
 use judgement::{Judgement, MAX_SUMS, Sums, answer_by_sums};
 use listing::answer_list;
 use report::{Input, RunFault, read_input, refuse, refuse_time, show, tell};
 use std::alloc::AllocError;
+use std::fs::File;
 use std::hash::{BuildHasher, BuildHasherDefault, FoldHasher, RandomState};
-use std::io;
 use std::process::ExitCode;
 
 /// Lists the capture of this path, or standard input. The result is the exit status.
@@ -46,13 +46,90 @@ fn list<S: Sink, E: Sink>(rt: &HostRuntime, path: &Option<String>, to: &mut Outp
     }
 }
 
-/// Judges by files that are held to their sums: the file of sums is read before any other. The
-/// result is the exit status.
+/// Answers a question without a second input. The result is the exit status.
+fn ask<Q: Question<Second = ()>, S: Sink, E: Sink, H: BuildHasher + Drop>(
+    rt: &HostRuntime,
+    question: Q,
+    paths: &Paths,
+    to: &mut Outputs<S, E>,
+    hasher: H,
+) -> u8
+    requires out { IsWritable (S.state to.old.out) }
+    requires err { IsWritable (E.state to.old.err) }
+    ensures closed { (E.state to.new.err).is_open ≡ false }
+{
+    match open_evidence(rt, paths) {
+        Ok(Evidence { mut claim, capture }) => {
+            let claim = &mut claim;
+            let none = &mut ();
+            answer(
+                rt.alloc(),
+                question,
+                paths.style,
+                claim,
+                none,
+                capture,
+                to,
+                hasher,
+            )
+            .1
+        }
+        Err(fault) => tell(&Err(fault), &mut to.err),
+    }
+}
+
+/// Judges a certificate or a refutation by these files, each held to its line in a file of sums,
+/// which is read before any other. The result is the exit status.
+fn judge_by_sums<S: Sink, E: Sink, H: BuildHasher + Drop>(
+    rt: &HostRuntime,
+    judgement: Judgement,
+    paths: &JudgedPaths,
+    judged: Judged,
+    path: &str,
+    to: &mut Outputs<S, E>,
+    hasher: H,
+) -> u8
+    requires claim { (⟦<ReadFeed<File> as Feed>⟧.state judged.claim).faults ≡ 0 }
+    requires second { (⟦<ReadFeed<File> as Feed>⟧.state judged.second).faults ≡ 0 }
+    requires capture { (⟦<ReadFeed<File> as Feed>⟧.state judged.capture).faults ≡ 0 }
+    requires out { IsWritable (S.state to.old.out) }
+    requires err { IsWritable (E.state to.old.err) }
+    ensures closed { (E.state to.new.err).is_open ≡ false }
+{
+    let alloc = rt.alloc();
+    let text = match read_sums_file(rt, path) {
+        Ok(text) => text,
+        Err(fault) => return tell(&Err(fault), &mut to.err),
+    };
+    let sums = Sums {
+        text: text.as_slice(),
+        claim: paths.evidence.claim.as_str(),
+        second: paths.second.as_str(),
+        capture: paths.evidence.capture.as_str(),
+    };
+    let Judged {
+        mut claim,
+        mut second,
+        mut capture,
+    } = judged;
+    let (claim, second, capture) = (&mut claim, &mut second, &mut capture);
+    let style = paths.evidence.style;
+    answer_by_sums(
+        alloc, judgement, style, &sums, claim, second, capture, to, hasher,
+    )
+}
+
+/// The text of a file of sums.
+fn read_sums_file(rt: &HostRuntime, path: &str) -> Result<Vec<u8>, RunFault> {
+    let mut sums = open(rt, path, Input::Sums)?;
+    read_input(rt.alloc(), &mut sums, Input::Sums, MAX_SUMS)
+}
+
+/// Judges a certificate or a refutation. The result is the exit status.
 fn judge<S: Sink, E: Sink, H: BuildHasher + Drop>(
     rt: &HostRuntime,
     judgement: Judgement,
-    style: Style,
-    paths: &SummedPaths,
+    paths: &JudgedPaths,
     to: &mut Outputs<S, E>,
     hasher: H,
 ) -> u8
@@ -61,29 +138,27 @@ fn judge<S: Sink, E: Sink, H: BuildHasher + Drop>(
     ensures closed { (E.state to.new.err).is_open ≡ false }
 {
     let alloc = rt.alloc();
-    let SummedInputs {
+    let judged = match open_judged(rt, judgement.second(), paths) {
+        Ok(judged) => judged,
+        Err(fault) => return tell(&Err(fault), &mut to.err),
+    };
+    if let Some(path) = &paths.sums {
+        return judge_by_sums(rt, judgement, paths, judged, path.as_str(), to, hasher);
+    }
+    let Judged {
         mut claim,
         mut second,
-        mut capture,
-        mut sums,
-    } = match open_summed(rt, paths) {
-        Ok(inputs) => inputs,
-        Err(fault) => return tell(&Err(fault), &mut to.err),
-    };
-    let text = match read_input(alloc, &mut sums, Input::Sums, MAX_SUMS) {
-        Ok(text) => text,
-        Err(fault) => return tell(&Err(fault), &mut to.err),
-    };
-    let sums = Sums {
-        text: text.as_slice(),
-        claim: paths.claim.as_str(),
-        second: paths.second.path.as_str(),
-        capture: paths.capture.as_str(),
-    };
-    let (claim, second, capture) = (&mut claim, &mut second, &mut capture);
-    answer_by_sums(
-        alloc, judgement, style, &sums, claim, second, capture, to, hasher,
-    )
+        capture,
+    } = judged;
+    let (claim, second) = (&mut claim, &mut second);
+    let style = paths.evidence.style;
+    match judgement {
+        Judgement::Check => answer_check(alloc, style, claim, second, capture, to, hasher).1,
+        Judgement::Refute { drift } => {
+            let refute = Refute { drift };
+            answer(alloc, refute, style, claim, second, capture, to, hasher).1
+        }
+    }
 }
 
 /// Does what a command line calls for: all files are opened before anything is read. The result is
@@ -98,32 +173,18 @@ fn respond<S: Sink, E: Sink, H: BuildHasher + Drop>(
     requires err { IsWritable (E.state to.old.err) }
     ensures closed { (E.state to.new.err).is_open ≡ false }
 {
-    let alloc = rt.alloc();
     match invocation {
         Invocation::List(path) => list(rt, &path, to),
-        Invocation::Ask(asked, paths) => {
-            let Inputs {
-                mut claim,
-                second,
-                capture,
-            } = match open_inputs(rt, &paths) {
-                Ok(inputs) => inputs,
-                Err(fault) => return tell(&Err(fault), &mut to.err),
-            };
-            let claim = &mut claim;
-            match second {
-                Some(mut second) => {
-                    answer(alloc, asked, claim, &mut second, capture, to, hasher).1
-                }
-                None => {
-                    let mut none = ReadFeed::new(io::empty());
-                    answer(alloc, asked, claim, &mut none, capture, to, hasher).1
-                }
-            }
+        Invocation::Samples(paths) => ask(rt, Samples, &paths, to, hasher),
+        Invocation::At(at, paths) => ask(rt, at, &paths, to, hasher),
+        Invocation::Settle(paths) => ask(rt, Settle, &paths, to, hasher),
+        Invocation::Check(paths) => judge(rt, Judgement::Check, &paths, to, hasher),
+        Invocation::Find(find, paths) => ask(rt, find, &paths, to, hasher),
+        Invocation::Seek(paths) => ask(rt, Seek, &paths, to, hasher),
+        Invocation::Refute(Refute { drift }, paths) => {
+            judge(rt, Judgement::Refute { drift }, &paths, to, hasher)
         }
-        Invocation::Judge(judgement, style, paths) => {
-            judge(rt, judgement, style, &paths, to, hasher)
-        }
+        Invocation::Envelope(envelope, paths) => ask(rt, envelope, &paths, to, hasher),
         Invocation::Show(text) => show(text, &mut to.out, &mut to.err),
         Invocation::Refuse(text) => refuse(text, &mut to.err),
         Invocation::RefuseTime => refuse_time(&mut to.err),

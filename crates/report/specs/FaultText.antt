@@ -101,17 +101,6 @@ sums_fields (sums.Missing input) =
 sums_fields (sums.Differ input) =
     Word (codes "ntpaudit: sums differ") ∷ Word (input_word input) ∷ []
 
--- what is said of a fault that no reading of an input has
-abbrev pub run_fields : RunFault → List FieldData
-run_fields faults.Exchanges = Word (codes "ntpaudit: exchanges over 1000000") ∷ Nothing ∷ []
-run_fields faults.Pieces = Word (codes "ntpaudit: pieces over 100000") ∷ Nothing ∷ []
-run_fields (faults.TooBig input) =
-    Word (codes "ntpaudit: too-big") ∷ Word (input_word input) ∷ []
-run_fields (faults.Device input) = Word (codes "ntpaudit: device") ∷ Word (input_word input) ∷ []
-run_fields (faults.Write sent) = Named (codes "ntpaudit: device output after") sent ∷ Nothing ∷ []
-run_fields (faults.Sums fault) = sums_fields fault
-run_fields _ = Word (codes "ntpaudit: memory") ∷ Nothing ∷ []
-
 -- what the line of each fault says
 abbrev pub fault_fields : RunFault → List FieldData
 fault_fields (faults.Capture fault) =
@@ -122,7 +111,16 @@ fault_fields (faults.Certificate fault) =
     refused inputs.Certificate (certificate_number fault) (certificate_word fault) (piece_of fault)
 fault_fields (faults.Refutation fault) =
     refused inputs.Refutation (refutation_number fault) (refutation_word fault) Nothing
-fault_fields fault = run_fields fault
+fault_fields faults.Exchanges = Word (codes "ntpaudit: exchanges over 1000000") ∷ Nothing ∷ []
+fault_fields faults.Pieces = Word (codes "ntpaudit: pieces over 100000") ∷ Nothing ∷ []
+fault_fields (faults.TooBig input) =
+    Word (codes "ntpaudit: too-big") ∷ Word (input_word input) ∷ []
+fault_fields (faults.Device input) =
+    Word (codes "ntpaudit: device") ∷ Word (input_word input) ∷ []
+fault_fields (faults.Write sent) =
+    Named (codes "ntpaudit: device output after") sent ∷ Nothing ∷ []
+fault_fields faults.Memory = Word (codes "ntpaudit: memory") ∷ Nothing ∷ []
+fault_fields (faults.Sums fault) = sums_fields fault
 
 -- the line for each fault
 abbrev pub fault_text : RunFault → List ℕ

@@ -1,6 +1,6 @@
 //! The line of a fault.
 
-ghost use Rattle.std.specs.Prelude.{◌≡◌, ◌+◌, ◌≤◌, ◌++◌, length, map, IfOk, string_bytes};
+ghost use Rattle.std.specs.Prelude.{◌≡◌, ◌+◌, ◌≤◌, ◌++◌, [], ◌∷◌, length, map, IfOk, string_bytes};
 ghost use Rattle.line_writer.specs.declared.line.TheConstants.{CAPACITY};
 ghost use Rattle.line_writer.specs.declared.field.Style.TheVariants.{Plain};
 ghost use Rattle.line_writer.specs.Field.{Nothing, Word, field_data, fields_text, most_of, room_of};
@@ -132,26 +132,23 @@ fn sums_fields(fault: &SumsFault) -> [Field<'static>; 2]
     }
 }
 
-/// What is said of a fault that no reading of an input has.
-fn run_fields(fault: &RunFault) -> [Field<'static>; 2]
-    ensures words { map field_data result ≡ spec.run_fields fault.now }
-    ensures room { room_of (map field_data result) ≤ 150 }
+/// Writes a line of these two fields.
+fn put_both(line: &mut Line, first: Field<'static>, second: Field<'static>)
+    requires room { length line.old + 200 ≤ CAPACITY }
+    requires fields { room_of (field_data first ∷ field_data second ∷ []) ≤ 150 }
+    ensures { line.new ≡ fields_text Plain
+        (field_data first.entry ∷ field_data second.entry ∷ []) ++ line.old }
 {
-    match fault {
-        RunFault::Exchanges => [
-            Field::Word("ntpaudit: exchanges over 1000000"),
-            Field::Nothing,
-        ],
-        RunFault::Pieces => [Field::Word("ntpaudit: pieces over 100000"), Field::Nothing],
-        RunFault::TooBig(input) => [Field::Word("ntpaudit: too-big"), input_word(input)],
-        RunFault::Device(input) => [Field::Word("ntpaudit: device"), input_word(input)],
-        RunFault::Write(n) => [
-            Field::Named("ntpaudit: device output after", *n),
-            Field::Nothing,
-        ],
-        RunFault::Sums(fault) => sums_fields(fault),
-        _ => [Field::Word("ntpaudit: memory"), Field::Nothing],
-    }
+    put_fields(line, Style::Plain, &[first, second]);
+}
+
+/// Writes a line of these words.
+fn put_words(line: &mut Line, words: &'static str)
+    requires room { length line.old + 200 ≤ CAPACITY }
+    requires words { length words.now ≤ 66 }
+    ensures { line.new ≡ fields_text Plain (Word words.now ∷ Nothing ∷ []) ++ line.old }
+{
+    put_both(line, Field::Word(words), Field::Nothing);
 }
 
 /// Writes the line of a fault before what stands in `line`, with no line feed, in at most 200
@@ -169,7 +166,20 @@ pub(crate) fn put_fault(line: &mut Line, fault: &RunFault)
         RunFault::Refutation(f) => {
             put_refused(line, Input::Refutation, f.number(), refutation_words(f));
         }
-        _ => put_fields(line, Style::Plain, &run_fields(fault)),
+        RunFault::Exchanges => put_words(line, "ntpaudit: exchanges over 1000000"),
+        RunFault::Pieces => put_words(line, "ntpaudit: pieces over 100000"),
+        RunFault::TooBig(input) => {
+            put_both(line, Field::Word("ntpaudit: too-big"), input_word(input));
+        }
+        RunFault::Device(input) => {
+            put_both(line, Field::Word("ntpaudit: device"), input_word(input));
+        }
+        RunFault::Write(n) => {
+            let sent = Field::Named("ntpaudit: device output after", *n);
+            put_both(line, sent, Field::Nothing);
+        }
+        RunFault::Memory => put_words(line, "ntpaudit: memory"),
+        RunFault::Sums(fault) => put_fields(line, Style::Plain, &sums_fields(fault)),
     }
 }
 

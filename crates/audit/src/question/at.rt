@@ -1,16 +1,15 @@
 //! What is made for `at`.
 
-ghost use Rattle.std.specs.Prelude.{◌≡◌, ◌<◌, IfOk, IfErr, length, All};
+ghost use Rattle.std.specs.Prelude.{◌≡◌, ◌<◌, IfOk, length, All};
 ghost use Rattle.claim_file.specs.Claim.{IsLawful, data_of};
-ghost use Rattle.report.specs.Publication.{IsMadeFor};
 ghost use Rattle.span_cover.specs.Piece.{IsPiece};
 ghost use Rattle.audit.specs.At as spec;
-ghost use Rattle.audit.specs.At.{at_report};
+ghost use Rattle.audit.specs.At.{at};
 ghost use Rattle.audit.specs.Evidence.{IsLawfulEvidence, evidence_data};
-ghost use Rattle.audit.specs.Question.{ShowsOf, show_at};
-ghost use Rattle.audit.specs.Report.{IsOfMaking};
 
 use crate::evidence::Evidence;
+use crate::finished::{Making, told};
+use crate::question::Question;
 use crate::sample_list::samples_of;
 use audit_text::parts_text;
 use checker::laws::hulls_hold_the_error;
@@ -18,9 +17,16 @@ use claim_file::Claim;
 use era_unfold::TICKS_PER_SECOND;
 use finder::best_parts;
 use line_writer::Style;
-use report::{Made, Outcome, RunFault};
+use report::Outcome;
 use span_cover::{Part, piece_hull};
 use std::alloc::{AllocError, Global};
+
+/// What does each server say about the clock at a moment?
+#[derive(Clone, Copy, Debug)]
+pub struct At {
+    /// The moment, in Unix seconds.
+    pub second: u32,
+}
 
 /// The tick at which a Unix second begins.
 fn tick_of(second: u32) -> i128
@@ -62,26 +68,13 @@ fn at_text(
     hull_text(alloc, style, claim, parts.as_slice())
 }
 
-/// What each server says about the clock's error at a moment, in Unix seconds, by its best samples,
-/// and the hull over the groups. The moment may lie outside the claimed span.
-pub(crate) fn make_at(
-    alloc: Global,
-    style: Style,
-    second: u32,
-    evidence: &Evidence,
-) -> Result<Made, RunFault>
-    requires { IsLawfulEvidence evidence.now }
-    ensures made { IsMadeFor (at_report style second (evidence_data evidence.now)) result }
-    ensures fault { IfErr result IsOfMaking }
-    ensures shows { IfOk result (λ made. ShowsOf (show_at second)
-        (evidence_data evidence.now) made.outcome) }
-{
-    hulls_hold_the_error();
-    match at_text(alloc, style, second, evidence) {
-        Ok(text) => Ok(Made {
-            text,
-            outcome: Outcome::Yes,
-        }),
-        Err(AllocError) => Err(RunFault::Memory),
+impl Question for At {
+    type Second = ();
+
+    ghost asks = { λ asked. at asked.second };
+
+    fn make(self, alloc: Global, style: Style, _second: &(), evidence: Evidence) -> Making {
+        hulls_hold_the_error();
+        told(at_text(alloc, style, self.second, &evidence), Outcome::Yes)
     }
 }

@@ -1,25 +1,29 @@
 //! What is made for `check`.
 
-ghost use Rattle.std.specs.Prelude.{◌≡◌, ◌≤◌, IfOk, IfErr, vec_len};
+ghost use Rattle.std.specs.Prelude.{◌≡◌, ◌≤◌, vec_len};
 ghost use Rattle.certificate.specs.Certificate.{data_of as certificate_data, max_pieces};
 ghost use Rattle.claim_file.specs.Claim.{data_of};
 ghost use Rattle.checker.specs.Traceability.{IsVerdictOn};
-ghost use Rattle.report.specs.Publication.{IsMadeFor};
 ghost use Rattle.audit.specs.Check as spec;
-ghost use Rattle.audit.specs.Check.{check_report};
+ghost use Rattle.audit.specs.Check.{check};
 ghost use Rattle.audit.specs.Evidence.{IsLawfulEvidence, evidence_data, samples_in};
-ghost use Rattle.audit.specs.Question.{ShowsOf, check_of};
-ghost use Rattle.audit.specs.Report.{IsOfMaking};
 
 use crate::evidence::Evidence;
+use crate::finished::{Making, told};
+use crate::laws::{bounds_of_bytes_hold_in_nanoseconds, yes_shows_the_headline};
+use crate::question::Question;
 use audit_text::{Findings, check_text};
 use certificate::Certificate;
 use checker::{Verdict, check_exchanges};
 use claim_file::group_count;
 use line_writer::Style;
 use pairing::{common_reference, source_count};
-use report::{Made, Outcome, RunFault};
-use std::alloc::{AllocError, Global};
+use report::Outcome;
+use std::alloc::Global;
+
+/// Does a certificate, the second input, show the claim?
+#[derive(Clone, Copy, Debug)]
+pub struct Check;
 
 /// The outcome of a verdict.
 fn outcome_of(verdict: &Verdict) -> Outcome
@@ -52,28 +56,16 @@ fn findings_on(certificate: &Certificate, evidence: &Evidence) -> Findings
     }
 }
 
-/// Settles a certificate: `Yes` exactly if its verdict is.
-pub(crate) fn make_check(
-    alloc: Global,
-    style: Style,
-    certificate: &Certificate,
-    evidence: &Evidence,
-) -> Result<Made, RunFault>
-    requires pieces { vec_len certificate.now.pieces ≤ max_pieces }
-    requires evidence { IsLawfulEvidence evidence.now }
-    ensures made { IsMadeFor
-        (check_report style (certificate_data certificate.now) (evidence_data evidence.now))
-        result }
-    ensures fault { IfErr result IsOfMaking }
-    ensures shows { IfOk result (λ made. ShowsOf (check_of (certificate_data certificate.now))
-        (evidence_data evidence.now) made.outcome) }
-{
-    let findings = findings_on(certificate, evidence);
-    match check_text(alloc, style, &evidence.claim, &evidence.held, &findings) {
-        Ok(text) => Ok(Made {
-            text,
-            outcome: outcome_of(&findings.verdict),
-        }),
-        Err(AllocError) => Err(RunFault::Memory),
+impl Question for Check {
+    type Second = Certificate;
+
+    ghost asks = { λ _. check };
+
+    fn make(self, alloc: Global, style: Style, second: &Certificate, evidence: Evidence) -> Making {
+        bounds_of_bytes_hold_in_nanoseconds();
+        yes_shows_the_headline();
+        let findings = findings_on(second, &evidence);
+        let text = check_text(alloc, style, &evidence.claim, &evidence.held, &findings);
+        told(text, outcome_of(&findings.verdict))
     }
 }

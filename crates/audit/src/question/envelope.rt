@@ -4,22 +4,35 @@ ghost use Rattle.std.specs.Prelude.{◌≡◌, ◌≤◌, length, Some, IfOk, If
 ghost use Rattle.certificate.specs.Certificate.{max_pieces};
 ghost use Rattle.finder.specs.Envelope.{IsLawfulEnvelope, data_of as envelope_data};
 ghost use Rattle.report.specs.Publication.{IsMadeFor};
-ghost use Rattle.audit.specs.Envelope.{bound_outcome, text_of};
+ghost use Rattle.audit.specs.Envelope.{IsEnvelopeOf, bound_outcome, envelope, text_of};
 ghost use Rattle.audit.specs.Evidence.{IsLawfulEvidence, evidence_data, samples_in};
-ghost use Rattle.audit.specs.Question.{ShowsOf, show_envelope};
+ghost use Rattle.audit.specs.Second.{nothing_said};
 ghost use Rattle.audit.specs.Report.{IsMadeOf, IsOfMaking};
 
 use crate::evidence::Evidence;
+use crate::finished::{Making, whole};
 use crate::least_line::{least_carried, line_of};
+use crate::question::Question;
 use crate::question::find::run_fault_of;
 use crate::sample_list::samples_of;
 use crate::step::Step;
 use audit_text::{LeastLine, envelope_text};
 use finder::laws::best_hulls_hold_the_error;
-use finder::{Envelope, LeastBound, find_envelope_over};
+use finder::{LeastBound, find_envelope_over};
 use line_writer::Style;
 use report::{Made, Outcome, RunFault};
 use std::alloc::{AllocError, Global};
+
+/// How far off may the clock have been, piece by piece?
+#[derive(Clone, Copy, Debug)]
+pub struct Envelope {
+    /// How long the pieces are.
+    pub step: Step,
+    /// Whether to show what each server says about each piece.
+    pub servers: bool,
+    /// Whether to show the least bound that a certificate carries.
+    pub least: bool,
+}
 
 /// The outcome of a least bound.
 fn outcome_of(least: LeastBound) -> Outcome
@@ -34,7 +47,7 @@ fn outcome_of(least: LeastBound) -> Outcome
 /// What is known of the clock's error in each piece of this length, with what each server says
 /// there if `servers` is true, and the least bound that holds throughout: `Yes` if there is one. If
 /// `least` is true, the least bound that a certificate carries stands behind it.
-pub(crate) fn make_envelope(
+fn make_envelope(
     alloc: Global,
     style: Style,
     step: Step,
@@ -43,11 +56,11 @@ pub(crate) fn make_envelope(
     evidence: &Evidence,
 ) -> Result<Made, RunFault>
     requires { IsLawfulEvidence evidence.now }
-    ensures made { IsMadeOf style (show_envelope step.seconds servers least)
+    ensures made { IsMadeOf (envelope step.seconds servers least) style nothing_said
         (evidence_data evidence.now) result }
     ensures fault { IfErr result IsOfMaking }
-    ensures shows { IfOk result (λ made. ShowsOf (show_envelope step.seconds servers least)
-        (evidence_data evidence.now) made.outcome) }
+    ensures shows { IfOk result (λ made.
+        IsEnvelopeOf step.seconds made.outcome (evidence_data evidence.now)) }
 {
     best_hulls_hold_the_error();
     let samples = samples_of(evidence);
@@ -81,7 +94,7 @@ fn made_of(
     style: Style,
     servers: bool,
     evidence: &Evidence,
-    envelope: &Envelope,
+    envelope: &finder::Envelope,
     line: LeastLine,
 ) -> Result<Made, RunFault>
     requires evidence { IsLawfulEvidence evidence.now }
@@ -108,5 +121,20 @@ fn made_of(
             outcome: outcome_of(envelope.least),
         }),
         Err(AllocError) => Err(RunFault::Memory),
+    }
+}
+
+impl Question for Envelope {
+    type Second = ();
+
+    ghost asks = { λ asked. envelope asked.step.seconds asked.servers asked.least };
+
+    fn make(self, alloc: Global, style: Style, _second: &(), evidence: Evidence) -> Making {
+        let Envelope {
+            step,
+            servers,
+            least,
+        } = self;
+        whole(make_envelope(alloc, style, step, servers, least, &evidence))
     }
 }

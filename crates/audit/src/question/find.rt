@@ -7,11 +7,12 @@ ghost use Rattle.finder.specs.Found.{data_of as found_data};
 ghost use Rattle.report.specs.Publication.{IsMadeFor};
 ghost use Rattle.audit.specs.Evidence.{IsLawfulEvidence, evidence_data};
 ghost use Rattle.audit.specs.Find as spec;
-ghost use Rattle.audit.specs.Find.{find_report, find_run_fault_of, found_outcome};
-ghost use Rattle.audit.specs.Question.{ShowsOf, find_with};
+ghost use Rattle.audit.specs.Find.{IsSearchOf, find, find_report, find_run_fault_of, found_outcome};
 ghost use Rattle.audit.specs.Report.{IsOfMaking};
 
 use crate::evidence::Evidence;
+use crate::finished::{Making, whole};
+use crate::question::Question;
 use crate::sample_list::samples_of;
 use crate::step::Step;
 use audit_text::nothing_text;
@@ -20,6 +21,13 @@ use finder::{FindFault, Found, find_over};
 use line_writer::Style;
 use report::{Made, Outcome, RunFault};
 use std::alloc::{AllocError, Global};
+
+/// Is there a certificate with pieces of one length?
+#[derive(Clone, Copy, Debug)]
+pub struct Find {
+    /// How long the pieces are.
+    pub step: Step,
+}
 
 /// What a run answers if no certificate could be looked for.
 pub(crate) fn run_fault_of(fault: FindFault) -> RunFault
@@ -67,17 +75,12 @@ fn found_text(alloc: Global, style: Style, found: &Found) -> Result<Vec<u8>, All
 
 /// Looks for a certificate with pieces of this length: `Yes` with one that `check` accepts, or `No`
 /// with the first piece for which the samples show too little.
-pub(crate) fn make_find(
-    alloc: Global,
-    style: Style,
-    step: Step,
-    evidence: &Evidence,
-) -> Result<Made, RunFault>
+fn make_find(alloc: Global, style: Style, step: Step, evidence: &Evidence) -> Result<Made, RunFault>
     requires { IsLawfulEvidence evidence.now }
     ensures made { IsMadeFor (find_report style step.seconds (evidence_data evidence.now)) result }
     ensures fault { IfErr result IsOfMaking }
-    ensures shows { IfOk result (λ made. ShowsOf (find_with step.seconds)
-        (evidence_data evidence.now) made.outcome) }
+    ensures shows { IfOk result (λ made.
+        IsSearchOf step.seconds (evidence_data evidence.now) made.outcome) }
 {
     let claim = &evidence.claim;
     let samples = samples_of(evidence);
@@ -90,5 +93,15 @@ pub(crate) fn make_find(
             Err(AllocError) => Err(RunFault::Memory),
         },
         Err(fault) => Err(run_fault_of(fault)),
+    }
+}
+
+impl Question for Find {
+    type Second = ();
+
+    ghost asks = { λ asked. find asked.step.seconds };
+
+    fn make(self, alloc: Global, style: Style, _second: &(), evidence: Evidence) -> Making {
+        whole(make_find(alloc, style, self.step, &evidence))
     }
 }

@@ -1,23 +1,30 @@
 //! What is made for `refute`.
 
-ghost use Rattle.std.specs.Prelude.{◌≡◌, true, false, IfOk, IfErr};
+ghost use Rattle.std.specs.Prelude.{◌≡◌, true, false, IfOk};
 ghost use Rattle.certificate.specs.Refutation.{data_of as refutation_data};
-ghost use Rattle.report.specs.Publication.{IsMadeFor};
 ghost use Rattle.checker.specs.Settlement.{Settles};
 ghost use Rattle.audit.specs.Evidence.{IsLawfulEvidence, evidence_data};
-ghost use Rattle.audit.specs.Question.{ShowsOf, refute_by};
 ghost use Rattle.audit.specs.Refute as spec;
-ghost use Rattle.audit_text.specs.Refutation.{refuted_text};
-ghost use Rattle.audit.specs.Refute.{refute_report, stands_on};
-ghost use Rattle.audit.specs.Report.{IsOfMaking};
+ghost use Rattle.audit.specs.Refute.{IsSettledFor, refute, stands_on};
 
 use crate::evidence::Evidence;
+use crate::finished::{Making, told};
+use crate::laws::course_beyond_the_bound_contests_the_claim;
+use crate::question::Question;
 use audit_text::refuted_text;
 use certificate::Refutation;
 use checker::check_refutation;
 use courses::check_refutation_with_drift;
-use report::{Made, Outcome, RunFault};
+use line_writer::Style;
+use report::{Outcome, RunFault};
 use std::alloc::{AllocError, Global};
+
+/// Does a refutation, the second input, stand against the claim?
+#[derive(Clone, Copy, Debug)]
+pub struct Refute {
+    /// Whether the clock's error may drift, as the claim grants, or never changes.
+    pub drift: bool,
+}
 
 /// The outcome for whether a refutation stands.
 fn refuted_outcome(stands: bool) -> Outcome
@@ -36,8 +43,7 @@ fn does_stand(
     requires { IsLawfulEvidence evidence.now }
     ensures tested { IfOk result (λ stands. stands
         ≡ stands_on drift (refutation_data refutation.now) (evidence_data evidence.now)) }
-    ensures shows { IfOk result (λ stands. ShowsOf
-        (refute_by drift (refutation_data refutation.now))
+    ensures shows { IfOk result (λ stands. IsSettledFor drift (refutation_data refutation.now)
         (evidence_data evidence.now) (spec.refuted_outcome stands)) }
 {
     if drift {
@@ -47,37 +53,16 @@ fn does_stand(
     }
 }
 
-/// The text and the outcome for whether a refutation stands.
-fn make_answer(alloc: Global, stands: bool) -> Result<Made, AllocError>
-    ensures { IfOk result (λ made. (made.text ≡ refuted_text stands)
-        × (made.outcome ≡ spec.refuted_outcome stands)) }
-{
-    Ok(Made {
-        text: refuted_text(alloc, stands)?,
-        outcome: refuted_outcome(stands),
-    })
-}
+impl Question for Refute {
+    type Second = Refutation;
 
-/// Settles whether a refutation stands: `Yes` exactly if it does.
-pub(crate) fn make_refute(
-    alloc: Global,
-    drift: bool,
-    refutation: &Refutation,
-    evidence: &Evidence,
-) -> Result<Made, RunFault>
-    requires { IsLawfulEvidence evidence.now }
-    ensures made { IsMadeFor
-        (refute_report drift (refutation_data refutation.now) (evidence_data evidence.now)) result }
-    ensures fault { IfErr result IsOfMaking }
-    ensures shows { IfOk result (λ made. ShowsOf
-        (refute_by drift (refutation_data refutation.now))
-        (evidence_data evidence.now) made.outcome) }
-{
-    let Ok(stands) = does_stand(alloc, drift, refutation, evidence) else {
-        return Err(RunFault::Memory);
-    };
-    match make_answer(alloc, stands) {
-        Ok(made) => Ok(made),
-        Err(AllocError) => Err(RunFault::Memory),
+    ghost asks = { λ asked. refute asked.drift };
+
+    fn make(self, alloc: Global, _style: Style, second: &Refutation, evidence: Evidence) -> Making {
+        course_beyond_the_bound_contests_the_claim();
+        match does_stand(alloc, self.drift, second, &evidence) {
+            Ok(stands) => told(refuted_text(alloc, stands), refuted_outcome(stands)),
+            Err(AllocError) => Err(RunFault::Memory),
+        }
     }
 }

@@ -4,14 +4,19 @@ ghost use Rattle.std.specs.Prelude.{IfErr};
 ghost use Rattle.report.specs.Publication.{IsMadeFor};
 ghost use Rattle.audit.specs.Evidence.{IsLawfulEvidence, evidence_data};
 ghost use Rattle.audit.specs.Report.{IsOfMaking};
-ghost use Rattle.audit.specs.Samples.{samples_report};
+ghost use Rattle.audit.specs.Samples.{samples, samples_report};
 
 use crate::evidence::Evidence;
-use crate::finished::{Finished, whole};
+use crate::finished::{Finished, Making, whole};
+use crate::question::Question;
 use audit_text::samples_text;
 use line_writer::Style;
 use report::{Made, Outcome, RunFault};
 use std::alloc::{AllocError, Global};
+
+/// What does each exchange say about the clock?
+#[derive(Clone, Copy, Debug)]
+pub struct Samples;
 
 /// The text with a line for each sample, and the counts, made whole.
 fn make_text(alloc: Global, style: Style, evidence: &Evidence) -> Result<Made, RunFault>
@@ -28,22 +33,19 @@ fn make_text(alloc: Global, style: Style, evidence: &Evidence) -> Result<Made, R
     }
 }
 
-/// The text with a line for each sample, and the counts: made whole for a person, and line by line
-/// on its way out for a program.
-pub(crate) fn make_samples(
-    alloc: Global,
-    style: Style,
-    evidence: Evidence,
-) -> Result<Finished, RunFault>
-    requires { IsLawfulEvidence evidence }
-    ensures made { IsMadeFor (samples_report style (evidence_data evidence)) result }
-    ensures fault { IfErr result IsOfMaking }
-{
-    match style {
-        Style::Plain => match Finished::samples(alloc, evidence) {
-            Ok(finished) => Ok(finished),
-            Err(AllocError) => Err(RunFault::Memory),
-        },
-        style => whole(make_text(alloc, style, &evidence)),
+impl Question for Samples {
+    type Second = ();
+
+    ghost asks = { λ _. samples };
+
+    fn make(self, alloc: Global, style: Style, _second: &(), evidence: Evidence) -> Making {
+        match style {
+            // Each line is made on its way out.
+            Style::Plain => match Finished::samples(alloc, evidence) {
+                Ok(finished) => Ok(finished),
+                Err(AllocError) => Err(RunFault::Memory),
+            },
+            _ => whole(make_text(alloc, style, &evidence)),
+        }
     }
 }

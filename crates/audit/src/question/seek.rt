@@ -1,22 +1,26 @@
 //! What is made for `find --refutation`.
 
-ghost use Rattle.std.specs.Prelude.{◌≡◌, ◌++◌, IfOk, IfErr, codes, option_map};
+ghost use Rattle.std.specs.Prelude.{◌≡◌, ◌++◌, IfOk, codes, option_map};
 ghost use Rattle.certificate.specs.Refutation.{data_of as refutation_data};
 ghost use Rattle.certificate.specs.RefutationWriting.{refutation_text};
-ghost use Rattle.report.specs.Publication.{IsMadeFor};
-ghost use Rattle.audit.specs.Evidence.{IsLawfulEvidence, evidence_data};
-ghost use Rattle.audit.specs.Question.{ShowsOf, seek_refutation};
-ghost use Rattle.audit.specs.Report.{IsOfMaking};
 ghost use Rattle.audit.specs.Seek as spec;
-ghost use Rattle.audit.specs.Seek.{seek_report, sought_outcome};
+ghost use Rattle.audit.specs.Seek.{seek, sought_outcome};
 
 use crate::evidence::Evidence;
+use crate::finished::{Making, told};
+use crate::laws::course_beyond_the_bound_contests_the_claim;
+use crate::question::Question;
 use audit_text::no_refutation_text;
 use certificate::{Refutation, write_refutation};
 use checker::laws::{accepted_refutations_have_a_course, yes_and_refutation_never_meet};
 use finder::find_refutation;
-use report::{Made, Outcome, RunFault};
+use line_writer::Style;
+use report::Outcome;
 use std::alloc::{AllocError, Global};
+
+/// Is there a refutation of the claim?
+#[derive(Clone, Copy, Debug)]
+pub struct Seek;
 
 /// The outcome of a search.
 fn outcome_of(found: &Option<Refutation>) -> Outcome
@@ -50,22 +54,16 @@ fn sought_text(alloc: Global, found: &Option<Refutation>) -> Result<Vec<u8>, All
     }
 }
 
-/// Looks for a refutation: `Yes` with one that stands, or `No` if none does.
-pub(crate) fn make_seek(alloc: Global, evidence: &Evidence) -> Result<Made, RunFault>
-    requires { IsLawfulEvidence evidence.now }
-    ensures made { IsMadeFor (seek_report (evidence_data evidence.now)) result }
-    ensures fault { IfErr result IsOfMaking }
-    ensures shows { IfOk result (λ made.
-        ShowsOf seek_refutation (evidence_data evidence.now) made.outcome) }
-{
-    accepted_refutations_have_a_course();
-    yes_and_refutation_never_meet();
-    let found = find_refutation(&evidence.held.exchanges, &evidence.claim);
-    match sought_text(alloc, &found) {
-        Ok(text) => Ok(Made {
-            text,
-            outcome: outcome_of(&found),
-        }),
-        Err(AllocError) => Err(RunFault::Memory),
+impl Question for Seek {
+    type Second = ();
+
+    ghost asks = { λ _. seek };
+
+    fn make(self, alloc: Global, _style: Style, _second: &(), evidence: Evidence) -> Making {
+        course_beyond_the_bound_contests_the_claim();
+        accepted_refutations_have_a_course();
+        yes_and_refutation_never_meet();
+        let found = find_refutation(&evidence.held.exchanges, &evidence.claim);
+        told(sought_text(alloc, &found), outcome_of(&found))
     }
 }

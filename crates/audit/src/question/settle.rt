@@ -1,23 +1,31 @@
 //! What is made for `settle`.
 
-ghost use Rattle.std.specs.Prelude.{◌≡◌, IfOk, IfErr};
+ghost use Rattle.std.specs.Prelude.{◌≡◌, IfOk};
 ghost use Rattle.finder.specs.Settlement.{IsSettledAs, settled_data};
 ghost use Rattle.audit.specs.Evidence.{IsLawfulEvidence, evidence_data};
-ghost use Rattle.audit.specs.Question.{ShowsOf, settle_claim};
-ghost use Rattle.audit.specs.Report.{IsMadeOf, IsOfMaking};
 ghost use Rattle.audit.specs.Settle as spec;
 ghost use Rattle.audit.specs.Settle.{settled_outcome};
 
 use crate::evidence::Evidence;
+use crate::finished::{Making, told};
+use crate::laws::{
+    bounds_of_bytes_hold_in_nanoseconds, course_beyond_the_bound_contests_the_claim,
+    yes_shows_the_headline,
+};
+use crate::question::Question;
 use crate::question::find::{certificate_line, run_fault_of};
 use crate::question::seek::refutation_line;
 use audit_text::{conflicts_text, evidence_text, open_text};
 use checker::laws::verdicts_are_traceable;
+use finder::Settled;
 use finder::laws::samples_of_exchanges_keep_limits;
-use finder::{Settled, settle};
 use line_writer::Style;
-use report::{Made, Outcome, RunFault};
+use report::Outcome;
 use std::alloc::{AllocError, Global};
+
+/// Is the claim shown, refuted, fitted by no course of events, or does it stay open?
+#[derive(Clone, Copy, Debug)]
+pub struct Settle;
 
 /// The outcome of a settled claim.
 fn outcome_of(settled: &Settled) -> Outcome
@@ -58,29 +66,25 @@ fn settled_text(
     }
 }
 
-/// Settles the claim: `Yes` with the certificate that shows it, or `No` with a refutation, the
-/// conflicts if no course fits, how few groups have a sample, or the tick that stays open.
-pub(crate) fn make_settle(
-    alloc: Global,
-    style: Style,
-    evidence: &Evidence,
-) -> Result<Made, RunFault>
-    requires { IsLawfulEvidence evidence.now }
-    ensures made { IsMadeOf style settle_claim (evidence_data evidence.now) result }
-    ensures fault { IfErr result IsOfMaking }
-    ensures shows { IfOk result (λ made.
-        ShowsOf settle_claim (evidence_data evidence.now) made.outcome) }
-{
-    verdicts_are_traceable();
-    samples_of_exchanges_keep_limits();
-    match settle(alloc, &evidence.held.exchanges, &evidence.claim) {
-        Ok(settled) => match settled_text(alloc, style, evidence, &settled) {
-            Ok(text) => Ok(Made {
-                text,
-                outcome: outcome_of(&settled),
-            }),
-            Err(AllocError) => Err(RunFault::Memory),
-        },
-        Err(fault) => Err(run_fault_of(fault)),
+impl Question for Settle {
+    type Second = ();
+
+    ghost asks = { λ _. spec.settle };
+
+    fn make(self, alloc: Global, style: Style, _second: &(), evidence: Evidence) -> Making {
+        bounds_of_bytes_hold_in_nanoseconds();
+        yes_shows_the_headline();
+        course_beyond_the_bound_contests_the_claim();
+        verdicts_are_traceable();
+        samples_of_exchanges_keep_limits();
+        match finder::settle(alloc, &evidence.held.exchanges, &evidence.claim) {
+            Ok(settled) => {
+                told(
+                    settled_text(alloc, style, &evidence, &settled),
+                    outcome_of(&settled),
+                )
+            }
+            Err(fault) => Err(run_fault_of(fault)),
+        }
     }
 }

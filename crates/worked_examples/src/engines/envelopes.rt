@@ -3,8 +3,7 @@
 use crate::engines::inputs::{LONG, claim_of};
 use crate::engines::trial::{Command, Inputs, gives};
 use crate::expectation::assert_ok;
-use Command::{Ask, Envelope};
-use audit::{Asked, Question, Step, Style};
+use Command::Envelope;
 use report::Outcome;
 use std::alloc::Global;
 use std::process::Abort;
@@ -59,7 +58,7 @@ fn envelops(
 #[test]
 fn moments(rt: HostRuntime) {
     for (servers, edit, outcome, lines) in MOMENTS {
-        let command = Envelope(64, servers);
+        let command = Envelope(64, servers, false);
         envelops(&rt, rt.alloc(), command, &[edit], &V1, outcome, lines);
     }
 }
@@ -72,7 +71,7 @@ fn no_reply(rt: HostRuntime) {
     envelops(
         &rt,
         rt.alloc(),
-        Envelope(64, true),
+        Envelope(64, true, false),
         &[],
         request,
         Outcome::No,
@@ -95,7 +94,7 @@ fn spans(rt: HostRuntime) {
     envelops(
         &rt,
         rt.alloc(),
-        Envelope(64, false),
+        Envelope(64, false, false),
         &LONG,
         &V1,
         Outcome::Yes,
@@ -104,24 +103,12 @@ fn spans(rt: HostRuntime) {
     envelops(
         &rt,
         rt.alloc(),
-        Envelope(32, false),
+        Envelope(32, false, false),
         &LONG,
         &V1,
         Outcome::Yes,
         &two,
     );
-}
-
-/// An envelope in pieces of this many seconds, and the least bound that any certificate carries.
-fn with_least(seconds: u32) -> Command {
-    let seconds = seconds.max(1).min(86_400);
-    let question = Question::Envelope {
-        step: Step { seconds },
-        servers: false,
-        least: true,
-    };
-    let style = Style::Plain;
-    Ask(Asked { question, style })
 }
 
 /// No certificate of a moment carries less than its envelope says, and none carries a bound if the
@@ -131,8 +118,24 @@ fn least_of_a_moment(rt: HostRuntime) {
     let alloc = rt.alloc();
     let bound = [PIECE, LEAST, "least_ns 10001001 piece 0\n"];
     let none = [UNBOUNDED, NONE, "least_ns none\n"];
-    envelops(&rt, alloc, with_least(64), &[], &V1, Outcome::Yes, &bound);
-    envelops(&rt, alloc, with_least(64), &[ONE], &V1, Outcome::No, &none);
+    envelops(
+        &rt,
+        alloc,
+        Envelope(64, false, true),
+        &[],
+        &V1,
+        Outcome::Yes,
+        &bound,
+    );
+    envelops(
+        &rt,
+        alloc,
+        Envelope(64, false, true),
+        &[ONE],
+        &V1,
+        Outcome::No,
+        &none,
+    );
 }
 
 /// Over a span the drift adds up: the last ticks need the most, in whichever piece they lie.
@@ -147,7 +150,7 @@ fn least_of_a_span(rt: HostRuntime) {
     envelops(
         &rt,
         rt.alloc(),
-        with_least(32),
+        Envelope(32, false, true),
         &LONG,
         &V1,
         Outcome::Yes,

@@ -3,6 +3,7 @@
 use crate::engines::inputs::REFUTATION;
 use crate::engines::trial::{Command, Failing, Inputs, NONE, Ran, is_untouched, run};
 use crate::expectation::{assert_equal_at, assert_ok};
+use audit::Style;
 use byte_stream::{Cut, Feed, Sink, TestSink};
 use report::{Input, Outcome, RunFault};
 use std::alloc::Global;
@@ -17,7 +18,7 @@ const COMMANDS: [(Command, Outcome); 7] = [
     (Command::Find(64), Outcome::Yes),
     (Command::Refute, Outcome::No),
     (Command::Seek, Outcome::No),
-    (Command::Envelope(64, true), Outcome::Yes),
+    (Command::Envelope(64, true, false), Outcome::Yes),
 ];
 
 /// The second input of a command, and the worked one.
@@ -71,7 +72,7 @@ fn fails(
     let inputs = worked(command);
     let failing = failing_pull(input, number);
     let mut out = assert_ok(rt, TestSink::new(alloc, 1000, 1000, None, false));
-    let mut ran = run(alloc, command, inputs, cut, failing, &mut out);
+    let mut ran = run(alloc, command, Style::Plain, inputs, cut, failing, &mut out);
     if ran.faults() == 0 {
         assert_equal_at(rt, ran.answer, Ok(outcome), (command, input));
         return false;
@@ -123,7 +124,16 @@ fn breaks_off(
     (most, failing): (usize, u64),
 ) -> bool {
     let mut out = assert_ok(rt, TestSink::new(alloc, 1000, most, Some(failing), false));
-    let ran = run(alloc, command, worked(command), AT_ONCE, NONE, &mut out);
+    let inputs = worked(command);
+    let ran = run(
+        alloc,
+        command,
+        Style::Plain,
+        inputs,
+        AT_ONCE,
+        NONE,
+        &mut out,
+    );
     let is_broken = out.faults() > 0;
     let held = out.bytes().len();
     let wanted = match is_broken {
@@ -143,6 +153,7 @@ fn each_push_fails(rt: &impl Abort, alloc: Global, command: (Command, Outcome), 
     let _ = run(
         alloc,
         command.0,
+        Style::Plain,
         worked(command.0),
         AT_ONCE,
         NONE,

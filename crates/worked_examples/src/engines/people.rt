@@ -1,10 +1,9 @@
 //! The worked rows for a person: milliseconds, times of the day, and columns under a heading.
 
 use crate::engines::inputs::{LONG, claim_of};
-use crate::engines::trial::{Command, Inputs, gives};
+use crate::engines::trial::{Command, Inputs, gives_in};
 use crate::expectation::assert_ok;
-use Command::Ask;
-use audit::{Asked, Question, Step, Style};
+use audit::Style;
 use report::Outcome;
 use std::alloc::Global;
 use std::process::Abort;
@@ -20,11 +19,11 @@ const ONE: [(&str, &str); 1] = [("\"false_max\":0", "\"false_max\":1")];
 const COUNTS: &str = "records 2 requests 1 replies 1 samples 1 version 0 leap 0 stratum 0 \
     precision 0 zero 0 norequest 0 ambiguous 0 warnings 0\n";
 
-/// A question that is asked for a person says this of `V1` and, if it has a second input, of `K1`.
+/// A command says this for a person of `V1` and, if it has a second input, of `K1`.
 fn shows(
     rt: &impl Abort,
     alloc: Global,
-    question: Question,
+    command: Command,
     edits: &[(&str, &str)],
     outcome: Outcome,
     lines: &[&str],
@@ -35,9 +34,7 @@ fn shows(
         second: K1.as_bytes(),
         capture: &V1,
     };
-    let style = Style::Human;
-    let command = Ask(Asked { question, style });
-    gives(rt, alloc, command, inputs, Ok(outcome), lines);
+    gives_in(rt, alloc, command, Style::Human, inputs, Ok(outcome), lines);
 }
 
 #[test]
@@ -52,7 +49,7 @@ fn samples(rt: HostRuntime) {
     shows(
         &rt,
         rt.alloc(),
-        Question::Samples,
+        Command::Samples,
         &SAME,
         Outcome::Yes,
         &lines,
@@ -66,8 +63,8 @@ fn moment(rt: HostRuntime) {
         "      192.0.2.1     -10.000001      10.001001\n",
         "           hull     -10.000001      10.001001\n",
     ];
-    let question = Question::At(SECOND);
-    shows(&rt, rt.alloc(), question, &SAME, Outcome::Yes, &lines);
+    let command = Command::At(SECOND);
+    shows(&rt, rt.alloc(), command, &SAME, Outcome::Yes, &lines);
 }
 
 #[test]
@@ -82,23 +79,16 @@ fn checked(rt: HostRuntime) {
         "pieces 1\n",
         "verdict yes\n",
     ];
-    shows(
-        &rt,
-        rt.alloc(),
-        Question::Check,
-        &SAME,
-        Outcome::Yes,
-        &lines,
-    );
+    shows(&rt, rt.alloc(), Command::Check, &SAME, Outcome::Yes, &lines);
 }
 
 /// A certificate is for programs, and the line of a piece that shows too little for a person.
 #[test]
 fn found(rt: HostRuntime) {
-    let question = Question::Find(Step { seconds: 64 });
-    shows(&rt, rt.alloc(), question, &SAME, Outcome::Yes, &[K1, "\n"]);
+    let command = Command::Find(64);
+    shows(&rt, rt.alloc(), command, &SAME, Outcome::Yes, &[K1, "\n"]);
     let nothing = ["nothing piece 0 hull -10.000001 10.001001\n"];
-    shows(&rt, rt.alloc(), question, &TIGHT, Outcome::No, &nothing);
+    shows(&rt, rt.alloc(), command, &TIGHT, Outcome::No, &nothing);
 }
 
 const HEADING: &str =
@@ -109,17 +99,6 @@ const SERVER_HEADING: &str = "   piece                begin                  end
 
 const SERVER: &str = "       0 2001-09-09T01:46:40Z 2001-09-09T01:46:40Z     -10.000001      \
     10.001001       192.0.2.1\n";
-
-/// Pieces of this many seconds, with what each server says if `servers` is true, and the least
-/// bound that any certificate carries if `least` is true.
-fn pieces(seconds: u32, servers: bool, least: bool) -> Question {
-    let seconds = seconds.max(1).min(86_400);
-    Question::Envelope {
-        step: Step { seconds },
-        servers,
-        least,
-    }
-}
 
 /// A moment, and a span of 64 seconds with a drift.
 #[test]
@@ -141,7 +120,7 @@ fn bounded(rt: HostRuntime) {
     shows(
         &rt,
         alloc,
-        pieces(64, true, false),
+        Command::Envelope(64, true, false),
         &SAME,
         Outcome::Yes,
         &moment,
@@ -149,7 +128,7 @@ fn bounded(rt: HostRuntime) {
     shows(
         &rt,
         alloc,
-        pieces(32, false, true),
+        Command::Envelope(32, false, true),
         &LONG,
         Outcome::Yes,
         &span,
@@ -165,6 +144,6 @@ fn unbounded(rt: HostRuntime) {
         "bound none piece 0\n",
         "least none\n",
     ];
-    let question = pieces(64, false, true);
-    shows(&rt, rt.alloc(), question, &ONE, Outcome::No, &lines);
+    let command = Command::Envelope(64, false, true);
+    shows(&rt, rt.alloc(), command, &ONE, Outcome::No, &lines);
 }

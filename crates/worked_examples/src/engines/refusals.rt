@@ -21,7 +21,7 @@ const COMMANDS: [(Command, &str); 8] = [
     (Find(64), K1),
     (Refute, REFUTATION),
     (Seek, K1),
-    (Envelope(64, true), K1),
+    (Envelope(64, true, false), K1),
 ];
 
 /// Every engine refuses this capture so.
@@ -92,7 +92,7 @@ const FIRST: [(Command, &str, &str, RunFault); 11] = [
     (Samples, "{}", "{}", NO_CLIENT),
     (Refute, "[", "{}", NO_JSON),
     (Seek, "{}", "{}", NO_CLIENT),
-    (Envelope(64, true), "{}", "{}", NO_CLIENT),
+    (Envelope(64, true, false), "{}", "{}", NO_CLIENT),
     (
         Check,
         C1,
@@ -169,5 +169,5 @@ fn refuses_span(rt: &impl Abort, alloc: Global, command: Command) {
 #[test]
 fn pieces(rt: HostRuntime) {
     refuses_span(&rt, rt.alloc(), Find(1));
-    refuses_span(&rt, rt.alloc(), Envelope(1, false));
+    refuses_span(&rt, rt.alloc(), Envelope(1, false, false));
 }

@@ -3,7 +3,7 @@
 ghost use Rattle.byte_stream.specs.State.{IsWritable};
 
 use crate::expectation::{assert_equal, assert_equal_at, assert_ok};
-use audit::{Asked, run_at, run_check, run_envelope, run_find, run_refute, run_samples, run_seek};
+use audit::{At, Check, Envelope, Find, Refute, Samples, Seek, Step, Style};
 use byte_stream::{Cut, Feed, Sink, TestFeed, TestSink};
 use listing::run_list;
 use report::{Outcome, RunFault};
@@ -11,8 +11,8 @@ use std::alloc::Global;
 use std::hash::{BuildHasherDefault, FoldHasher};
 use std::process::Abort;
 
-/// A command, with what it's asked for: a moment in Unix seconds, or the length of pieces and
-/// whether to show the servers; or whatever is asked.
+/// A command, with what it's asked for: a moment in Unix seconds, or the length of pieces, whether
+/// to show the servers, and whether to show the least bound.
 #[derive(Clone, Copy, Debug)]
 pub(crate) enum Command {
     List,
@@ -22,8 +22,7 @@ pub(crate) enum Command {
     Find(u32),
     Refute,
     Seek,
-    Envelope(u32, bool),
-    Ask(Asked),
+    Envelope(u32, bool, bool),
 }
 
 /// What the inputs of a run hold: the claim, the certificate or refutation, and the capture. A
@@ -66,10 +65,17 @@ impl Ran<'_> {
     }
 }
 
-/// Runs a command on feeds that cut and fail so.
+/// Pieces of this many seconds.
+fn step_of(seconds: u32) -> Step {
+    let seconds = seconds.max(1).min(86_400);
+    Step { seconds }
+}
+
+/// Runs a command in this style on feeds that cut and fail so.
 pub(crate) fn run<'a>(
     alloc: Global,
     command: Command,
+    style: Style,
     inputs: Inputs<'a>,
     cut: Cut,
     failing: Failing,
@@ -80,24 +86,55 @@ pub(crate) fn run<'a>(
     let mut claim = TestFeed::new(inputs.claim, cut, failing.claim);
     let mut second = TestFeed::new(inputs.second, cut, failing.second);
     let capture = TestFeed::new(inputs.capture, cut, failing.capture);
+    let hasher = BuildHasherDefault::<FoldHasher>::new();
+    let first = &mut claim;
+    let none = &mut ();
     let (capture, answer) = match command {
         Command::List => run_list(alloc, capture, out),
-        Command::Samples => run_samples(alloc, &mut claim, capture, out),
-        Command::At(moment) => run_at(alloc, &mut claim, capture, moment, out),
-        Command::Check => run_check(alloc, &mut claim, capture, &mut second, out),
-        Command::Find(step_s) => {
-            let step_s = step_s.max(1).min(86_400);
-            run_find(alloc, &mut claim, capture, step_s, out)
+        Command::Samples => audit::run(alloc, Samples, style, first, none, capture, out, hasher),
+        Command::At(second) => {
+            let at = At { second };
+            audit::run(alloc, at, style, first, none, capture, out, hasher)
         }
-        Command::Refute => run_refute(alloc, &mut claim, capture, &mut second, out),
-        Command::Seek => run_seek(alloc, &mut claim, capture, out),
-        Command::Envelope(step_s, servers) => {
-            let step_s = step_s.max(1).min(86_400);
-            run_envelope(alloc, &mut claim, capture, step_s, servers, false, out)
+        Command::Check => {
+            audit::run(
+                alloc,
+                Check,
+                style,
+                first,
+                &mut second,
+                capture,
+                out,
+                hasher,
+            )
         }
-        Command::Ask(asked) => {
-            let hasher = BuildHasherDefault::<FoldHasher>::new();
-            audit::run(alloc, asked, &mut claim, &mut second, capture, out, hasher)
+        Command::Find(seconds) => {
+            let find = Find {
+                step: step_of(seconds),
+            };
+            audit::run(alloc, find, style, first, none, capture, out, hasher)
+        }
+        Command::Refute => {
+            let refute = Refute { drift: false };
+            audit::run(
+                alloc,
+                refute,
+                style,
+                first,
+                &mut second,
+                capture,
+                out,
+                hasher,
+            )
+        }
+        Command::Seek => audit::run(alloc, Seek, style, first, none, capture, out, hasher),
+        Command::Envelope(seconds, servers, least) => {
+            let envelope = Envelope {
+                step: step_of(seconds),
+                servers,
+                least,
+            };
+            audit::run(alloc, envelope, style, first, none, capture, out, hasher)
         }
     };
     Ran {
@@ -119,6 +156,19 @@ pub(crate) fn gives(
     wanted: Result<Outcome, RunFault>,
     lines: &[&str],
 ) {
+    gives_in(rt, alloc, command, Style::Plain, inputs, wanted, lines);
+}
+
+/// The same in this style.
+pub(crate) fn gives_in(
+    rt: &impl Abort,
+    alloc: Global,
+    command: Command,
+    style: Style,
+    inputs: Inputs<'_>,
+    wanted: Result<Outcome, RunFault>,
+    lines: &[&str],
+) {
     for (cut, finish_fails) in [
         (Cut::Fixed(1), false),
         (Cut::Fixed(1), true),
@@ -126,7 +176,7 @@ pub(crate) fn gives(
         (Cut::Growing, true),
     ] {
         let mut out = assert_ok(rt, TestSink::new(alloc, 2000, 2000, None, finish_fails));
-        let ran = run(alloc, command, inputs, cut, NONE, &mut out);
+        let ran = run(alloc, command, style, inputs, cut, NONE, &mut out);
         went(rt, &ran, &out, wanted, finish_fails, lines);
     }
 }

@@ -1,7 +1,3 @@
-use Rattle.std.proofs.Common.{subst}
-use Rattle.report.specs.declared.fault.Outcome.TheVariants.{Yes}
-use Rattle.audit.specs.declared.question.Question.{Question}
-use Rattle.audit.specs.Question.{Shows, data_of}
 use Rattle.audit.proofs.Status.{shown_by_status}
 use Rattle.audit.proofs.engine.answer.Goals as goal
 
@@ -15,11 +11,5 @@ returns-clause-answers g c = record {
 
 pub returns-clause-shows : goal.returns-clause-shows
 returns-clause-shows g c =
-    shown_by_status (Shows (data_of c.args.asked.question) _ _ _) c.run-capture.result.1 c.tell.result
+    shown_by_status ((g.Q.Question.asks c.args.question).Shows _ _ _) c.run-capture.result.1 c.tell.result
     c.tell.ensures.status c.run-capture.ensures.shows
-
-pub returns-clause-traceable : goal.returns-clause-traceable
-returns-clause-traceable g c = λ is zero.
-    let shown = returns-clause-shows g c Yes zero in
-    subst (λ (question : Question). Shows (data_of question) (g.C.Feed.state c.args.claim.now)
-    (g.T.Feed.state c.args.second.now) (g.F.Feed.state c.args.capture) Yes) is shown

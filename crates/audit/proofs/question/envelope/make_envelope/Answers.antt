@@ -5,7 +5,7 @@ use Rattle.sample_interval.specs.declared.kinds.Sample.{Sample}
 use Rattle.finder.specs.Envelope.{data_of as envelope_data, envelope_of}
 use Rattle.audit_text.specs.declared.least_line.LeastLine.TheVariants.{NotAsked}
 use Rattle.audit.specs.Evidence.{evidence_data}
-use Rattle.audit.specs.Finding.{no_finding}
+use Rattle.audit.specs.Question.{no_finding}
 use Rattle.audit.specs.Least.{least_line_of}
 use Rattle.audit.proofs.EnvelopeShowing.{count_is_few, envelope_made, envelope_refused, envelope_shows, few_pieces, why_refused}
 use Rattle.audit.proofs.SettlementShowing.{nothing_found}

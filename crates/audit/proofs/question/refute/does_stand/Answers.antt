@@ -4,8 +4,7 @@ use Rattle.certificate.specs.Refutation.{data_of as refutation_data}
 use Rattle.pairing.specs.Held.{exchange_shown}
 use Rattle.courses.specs.DriftSettlement.{SettlesWithDrift}
 use Rattle.audit.specs.Evidence.{evidence_data}
-use Rattle.audit.specs.Question.{ShowsOf, refute_by}
-use Rattle.audit.specs.Refute.{refuted_outcome}
+use Rattle.audit.specs.Refute.{IsSettledFor, refuted_outcome}
 use Rattle.audit.proofs.RefutationShowing.{drift_judgement_shows, judgement_shows}
 use Rattle.audit.proofs.question.refute.does_stand.Goals as goal
 
@@ -15,9 +14,9 @@ returns-then-drift-clause-shows c =
     let refutation = refutation_data c.args.refutation.now in
     IfOk-weaker c.check_refutation_with_drift.result
     (SettlesWithDrift e.claim (map exchange_shown c.deref.result.now) refutation)
-    (λ stands. ShowsOf (refute_by c.args.drift refutation) e (refuted_outcome stands))
+    (λ stands. IsSettledFor c.args.drift refutation e (refuted_outcome stands))
     (λ stands settles.
-    subst (λ drift. ShowsOf (refute_by drift refutation) e (refuted_outcome stands)) (sym c.if-drift.true)
+    subst (λ drift. IsSettledFor drift refutation e (refuted_outcome stands)) (sym c.if-drift.true)
     (drift_judgement_shows refutation e c.requires.exchanges.agree stands (rw c.deref.ensures.value at settles)))
     c.check_refutation_with_drift.ensures.settles
 
@@ -26,6 +25,6 @@ returns-else-drift-clause-shows c =
     let e = evidence_data c.args.evidence.now in
     let refutation = refutation_data c.args.refutation.now in
     let stands = c.check_refutation.result in
-    subst (λ drift. ShowsOf (refute_by drift refutation) e (refuted_outcome stands)) (sym c.if-drift.false)
+    subst (λ drift. IsSettledFor drift refutation e (refuted_outcome stands)) (sym c.if-drift.false)
     (judgement_shows refutation e c.requires.exchanges.agree stands
     (rw c.deref-else-drift.ensures.value at c.check_refutation.ensures))

@@ -1,0 +1,54 @@
+use Rattle.std.proofs.Common.{Ok, Err, None}
+use Rattle.finder.specs.Settlement.{settled_data}
+use Rattle.audit.specs.Evidence.{evidence_data, samples_in}
+use Rattle.audit.specs.Question.{ShowsOf}
+use Rattle.audit.specs.Second.{no_second, nothing_said}
+use Rattle.audit.specs.Settle.{IsSettledBy, IsSettledOf, settle}
+use Rattle.audit.proofs.SettlementShowing.{fault_found, refused_made, settled_of}
+use Rattle.audit.proofs.Showing.{BytesLaws, of_inputs, settled_from, told_made, told_shows}
+use Rattle.audit.proofs.question.settle.SettleQuestion.make.Goals as goal
+
+holds : (c : goal.In-Ok) → IsSettledOf (evidence_data c.args.evidence) (settled_data c.in-Ok.settled)
+holds c =
+    let e = evidence_data c.args.evidence in
+    let settles = rw c.deref.ensures.value at c.in-Ok.ensures in
+    settled_of e c.requires.evidence.exchanges.agree
+    (λ certificate. c.verdicts_are_traceable.ensures e.claim (samples_in e) certificate c.requires.evidence.claim
+    (c.samples_of_exchanges_keep_limits.ensures.listed e.claim e.collection.exchanges c.requires.evidence.exchanges.each))
+    (settled_data c.in-Ok.settled) settles.settled
+
+pub returns-in-Ok-clause-made : goal.returns-in-Ok-clause-made
+returns-in-Ok-clause-made c = record {
+  finding = record { settled = Ok (settled_data c.in-Ok.settled); least = None };
+  found = record { settled = holds c; least = tt };
+  is_made = rw c.outcome_of.ensures at
+      (told_made c.settled_text.result (λ t. t.items) c.outcome_of.result c.told.result _
+      c.told.ensures.made c.settled_text.ensures);
+}
+
+pub returns-in-Ok-clause-shows : goal.returns-in-Ok-clause-shows
+returns-in-Ok-clause-shows c =
+    let e = evidence_data c.args.evidence in
+    let laws : BytesLaws = record {
+      nanoseconds = c.bounds_of_bytes_hold_in_nanoseconds.ensures;
+      headline = c.yes_shows_the_headline.ensures;
+      contested = c.course_beyond_the_bound_contests_the_claim.ensures;
+    } in
+    told_shows c.told.result c.outcome_of.result (ShowsOf settle no_second nothing_said e)
+    (of_inputs e (IsSettledBy c.outcome_of.result) (λ b f is. record {
+      settled = settled_data c.in-Ok.settled;
+      outcome_is = c.outcome_of.ensures;
+      holds = settled_from laws b f e is (settled_data c.in-Ok.settled) (holds c);
+    })) c.told.ensures.outcome
+
+pub returns-clause-made : goal.returns-clause-made
+returns-clause-made c =
+    let settles = rw c.deref.ensures.value at c.in-Err.ensures in
+    record {
+      finding = record { settled = Err c.in-Err.fault; least = None };
+      found = record {
+        settled = fault_found (evidence_data c.args.evidence) c.in-Err.fault settles.refused;
+        least = tt;
+      };
+      is_made = refused_made c.in-Err.fault c.run_fault_of.result c.run_fault_of.ensures;
+    }

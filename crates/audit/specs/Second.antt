@@ -1,0 +1,63 @@
+-- The second input of a question: none, a certificate or a refutation.
+use Rattle.std.specs.Prelude.{ℕ, List, Option, IfSome, Some, Result, IsOk, Ok, Err}
+use Rattle.std.specs.Option.{option_map}
+use Rattle.certificate.specs.Certificate.{CertificateData}
+use Rattle.certificate.specs.Refutation.{RefutationData}
+use Rattle.report.specs.CertificateInput.{certificate_read, max_certificate}
+use Rattle.report.specs.Input.{most_read}
+use Rattle.report.specs.RefutationInput.{max_refutation, refutation_read}
+use Rattle.report.specs.declared.fault.Input.TheVariants as inputs
+use Rattle.report.specs.declared.fault.RunFault.{RunFault}
+use Rattle.report.specs.declared.fault.RunFault.TheVariants.{Certificate, Refutation, TooBig, Device, Memory}
+
+-- which second input a question has
+pub data SecondKind : Type 0 where
+  no_second : SecondKind
+  certificate_second : SecondKind
+  refutation_second : SecondKind
+
+-- what a second input says
+pub data SecondData : Type 0 where
+  nothing_said : SecondData
+  certificate_said : CertificateData → SecondData
+  refutation_said : RefutationData → SecondData
+
+-- a certificate that was read, or refused, as a second input
+abbrev pub of_certificate : Result CertificateData RunFault → Result SecondData RunFault
+of_certificate (Ok certificate) = Ok (certificate_said certificate)
+of_certificate (Err fault) = Err fault
+
+-- a refutation that was
+abbrev pub of_refutation : Result RefutationData RunFault → Result SecondData RunFault
+of_refutation (Ok refutation) = Ok (refutation_said refutation)
+of_refutation (Err fault) = Err fault
+
+-- what the bytes of a second input say, as far as they are known
+abbrev pub second_read : SecondKind → Option (List ℕ) → Option (Result SecondData RunFault)
+second_read no_second known = Some (Ok nothing_said)
+second_read certificate_second known =
+    option_map (λ bytes. of_certificate (certificate_read bytes)) known
+second_read refutation_second known =
+    option_map (λ bytes. of_refutation (refutation_read bytes)) known
+
+-- The bytes of the second input, if they are known, say what is asked for.
+abbrev pub HasSecond : SecondKind → Option (List ℕ) → Type 0
+HasSecond kind known = IfSome (second_read kind known) IsOk
+
+-- how many bytes are taken of the second input at most in a run that comes to this answer: one past
+-- the limit only if the answer is that this input is too big
+abbrev pub most_second : {A : Type 0} → SecondKind → Result A RunFault → ℕ
+most_second no_second answer = 0
+most_second certificate_second answer = most_read inputs.Certificate max_certificate answer
+most_second refutation_second answer = most_read inputs.Refutation max_refutation answer
+
+-- the faults of reading it
+abbrev pub IsOfSecond : RunFault → Type 0
+IsOfSecond (Certificate fault) = Unit {0}
+IsOfSecond (Refutation fault) = Unit {0}
+IsOfSecond (TooBig inputs.Certificate) = Unit {0}
+IsOfSecond (TooBig inputs.Refutation) = Unit {0}
+IsOfSecond (Device inputs.Certificate) = Unit {0}
+IsOfSecond (Device inputs.Refutation) = Unit {0}
+IsOfSecond Memory = Unit {0}
+IsOfSecond _ = ⊥
