@@ -55,8 +55,9 @@ Prints:   one of five answers. A certificate, which `check` accepts: the claim i
           groups K of G false_max F`: no more groups of servers have a sample than may be wrong. Or
           `open P Q hull LO HI`: neither is found, and no certificate is accepted. With --human the
           lines of conflicts and of what is open have milliseconds and times as 2026-11-22T06:46:09Z
-Status:   0 shown; 1 any other answer; 2 an input is refused, or over 100000 pieces are needed;
-          3 out of memory; 4 a file or the output failed; 5 the command line is refused
+Status:   0 shown; 1 any other answer; 2 an input is refused, or over 100000 pieces are needed
+          and no refutation is found; 3 out of memory; 4 a file or the output failed; 5 the command
+          line is refused
 Example:  ntpaudit settle claim.json recording.pcap > certificate.json
 More:     man ntpaudit, which says what each answer means";
 
@@ -164,7 +165,7 @@ fn check_command<'a>(alloc: Global) -> Result<Command<'a>, AllocError> {
 /// The command `refute`.
 fn refute_command<'a>(alloc: Global) -> Result<Command<'a>, AllocError> {
     let refutation = Arg::new(alloc, "REFUTATION").help("The refutation, a JSON file");
-    let drift = "Let the clock's error drift as the claim grants, in place of one error throughout";
+    let drift = "Let the clock's error drift as the claim grants, not stay the same";
     let about = "Settle whether a refutation stands against a claim";
     evidence_command(alloc, "refute", about, REFUTE_HELP)?
         .arg(refutation.required(true))?
@@ -200,7 +201,7 @@ fn flag<'a>(alloc: Global, name: &'a str, help: &'a str) -> Arg<'a> {
 /// The command `find`.
 fn find_command<'a>(alloc: Global) -> Result<Command<'a>, AllocError> {
     let step = "Seconds of each piece, 1 to 86400; ignored beside --refutation";
-    let refutation = "Find a refutation of the claim in place of a certificate";
+    let refutation = "Find a refutation of the claim instead of a certificate";
     let about = "Find a certificate for a claim in a capture, or a refutation";
     evidence_command(alloc, "find", about, FIND_HELP)?
         .arg(step_option(alloc, step))?
@@ -240,7 +241,7 @@ fn with_judgements<'a>(alloc: Global, program: Command<'a>) -> Result<Command<'a
 /// The program with its commands.
 pub(crate) fn program<'a>(alloc: Global) -> Result<Command<'a>, AllocError> {
     let program = Command::new(alloc, "ntpaudit")
-        .version("0.7.0 (logic dac8208d650f15bf)")
+        .version("0.8.0 (logic dac8208d650f15bf)")
         .about("What a packet capture of NTP shows about a clock")
         .after_help(PROGRAM_HELP)
         .subcommand_required(true);
