@@ -1,6 +1,7 @@
 -- The exchange at a place of the list that says them, of a claim with any number of servers.
-use Rattle.std.proofs.Common.{◌≡◌, ℕ, ◌<◌, List, length, get_or, subst}
-use Rattle.std.specs.Prelude.{map, All}
+use Rattle.std.proofs.Common.{◌≡◌, ℕ, ◌<◌, List, Some, length, get_or, ap, ◌∙◌, subst}
+use Rattle.std.specs.Prelude.{map, slice_get, All}
+use Rattle.std.proofs.lemmas.Option.{slice_get-get_or}
 use Rattle.pairing.specs.Exchange.{IsLawful}
 use Rattle.pairing.specs.declared.exchange.Exchange.{Exchange}
 use Rattle.finder.proofs.Rooms.{shown_here, within_shown}
@@ -11,3 +12,8 @@ module _ {X : Type 0} (shown : X → Exchange) (held : List X) (index : ℕ) (it
   lawful_of servers all =
       subst (IsLawful servers) (shown_here shown held index item x below is says)
       (all index x (within_shown shown held index item x below is says))
+
+  pub stands_at : slice_get (map shown held) index ≡ Some x
+  stands_at =
+      slice_get-get_or (map shown held) index x (within_shown shown held index item x below is says)
+      ∙ ap Some (shown_here shown held index item x below is says)

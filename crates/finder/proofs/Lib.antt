@@ -32,3 +32,5 @@ pub mod RefutationSearch
 pub mod HeldExchange
 pub mod Liar
 pub mod RefutationFinding
+pub mod GroupLeeway
+pub mod TriedError

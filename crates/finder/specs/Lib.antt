@@ -14,3 +14,4 @@ pub mod Carried
 pub mod Settlement
 pub mod Room
 pub mod Sought
+pub mod Leeway

@@ -1,14 +1,16 @@
 //! Refutations with drift that are found.
 
-ghost use Rattle.std.specs.Prelude.{◌≡◌, true, length, map, All, IfOk, IfSome};
+ghost use Rattle.std.specs.Prelude.{◌≡◌, true, length, map, All, IfNone, IfOk, IfSome, MatchOption};
 ghost use Rattle.certificate.specs.Refutation.{data_of as refutation_data};
 ghost use Rattle.claim_file.specs.Claim.{IsLawful, data_of as claim_data};
 ghost use Rattle.courses.specs.ConflictTable.{IsConflictTable};
 ghost use Rattle.courses.specs.ConflictsView.{data_of};
-ghost use Rattle.courses.specs.Cover.{servers_of};
 ghost use Rattle.courses.specs.DriftRefutation.{IsRefutedWithDrift};
 ghost use Rattle.courses.specs.DriftSettlement.{SettlesWithDrift};
 ghost use Rattle.courses.specs.Groups.{holds};
+ghost use Rattle.finder.specs.Leeway.{AreTriedInVain, IsTriedInVain, turned};
+ghost use Rattle.finder.specs.Leeway.{IsMade, IsNothingSaid, IsSayable};
+ghost use Rattle.finder.specs.declared.side.Side.{Side};
 ghost use Rattle.pairing.specs.Exchange.{IsLawful as IsLawfulExchange};
 
 use crate::leeway::{false_groups, leeways_at, tightest};
@@ -54,6 +56,10 @@ pub fn find_refutation_with_drift<X: ToExchange>(
         (claim_data claim.now) (map X.shown exchanges.now) (refutation_data found))) }
     ensures settles { IfOk result (λ sought. IfSome sought (λ found. SettlesWithDrift
         (claim_data claim.now) (map X.shown exchanges.now) (refutation_data found) true)) }
+
+    // None is found only if none of the errors that it tries refutes the claim.
+    ensures all_tried { IfOk result (λ sought. IfNone sought
+        (AreTriedInVain (claim_data claim.now) (map X.shown exchanges.now) places.now)) }
 {
     let conflicts = conflicts_of(alloc, exchanges, claim)?;
     Ok(find_by_conflicts(exchanges, claim, &conflicts, places))
@@ -72,21 +78,45 @@ pub(crate) fn find_by_conflicts<X: ToExchange>(
     requires groups { (data_of conflicts.now).groups ≡ length claim.now.groups.items }
     requires table { IsConflictTable (claim_data claim.now) (map X.shown exchanges.now)
         (data_of conflicts.now).is_broken (data_of conflicts.now).is_edge }
-    ensures { IfSome result (λ found. SettlesWithDrift
+    ensures settles { IfSome result (λ found. SettlesWithDrift
         (claim_data claim.now) (map X.shown exchanges.now) (refutation_data found) true) }
+    ensures all_tried { IfNone result
+        (AreTriedInVain (claim_data claim.now) (map X.shown exchanges.now) places.now) }
 {
     for place in places {
-        for side in [Side::Above, Side::Below] {
-            if let Some(found) = find_at(exchanges, claim, conflicts, *place, side) {
-                return Some(found);
-            }
+        if let Some(found) = find_at(exchanges, claim, conflicts, *place) {
+            return Some(found);
         }
     }
     None
 }
 
-/// A refutation at a place, with an error on one side of zero, that stands, if one is found.
+/// A refutation at a place that stands, if one is found.
 fn find_at<X: ToExchange>(
+    exchanges: &[X],
+    claim: &Claim,
+    conflicts: &Conflicts,
+    place: Place,
+) -> Option<Refutation>
+    requires claim { IsLawful (claim_data claim.now) }
+    requires exchanges { All (IsLawfulExchange (length claim.now.servers.items))
+        (map X.shown exchanges.now) }
+    requires groups { (data_of conflicts.now).groups ≡ length claim.now.groups.items }
+    requires table { IsConflictTable (claim_data claim.now) (map X.shown exchanges.now)
+        (data_of conflicts.now).is_broken (data_of conflicts.now).is_edge }
+    ensures settles { IfSome result (λ found. SettlesWithDrift
+        (claim_data claim.now) (map X.shown exchanges.now) (refutation_data found) true) }
+    ensures all_tried { IfNone result ((side : Side) → IsTriedInVain (claim_data claim.now)
+        (map X.shown exchanges.now) (holds place.cover) place.reading side) }
+{
+    if let Some(found) = find_on(exchanges, claim, conflicts, place, Side::Above) {
+        return Some(found);
+    }
+    find_on(exchanges, claim, conflicts, place, Side::Below)
+}
+
+/// The same with an error on one side of zero.
+fn find_on<X: ToExchange>(
     exchanges: &[X],
     claim: &Claim,
     conflicts: &Conflicts,
@@ -99,8 +129,10 @@ fn find_at<X: ToExchange>(
     requires groups { (data_of conflicts.now).groups ≡ length claim.now.groups.items }
     requires table { IsConflictTable (claim_data claim.now) (map X.shown exchanges.now)
         (data_of conflicts.now).is_broken (data_of conflicts.now).is_edge }
-    ensures { IfSome result (λ found. SettlesWithDrift
+    ensures settles { IfSome result (λ found. SettlesWithDrift
         (claim_data claim.now) (map X.shown exchanges.now) (refutation_data found) true) }
+    ensures all_tried { IfNone result (IsTriedInVain (claim_data claim.now)
+        (map X.shown exchanges.now) (holds place.cover) place.reading side) }
 {
     let leeways = leeways_at(exchanges, claim, side, place.reading);
     let false_groups = false_groups(claim, place.cover, &leeways);
@@ -121,8 +153,10 @@ fn candidate(
     false_groups: Groups,
 ) -> Option<Refutation>
     requires { IsLawful (claim_data claim.now) }
-    ensures { IfSome result (λ made. made.liars.items
-        ≡ servers_of (claim_data claim.now) (holds false_groups)) }
+    ensures { MatchOption result
+        (IsNothingSaid claim.now.bound side leeways.now (holds false_groups))
+        (λ made. IsMade (claim_data claim.now) side reading leeways.now (holds false_groups)
+        (refutation_data made)) }
 {
     let group = tightest(leeways, false_groups)?;
     Some(Refutation {
@@ -135,6 +169,8 @@ fn candidate(
 /// An error on this side of zero, if it is beyond the bound and 64 bits hold it.
 fn error_beyond(claim: &Claim, side: Side, most: i128) -> Option<i64>
     requires { IsLawful (claim_data claim.now) }
+    ensures { MatchOption result (¬ (IsSayable claim.now.bound side most))
+        (λ error. error ≡ turned side most) }
 {
     if claim.bound < most && most <= GREATEST_ERROR {
         i64::try_from(side.turned(most)).ok()

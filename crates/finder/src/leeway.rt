@@ -1,10 +1,16 @@
 //! How great an error the exchanges of each group let be at a reading.
 
-ghost use Rattle.std.specs.Prelude.{◌≡◌, ◌^◌, ◌<◌, ◌≤◌, unsigned_abs, length, map, All, IfSome};
+ghost use Rattle.std.specs.Prelude.{◌≡◌, ◌↔◌, ◌^◌, ◌*◌, ◌/◌, ◌-◌, ◌<◌, ◌≤◌, ℤ, pos, ◌≤ℤ◌};
+ghost use Rattle.std.specs.Prelude.{unsigned_abs, slice_index, length, map, All, MatchOption};
+ghost use Rattle.std.specs.Prelude.{count_by};
 ghost use Rattle.claim_file.specs.Claim.{IsLawful, data_of as claim_data};
+ghost use Rattle.courses.specs.Groups.{holds};
+ghost use Rattle.finder.specs.Leeway.{AreLeeways, IsNarrowed, IsTightest, IsUnlimited, mark_at};
+ghost use Rattle.marks.specs.Mark.{AreCompatible};
 ghost use Rattle.marks.specs.Range.{IsWithinRange};
 ghost use Rattle.pairing.specs.Exchange.{IsLawful as IsLawfulExchange};
 ghost use Rattle.sample_interval.specs.Widening.{IsRate};
+ghost use Rattle.span_cover.specs.Group.{numbers_below};
 
 use crate::side::Side;
 use claim_file::Claim;
@@ -22,7 +28,8 @@ fn change(rate: u32, parts: u128, distance: u128) -> u128
     requires rate { IsRate rate }
     requires parts { 0 < parts }
     requires distance { distance ≤ 2 ^ 75 }
-    ensures { result ≤ 2 ^ 105 }
+    ensures exact { result ≡ rate * distance / parts }
+    ensures range { result ≤ 2 ^ 105 }
 {
     u128::from(rate) * distance / parts
 }
@@ -34,6 +41,8 @@ fn most_under(drift_ppb: u32, mark: Mark, reading: i128) -> i128
     requires rate { IsRate drift_ppb }
     requires mark { IsWithinRange mark }
     requires reading { unsigned_abs reading ≤ 2 ^ 64 }
+    ensures { (error : ℤ) →
+        (error ≤ℤ result) ↔ AreCompatible drift_ppb (mark_at reading error) mark }
 {
     let rate = u128::from(drift_ppb);
     let parts = if reading <= mark.place {
@@ -49,7 +58,8 @@ fn most_under(drift_ppb: u32, mark: Mark, reading: i128) -> i128
 pub(crate) fn group_of(claim: &Claim, server: u8) -> u8
     requires claim { IsLawful (claim_data claim.now) }
     requires listed { server < length claim.now.servers.items }
-    ensures { result < 32 }
+    ensures exact { result ≡ slice_index claim.now.groups.items server }
+    ensures range { result < 32 }
 {
     claim.groups[usize::from(server)]
 }
@@ -65,21 +75,24 @@ pub(crate) fn leeways_at<X: ToExchange>(
     requires claim { IsLawful (claim_data claim.now) }
     requires exchanges { All (IsLawfulExchange (length claim.now.servers.items))
         (map X.shown exchanges.now) }
+    ensures { AreLeeways (claim_data claim.now) (map X.shown exchanges.now) (length exchanges.now)
+        side (pos reading) result }
 {
-    let reading = side.turned(i128::from(reading));
+    let place = side.turned(i128::from(reading));
     let mut leeways = [NO_LIMIT; 32];
     for held in exchanges {
         let exchange = held.to_exchange();
         let mark = side.mark_of(&exchange, claim.reading);
         let group = usize::from(group_of(claim, exchange.server));
-        leeways[group] = leeways[group].min(most_under(claim.drift_ppb, mark, reading));
+        leeways[group] = leeways[group].min(most_under(claim.drift_ppb, mark, place));
     }
     leeways
 }
 
 /// The group that lets least be, of those that aren't in a set and have an exchange.
 pub(crate) fn tightest(leeways: &[i128; 32], left_out: Groups) -> Option<u8>
-    ensures { IfSome result (λ group. group < 32) }
+    ensures { MatchOption result (IsUnlimited leeways.now (holds left_out))
+        (IsTightest leeways.now (holds left_out)) }
 {
     let mut least = NO_LIMIT;
     let mut tightest = 0u8;
@@ -98,9 +111,13 @@ pub(crate) fn tightest(leeways: &[i128; 32], left_out: Groups) -> Option<u8>
 }
 
 /// The groups of a cover, and as many more as the claim lets be false: those that let least be.
-pub(crate) fn false_groups(claim: &Claim, cover: Groups, leeways: &[i128; 32]) -> Groups {
+pub(crate) fn false_groups(claim: &Claim, cover: Groups, leeways: &[i128; 32]) -> Groups
+    ensures { IsNarrowed leeways.now
+        (claim.now.false_max - count_by (holds cover) (numbers_below 32)) (holds cover)
+        (holds result) }
+{
     let mut found = cover;
-    for _ in 0..claim.false_max.saturating_sub(cover.count(32)) {
+    for _added in 0..claim.false_max.saturating_sub(cover.count(32)) {
         if let Some(group) = tightest(leeways, found) {
             found = found.with(group);
         }

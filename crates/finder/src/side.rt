@@ -1,6 +1,9 @@
 //! To which side of zero an error is looked for.
 
-ghost use Rattle.std.specs.Prelude.{◌≡◌, ◌^◌, ◌≤◌, pos, ◌≤ℤ◌, unsigned_abs};
+ghost use Rattle.std.specs.Prelude.{◌≡◌, ◌↔◌, ◌^◌, ◌≤◌, ℤ, pos, ◌≤ℤ◌, unsigned_abs};
+ghost use Rattle.claim_file.specs.Claim.{ClaimData};
+ghost use Rattle.finder.specs.Leeway.{Lets, mark_at, turned};
+ghost use Rattle.marks.specs.Mark.{AreCompatible};
 ghost use Rattle.marks.specs.Range.{IsWithinRange};
 ghost use Rattle.sample_interval.specs.Exchange.{IsOfSomeClaim};
 
@@ -23,7 +26,8 @@ impl Side {
     /// A number of ticks, or its negative if the clock is behind.
     pub(crate) fn turned(self, ticks: i128) -> i128
         requires { unsigned_abs ticks ≤ 2 ^ 100 }
-        ensures { unsigned_abs result ≡ unsigned_abs ticks }
+        ensures exact { result ≡ turned self ticks }
+        ensures size { unsigned_abs result ≡ unsigned_abs ticks }
     {
         match self {
             Side::Above => ticks,
@@ -38,7 +42,10 @@ impl Side {
         requires exchange { IsOfSomeClaim exchange.now }
         requires from_zero { pos 0 ≤ℤ allowance }
         requires at_most_a_second { allowance ≤ℤ pos (2 ^ 32) }
-        ensures { IsWithinRange result }
+        ensures range { IsWithinRange result }
+        ensures exact { (claim : ClaimData) (reading ticks : ℤ) → claim.reading ≡ allowance →
+            AreCompatible claim.drift_ppb (mark_at (turned self reading) ticks) result
+            ↔ Lets claim self reading ticks exchange.now }
     {
         match self {
             Side::Above => high_mark(exchange, allowance),

@@ -1,0 +1,360 @@
+-- The leeways of groups, from one exchange to the next.
+use Rattle.std.proofs.Common.{◌≡◌, ℕ, zero, suc, ◌+◌, ◌-◌, ◌*◌, ◌/◌, ◌<◌, ◌≤◌, ℤ, pos, negsuc, neg_ℤ, ◌+ℤ◌, ◌-ℤ◌, ◌*ℤ◌, ◌≤ℤ◌, ◌<ℤ◌, unsigned_abs, Bool, true, false, true≢false, ◌||◌, ◌⊎◌, inl, inr, ⊎_elim, List, [], ◌∷◌, Some, replicate, length, get_or, set, refl, sym, ap, ap₂, ◌∙◌, subst, arith, get_or-set_other, get_or-set_same, to_z, of_z, ◌^◌}
+use mir.Syntax.{w128}
+use Rattle.std.specs.Prelude.{◌↔◌, ◌==◌, slice_get}
+use Rattle.std.specs.Int.{int_min}
+use Rattle.std.specs.List.{list_any}
+use Rattle.std.proofs.lemmas.List.Elements.{All-cons, All-nil}
+use Rattle.std.proofs.lemmas.Int.{ints}
+use Rattle.std.proofs.lemmas.Bool.Decides.{nat_tests}
+use Rattle.std.proofs.Math.Nat.{le-div_iff_mul-le}
+use Rattle.claim_file.specs.Claim.{ClaimData}
+use Rattle.courses.specs.Cover.{group_of}
+use Rattle.marks.specs.Mark.{low_mark, AreCompatible}
+use Rattle.marks.specs.declared.mark.Mark.{Mark}
+use Rattle.pairing.specs.declared.exchange.Exchange.{Exchange}
+use Rattle.sample_interval.specs.Widening.{billion}
+use Rattle.finder.specs.declared.side.Side.{Side}
+use Rattle.finder.specs.declared.side.Side.TheVariants.{Below}
+use Rattle.finder.specs.Leeway.{Lets, DoLet, AreLeeways, IsNarrowed, IsTightest, IsUnlimited, leeway_in, mark_at, no_limit, turned}
+use Rattle.finder.proofs.Kept.{kept}
+use Rattle.finder.proofs.List.{by_test}
+
+-- ---- the greatest error under one mark
+
+-- a multiple is at most another exactly up to a quotient
+module _ (parts rate d : ℕ) (some : 0 < parts) where
+  allowed_to : (asks : ℤ) → asks ≤ℤ pos (rate * d / parts) → (pos parts *ℤ asks) ≤ℤ (pos rate *ℤ pos d)
+  allowed_to (pos x) h =
+      let small : x ≤ rate * d / parts = omega (arith, ints, h) in
+      let product : x * parts ≤ rate * d = (le-div_iff_mul-le some).0 small in
+      omega (arith, ints, product)
+  allowed_to (negsuc x) h = omega (arith, ints)
+
+  allowed_from : (asks : ℤ) → (pos parts *ℤ asks) ≤ℤ (pos rate *ℤ pos d) → asks ≤ℤ pos (rate * d / parts)
+  allowed_from (pos x) h =
+      let product : x * parts ≤ rate * d = omega (arith, ints, h) in
+      let small : x ≤ rate * d / parts = (le-div_iff_mul-le some).1 product in
+      omega (arith, ints, small)
+  allowed_from (negsuc x) h = omega (arith, ints)
+
+module _ (ppb : ℕ) (slow : ppb ≤ 500000000) (reading : ℤ) (mark : Mark) (error : ℤ) where
+  module _ (d : ℕ) (forth : reading ≤ℤ mark.place) (is : mark.place -ℤ reading ≡ pos d) where
+    pub under_later : (error ≤ℤ (mark.error +ℤ pos (ppb * d / (billion - ppb))))
+        ↔ AreCompatible ppb (mark_at reading error) mark
+    under_later = (
+      λ le. record {
+        falls = λ _.
+            rw is (allowed_to (billion - ppb) ppb d (omega arith) (error -ℤ mark.error) (omega (arith, ints, le)));
+        rises = λ back. absurd (omega (arith, ints, forth, back));
+      },
+      λ agree.
+          let h = allowed_from (billion - ppb) ppb d (omega arith) (error -ℤ mark.error)
+          (rw is at (agree.falls forth)) in
+          omega (arith, ints, h),
+    )
+
+  module _ (d : ℕ) (back : mark.place <ℤ reading) (is : reading -ℤ mark.place ≡ pos d) where
+    pub under_earlier : (error ≤ℤ (mark.error +ℤ pos (ppb * d / (billion + ppb))))
+        ↔ AreCompatible ppb (mark_at reading error) mark
+    under_earlier = (
+      λ le. record {
+        falls = λ forth. absurd (omega (arith, ints, forth, back));
+        rises = λ _.
+            rw is (allowed_to (billion + ppb) ppb d (omega arith) (error -ℤ mark.error) (omega (arith, ints, le)));
+      },
+      λ agree.
+          let h = allowed_from (billion + ppb) ppb d (omega arith) (error -ℤ mark.error)
+          (rw is at (agree.rises back)) in
+          omega (arith, ints, h),
+    )
+
+module _ (ppb : ℕ) (slow : ppb ≤ 500000000) (reading : ℤ) (mark : Mark) (error most : ℤ) (change parts d : ℕ)
+    (sum : most ≡ mark.error +ℤ pos change) (exact : change ≡ ppb * d / parts)
+    (far : d ≡ unsigned_abs (mark.place -ℤ reading)) where
+  pub most_later : parts ≡ billion - ppb → reading ≤ℤ mark.place
+      → (error ≤ℤ most) ↔ AreCompatible ppb (mark_at reading error) mark
+  most_later is forth =
+      rw (sum, exact, is)
+      (under_later ppb slow reading mark error d forth (omega (arith, ints, far, forth)))
+
+  pub most_earlier : parts ≡ billion + ppb → mark.place <ℤ reading
+      → (error ≤ℤ most) ↔ AreCompatible ppb (mark_at reading error) mark
+  most_earlier is back =
+      rw (sum, exact, is)
+      (under_earlier ppb slow reading mark error d back (omega (arith, ints, far, back)))
+
+-- ---- the clock that shows the negatives
+
+pub negative_kept : (z : ℤ) → unsigned_abs z ≤ 2 ^ 73
+    → to_z w128 (of_z w128 (pos 0 -ℤ to_z w128 (of_z w128 z))) ≡ neg_ℤ z
+negative_kept z small =
+    let negative : pos 0 -ℤ z ≡ neg_ℤ z = omega (arith, ints) in
+    rw (kept z (omega arith)) (kept (pos 0 -ℤ z) (omega (arith, ints)) ∙ negative)
+
+module _ (ppb : ℕ) (a b : Mark) where
+  abbrev mirrored : Mark → Mark
+  mirrored m = record { place = neg_ℤ m.place; error = neg_ℤ m.error }
+
+  same_error : neg_ℤ b.error -ℤ neg_ℤ a.error ≡ a.error -ℤ b.error
+  same_error = omega (arith, ints)
+
+  same_forth : neg_ℤ a.place -ℤ neg_ℤ b.place ≡ b.place -ℤ a.place
+  same_forth = omega (arith, ints)
+
+  same_back : neg_ℤ b.place -ℤ neg_ℤ a.place ≡ a.place -ℤ b.place
+  same_back = omega (arith, ints)
+
+  -- what is low for the one clock is high for the other
+  mirrored_to : AreCompatible ppb a b → AreCompatible ppb (mirrored b) (mirrored a)
+  mirrored_to agree = record {
+    falls = λ forth. rw (same_error, same_forth) (agree.falls (omega (arith, ints, forth)));
+    rises = λ back. rw (same_error, same_back) (agree.rises (omega (arith, ints, back)));
+  }
+
+negated : (z : ℤ) → neg_ℤ (neg_ℤ z) ≡ z
+negated z = omega (arith, ints)
+
+module _ (claim : ClaimData) (x : Exchange) (reading ticks : ℤ) where
+  abbrev low : Mark
+  low = low_mark claim.reading x
+
+  abbrev Agree : Mark → Mark → Type 0
+  Agree = AreCompatible claim.drift_ppb
+
+  pub let_below : (place error : ℤ) → place ≡ neg_ℤ low.place → error ≡ neg_ℤ low.error
+      → Agree (mark_at (turned Below reading) ticks) (mark_at place error) ↔ Lets claim Below reading ticks x
+  let_below place error at_place at_error = (
+    λ agree. subst (λ (m : Mark). Agree m (mark_at reading (neg_ℤ ticks)))
+        (ap₂ mark_at (negated low.place) (negated low.error))
+        (subst (λ (m : Mark). Agree (mark_at (neg_ℤ (neg_ℤ low.place)) (neg_ℤ (neg_ℤ low.error))) m)
+        (ap (λ (r : ℤ). mark_at r (neg_ℤ ticks)) (negated reading))
+        (mirrored_to claim.drift_ppb (mark_at (neg_ℤ reading) ticks) (mark_at (neg_ℤ low.place) (neg_ℤ low.error))
+        (subst (Agree (mark_at (neg_ℤ reading) ticks)) (ap₂ mark_at at_place at_error) agree))),
+    λ lets. subst (Agree (mark_at (neg_ℤ reading) ticks)) (sym (ap₂ mark_at at_place at_error))
+        (subst (λ (m : Mark). Agree m (mark_at (neg_ℤ low.place) (neg_ℤ low.error)))
+        (ap (mark_at (neg_ℤ reading)) (negated ticks))
+        (mirrored_to claim.drift_ppb low (mark_at reading (neg_ℤ ticks)) lets)),
+  )
+
+-- ---- lists of leeways
+
+pub replicated : (n : ℕ) (z : ℤ) (k : ℕ) → get_or (replicate n z) k z ≡ z
+replicated zero z k = refl
+replicated (suc n) z zero = refl
+replicated (suc n) z (suc k) = replicated n z k
+
+pub same_default : {X : Type 0} (xs : List X) (k : ℕ) (a b : X) → k < length xs → get_or xs k a ≡ get_or xs k b
+same_default [] k a b below = absurd (omega arith)
+same_default (x ∷ xs) zero a b below = refl
+same_default (x ∷ xs) (suc k) a b below = same_default xs k a b (omega arith)
+
+-- 128 bits keep them as they are
+abbrev pub AreKept : List ℤ → Type 0
+AreKept leeways = (group : ℕ) → group < 32 → to_z w128 (of_z w128 (leeway_in leeways group)) ≡ leeway_in leeways group
+
+pub replicated_kept : AreKept (replicate 32 no_limit)
+replicated_kept group below = rw (replicated 32 no_limit group) refl
+
+pub still_kept : (leeways : List ℤ) (at : ℕ) (now : ℤ) → at < length leeways → to_z w128 (of_z w128 now) ≡ now
+    → AreKept leeways → AreKept (set leeways at now)
+still_kept leeways at now within kept' before group below = by_test (group == at)
+    (λ test.
+    let same : group ≡ at = grind (arith, nat_tests) in
+    let is : leeway_in (set leeways at now) group ≡ now =
+    subst (λ (g : ℕ). leeway_in (set leeways at now) g ≡ now) (sym same)
+    (get_or-set_same leeways at now no_limit within) in
+    ap (λ (z : ℤ). to_z w128 (of_z w128 z)) is ∙ kept' ∙ sym is)
+    (λ test.
+    let other : group ≡ at → ⊥ = grind (arith, nat_tests) in
+    let is = get_or-set_other leeways at group now no_limit other in
+    ap (λ (z : ℤ). to_z w128 (of_z w128 z)) is ∙ before group below ∙ sym is)
+
+-- ---- one exchange more
+
+pub no_number_below : (k : ℕ) → k < 0 → ⊥
+no_number_below k below = omega arith
+
+pub below_or_at : (k n : ℕ) → k < n + 1 → (k < n) ⊎ (k ≡ n)
+below_or_at k n h = grind (arith)
+
+module _ (claim : ClaimData) (xs : List Exchange) (side : Side) (reading : ℤ) where
+  pub none_yet : (leeways : List ℤ) → ((group : ℕ) → group < 32 → leeway_in leeways group ≡ no_limit)
+      → AreLeeways claim xs 0 side reading leeways
+  none_yet leeways are = record {
+    exact = λ group below ticks few. (
+      λ _ k x first. absurd (no_number_below k first),
+      λ _. rw (are group below) (omega (arith, ints, few)),
+    );
+  }
+
+  module _ (n : ℕ) (x : Exchange) (at : slice_get xs n ≡ Some x) (leeways : List ℤ)
+      (before : AreLeeways claim xs n side reading leeways) (all : length leeways ≡ 32)
+      (most now : ℤ) (leaves : (ticks : ℤ) → (ticks ≤ℤ most) ↔ Lets claim side reading ticks x)
+      (least : now ≡ int_min (leeway_in leeways (group_of claim x)) most)
+      (in_range : group_of claim x < 32) where
+    same_exchange : (k : ℕ) (y : Exchange) → k ≡ n → slice_get xs k ≡ Some y → x ≡ y
+    same_exchange k y same at_k =
+        let both : Some x ≡ Some y = sym at ∙ subst (λ (i : ℕ). slice_get xs i ≡ Some y) same at_k in
+        cc
+
+    one_more : (group : ℕ) (ticks : ℤ) → DoLet claim xs n side reading group ticks
+        → (group_of claim x ≡ group → Lets claim side reading ticks x)
+        → DoLet claim xs (n + 1) side reading group ticks
+    one_more group ticks first last k y below at_k of_group = ⊎_elim
+        (λ earlier. first k y earlier at_k of_group)
+        (λ same.
+        let is = same_exchange k y same at_k in
+        subst (Lets claim side reading ticks) is (last (ap (group_of claim) is ∙ of_group)))
+        (below_or_at k n below)
+
+    one_fewer : (group : ℕ) (ticks : ℤ) → DoLet claim xs (n + 1) side reading group ticks
+        → DoLet claim xs n side reading group ticks
+    one_fewer group ticks lets k y below = lets k y (omega arith)
+
+    min_le : (a b c : ℤ) → c ≡ int_min a b → (t : ℤ) → t ≤ℤ c → (t ≤ℤ a) × (t ≤ℤ b)
+    min_le a b c is t h = (grind (arith, ints), grind (arith, ints))
+
+    le_min : (a b c : ℤ) → c ≡ int_min a b → (t : ℤ) → t ≤ℤ a → t ≤ℤ b → t ≤ℤ c
+    le_min a b c is t h k = grind (arith, ints)
+
+    pub one_more_leeway : AreLeeways claim xs (n + 1) side reading (set leeways (group_of claim x) now)
+    one_more_leeway = record {
+      exact = λ group below ticks few. by_test (group == group_of claim x)
+          (λ test.
+          let same : group ≡ group_of claim x = grind (arith, nat_tests) in
+          let is : leeway_in (set leeways (group_of claim x) now) group ≡ now =
+          subst (λ (g : ℕ). leeway_in (set leeways (group_of claim x) now) g ≡ now) (sym same)
+          (get_or-set_same leeways (group_of claim x) now no_limit (omega (arith, all, in_range))) in
+          let earlier : (ticks ≤ℤ leeway_in leeways (group_of claim x))
+          ↔ DoLet claim xs n side reading group ticks =
+          subst (λ (g : ℕ). (ticks ≤ℤ leeway_in leeways (group_of claim x))
+          ↔ DoLet claim xs n side reading g ticks) (sym same) (before.exact (group_of claim x) in_range ticks few) in (
+            λ le.
+                let both = min_le (leeway_in leeways (group_of claim x)) most now least ticks
+                (subst (λ (z : ℤ). ticks ≤ℤ z) is le) in
+                one_more group ticks (earlier.0 both.0) (λ _. (leaves ticks).0 both.1),
+            λ lets. subst (λ (z : ℤ). ticks ≤ℤ z) (sym is)
+                (le_min (leeway_in leeways (group_of claim x)) most now least ticks
+                (earlier.1 (one_fewer group ticks lets))
+                ((leaves ticks).1 (lets n x (omega arith) at (sym same)))),
+          ))
+          (λ test.
+          let other : group ≡ group_of claim x → ⊥ = grind (arith, nat_tests) in
+          let is : leeway_in (set leeways (group_of claim x) now) group
+          ≡ leeway_in leeways group =
+          get_or-set_other leeways (group_of claim x) group now no_limit other in
+          let earlier = before.exact group below ticks few in (
+            λ le. one_more group ticks (earlier.0 (subst (λ (z : ℤ). ticks ≤ℤ z) is le))
+                (λ of_group. absurd (other (sym of_group))),
+            λ lets. subst (λ (z : ℤ). ticks ≤ℤ z) (sym is) (earlier.1 (one_fewer group ticks lets)),
+          ));
+    }
+
+-- ---- the tightest of the groups below a number
+
+pub record IsTightestTo (leeways : List ℤ) (left_out : ℕ → Bool) (n tightest : ℕ) (least : ℤ) : Type 0 where
+  pub at_most : least ≤ℤ no_limit
+  pub its_own : least <ℤ no_limit → (left_out tightest ≡ false) × (leeway_in leeways tightest ≡ least)
+  pub least_of : (other : ℕ) → other < n → left_out other ≡ false → least ≤ℤ leeway_in leeways other
+
+module _ (leeways : List ℤ) (left_out : ℕ → Bool) where
+  pub none_tight : (tightest : ℕ) (least : ℤ) → least ≡ no_limit → IsTightestTo leeways left_out 0 tightest least
+  none_tight tightest least is = record {
+    at_most = omega (arith, ints, is);
+    its_own = λ less. absurd (omega (arith, ints, is, less));
+    least_of = λ other first. absurd (no_number_below other first);
+  }
+
+  module _ (n tightest : ℕ) (least : ℤ) (before : IsTightestTo leeways left_out n tightest least) where
+    pub tighter : left_out n ≡ false → leeway_in leeways n <ℤ least
+        → IsTightestTo leeways left_out (n + 1) n (leeway_in leeways n)
+    tighter outside less = record {
+      at_most = (let most = before.at_most in omega (arith, ints, less, most));
+      its_own = λ _. (outside, refl);
+      least_of = λ other below out. ⊎_elim
+          (λ earlier. let le = before.least_of other earlier out in omega (arith, ints, less, le))
+          (λ same. subst (λ (k : ℕ). leeway_in leeways n ≤ℤ leeway_in leeways k) (sym same) (omega (arith, ints)))
+          (below_or_at other n below);
+    }
+
+    pub no_tighter : (left_out n ≡ false → least ≤ℤ leeway_in leeways n)
+        → IsTightestTo leeways left_out (n + 1) tightest least
+    no_tighter last = record {
+      at_most = before.at_most;
+      its_own = before.its_own;
+      least_of = λ other below out. ⊎_elim
+          (λ earlier. before.least_of other earlier out)
+          (λ same. subst (λ (k : ℕ). least ≤ℤ leeway_in leeways k) (sym same)
+          (last (subst (λ (k : ℕ). left_out k ≡ false) same out)))
+          (below_or_at other n below);
+    }
+
+-- ---- groups that are added to a cover
+
+or_none : (a : Bool) → a ≡ (a || false)
+or_none true = refl
+or_none false = refl
+
+added_last : (a b c : Bool) → (a || (b || c)) ≡ (b || (a || c))
+added_last true true c = refl
+added_last true false c = refl
+added_last false b c = refl
+
+turned_test : (a b : ℕ) → (a == b) ≡ (b == a)
+turned_test a b = by_test (a == b) (λ t. grind (arith, nat_tests)) (λ t. grind (arith, nat_tests))
+
+neither : (a b : Bool) → (a || b) ≡ false → (a ≡ false) × (b ≡ false)
+neither true b h = absurd (true≢false h)
+neither false b h = (refl, h)
+
+module _ (leeways : List ℤ) (cover : ℕ → Bool) where
+  pub none_added : IsNarrowed leeways 0 cover cover
+  none_added = record {
+    added = [];
+    join = λ group. or_none (cover group);
+    once = refl;
+    others = All-nil (λ a. cover a ≡ false);
+    least = λ k d below. absurd (omega arith);
+    few = omega arith;
+    enough = inl refl;
+  }
+
+  module _ (n : ℕ) (found : ℕ → Bool) (before : IsNarrowed leeways n cover found) where
+    pub all_limited : IsUnlimited leeways found → IsNarrowed leeways (n + 1) cover found
+    all_limited unlimited = record {
+      added = before.added;
+      join = before.join;
+      once = before.once;
+      others = before.others;
+      least = before.least;
+      few = (let few = before.few in omega (arith, few));
+      enough = inr unlimited;
+    }
+
+    pub one_added : (group : ℕ) (now : ℕ → Bool) → IsTightest leeways found group
+        → ((k : ℕ) → now k ≡ ((k == group) || found k)) → IsNarrowed leeways (n + 1) cover now
+    one_added group now tightest is = record {
+      added = group ∷ before.added;
+      join = λ k. is k ∙ ap₂ (λ (a b : Bool). a || b) (turned_test k group) (before.join k)
+          ∙ added_last (group == k) (cover k) (list_any (λ a. a == k) before.added);
+      once = rw ((neither (cover group) (list_any (λ a. a == group) before.added) absent).1, before.once) refl;
+      others = All-cons (λ a. cover a ≡ false) group before.added
+          (neither (cover group) (list_any (λ a. a == group) before.added) absent).0 before.others;
+      least = All-cons (λ a. (other : ℕ) → other < 32 → now other ≡ false
+          → leeway_in leeways a ≤ℤ leeway_in leeways other) group before.added
+          (λ other below outside. tightest.least other below (left other outside))
+          (λ k d within other below outside. before.least k d within other below (left other outside));
+      few = (let few = before.few in omega (arith, few));
+      enough = ⊎_elim
+          (λ same. inl (let is' : length before.added ≡ n = same in omega (arith, is')))
+          (λ unlimited. absurd (let beyond = unlimited group tightest.below tightest.outside in
+          let limited = tightest.limited in omega (arith, ints, beyond, limited)))
+          before.enough;
+    }
+      where
+        left : (other : ℕ) → now other ≡ false → found other ≡ false
+        left other outside = (neither (other == group) (found other) (sym (is other) ∙ outside)).1
+
+        absent : (cover group || list_any (λ a. a == group) before.added) ≡ false
+        absent = sym (before.join group) ∙ tightest.outside

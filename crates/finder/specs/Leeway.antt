@@ -1,0 +1,153 @@
+-- How great an error the exchanges of a group let be at a reading, to one side of zero.
+--
+-- An error at a reading is a mark. To the side above zero it is a low mark: an exchange lets it be
+-- if it is compatible with the exchange's high mark, so that some course keeps both. To the side
+-- below zero it is a high mark, and the exchanges' low marks say how far it may go. Up to some
+-- number of ticks a group lets every error be, and none beyond: its leeway.
+use Rattle.std.specs.Prelude.{◌≡◌, ◌↔◌, ◌⊎◌, ℕ, ◌<◌, ◌≤◌, ◌==◌, ◌-◌, ◌^◌, ℤ, pos, neg_ℤ, ◌≤ℤ◌, ◌<ℤ◌}
+use Rattle.std.specs.Prelude.{Bool, ◌||◌, true, false, List, length, Some, slice_get, All, count_by}
+use Rattle.std.specs.List.{list_any, slice_index_or}
+use Rattle.checker.specs.RefutationTest.{are_different}
+use Rattle.claim_file.specs.Claim.{ClaimData}
+use Rattle.certificate.specs.Refutation.{RefutationData}
+use Rattle.courses.specs.Cover.{group_of, servers_of}
+use Rattle.courses.specs.DriftRefutation.{IsRefutedWithDrift}
+use Rattle.courses.specs.Groups.{holds}
+use Rattle.marks.specs.Mark.{low_mark, high_mark, AreCompatible}
+use Rattle.marks.specs.declared.mark.Mark.{Mark}
+use Rattle.pairing.specs.declared.exchange.Exchange.{Exchange}
+use Rattle.span_cover.specs.Group.{numbers_below}
+use Rattle.finder.specs.Sought.{IsErrorOf64Bits}
+use Rattle.finder.specs.declared.drift_refutation.Place.{Place}
+use Rattle.finder.specs.declared.side.Side.{Side}
+use Rattle.finder.specs.declared.side.Side.TheVariants.{Above, Below}
+
+-- a number of ticks, or its negative if the clock is behind
+abbrev pub turned : Side → ℤ → ℤ
+turned Above ticks = ticks
+turned Below ticks = neg_ℤ ticks
+
+-- an error at a reading, as a mark
+abbrev pub mark_at : ℤ → ℤ → Mark
+mark_at reading error = record { place = reading; error = error }
+
+-- an exchange lets the clock be off by so many ticks to this side when it shows the reading
+abbrev pub Lets : ClaimData → Side → ℤ → ℤ → Exchange → Type 0
+Lets claim Above reading ticks x =
+    AreCompatible claim.drift_ppb (mark_at reading ticks) (high_mark claim.reading x)
+Lets claim Below reading ticks x =
+    AreCompatible claim.drift_ppb (low_mark claim.reading x) (mark_at reading (neg_ℤ ticks))
+
+-- the first so many exchanges let it, as far as they are of this group
+abbrev pub DoLet : ClaimData → List Exchange → ℕ → Side → ℤ → ℕ → ℤ → Type 0
+DoLet claim xs n side reading group ticks =
+    (k : ℕ) (x : Exchange) → k < n → slice_get xs k ≡ Some x → group_of claim x ≡ group
+    → Lets claim side reading ticks x
+
+-- more ticks than any group with an exchange lets be
+abbrev pub no_limit : ℤ
+no_limit = pos (2 ^ 127 - 1)
+
+-- the leeway of a group, in a list of them
+abbrev pub leeway_in : List ℤ → ℕ → ℤ
+leeway_in leeways group = slice_index_or leeways group no_limit
+
+-- these are the leeways of the groups by the first so many exchanges: a group lets just the errors
+-- be that aren't beyond its own
+pub record AreLeeways (claim : ClaimData) (xs : List Exchange) (n : ℕ) (side : Side) (reading : ℤ)
+    (leeways : List ℤ) : Type 0 where
+  pub exact : (group : ℕ) → group < 32 → (ticks : ℤ) → ticks <ℤ no_limit
+      → (ticks ≤ℤ leeway_in leeways group) ↔ DoLet claim xs n side reading group ticks
+
+-- a group is outside a set and has an exchange, and none that is outside has less leeway
+pub record IsTightest (leeways : List ℤ) (left_out : ℕ → Bool) (group : ℕ) : Type 0 where
+  pub below : group < 32
+  pub outside : left_out group ≡ false
+  pub limited : leeway_in leeways group <ℤ no_limit
+  pub least : (other : ℕ) → other < 32 → left_out other ≡ false
+      → leeway_in leeways group ≤ℤ leeway_in leeways other
+
+-- no group outside a set has an exchange
+abbrev pub IsUnlimited : List ℤ → (ℕ → Bool) → Type 0
+IsUnlimited leeways left_out =
+    (other : ℕ) → other < 32 → left_out other ≡ false → no_limit ≤ℤ leeway_in leeways other
+
+-- the groups that are taken for false: a cover's, and so many more of those that let least be
+pub record IsNarrowed (leeways : List ℤ) (more : ℕ) (cover found : ℕ → Bool) : Type 0 where
+  pub added : List ℕ
+  pub join : (group : ℕ) → found group ≡ (cover group || list_any (λ a. a == group) added)
+  -- each is added once, and isn't the cover's
+  pub once : are_different added ≡ true
+  pub others : All (λ a. cover a ≡ false) added
+  -- no group that is left has less leeway than one that was added
+  pub least : All (λ a. (other : ℕ) → other < 32 → found other ≡ false
+      → leeway_in leeways a ≤ℤ leeway_in leeways other) added
+  -- fewer are added only if no group that is left has an exchange
+  pub few : length added ≤ more
+  pub enough : (length added ≡ more) ⊎ IsUnlimited leeways found
+
+-- ---- what is tried at a reading
+
+-- the exchanges of all groups but these let the clock be off by so many ticks
+abbrev pub DoOthersLet : ClaimData → List Exchange → Side → ℤ → (ℕ → Bool) → ℤ → Type 0
+DoOthersLet claim xs side reading is_false ticks =
+    (group : ℕ) → group < 32 → is_false group ≡ false
+    → DoLet claim xs (length xs) side reading group ticks
+
+-- a refutation has these groups false and the greatest error that all others let be
+pub record IsCandidate (claim : ClaimData) (xs : List Exchange) (side : Side) (reading : ℕ)
+    (is_false : ℕ → Bool) (r : RefutationData) : Type 0 where
+  pub there : r.reading ≡ reading
+  pub liars : r.liars ≡ servers_of claim is_false
+  pub ticks : ℤ
+  pub error : r.error ≡ turned side ticks
+  pub in_64_bits : IsErrorOf64Bits r.error
+  pub beyond_bound : claim.bound <ℤ ticks
+  pub let_be : DoOthersLet claim xs side (pos reading) is_false ticks
+  pub greatest : (more : ℤ) → DoOthersLet claim xs side (pos reading) is_false more → more ≤ℤ ticks
+
+-- with a cover's groups false, and those that let least be, the greatest error that the others let
+-- be at a reading, to one side of zero, refutes nothing
+pub record IsTriedInVain (claim : ClaimData) (xs : List Exchange) (cover : ℕ → Bool) (reading : ℕ)
+    (side : Side) : Type 0 where
+  pub is_false : ℕ → Bool
+  pub leeways : List ℤ
+  pub are : AreLeeways claim xs (length xs) side (pos reading) leeways
+  pub narrowed :
+      IsNarrowed leeways (claim.false_max - count_by cover (numbers_below 32)) cover is_false
+  pub refutes_nothing : (r : RefutationData) → IsCandidate claim xs side reading is_false r
+      → ¬ (IsRefutedWithDrift claim xs r)
+
+-- so it is at each of these places, to both sides
+abbrev pub AreTriedInVain : ClaimData → List Exchange → List Place → Type 0
+AreTriedInVain claim xs places =
+    All (λ place. (side : Side) → IsTriedInVain claim xs (holds place.cover) place.reading side)
+    places
+
+-- ---- the greatest of the leeways
+
+-- this is the least leeway of the groups outside a set that have an exchange
+pub record IsLimit (leeways : List ℤ) (left_out : ℕ → Bool) (most : ℤ) : Type 0 where
+  pub group : ℕ
+  pub tightest : IsTightest leeways left_out group
+  pub is : most ≡ leeway_in leeways group
+
+-- an error is beyond the bound on its side, and 64 bits hold it
+pub record IsSayable (bound : ℤ) (side : Side) (most : ℤ) : Type 0 where
+  pub beyond : bound <ℤ most
+  pub in_64_bits : IsErrorOf64Bits (turned side most)
+
+-- no group outside a set has an exchange, or what they let be can't be said
+abbrev pub IsNothingSaid : ℤ → Side → List ℤ → (ℕ → Bool) → Type 0
+IsNothingSaid bound side leeways left_out =
+    IsUnlimited leeways left_out
+    ⊎ ((most : ℤ) × IsLimit leeways left_out most × ¬ (IsSayable bound side most))
+
+-- this refutation has these groups false, and what all others let be as its error
+pub record IsMade (claim : ClaimData) (side : Side) (reading : ℕ) (leeways : List ℤ)
+    (left_out : ℕ → Bool) (r : RefutationData) : Type 0 where
+  pub there : r.reading ≡ reading
+  pub liars : r.liars ≡ servers_of claim left_out
+  pub most : ℤ
+  pub limit : IsLimit leeways left_out most
+  pub error : r.error ≡ turned side most
