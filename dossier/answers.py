@@ -76,8 +76,8 @@ class Envelope(NamedTuple):
     hulls: list[Hull]
     servers: dict[str, tuple[list[int], list[int]]]
     least_ns: int | None
-    """The least bound that a certificate carries, if it was asked for and there is one; None also if a piece has no hull
-    with two ends."""
+    """The least bound that a certificate carries, if it was asked for and there is one; None also if a piece has no
+    hull with two ends."""
     worst: int
     """The piece that needs the least bound, or the first that is unbounded or empty."""
 

@@ -5,6 +5,7 @@ from __future__ import annotations
 
 import mmap
 import os
+import resource
 import zlib
 from collections.abc import Callable, Iterator
 from functools import partial
@@ -40,6 +41,8 @@ def audited(copies: dict[str, str], caller: Caller) -> Audited:
     alerts = [Alert("torn", len(torn), file=torn[0][0], place=torn[0][1])] if torn else []
     (name, (path, place)), *others = opened.items()
     if others:
+        most = resource.getrlimit(resource.RLIMIT_NOFILE)[1]
+        resource.setrlimit(resource.RLIMIT_NOFILE, (most, most))  # (each capture is held by a descriptor)
         whole = {name: Classic(path, caller.limit) for name, (path, _) in opened.items() if os.stat(path).st_size}
         join(whole, JOINED, caller.limit)
     elif path != copies[name] or place is not None:

@@ -25,6 +25,8 @@ HEADER, HEAD = 24, 16
 """Bytes of a capture's header, and of a record's."""
 MOST_RECORDS, MOST_CAPTURED = 4_000_000, 262_144
 """Records of a capture, and bytes of each, that the program takes."""
+MOST_RUNS = 1 << 20
+"""Of records that follow one another in time there are some for each day, however long a capture is."""
 OFTEN = 1 << 16
 """Records between two looks at the time."""
 NEW_HEADER, NEW_HEAD = Struct("<IHHIIII"), Struct("<IIII")
@@ -135,10 +137,14 @@ def runs_of(capture: Classic, spans: list[tuple[int, int]]) -> list[Runs]:
     """Of each span of Unix seconds the records whose times lie in it. The spans have to be in order, as their ends."""
     begins, ends = ([second * capture.unit for second in side] for side in zip(*spans))
     found: list[Runs] = [[] for _ in spans]
+    left = MOST_RUNS
     for time, begin, end in capture.rows():
         for runs in found[bisect_left(ends, time) : bisect_right(begins, time)]:
             if runs and runs[-1][1] == begin:
                 runs[-1][1] = end
             else:
                 runs.append([begin, end])
+                left -= 1
+        if left < 0:
+            raise fault("the times of the capture go back and forth between days too often")
     return found

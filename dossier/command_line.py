@@ -46,7 +46,40 @@ def parser() -> Parser:
     top = Parser(prog="ntpaudit-dossier", description=ABOUT, formatter_class=argparse.RawDescriptionHelpFormatter)
     top.add_argument("--version", action="store_true", help="print the versions of dossier and program")
     commands = top.add_subparsers(dest="command", metavar="COMMAND", prog=top.prog)
-    draft = commands.add_parser("draft", help="print a claim to start from")
+    add_draft(commands.add_parser("draft", help="print a claim to start from"))
+    audit = commands.add_parser("audit", help="audit folders")
+    page = commands.add_parser("page", help="print a page of audits that were made")
+    verify = commands.add_parser("verify", help="audit the inputs again, and compare all that stands in the folder")
+    sign = commands.add_parser("sign", help="sign audits with an ssh key")
+    for command in (audit, page, verify, sign):
+        command.add_argument("folders", nargs="+", metavar="FOLDER", help=FOLDER)
+    add_audit(audit)
+    add_page(page)
+    sign.add_argument("--key", required=True, metavar="FILE",
+                      help="a private key, or the public one of a key that an agent holds")
+    for command in (page, verify):
+        command.add_argument("--signers", metavar="FILE",
+                             help="who may sign, as ssh-keygen's file of allowed signers has it: signatures are "
+                                  "checked")
+        command.add_argument("--leap-seconds", metavar="FILE", help=LEAPS)
+    for command in (audit, page, verify, sign):
+        command.add_argument("--state", metavar="DIR",
+                             help="where it is recorded which audits were made or verified here; else below "
+                                  "$XDG_STATE_HOME, or ~/.local/state")
+        command.add_argument("--limit", type=in_range(1, 1_000_000), default=SECONDS, metavar="N",
+                             help=f"seconds for each folder, which is refused after them; {SECONDS} if it is left out")
+    add_measure(commands.add_parser("measure", help="measure how far the times of records are from the clock"))
+    picture = commands.add_parser("picture", help="print the picture of a claim and a capture, as SVG")
+    picture.add_argument("claim", metavar="CLAIM", help="a JSON file")
+    picture.add_argument("capture", metavar="CAPTURE", help="a capture")
+    picture.add_argument("--step", type=in_range(1, 86_400), default=64, metavar="N",
+                         help="seconds of each piece; 64 if it is left out")
+    own_help = commands.add_parser("help", help="print help")
+    own_help.add_argument("topic", nargs="?", choices=list(commands.choices), metavar="COMMAND", help="a command")
+    return top
+
+
+def add_draft(draft: argparse.ArgumentParser) -> None:
     draft.add_argument("captures", nargs="+", metavar="CAPTURE", help="captures of one client")
     draft.add_argument("--client", metavar="ADDRESS", help="the client; the one that asks most if it is left out")
     draft.add_argument("--day", action="store_true", help="claim whole days (UTC)")
@@ -67,8 +100,9 @@ def parser() -> Parser:
                          help="how far records' times may be from the clock, in nanoseconds; "
                               f"{LEAST_READING} if it is left out")
     reading.add_argument("--measured", metavar="FILE", help="what `measure -o` left, which has that number")
-    audit = commands.add_parser("audit", help="audit folders")
-    audit.add_argument("folders", nargs="+", metavar="FOLDER", help=FOLDER)
+
+
+def add_audit(audit: argparse.ArgumentParser) -> None:
     audit.add_argument("--step", type=in_range(1, 86_400), metavar="N",
                        help="seconds of the envelope's pieces; else as few of 1, 4, 16, .. as make no more than 10,000")
     audit.add_argument("--days", action="store_true", help="a verdict for each day (UTC) of the span")
@@ -77,8 +111,9 @@ def parser() -> Parser:
     audit.add_argument("--again", action="store_true",
                        help="audit folders that are done, or signed, too; a signature is removed")
     audit.add_argument("--leap-seconds", metavar="FILE", help=LEAPS)
-    page = commands.add_parser("page", help="print a page of audits that were made")
-    page.add_argument("folders", nargs="+", metavar="FOLDER", help=FOLDER)
+
+
+def add_page(page: argparse.ArgumentParser) -> None:
     form = page.add_mutually_exclusive_group()
     form.add_argument("--json", action="store_true", help="the table as JSON")
     form.add_argument("--csv", action="store_true", help="the table as CSV")
@@ -88,38 +123,15 @@ def parser() -> Parser:
     page.add_argument("--title", default="Clock dossier", metavar="TEXT", help="the page's heading")
     page.add_argument("-o", "--output", metavar="FILE",
                       help="write the page to FILE, whole or not at all; standard output if it is left out")
-    verify = commands.add_parser("verify", help="audit the inputs again, and compare all that stands in the folder")
-    verify.add_argument("folders", nargs="+", metavar="FOLDER", help=FOLDER)
-    sign = commands.add_parser("sign", help="sign audits with an ssh key")
-    sign.add_argument("folders", nargs="+", metavar="FOLDER", help=FOLDER)
-    sign.add_argument("--key", required=True, metavar="FILE",
-                      help="a private key, or the public one of a key that an agent holds")
-    for command in (page, verify):
-        command.add_argument("--signers", metavar="FILE",
-                             help="who may sign, as ssh-keygen's file of allowed signers has it: signatures are "
-                                  "checked")
-        command.add_argument("--leap-seconds", metavar="FILE", help=LEAPS)
-    for command in (audit, page, verify, sign):
-        command.add_argument("--state", metavar="DIR",
-                             help="where it is recorded which audits were made or verified here; else below "
-                                  "$XDG_STATE_HOME, or ~/.local/state")
-        command.add_argument("--limit", type=in_range(1, 1_000_000), default=SECONDS, metavar="N",
-                             help=f"seconds for each folder, which is refused after them; {SECONDS} if it is left out")
-    measure = commands.add_parser("measure", help="measure how far the times of records are from the clock")
+
+
+def add_measure(measure: argparse.ArgumentParser) -> None:
     measure.add_argument("--interface", default="lo", metavar="NAME", help="where to record; the loopback if left out")
     measure.add_argument("--count", type=in_range(10, 100_000), default=1000, metavar="N",
                          help="how many packets; 1000 if left out")
     measure.add_argument("--load", action="store_true", help="keep all processors busy meanwhile")
     measure.add_argument("-o", "--output", metavar="FILE",
                          help="write it as JSON to FILE too, for evidence.json to name")
-    picture = commands.add_parser("picture", help="print the picture of a claim and a capture, as SVG")
-    picture.add_argument("claim", metavar="CLAIM", help="a JSON file")
-    picture.add_argument("capture", metavar="CAPTURE", help="a capture")
-    picture.add_argument("--step", type=in_range(1, 86_400), default=64, metavar="N",
-                         help="seconds of each piece; 64 if it is left out")
-    own_help = commands.add_parser("help", help="print help")
-    own_help.add_argument("topic", nargs="?", choices=list(commands.choices), metavar="COMMAND", help="a command")
-    return top
 
 
 def in_range(least: int, most: int) -> Callable[[str], int]:

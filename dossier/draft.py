@@ -172,10 +172,12 @@ class Draft:
         envelope = read_hulls(self.program.run("envelope", CLAIM, self.capture, "--least", "--step", LONGEST).text)
         if envelope.least_ns is None:
             begin, hull = envelope.begins[envelope.worst], envelope.hulls[envelope.worst]
-            why = f"the piece from {civil(begin)} is {hull}" if isinstance(hull, str) else "it is more than a claim can say"
+            is_word = isinstance(hull, str)
+            why = f"the piece from {civil(begin)} is {hull}" if is_word else "it is more than a claim can say"
             self.remark(f"bound_ns: no bound is carried, since {why};", FOR_NOW)
             return NO_BOUND
-        self.remark(f"bound_ns: the least bound that a certificate carries is {ns_up_ms(envelope.least_ns)} ms; rounded up.")
+        least = ns_up_ms(envelope.least_ns)
+        self.remark(f"bound_ns: the least bound that a certificate carries is {least} ms; rounded up.")
         return round_up(envelope.least_ns)
 
     def leave_to_a_person(self, claim: Claim, wanted: Wanted) -> None:

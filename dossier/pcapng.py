@@ -5,6 +5,7 @@ Its unit is nanoseconds if all of its interfaces have them, else microseconds: n
 from __future__ import annotations
 
 from collections.abc import Iterator
+from itertools import islice
 from mmap import mmap
 from struct import Struct, error
 from typing import NamedTuple
@@ -16,6 +17,7 @@ from .limit import Limit
 MAGIC = bytes.fromhex("0a0d0d0a")
 SECTION, INTERFACE, OLD_PACKET, SIMPLE_PACKET, PACKET = 0x0A0D0D0A, 1, 2, 3, 6
 OPTION_RESOLUTION, OPTION_OFFSET = 9, 14
+MOST_INTERFACES, MOST_IN_A_BLOCK = 1000, 1 << 24
 OFTEN = 1 << 16
 """Blocks between two looks at the time."""
 
@@ -52,8 +54,8 @@ class Pcapng:
                 order = "<" if self.data[at + 8 : at + 12] == bytes.fromhex("4d3c2b1a") else ">"
             head = self.data[at : at + 8]
             kind, length = Struct(f"{order}II").unpack(head) if len(head) == 8 else (0, 12)
-            if length < 12 or length % 4:
-                raise self.damaged(at)
+            if length < 12 or length % 4 or length > MOST_IN_A_BLOCK:
+                raise fault(f"{self.name} is damaged at byte {at}")
             if at + length > len(self.data):
                 self.torn_at = at
                 return
@@ -63,12 +65,13 @@ class Pcapng:
             if number % OFTEN == 0:
                 self.limit.left()
 
-    def damaged(self, at: int) -> Exception:
-        return fault(f"{self.name} is damaged at byte {at}")
-
     def interfaces(self) -> list[Interface]:
         """All of its interfaces, of all sections."""
-        return [interface_of(order, body) for kind, order, body in self.blocks() if kind == INTERFACE]
+        found = (interface_of(order, body) for kind, order, body in self.blocks() if kind == INTERFACE)
+        known = list(islice(found, MOST_INTERFACES + 1))
+        if len(known) > MOST_INTERFACES:
+            raise fault(f"{self.name} has more than {MOST_INTERFACES:,} interfaces, so it is damaged")
+        return known
 
     def packets(self) -> Iterator[Packet]:
         known: list[Interface] = []

@@ -89,6 +89,7 @@ REMEDIES = [
     Remedy(r"packets without a time|coarser than microseconds", "The times of the capture are of no use.",
            "Record by tcpdump."),
     Remedy(r"damaged", "The capture is damaged.", "Fetch the file again, in binary mode."),
+    Remedy(r"back and forth", "The capture isn't in order of time.", "`reordercap f.pcap g.pcap` sorts it."),
     Remedy(r"can't be written", "The files of the audit can't be written.", "Make room, or see who may write there."),
     Remedy(r"worker", "The process that audited this folder was ended from outside.",
            "Call again: what is done isn't done again."),

@@ -101,6 +101,15 @@ def test_people_have(place):
     check("a picture of pcapng", same=(drawn == dossier("picture", DATA / "vlan-ns.claim.json", DATA / "vlan-ns.pcap"), True))
 
 
+def test_many_files(place):
+    """More files than a process may hold open by default."""
+    whole = (DATA / "clients-us.pcap").read_bytes()
+    files = {f"f-{number:05}.pcap": whole[:24] + b"".join(records_of(whole)[number :: 1200]) for number in range(1200)}
+    folder = packed_folder(place, "many", files, "clients-us")
+    status, out, err = run(["bash", "-c", 'ulimit -Sn 256; exec "$0" audit "$1"', SCRIPT, folder], env=ENVIRONMENT)
+    check("1,200 files", run=((status, err), (0, b"")), records=((folder / "joined.pcap").read_bytes()[24:], whole[24:]))
+
+
 def test_units(place):
     """No time becomes more exact than it was: of nanoseconds and microseconds together microseconds are left."""
     nano = (DATA / "vlan-ns.pcap").read_bytes()
@@ -270,6 +279,7 @@ def test_hostile_captures(place):
              "milliseconds": ({"f.pcapng": pcapng(nano, resolution=3)}, "f.pcapng has times that are coarser"), "no Ethernet": ({"f.pcapng": pcapng(nano, link=113)}, "capture 4 link"),
              "two kinds of frames": ({"f.pcapng": pcapng(nano) + pcapng(nano, link=113)}, "f.pcapng has frames of several kinds"), "other frames in the second": ({"f.pcap": nano, "g.pcapng": pcapng(nano, link=113)}, "g.pcapng has other frames than f.pcap"),
              "no capture in the second": ({"f.pcap": nano, "g.pcap": b"x" * 100}, "g.pcap is no classic capture"), "damage in the second": ({"f.pcap": nano[:24], "g.pcap": nano[:24] + b"\xff" * 16 + nano[24:]}, "g.pcap is damaged from byte 24 on"),
+             "many interfaces": ({"f.pcapng": section("<") + interface("<", 9) * 1001}, "f.pcapng has more than 1,000 interfaces"), "a block that is too long": ({"f.pcapng": ng + struct.pack("<II", 5, 1 << 30)}, "f.pcapng is damaged at byte"),
              "a length of 0": ({"f.pcapng": ng + bytes(40)}, "f.pcapng is damaged at byte"), "a time beyond 2106": ({"f.pcapng": pcapng(nano).replace(interface("<", 9), interface("<", 9, offset=2**33))}, "f.pcapng has a block that is damaged")}
     for name, (files, line) in cases.items():
         folder = packed_folder(place, name, files)
@@ -296,7 +306,19 @@ def test_hostile_captures(place):
         seen.append(fault.words)
     finally:
         captures.MOST_OF_A_CAPTURE = most
-    check("a gzip that grows", said=(seen, ["bomb.pcap.gz is too big: it has more than 10,000,000 bytes"]), left=((place / "bomb.gz.unpacked").stat().st_size <= 10_000_000, True))
+    from dossier import classic
+    capture, runs = classic.Classic(str(DATA / "clients-us.pcap"), Limit()), classic.MOST_RUNS
+    spans = [(1_795_331_000 + 2 * k, 1_795_331_000 + 2 * k + 1) for k in range(30)]
+    kept = sum(map(len, classic.runs_of(capture, spans)))
+    classic.MOST_RUNS = kept - 1
+    try:
+        classic.runs_of(capture, spans)
+    except Fault as fault:
+        seen.append(fault.words)
+    finally:
+        classic.MOST_RUNS = runs
+    check("times that go back and forth", said=(seen[1:], ["the times of the capture go back and forth between days too often"]), some=(kept > 3, True))
+    check("a gzip that grows", said=(seen[:1], ["bomb.pcap.gz is too big: it has more than 10,000,000 bytes"]), left=((place / "bomb.gz.unpacked").stat().st_size <= 10_000_000, True))
 
 
-CAPTURE_TESTS = [test_people_have, test_units, test_torn, test_step, test_own_records, test_many_exchanges, test_remedies_work, test_hostile_captures]
+CAPTURE_TESTS = [test_people_have, test_many_files, test_units, test_torn, test_step, test_own_records, test_many_exchanges, test_remedies_work, test_hostile_captures]

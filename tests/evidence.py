@@ -2,7 +2,6 @@
 
 tests/dossier calls them, each in a folder of its own. The keys of signatures are made here.
 """
-import hashlib
 import json
 import os
 import re

@@ -537,7 +537,7 @@ def test_own_faults(place):
     lines = ["f.pcap is a FIFO", "f.pcap is too big: it has more than 1 bytes", "audit.json isn't one that is taken (inputs)", "not done within 600 s (--limit)", "f.pcap has changed meanwhile", "the folder is a link: name the folder itself",
              "out of memory", "it can't be worked on (x)", "its copies and answers take more than 1 bytes", "no folder for private copies can be made (x): TMPDIR names another place", "report.txt can't be written (x)", "f.pcap can't be read (x)",
              "f.pcap is damaged from byte 24 on, so it can't be joined with the others", "f.pcap.zst is packed by zstd, which isn't installed to unpack it", "f.pcap.gz can't be unpacked: its gzip is damaged", "f.pcapng has frames of several kinds",
-             "f.pcapng has packets without a time", "f.pcapng has times that are coarser than microseconds", "f.pcapng is damaged at byte 9", "f.pcapng has a block that is damaged", "f.pcapng has a packet that is damaged"]
+             "f.pcapng has packets without a time", "f.pcapng has times that are coarser than microseconds", "f.pcapng is damaged at byte 9", "f.pcapng has more than 1,000 interfaces, so it is damaged", "the times of the capture go back and forth between days too often", "f.pcapng has a block that is damaged", "f.pcapng has a packet that is damaged"]
     check("remedies of these", missing=([line for line in lines if not remedy(f"ntpaudit-dossier: {line}")[0]], []))
     pidfd_open = os.pidfd_open
 
