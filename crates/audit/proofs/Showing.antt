@@ -1,7 +1,6 @@
 -- What an outcome shows, from the bytes of the inputs.
-use Rattle.std.proofs.Common.{◌≡◌, ◌∙◌, ℕ, Bool, true, List, Option, Some, None, Result, Ok, Err, refl, sym, ap, subst, inl, inr}
+use Rattle.std.proofs.Common.{◌≡◌, ℕ, true, List, Option, Some, None, Result, Ok, Err, refl, sym, subst, inl, inr}
 use Rattle.std.specs.Prelude.{IfSome, IfOk, IfErr, MatchResult}
-use Rattle.byte_stream.specs.Bytes.{IsBytes}
 use Rattle.byte_stream.specs.State.{FeedState}
 use Rattle.certificate.specs.Certificate.{CertificateData}
 use Rattle.certificate.specs.Refutation.{RefutationData}
@@ -12,7 +11,6 @@ use Rattle.finder.specs.Settlement.{SettledData}
 use Rattle.finder.specs.declared.carried.LeastCarried.{LeastCarried}
 use Rattle.finder.specs.declared.fault.FindFault.{FindFault}
 use Rattle.line_writer.specs.declared.field.Style.{Style}
-use Rattle.pairing.specs.Pairing.{Collection}
 use Rattle.report.specs.declared.fault.Outcome.{Outcome}
 use Rattle.report.specs.declared.fault.RunFault.{RunFault}
 use Rattle.report.specs.CertificateInput.{certificate_read}
@@ -25,8 +23,8 @@ use Rattle.report.specs.RefutationInput.{refutation_read}
 use Rattle.audit.specs.CaptureInput.{capture_read}
 use Rattle.audit.specs.Check.{ArePiecesTraced, HasVerdictYes, IsTracedTo}
 use Rattle.audit.specs.Evidence.{EvidenceData, GiveEvidence, IsEvidenceOf, OfClaimAndCapture, evidence_of}
-use Rattle.audit.specs.Contested.{CourseContests, ShowsContested}
-use Rattle.audit.specs.Headline.{IsShown, ShowsHeadline}
+use Rattle.audit.specs.Contested.{CourseContests}
+use Rattle.audit.specs.Headline.{ShowsHeadline}
 use Rattle.audit.specs.Nanoseconds.{GivesNanoseconds}
 use Rattle.audit.specs.Question.{AreInputsOf, Finding, QuestionData, ShowsOf, no_finding}
 use Rattle.audit.specs.Second.{SecondData, SecondKind, certificate_said, certificate_second, of_certificate, of_refutation, refutation_said, refutation_second, second_read}
