@@ -13,8 +13,8 @@
 //! A run on feeds, as `run` of `worked_examples/src/engines/trial.rt`, which the gate runs:
 //!
 //! ```text
-//! let hasher = BuildHasherDefault::<FoldHasher>::new();
-//! audit::run(alloc, question, style, &mut claim, &mut second, capture, out, hasher)
+//! let at = At { second };
+//! audit::run(alloc, at, style, first, none, capture, out, hasher)
 //! ```
 
 #![tactic(auto)]

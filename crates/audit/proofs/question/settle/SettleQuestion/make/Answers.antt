@@ -13,9 +13,9 @@ returns-in-Ok-clause-made c =
     let e = evidence_data c.args.evidence in
     let settles = rw c.deref.ensures.value at c.in-Ok.ensures in
     let holds = settled_of e c.requires.evidence.exchanges.agree
-        (λ certificate. c.verdicts_are_traceable.ensures e.claim (samples_in e) certificate c.requires.evidence.claim
-        (c.samples_of_exchanges_keep_limits.ensures.listed e.claim e.collection.exchanges
-        c.requires.evidence.exchanges.each)) (settled_data c.in-Ok.settled) settles.settled in
+    (λ certificate. c.verdicts_are_traceable.ensures e.claim (samples_in e) certificate c.requires.evidence.claim
+    (c.samples_of_exchanges_keep_limits.ensures.listed e.claim e.collection.exchanges
+    c.requires.evidence.exchanges.each)) (settled_data c.in-Ok.settled) settles.settled in
     record {
       finding = record { settled = Ok (settled_data c.in-Ok.settled); least = None };
       found = record { settled = holds; least = tt };
@@ -29,9 +29,9 @@ returns-in-Ok-clause-shows c =
     let e = evidence_data c.args.evidence in
     let settles = rw c.deref.ensures.value at c.in-Ok.ensures in
     let holds = settled_of e c.requires.evidence.exchanges.agree
-        (λ certificate. c.verdicts_are_traceable.ensures e.claim (samples_in e) certificate c.requires.evidence.claim
-        (c.samples_of_exchanges_keep_limits.ensures.listed e.claim e.collection.exchanges
-        c.requires.evidence.exchanges.each)) (settled_data c.in-Ok.settled) settles.settled in
+    (λ certificate. c.verdicts_are_traceable.ensures e.claim (samples_in e) certificate c.requires.evidence.claim
+    (c.samples_of_exchanges_keep_limits.ensures.listed e.claim e.collection.exchanges
+    c.requires.evidence.exchanges.each)) (settled_data c.in-Ok.settled) settles.settled in
     let laws : BytesLaws = record {
       nanoseconds = c.bounds_of_bytes_hold_in_nanoseconds.ensures;
       headline = c.yes_shows_the_headline.ensures;
