@@ -1,13 +1,10 @@
 -- What the least bound that a certificate carries shows.
-use Rattle.std.proofs.Common.{◌≡◌, ◌≤◌, ◌<◌, ℕ, List, Option, Some, None, Result, Ok, Err, subst}
-use Rattle.std.specs.Prelude.{IfOk, IfSome}
+use Rattle.std.proofs.Common.{◌≡◌, List, Option, Some, None, Result, Ok, Err, subst}
+use Rattle.std.specs.Prelude.{IfOk}
 use Rattle.std.specs.declared.alloc.AllocError.{AllocError}
-use Rattle.claim_file.specs.Claim.{max_bound_ns}
 use Rattle.courses.specs.Cover.{SomeCourse}
 use Rattle.sample_interval.specs.declared.kinds.Sample.{Sample}
-use Rattle.finder.specs.Carried.{AlwaysFinds, FindsLeastBound, IsNeverEmpty}
-use Rattle.finder.specs.Envelope.{with_bound}
-use Rattle.finder.specs.Fewest.{NoneOfFewIsAccepted}
+use Rattle.finder.specs.Carried.{FindsLeastBound, IsNeverEmpty}
 use Rattle.finder.specs.declared.carried.LeastCarried.{LeastCarried}
 use Rattle.audit.specs.Evidence.{EvidenceData, samples_in}
 use Rattle.audit.specs.Least.{IsLeastBoundOf}

@@ -1,5 +1,5 @@
 -- What a verdict shows.
-use Rattle.std.proofs.Common.{◌≡◌, List, ℕ, length, refl, sym, ap, subst}
+use Rattle.std.proofs.Common.{◌≡◌, length, refl, sym, ap, subst}
 use Rattle.certificate.specs.Certificate.{CertificateData}
 use Rattle.claim_file.specs.Claim.{group_count}
 use Rattle.pairing.specs.Sources.{common_reference, source_count}

@@ -13,7 +13,7 @@
 //! let mut claim = ReadFeed::new(held.claim.as_slice());
 //! let mut second = ReadFeed::new(held.second.as_slice());
 //! let capture = ReadFeed::new(held.capture.as_slice());
-//! answer(alloc, Check, style, &mut claim, &mut second, capture, to, hasher).1
+//! let (claim, second) = (&mut claim, &mut second);
 //! ```
 
 #![tactic(auto)]

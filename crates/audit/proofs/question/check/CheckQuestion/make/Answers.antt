@@ -1,8 +1,4 @@
-use Rattle.std.proofs.Common.{sym, ap, subst, List, ℕ}
 use Rattle.certificate.specs.Certificate.{data_of as certificate_data}
-use Rattle.report.specs.declared.fault.Outcome.{Outcome}
-use Rattle.report.specs.Publication.{IsMadeFor}
-use Rattle.report.specs.Reports.{whole_text}
 use Rattle.audit.specs.Check.{check}
 use Rattle.audit.specs.Evidence.{evidence_data}
 use Rattle.audit.specs.Question.{ShowsOf}

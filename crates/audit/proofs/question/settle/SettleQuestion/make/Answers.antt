@@ -3,32 +3,35 @@ use Rattle.finder.specs.Settlement.{settled_data}
 use Rattle.audit.specs.Evidence.{evidence_data, samples_in}
 use Rattle.audit.specs.Question.{ShowsOf}
 use Rattle.audit.specs.Second.{no_second, nothing_said}
-use Rattle.audit.specs.Settle.{IsSettledBy, IsSettledOf, settle}
+use Rattle.audit.specs.Settle.{IsSettledBy, settle}
 use Rattle.audit.proofs.SettlementShowing.{fault_found, refused_made, settled_of}
 use Rattle.audit.proofs.Showing.{BytesLaws, of_inputs, settled_from, told_made, told_shows}
 use Rattle.audit.proofs.question.settle.SettleQuestion.make.Goals as goal
 
-holds : (c : goal.In-Ok) → IsSettledOf (evidence_data c.args.evidence) (settled_data c.in-Ok.settled)
-holds c =
+pub returns-in-Ok-clause-made : goal.returns-in-Ok-clause-made
+returns-in-Ok-clause-made c =
     let e = evidence_data c.args.evidence in
     let settles = rw c.deref.ensures.value at c.in-Ok.ensures in
-    settled_of e c.requires.evidence.exchanges.agree
+    let holds = settled_of e c.requires.evidence.exchanges.agree
     (λ certificate. c.verdicts_are_traceable.ensures e.claim (samples_in e) certificate c.requires.evidence.claim
-    (c.samples_of_exchanges_keep_limits.ensures.listed e.claim e.collection.exchanges c.requires.evidence.exchanges.each))
-    (settled_data c.in-Ok.settled) settles.settled
-
-pub returns-in-Ok-clause-made : goal.returns-in-Ok-clause-made
-returns-in-Ok-clause-made c = record {
-  finding = record { settled = Ok (settled_data c.in-Ok.settled); least = None };
-  found = record { settled = holds c; least = tt };
-  is_made = rw c.outcome_of.ensures at
-      (told_made c.settled_text.result (λ t. t.items) c.outcome_of.result c.told.result _
-      c.told.ensures.made c.settled_text.ensures);
-}
+    (c.samples_of_exchanges_keep_limits.ensures.listed e.claim e.collection.exchanges
+    c.requires.evidence.exchanges.each)) (settled_data c.in-Ok.settled) settles.settled in
+    record {
+      finding = record { settled = Ok (settled_data c.in-Ok.settled); least = None };
+      found = record { settled = holds; least = tt };
+      is_made = rw c.outcome_of.ensures at
+          (told_made c.settled_text.result (λ t. t.items) c.outcome_of.result c.told.result _
+          c.told.ensures.made c.settled_text.ensures);
+    }
 
 pub returns-in-Ok-clause-shows : goal.returns-in-Ok-clause-shows
 returns-in-Ok-clause-shows c =
     let e = evidence_data c.args.evidence in
+    let settles = rw c.deref.ensures.value at c.in-Ok.ensures in
+    let holds = settled_of e c.requires.evidence.exchanges.agree
+    (λ certificate. c.verdicts_are_traceable.ensures e.claim (samples_in e) certificate c.requires.evidence.claim
+    (c.samples_of_exchanges_keep_limits.ensures.listed e.claim e.collection.exchanges
+    c.requires.evidence.exchanges.each)) (settled_data c.in-Ok.settled) settles.settled in
     let laws : BytesLaws = record {
       nanoseconds = c.bounds_of_bytes_hold_in_nanoseconds.ensures;
       headline = c.yes_shows_the_headline.ensures;
@@ -38,7 +41,7 @@ returns-in-Ok-clause-shows c =
     (of_inputs e (IsSettledBy c.outcome_of.result) (λ b f is. record {
       settled = settled_data c.in-Ok.settled;
       outcome_is = c.outcome_of.ensures;
-      holds = settled_from laws b f e is (settled_data c.in-Ok.settled) (holds c);
+      holds = settled_from laws b f e is (settled_data c.in-Ok.settled) holds;
     })) c.told.ensures.outcome
 
 pub returns-clause-made : goal.returns-clause-made
