@@ -43,8 +43,8 @@ module _ (refutation : RefutationData) (e : EvidenceData) (agree : AllPairs Same
   }
 
 -- the bytes of any inputs that say the refutation and give the evidence show the same
-pub refutation_shown : CourseContests → (drift : Bool) (refutation : RefutationData) (e : EvidenceData) (outcome : Outcome) →
-    IsSettledFor drift refutation e outcome →
+pub refutation_shown : CourseContests → (drift : Bool) (refutation : RefutationData) (e : EvidenceData)
+    (outcome : Outcome) → IsSettledFor drift refutation e outcome →
     ShowsOf (refute drift) refutation_second (refutation_said refutation) e outcome
 refutation_shown contested drift refutation e Yes h claim second capture are = record {
   stands = of_inputs e (GiveRefutation (IsContestedOf drift) second.remaining) (λ b f is. record {

@@ -40,6 +40,7 @@ module _ (step : ℕ) (e : EvidenceData) where
       (shown found (subst (λ (s : List Sample). Finds s e.claim step (Ok found)) same finds))
 
   -- the bytes of any inputs that give the evidence show the same
-  pub search_shown : (outcome : Outcome) → IsSearchOf step e outcome → ShowsOf (find step) no_second nothing_said e outcome
+  pub search_shown : (outcome : Outcome) → IsSearchOf step e outcome →
+      ShowsOf (find step) no_second nothing_said e outcome
   search_shown Yes h = of_evidence (IsFoundOf step) e h
   search_shown No h = of_evidence (IsNotFoundOf step) e h

@@ -92,7 +92,8 @@ refutation_is r (Some s) is = refutation_of (refutation_read s) r is
 
 -- nothing was found, and so nothing is said
 nothing_from : (finding : Finding) (b f : List ℕ) → finding ≡ no_finding → IsFindingFrom finding b f
-nothing_from finding b f is = subst (λ (found : Finding). IsFindingFrom found b f) (sym is) (record { settled = inl refl; least = tt })
+nothing_from finding b f is =
+    subst (λ (found : Finding). IsFindingFrom found b f) (sym is) (record { settled = inl refl; least = tt })
 
 module _ (nanoseconds : GivesNanoseconds) (b f : List ℕ) (e : EvidenceData) (is : IsEvidenceOf b f e)
     (certificate : CertificateData) (h : HasVerdictYes certificate e) where
@@ -110,7 +111,8 @@ module _ (nanoseconds : GivesNanoseconds) (b f : List ℕ) (e : EvidenceData) (i
 
   pub pieces_traced : ArePiecesTraced certificate e
   pieces_traced = λ k piece course stands fits observed.
-      nanoseconds b e.claim course is.claim_is (h.by_pieces e.collection.exchanges k piece course refl stands fits observed)
+      nanoseconds b e.claim course is.claim_is
+      (h.by_pieces e.collection.exchanges k piece course refl stands fits observed)
 
 module _ (laws : BytesLaws) (b f : List ℕ) (e : EvidenceData) (is : IsEvidenceOf b f e) where
   give_of : (P : EvidenceData → Type 0) → P e → GiveEvidence P b f
@@ -121,7 +123,8 @@ module _ (laws : BytesLaws) (b f : List ℕ) (e : EvidenceData) (is : IsEvidence
   settled_from (settles.shown certificate) h = record {
     evidence = give_of (IsShownOf certificate) h;
     whole = traced_to laws.nanoseconds b f e is certificate h.yes;
-    in_relations = λ bytes. laws.headline b f e.claim e.collection certificate bytes is.claim_is is.collection_is h.yes.verdict_is;
+    in_relations = λ bytes.
+        laws.headline b f e.claim e.collection certificate bytes is.claim_is is.collection_is h.yes.verdict_is;
     by_pieces = give_of (ArePiecesTraced certificate) (pieces_traced laws.nanoseconds b f e is certificate h.yes);
   }
   settled_from (settles.refuted refutation) h = record {
@@ -221,8 +224,8 @@ pub unfound : {question : QuestionData} {style : Style} {said : SecondData} {e :
     IsMadeOf question style said e made
 unfound is = record { finding = no_finding; found = record { settled = tt; least = tt }; is_made = is }
 
-pub told_made : {T E : Type 0} (text : Result T E) (items : T → List ℕ) (outcome : Outcome) (made : Result Ready RunFault)
-    (expected : List ℕ) → MatchResult text (λ t. made ≡ Ok (record { text = items t; outcome = outcome }))
+pub told_made : {T E : Type 0} (text : Result T E) (items : T → List ℕ) (outcome : Outcome)
+    (made : Result Ready RunFault) (expected : List ℕ) → MatchResult text (λ t. made ≡ Ok (record { text = items t; outcome = outcome }))
     (λ e. made ≡ Err faults.Memory) → IfOk text (λ t. items t ≡ expected) → IsMadeFor (whole_text expected outcome) made
 told_made (Ok t) items outcome made expected is same =
     subst (λ (m : Result Ready RunFault). IsMadeFor (whole_text expected outcome) m) (sym is) (sym same, refl)

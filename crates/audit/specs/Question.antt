@@ -15,9 +15,9 @@ use Rattle.audit.specs.CaptureInput.{capture_read}
 use Rattle.audit.specs.Evidence.{EvidenceData}
 use Rattle.audit.specs.Second.{SecondData, SecondKind, second_read}
 
--- What was found that has no definition of its own: what settles a claim, or why it isn't known; and
--- the least bound that a certificate carries, if one was looked for. `specs/Finding` says what it
--- shows.
+-- What was found that has no definition of its own: what settles a claim, or why it isn't known;
+-- and the least bound that a certificate carries, if one was looked for. `specs/Finding` says what
+-- it shows.
 pub record Finding : Type 0 where
   pub settled : Result SettledData FindFault
   pub least : Option (Option LeastCarried)

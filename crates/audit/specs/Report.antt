@@ -58,7 +58,8 @@ run_report asked finding before =
 
 -- ---- what was made
 
--- What was made of a second input and evidence is the report on a finding, which shows what it says.
+-- What was made of a second input and evidence is the report on a finding, which shows what it
+-- says.
 pub record IsMadeOf (question : QuestionData) (style : Style) (said : SecondData)
     (e : EvidenceData) (made : Result Ready RunFault) : Type 0 where
   pub finding : Finding

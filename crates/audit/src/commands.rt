@@ -28,8 +28,8 @@ use std::hash::{BuildHasher, BuildHasherDefault, FoldHasher};
 ///
 /// Status 0 is the theorem: in every course of events that fits the exchanges of the capture the
 /// clock's error is within the bound over the claimed span. And piece by piece of the certificate,
-/// in every course that fits what the piece names of these exchanges. `IsShown` says it in relations
-/// alone, with no word on how the bytes are read.
+/// in every course that fits what the piece names of these exchanges. `IsShown` says it in
+/// relations alone, with no word on how the bytes are read.
 pub fn answer_check<C: Feed, T: Feed, F: Feed, S: Sink, E: Sink, H: BuildHasher + Drop>(
     alloc: Global,
     style: Style,

@@ -13,8 +13,10 @@
 //! A run on feeds, as `run` of `worked_examples/src/engines/trial.rt`, which the gate runs:
 //!
 //! ```text
-//! let at = At { second };
-//! audit::run(alloc, at, style, first, none, capture, out, hasher)
+//! let find = Find {
+//!     step: step_of(seconds),
+//! };
+//! audit::run(alloc, find, style, first, none, capture, out, hasher)
 //! ```
 
 #![tactic(auto)]

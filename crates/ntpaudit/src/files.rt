@@ -59,8 +59,8 @@ pub(crate) fn open_evidence(rt: &HostRuntime, paths: &Paths) -> Result<Evidence,
     Ok(Evidence { claim, capture })
 }
 
-/// Opens what is judged, in the order claim, second input, capture. A fault is that of the device of
-/// one of them.
+/// Opens what is judged, in the order claim, second input, capture. A fault is that of the device
+/// of one of them.
 pub(crate) fn open_judged(
     rt: &HostRuntime,
     which: Input,

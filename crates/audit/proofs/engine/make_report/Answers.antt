@@ -72,8 +72,8 @@ returns-in-Ok-collected-clause-made g c =
           subst (λ (e : Result ClaimData RunFault). IfSome (after_claim asked made.finding e
           (g.T.SecondSource.state c.args.second.now).remaining capture)
           (λ report. IsMadeFor report c.make.result)) (sym is)
-          (evidence_made g.Q.Second.SecondInput.said asked made.finding claim c.in-Ok-read_second.said c.in-Ok-collected.held c.make.result
-          second capture (rw c.in-Ok-read_second.is at c.read_second.ensures.known)
+          (evidence_made g.Q.Second.SecondInput.said asked made.finding claim c.in-Ok-read_second.said
+          c.in-Ok-collected.held c.make.result second capture (rw c.in-Ok-read_second.is at c.read_second.ensures.known)
           (rw c.in-Ok-collected.is at c.read_capture_from-capture.ensures.known) made.is_made);
     }
 
@@ -91,10 +91,12 @@ returns-in-Err-collected-clause-made g c =
       is_made = λ expected reads.
           let is : expected ≡ Ok claim = rw c.in-Ok.is at reads in
           subst (λ (e : Result ClaimData RunFault). IfSome (after_claim asked no_finding e
-          (g.T.SecondSource.state c.args.second.now).remaining capture) (λ report. IsMadeFor report (Err fault))) (sym is)
+          (g.T.SecondSource.state c.args.second.now).remaining capture)
+          (λ report. IsMadeFor report (Err fault))) (sym is)
           (capture_refusal asked no_finding claim fault
           (rw c.in-Err-collected.is at c.read_capture_from-capture.ensures.fault)
-          g.Q.Second.SecondInput.said c.in-Ok-read_second.said second capture (rw c.in-Ok-read_second.is at c.read_second.ensures.known)
+          g.Q.Second.SecondInput.said c.in-Ok-read_second.said second capture
+          (rw c.in-Ok-read_second.is at c.read_second.ensures.known)
           (rw c.in-Err-collected.is at c.read_capture_from-capture.ensures.known));
     }
 

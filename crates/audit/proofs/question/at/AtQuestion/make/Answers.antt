@@ -8,7 +8,8 @@ use Rattle.audit.proofs.Sample.{listed_samples}
 use Rattle.audit.proofs.question.at.AtQuestion.make.Goals as goal
 
 pub returns-clause-made : goal.returns-clause-made
-returns-clause-made c = unfound (told_made c.at_text.result (λ t. t.items) Yes c.told.result _ c.told.ensures.made c.at_text.ensures)
+returns-clause-made c =
+    unfound (told_made c.at_text.result (λ t. t.items) Yes c.told.result _ c.told.ensures.made c.at_text.ensures)
 
 pub returns-clause-shows : goal.returns-clause-shows
 returns-clause-shows c =
