@@ -57,6 +57,10 @@ def leap_ends(found: Alert) -> str:
             "exchanges go on beyond that.")
 
 
+def no_list(_: Alert) -> str:
+    return "Nothing is known of leap seconds: there is no list of them (`--leap-seconds` names one)."
+
+
 def reading(found: Alert) -> str:
     return (f"Records were measured as late as {ns_ms(found.count)} ms after the clock was read, by the folder's own "
             "evidence. That is more than the claim grants (`reading_ns`).")
@@ -109,7 +113,7 @@ WORDS: dict[str, Callable[[Alert], str]] = {
     "outside": outside, "no-drift": no_drift, "falls": falls, "far": far, "leap": leap, "leap-second": leap_second,
     "leap-ends": leap_ends, "sources": sources, "reference": reference, "apart": apart, "drift": drift,
     "reading": reading, "step": step, "oscillator": oscillator, "torn": torn,
-    "interleaved": interleaved,
+    "interleaved": interleaved, "no-list": no_list,
 }
 TO_DO = {
     "drift": "Grant as much drift as the evidence has, and audit again.",

@@ -13,7 +13,7 @@ from .entry import Alert, Leap, LeapList
 from .evidence import evidence, named_in
 from .fault import Fault
 from .folder import EVIDENCE, Folder
-from .leap import EXPIRED, WITHIN
+from .leap import EXPIRED, NO_LIST, WITHIN
 from .measurement import Measurement
 from .recording import SECOND
 from .typed import read_typed
@@ -47,7 +47,7 @@ def all_of(kind: type[Kind], folder: Folder, names: list[str]) -> list[Kind]:
 
 
 def against(found: Backing, claim: Claim, leap: Leap, leaps: LeapList) -> Iterator[Alert]:
-    """What speaks against a claim."""
+    """What speaks against a claim, and what isn't known of it."""
     reading = max((measured.greatest_ns for measured in found.measured), default=0)
     if reading > claim.reading_ns:
         yield Alert("reading", reading)
@@ -61,3 +61,5 @@ def against(found: Backing, claim: Claim, leap: Leap, leaps: LeapList) -> Iterat
         yield Alert("leap-second", seconds=leap.seconds)
     if leap.says == EXPIRED:
         yield Alert("leap-ends", before=max(0, leaps.good_until) * SECOND)
+    if leap.says == NO_LIST:
+        yield Alert("no-list")

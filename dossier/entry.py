@@ -100,7 +100,8 @@ class Alert:
     """A warning that stands beside a verdict."""
 
     kind: Literal["outside", "no-drift", "falls", "far", "leap", "leap-second", "leap-ends", "sources", "reference",
-                  "apart", "drift", "reading", "step", "oscillator", "torn", "interleaved"]
+                  "apart", "drift", "reading", "step", "oscillator", "torn", "interleaved",
+                  "no-list"]
     count: Count = 0
     record: Count = 0
     before: Nanoseconds = 0

@@ -2,7 +2,6 @@
 from __future__ import annotations
 
 import argparse
-import os
 import sys
 from collections import Counter
 from dataclasses import dataclass, replace
@@ -17,7 +16,7 @@ from .folder import Folder
 from .known import Known
 from .limit import Limit
 from .markup import Html, element, html, joined, lines, minus, with_code
-from .placing import make_folder, write_named
+from .placing import make_folder, write_in, write_named
 from .program import now, sum_of
 from .remedies import remedy
 from .signature import GOOD, NONE, STRANGER, UNFIT, UNSEEN, Signature, Signers
@@ -80,7 +79,7 @@ class Looking:
         """Writes the sections of the last folder as a page of their own, and leaves their lines."""
         own = [section for section in self.sections if not section.file]
         data = page(own, given.title, 1, given.signers is not None, INDEX).encode("utf-8", "backslashreplace")
-        write_named(os.path.join(given.split, file), data)
+        write_in(given.split, file, data)
         self.sections[-len(own):] = [replace(section, article=Html(), file=file) for section in own]
 
     def look_in(self, path: str, folder: Folder, signature: Signature) -> None:
@@ -118,7 +117,6 @@ def write_page(folders: list[str], given: argparse.Namespace, known: Known, limi
     it, or if none has an audit."""
     caller = verifier.program.caller if verifier else Caller(limit)
     looking = Looking(known, Signers(given.signers, caller), limit, verifier)
-    output = os.path.join(given.split, INDEX) if given.split else given.output
     if given.split:
         make_folder(given.split)
     for number, folder in enumerate(folders, 1):
@@ -126,8 +124,10 @@ def write_page(folders: list[str], given: argparse.Namespace, known: Known, limi
         if given.split:
             looking.part(given, f"{number:05}.html")
     data = text_of(worst_first(looking.sections), given, len(folders)).encode("utf-8", "backslashreplace")
-    if output:
-        write_named(output, data)
+    if given.split:
+        write_in(given.split, INDEX, data)
+    elif given.output:
+        write_named(given.output, data)
     else:
         sys.stdout.buffer.write(data)
     if not looking.has_audit:

@@ -155,9 +155,22 @@ def write_named(path: str, data: bytes) -> None:
             with held(path, HOME, os.O_WRONLY | os.O_NOCTTY | os.O_CLOEXEC) as opened:
                 write(opened, data)
             return
-        parent, name = os.path.split(os.path.realpath(path))
-        with held(parent, HOME, OF_A_FOLDER) as place, new_folder(place) as own:
-            put(own, "0", [data])
-            os.rename("0", name, src_dir_fd=own, dst_dir_fd=place)
+        put_whole(*os.path.split(os.path.realpath(path)), data)
     except OSError as error:
         raise unwritable(os.path.basename(path), error) from None
+
+
+def put_whole(parent: str, name: str, data: bytes) -> None:
+    """Puts a file into a folder, whole or not at all, in the place of whatever has its name there."""
+    with held(parent, HOME, OF_A_FOLDER) as place, new_folder(place) as own:
+        put(own, "0", [data])
+        os.rename("0", name, src_dir_fd=own, dst_dir_fd=place)
+
+
+def write_in(folder: str, name: str, data: bytes) -> None:
+    """Writes a file of this name into a folder that the command line names. No link is followed there: its names aren't
+    the user's choice."""
+    try:
+        put_whole(folder, name, data)
+    except OSError as error:
+        raise unwritable(name, error) from None

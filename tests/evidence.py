@@ -291,9 +291,10 @@ def test_lists(place):
     leap.SYSTEM = system
     check("no list", seen=((none.file, none.fault), (str(place / "missing"), "the list of leap seconds: missing can't be read (No such file or directory)")))
     entry = record["entries"][0]
-    unknown = {**entry, "leap": {**entry["leap"], "says": "no list"}}
+    unknown = {**entry, "leap": {**entry["leap"], "says": "no list"}, "warnings": [*entry["warnings"][:-1], {"kind": "no-list"}, *entry["warnings"][-1:]]}
     (folder / "audit.json").write_text(json.dumps({**record, "leap_seconds": {"file": none.file, "fault": none.fault}, "entries": [unknown]}))
     text = dossier("page", "--verify", folder)[1].decode()
+    check("no list in the table", row=([table(folder)[0]["verdict"], any(words.startswith("Nothing is known of leap seconds") for words in table(folder)[0]["warnings"])], ["yes", True]))
     check("no list on the page", said=("nothing, since the list of leap seconds: missing can&#x27;t be read" in text, True),
           verified=(dossier("verify", folder)[:2], (0, f"{folder}: verified\n{folder}: (nothing is known of leap seconds, since there is no list of them)\n".encode())))
 

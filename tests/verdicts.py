@@ -6,6 +6,7 @@ tests/dossier calls them, each in a folder of its own.
 import csv
 import io
 import json
+import os
 import re
 import shutil
 
@@ -141,6 +142,13 @@ def test_split(place):
         own = re.findall(r"<article.*?</article>", text, flags=re.S)
         check(f"the page of folder {number} has what the one page has", count=(len(own), articles), same=(all(article in whole for article in own), True))
     check("page --split again", run=(dossier("page", "--split", made, folders[0])[0], 0), articles=((made / "00001.html").read_text().count("<article"), 1))
+    victim = place / "victim"
+    victim.write_text("victim")
+    for name, make in (("index.html", lambda path: path.symlink_to(victim)), ("00001.html", os.mkfifo)):
+        (made / name).unlink()
+        make(made / name)
+    check("page --split over a link and a FIFO", run=(dossier("page", "--split", made, folders[0], timeout=20)[0], 0), victim=(victim.read_text(), "victim"), files=([(made / name).is_file() and not (made / name).is_symlink() for name in ("index.html", "00001.html")], [True] * 2),
+          left=([path.name for path in made.iterdir() if path.name.startswith(".")], []))
     check("page --split and --output", status=(dossier("page", "--split", made, "-o", place / "x", folders[0])[0], 5), json=(dossier("page", "--split", made, "--json", folders[0])[0], 5))
     (place / "file").write_text("kept")
     status, _, err = dossier("page", "--split", place / "file", folders[0])
