@@ -68,9 +68,8 @@ pub fn least_bound<S: SampleSource>(
     Ok(found)
 }
 
-/// The least bound, by the tables of the servers, looked for from a number of nanoseconds on, by
-/// some ten or twenty certificates: every fourth try halves what is left, so that there are at most
-/// two hundred.
+/// The least bound, by the tables of the servers, looked for from a number of nanoseconds on. Every
+/// fourth try halves what is left, so that there are at most two hundred.
 fn least_bound_by(
     alloc: Global,
     tables: &[BestTable],
@@ -101,7 +100,8 @@ fn least_bound_by(
     let mut tick = claim.first as u64;
     let mut turn = 0u8;
     while least < bound_ns {
-        let tried_ns = trial(least, bound_ns, guess.bound_at(turn), 0);
+        let near = guess.bound_at(turn, least, bound_ns);
+        let tried_ns = trial(least, bound_ns, near, 0);
         turn = turn.wrapping_add(1);
         match try_bound(alloc, tables, claim, &mut guess, tried_ns)? {
             None => bound_ns = tried_ns,

@@ -48,12 +48,13 @@ impl Guess {
         }
     }
 
-    /// The bound to try next: every fourth one halves what is left.
-    pub(crate) fn bound_at(self, turn: u8) -> u64 {
-        if self.high <= self.low {
+    /// The bound to try next, of those from `least` to below `bound_ns`. Every fourth one halves
+    /// them, since a guess may be wrong where samples contradict each other.
+    pub(crate) fn bound_at(self, turn: u8, least: u64, bound_ns: u64) -> u64 {
+        if turn % 4 == 3 {
+            least.saturating_add(bound_ns.saturating_sub(least) / 2)
+        } else if self.high <= self.low {
             self.high.saturating_sub(1)
-        } else if turn % 4 == 3 {
-            self.middle()
         } else {
             self.likely
         }
@@ -107,11 +108,12 @@ impl Guess {
         }
     }
 
-    /// Takes note of a tick whose hull has no bound that was tried.
+    /// Takes note of a tick whose hull isn't within the bound that was tried.
     pub(crate) fn see_stuck(&mut self, hull: Hull) {
-        self.low = need_of(hull);
-        self.likely = if self.low < self.high {
-            self.low
+        let need = need_of(hull);
+        self.likely = if need < self.high {
+            self.low = need;
+            need
         } else {
             self.middle()
         };
