@@ -257,7 +257,8 @@ def hour(count: int) -> Hostile:
 
 
 def conflicting(setting: Setting, count: int) -> Hostile:
-    """Each server is a second ahead of the one before, so that all contradict each other."""
+    """Each server is a second ahead of the one before, so that all contradict each other. With a thousand times the
+    drift some ticks have an empty hull, and longer pieces have none."""
     spacing, begin = setting.spacing(count), setting.begin * BILLION
     step = 4 * TICKS + 4 * setting.drifted(spacing * setting.servers * TICKS // BILLION)
     rows = ((number % setting.servers, begin + number * spacing, begin + number * spacing + WAY_NS,
@@ -268,6 +269,7 @@ def conflicting(setting: Setting, count: int) -> Hostile:
     return Hostile(Exchanges(rows), {"none": setting.claim(need, false_max=0),
                                      "some": setting.claim(need, false_max=setting.servers // 2),
                                      "all-but-one": setting.claim(need, false_max=most),
+                                     "fast": setting.claim(need, false_max=0, drift_ppb=1000 * setting.ppb),
                                      "far": setting.claim(far, false_max=most)})
 
 
