@@ -69,7 +69,7 @@ def test_each_file(folder: Path) -> None:
     for file in sorted(filter(Path.is_file, DATA.iterdir())):
         call = Call(folder, "check", f"data/{file.name}", "data/two-packets.pcap", "data/two-packets.certificate.json")
         wanted = fault("too-big claim") if file.stat().st_size > MOST else call.plain()
-        check(f"data/{file.name} as a claim", run=(call.by(call.sums()), wanted))
+        call.says(f"data/{file.name} as a claim", call.sums(), wanted)
 
 
 def test_changes(folder: Path) -> None:
@@ -85,7 +85,7 @@ def test_changes(folder: Path) -> None:
         changed |= {"a byte more": whole + b" ", "a byte less": whole[:-1], "nothing": b"", "twice": whole * 2}
         for name, data in changed.items():
             (folder / file).write_bytes(data)
-            call.refuses(f"{name} of the {kind}", sums, f"sums differ {kind}")
+            call.says(f"{name} of the {kind}", sums, f"sums differ {kind}")
         (folder / file).write_bytes(whole)
     lines = sums.splitlines(keepends=True)
     for number, kind in enumerate(call.inputs):
@@ -93,8 +93,8 @@ def test_changes(folder: Path) -> None:
             digits = bytearray(lines[number])
             digits[at] = ord("0" if digits[at : at + 1] != b"0" else "f")
             other = b"".join([*lines[:number], bytes(digits), *lines[number + 1 :]])
-            call.refuses(f"digit {at} of the sum of the {kind}", other, f"sums differ {kind}")
-    check("unchanged", run=(call.by(sums), call.plain()))
+            call.says(f"digit {at} of the sum of the {kind}", other, f"sums differ {kind}")
+    call.says("unchanged", sums, call.plain())
 
 
 # ---- SHA-256
@@ -131,14 +131,14 @@ def test_examples(folder: Path) -> None:
         line = sum_file.line_of(b"message", sum_.encode())
         label = f"NIST's example {number}, of {len(message)} bytes"
         if len(message) <= MOST:
-            call._replace(claim="message").refuses(f"{label}, as a claim", line + rest[1] + rest[2], "claim 1 json")
-        call._replace(second="message").refuses(f"{label}, as a certificate", rest[0] + line + rest[2],
-                                                "certificate 1 json")
+            call.of(claim="message").says(f"{label}, as a claim", line + rest[1] + rest[2], "claim 1 json")
+        call.of(second="message").says(f"{label}, as a certificate", rest[0] + line + rest[2],
+                                       "certificate 1 json")
         refused = "capture 1 torn-header" if len(message) < 24 else "capture 2 magic"
-        call._replace(capture="message").refuses(f"{label}, as a capture", rest[0] + rest[1] + line, refused)
+        call.of(capture="message").says(f"{label}, as a capture", rest[0] + rest[1] + line, refused)
         other = b"%x" % (int(sum_[0], 16) ^ 8) + line[1:]
-        call._replace(capture="message").refuses(f"{label}, with another sum", rest[0] + rest[1] + other,
-                                                 "sums differ capture")
+        call.of(capture="message").says(f"{label}, with another sum", rest[0] + rest[1] + other,
+                                        "sums differ capture")
 
 
 def test_lengths(folder: Path) -> None:
@@ -153,7 +153,7 @@ def test_lengths(folder: Path) -> None:
         data = b"[" + random.Random(length).randbytes(length - 1) if length else b""
         name = f"message {length}"
         (folder / name).write_bytes(data)
-        return call._replace(claim=name).by(sum_file.line_of(name.encode(), digest(data)) + rest[1] + rest[2])
+        return call.of(claim=name).by(sum_file.line_of(name.encode(), digest(data)) + rest[1] + rest[2])
     with ThreadPoolExecutor() as pool:
         for length, seen in zip(lengths, pool.map(tried, lengths)):
             check(f"{length} bytes at random", run=(seen, fault("claim 1 json")))
@@ -172,13 +172,13 @@ def test_large(folder: Path) -> None:
     call = inputs_in(folder, "two-packets", "two-packets.certificate.json")
     capture = call.data("capture")
     (folder / "many.pcap").write_bytes(capture + capture[24:130] * 300_000)
-    many = call._replace(capture="many.pcap")
+    many = call.of(capture="many.pcap")
     check("a capture of 300,002 records", run=(many.by(many.sums()), many.plain()),
           status=(many.plain()[0], lambda status: status in (0, 1)))
     with open(folder / "hollow", "wb") as opened:
         opened.truncate(400_000_000)
-    hollow = call._replace(capture="hollow")
+    hollow = call.of(capture="hollow")
     sums = hollow.sums()
-    hollow.refuses("a capture of 400,000,000 zeros", sums, "capture 2 magic")
+    hollow.says("a capture of 400,000,000 zeros", sums, "capture 2 magic")
     limited = ["sh", "-c", 'ulimit -v 200000; exec "$0" "$@"', *hollow.words, "--sums", "/dev/stdin"]
     check("a capture that memory doesn't hold", run=(run(limited, sums, cwd=folder), fault("memory", 3)))

@@ -55,9 +55,9 @@ class Call(NamedTuple):
         """What it says with a file of sums, which comes by standard input."""
         return run([*self.words, "--sums", "/dev/stdin"], sums, cwd=self.folder, **how)
 
-    def refuses(self, name: str, sums: bytes, line: str) -> None:
-        """It says this fault line with a file of sums."""
-        check(name, run=(self.by(sums), fault(line)))
+    def says(self, name: str, sums: bytes, wanted: Ran | str) -> None:
+        """A case: what it says with a file of sums, or the fault line."""
+        check(name, run=(self.by(sums), fault(wanted) if isinstance(wanted, str) else wanted))
 
     def sums(self) -> bytes:
         """What sha256sum writes of the operands."""

@@ -40,7 +40,7 @@ def test_forms(folder: Path) -> None:
                   "a name of one space": NOTHING + b"   \n" + sums,
                   "a line of a carriage return's name": sum_file.line_of(b"\r", NOTHING) + sums}
         for name, text in forms.items():
-            check(f"{command}, sums in this form: {name}", run=(call.by(text), plain))
+            call.says(f"{command}, sums in this form: {name}", text, plain)
         for words in (["--sums", "SUMS"], ["--sums=SUMS"], [f"--sums={own}/SUMS"]):
             head, *operands = call.words[1:]
             check(f"{command} {words[0]} after the operands",
@@ -82,19 +82,18 @@ def test_names(folder: Path) -> None:
             check(f"{label}", run=(named.by(sums), plain), read=(sum_file.read(sums)[1], 0))
             own = b"".join(line for line in sums.splitlines(keepends=True)
                            if (sum_file.said_by(line[:-1]) or (b"",))[0] != getattr(named, field).encode())
-            named.refuses(f"{label} without its line", own, f"sums missing {kind}")
+            named.says(f"{label} without its line", own, f"sums missing {kind}")
             dotted = sum_file.line_of(f"./{getattr(named, field)}".encode(), digest(named.data(kind)))
-            named.refuses(f"{label} with the line of ./ before it", own + dotted, f"sums missing {kind}")
+            named.says(f"{label} with the line of ./ before it", own + dotted, f"sums missing {kind}")
             os.unlink(folder / name)
         other = call.of(**{field: f"./{getattr(call, field)}"})
-        other.refuses(f"./ before the {kind} alone", call.sums(), f"sums missing {kind}")
-        check(f"./ before the {kind} and its line", run=(other.by(other.sums()), plain))
+        other.says(f"./ before the {kind} alone", call.sums(), f"sums missing {kind}")
+        other.says(f"./ before the {kind} and its line", other.sums(), plain)
         by_path = call.of(**{field: f"{folder}/{getattr(call, field)}"})
-        by_path.refuses(f"the {kind} by its whole path", call.sums(), f"sums missing {kind}")
-    same = call._replace(second="claim.json")
-    check("one file for two operands",
-          run=(same.by(same.sums().splitlines(keepends=True)[0] + call.sums()), same.plain()))
-    check("one line for two operands", run=(same.by(call.sums()), same.plain()))
+        by_path.says(f"the {kind} by its whole path", call.sums(), f"sums missing {kind}")
+    same = call.of(second="claim.json")
+    same.says("one file for two operands", same.sums().splitlines(keepends=True)[0] + call.sums(), same.plain())
+    same.says("one line for two operands", call.sums(), same.plain())
 
 
 def test_spellings(folder: Path) -> None:
@@ -115,15 +114,15 @@ def test_spellings(folder: Path) -> None:
             os.link(folder / "claim.json", folder / name)
             for line, is_it in lines:
                 text = before + sum_ + line + b"\n" + rest
-                check(f"the line {before + line!r} for {name!r}",
-                      run=(call._replace(claim=name).by(text), plain if is_it else fault("sums missing claim")))
+                call.of(claim=name).says(f"the line {before + line!r} for {name!r}", text,
+                                         plain if is_it else "sums missing claim")
             os.unlink(folder / name)
     for name in ("x", "x\r"):
         os.link(folder / "claim.json", folder / name)
         for end in (b"", b"\n", b"\r", b"\r\n", b"\r\r", b"\r\r\n"):
             is_it = (name == "x\r") == (end.count(b"\r") == 2)
-            check(f"a last line with x and {end!r} for {name!r}", run=(call._replace(claim=name).by(
-                rest + sum_ + b"  x" + end), plain if is_it else fault("sums missing claim")))
+            call.of(claim=name).says(f"a last line with x and {end!r} for {name!r}", rest + sum_ + b"  x" + end,
+                                     plain if is_it else "sums missing claim")
 
 
 def test_refused_lines(folder: Path) -> None:
@@ -152,11 +151,11 @@ def test_refused_lines(folder: Path) -> None:
             check(f"line {number} is refused: {name}", run=(call.by(text), fault(f"sums form line {number}")),
                   read=(sum_file.read(text)[1], number))
         if line:
-            call.refuses(f"a last line without a line feed is refused: {name}", sums + line, "sums form line 4")
+            call.says(f"a last line without a line feed is refused: {name}", sums + line, "sums form line 4")
     other = [digest(b"other") + line[64:] for line in lines]
     for number, kind in enumerate(call.inputs):
-        call.refuses(f"another sum for the {kind}", sums + other[number], "sums form line 4")
-        call.refuses(f"another sum for the {kind} before its own", other[number] + sums, f"sums form line {number + 2}")
+        call.says(f"another sum for the {kind}", sums + other[number], "sums form line 4")
+        call.says(f"another sum for the {kind} before its own", other[number] + sums, f"sums form line {number + 2}")
     stranger = sum_file.line_of(b"other", sum_)
     contradicted = {
         "another file's sums": (stranger + sums + stranger.replace(sum_, digest(b"y")), 5),
@@ -173,11 +172,11 @@ def test_refused_lines(folder: Path) -> None:
              "another name": sums + digest(b"y") + b"  ./claim.json\n",
              "names in another case": sums + sum_file.line_of(b"CLAIM.JSON", sum_)}
     for name, text in twins.items():
-        check(f"sums that don't contradict each other: {name}", run=(call.by(text), call.plain()))
+        call.says(f"sums that don't contradict each other: {name}", text, call.plain())
     for text, kind in ((b"", "claim"), (lines[0], "certificate"), (lines[0] + lines[1], "capture"),
                        (lines[1] + lines[2], "claim"), (lines[2], "claim"), (lines[2] + lines[0], "certificate"),
                        (stranger, "claim")):
-        call.refuses(f"sums without the {kind}, {len(text.splitlines())} lines", text, f"sums missing {kind}")
+        call.says(f"sums without the {kind}, {len(text.splitlines())} lines", text, f"sums missing {kind}")
     check("an empty file of sums",
           run=(run([*call.words, "--sums", "/dev/null"], cwd=folder), fault("sums missing claim")))
 
@@ -196,14 +195,13 @@ def test_size(folder: Path) -> None:
     whole = of_length(MOST)
     check("the greatest file of sums", length=(len(whole), MOST), run=(call.by(whole), plain),
           at_the_end=(call.by(of_length(MOST - len(sums), b"") + sums), plain))
-    check("the greatest without a last line feed", run=(call.by(of_length(MOST + 1)[:-1]), plain))
-    check("one name that fills it",
-          run=(call.by(sums + sum_file.line_of(b"n" * (MOST - len(sums) - 67), NOTHING)), plain))
+    call.says("the greatest without a last line feed", of_length(MOST + 1)[:-1], plain)
+    call.says("one name that fills it", sums + sum_file.line_of(b"n" * (MOST - len(sums) - 67), NOTHING), plain)
     for name, text in {"a line feed": whole + b"\n", "another byte": whole + b"x",
                        "of whole lines": of_length(MOST + 1), "without a last line feed": of_length(MOST + 2)[:-1],
                        "of spaces": b" " * (MOST + 1), "that isn't of the form": b"\n" * (MOST + 1),
                        "twice as much": whole * 2, "without end, nearly": b"x" * 10**7}.items():
-        call.refuses(f"one byte more: {name}", text, "too-big sums")
+        call.says(f"one byte more: {name}", text, "too-big sums")
         (folder / "SUMS").write_bytes(text)
         check(f"one byte more in a file: {name}",
               run=(run([*call.words, "--sums", "SUMS"], cwd=folder), fault("too-big sums")))
@@ -219,7 +217,7 @@ def test_random(folder: Path) -> None:
     """Files of sums with bytes changed, put in and left out: the first refusal is that of a plain reading."""
     call = inputs_in(folder, "two-packets", "two-packets.certificate.json")
     os.rename(folder / "second.json", folder / "se\\co\nnd")
-    call = call._replace(second="se\\co\nnd")
+    call = call.of(second="se\\co\nnd")
     sums, plain = call.sums(), call.plain()
     own = {kind: digest(call.data(kind)) for kind in call.inputs}
 

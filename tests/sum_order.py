@@ -102,7 +102,7 @@ def test_after(folder: Path) -> None:
     sums = call.sums()
     lines = sums.splitlines(keepends=True)
     (folder / "torn").write_bytes(call.data("capture")[:200])
-    torn = call._replace(capture="torn")
+    torn = call.of(capture="torn")
     check("a torn capture", run=(torn.by(torn.sums()), fault("capture 5 torn-record at 130")),
           other=(torn.by(b"".join(lines[:2]) + NOTHING + b"  torn\n"), fault("sums differ capture")))
     for name, text, line in (("claim", b"[", "claim 1 json"), ("claim", b'{"client":1}', "claim 2 field field 1"), (
@@ -110,10 +110,10 @@ def test_after(folder: Path) -> None:
         (folder / "bad").write_bytes(text)
         bad = call.of(**{name: "bad"})
         own = bad.sums()
-        bad.refuses(f"{line} where all sums are right", own, line)
-        bad.refuses(f"{line} where the capture's differs", own.replace(lines[2][:64], NOTHING), "sums differ capture")
+        bad.says(f"{line} where all sums are right", own, line)
+        bad.says(f"{line} where the capture's differs", own.replace(lines[2][:64], NOTHING), "sums differ capture")
         if name == "claim":
-            bad.refuses(f"{line} where the certificate's differs", own.replace(lines[1][:64], NOTHING),
-                        "sums differ certificate")
-            bad._replace(second="torn").refuses(f"{line} where the certificate is refused too",
-                                                bad._replace(second="torn").sums(), line)
+            bad.says(f"{line} where the certificate's differs", own.replace(lines[1][:64], NOTHING),
+                     "sums differ certificate")
+            bad.of(second="torn").says(f"{line} where the certificate is refused too",
+                                       bad.of(second="torn").sums(), line)

@@ -4,7 +4,9 @@ import hashlib
 import os
 import subprocess
 import sys
-from collections.abc import Iterable, Sized
+import tempfile
+import traceback
+from collections.abc import Callable, Iterable, Sized
 from pathlib import Path
 from types import TracebackType
 from typing import Any
@@ -57,6 +59,17 @@ def check(name: str, **pairs: tuple[Any, Any]) -> None:
         if not (wanted(seen) if callable(wanted) else seen == wanted):
             wrong.append(f"{what} {short(seen)}" + ("" if callable(wanted) else f", wanted {short(wanted)}"))
     count(name, "; ".join(wrong))
+
+
+def test_each(tests: Iterable[Callable[[Path], None]]) -> None:
+    """Runs these tests, each in a folder of its own. One that breaks off is a failure, and those after it are run."""
+    for test in tests:
+        with tempfile.TemporaryDirectory(prefix="ntpaudit-") as folder:
+            try:
+                test(Path(folder))
+            except Exception as error:
+                traceback.print_exc()
+                count(f"{test.__name__} comes to its end", repr(error))
 
 
 def short(seen: object) -> str:
