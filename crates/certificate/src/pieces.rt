@@ -11,7 +11,7 @@ use crate::fault::{CertificateFault, Judged};
 use crate::piece::read_piece;
 use json::Reader;
 use json_text::{pass_items, pass_value};
-use std::alloc::Global;
+use std::alloc::{AllocError, Global};
 
 /// The pieces that are left of an array, or the first fault that they have.
 pub(crate) fn read_pieces(
@@ -50,11 +50,10 @@ fn read_next(
     match found {
         Ok(mut pieces) => {
             match read_piece(reader, depth, number)? {
-                Ok(piece) => if pieces.push(piece).is_err() {
-                    Err(CertificateFault::Memory)
-                } else {
+                Ok(piece) => {
+                    pieces.push(piece).map_err(AllocError::from)?;
                     Ok(Ok(pieces))
-                },
+                }
                 Err(fault) => Ok(Err(fault)),
             }
         }

@@ -15,7 +15,7 @@ use crate::list::list_from;
 use byte_stream::{Feed, Sink};
 use pcap_reader::Capture;
 use report::{Outcome, RunFault, output_buffer, publish};
-use std::alloc::Global;
+use std::alloc::{AllocError, Global};
 
 /// Lists a capture: one line for each NTP packet as its record is read, and at the end of a whole
 /// capture a closing line. The feed is handed back beside the answer.
@@ -46,7 +46,7 @@ pub fn run_list<F: Feed, S: Sink>(
 {
     let mut buffer = match output_buffer(alloc) {
         Ok(buffer) => buffer,
-        Err(_) => return (capture, publish(out, &Err(RunFault::Memory))),
+        Err(AllocError) => return (capture, publish(out, &Err(RunFault::Memory))),
     };
     match Capture::begin(alloc, capture) {
         Ok(mut source) => {

@@ -3,7 +3,8 @@
 ghost use Rattle.std.specs.Prelude.{◌≡◌, ◌+◌, ◌-◌, ◌≤◌, IfOk, IfErr, vec_len};
 ghost use Rattle.pcap_reader.specs.Limit.{most_taken, buffer_size};
 
-use std::alloc::Global;
+use crate::fault::CaptureFault;
+use std::alloc::{AllocError, Global};
 
 /// The bytes of the buffer: those of two records at least.
 const BUFFER_SIZE: usize = 1 << 19;
@@ -24,13 +25,14 @@ pub(crate) struct Buffered<F> {
 }
 
 impl<F> Buffered<F> {
-    /// Nothing pulled yet. The buffer is made here, and if there is no memory for it the feed comes
-    /// back.
-    pub(crate) fn new(alloc: Global, feed: F) -> Result<Buffered<F>, F>
+    /// Nothing pulled yet. The buffer is made here. If there is no memory for it, the feed comes
+    /// back with `Memory`.
+    pub(crate) fn new(alloc: Global, feed: F) -> Result<Buffered<F>, (F, CaptureFault)>
         ensures feed { IfOk result (λ b. b.feed ≡ feed) }
         ensures none_held { IfOk result (λ b. (b.start ≡ 0) × (b.end ≡ 0)) }
         ensures none_consumed { IfOk result (λ b. b.place ≡ 0) }
-        ensures refused { IfErr result (λ back. back ≡ feed) }
+        ensures back { IfErr result (λ refused. refused.0 ≡ feed) }
+        ensures memory { IfErr result (λ refused. refused.1 ≡ CaptureFault.Memory) }
     {
         match vec![in alloc; 0; BUFFER_SIZE] {
             Ok(buffer) => Ok(Buffered {
@@ -40,7 +42,7 @@ impl<F> Buffered<F> {
                 end: 0,
                 place: 0,
             }),
-            Err(_) => Err(feed),
+            Err(AllocError) => Err((feed, CaptureFault::Memory)),
         }
     }
 

@@ -56,7 +56,7 @@ impl<F: Feed> Capture<F> {
     {
         let mut input = match Buffered::new(alloc, feed) {
             Ok(input) => input,
-            Err(feed) => return Err((feed, CaptureFault::Memory)),
+            Err(refused) => return Err(refused),
         };
         match read_header(&mut input) {
             Ok(format) => Ok(Capture {

@@ -8,7 +8,7 @@ ghost use Rattle.sum_file.specs.Sum.{data_of};
 use crate::fault::SumFault;
 use crate::line::read_line;
 use crate::sum::Sum;
-use std::alloc::Global;
+use std::alloc::{AllocError, Global};
 
 /// The bytes without this one at their end, if it stands there.
 fn without_last<'t>(byte: u8, bytes: &'t [u8]) -> &'t [u8]
@@ -33,7 +33,7 @@ pub fn read_sums(alloc: Global, text: &[u8]) -> Result<Vec<Sum>, SumFault>
     for ended in without_last(b'\n', text).split(|byte| *byte == b'\n') {
         match read_line(alloc, without_last(b'\r', ended))? {
             Some(sum) if sums.iter().all(|other: &Sum| other.agrees(&sum)) => {
-                sums.push(sum).map_err(|_| SumFault::Memory)?
+                sums.push(sum).map_err(AllocError::from)?
             }
             _ => return Err(SumFault::Form(sums.len() as u64 + 1)),
         }

@@ -29,7 +29,7 @@ returns-in-Err-read_header-clause-refuses g c =
 
 pub returns-in-Err-clause-refuses : goal.returns-in-Err-clause-refuses
 returns-in-Err-clause-refuses g c =
-    rw c.in-Err.ensures.refused (record {
+    rw (c.in-Err.ensures.back, c.in-Err.ensures.memory) (record {
       refusal = tt;
       counts_fault = refl;
       at_most = TakesAtMost-none 0 _;
