@@ -6,10 +6,10 @@ ghost use Rattle.line_writer.specs.Millisecond.{milliseconds, nanosecond_above, 
 
 use crate::line::{CAPACITY, Line};
 use crate::number::put_wide;
-use era_unfold::TICKS_PER_SECOND;
+use era_unfold::{NANOSECONDS_PER_SECOND, TICKS_PER_SECOND};
 
 /// How many nanoseconds a second has.
-pub(crate) const NANOSECONDS_PER_SECOND: u128 = 1_000_000_000;
+pub(crate) const PER_SECOND: u128 = NANOSECONDS_PER_SECOND as u128;
 
 /// How many nanoseconds a millisecond has.
 const NANOSECONDS_PER_MILLISECOND: u128 = 1_000_000;
@@ -21,8 +21,8 @@ pub(crate) fn shorter(ticks: u128) -> u128
     ensures exact { result ≡ spec.shorter ticks }
     ensures fits { result < 2 ^ 127 }
 {
-    let part = ticks % TICKS_PER_SECOND * NANOSECONDS_PER_SECOND / TICKS_PER_SECOND;
-    ticks / TICKS_PER_SECOND * NANOSECONDS_PER_SECOND + part
+    let part = ticks % TICKS_PER_SECOND * PER_SECOND / TICKS_PER_SECOND;
+    ticks / TICKS_PER_SECOND * PER_SECOND + part
 }
 
 /// A length in whole nanoseconds that isn't shorter than so many ticks.
@@ -32,9 +32,8 @@ pub(crate) fn longer(ticks: u128) -> u128
     ensures exact { result ≡ spec.longer ticks }
     ensures fits { result < 2 ^ 127 }
 {
-    let part = ticks % TICKS_PER_SECOND * NANOSECONDS_PER_SECOND;
-    ticks / TICKS_PER_SECOND * NANOSECONDS_PER_SECOND
-        + (part + (TICKS_PER_SECOND - 1)) / TICKS_PER_SECOND
+    let part = ticks % TICKS_PER_SECOND * PER_SECOND;
+    ticks / TICKS_PER_SECOND * PER_SECOND + (part + (TICKS_PER_SECOND - 1)) / TICKS_PER_SECOND
 }
 
 /// Writes nanoseconds as milliseconds.

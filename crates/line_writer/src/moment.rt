@@ -5,7 +5,7 @@ ghost use Rattle.line_writer.specs.Moment.{moment_above, moment_below, moment_or
 
 use crate::date::put_clock;
 use crate::line::{CAPACITY, Line};
-use crate::millisecond::{NANOSECONDS_PER_SECOND, longer, shorter};
+use crate::millisecond::{PER_SECOND, longer, shorter};
 use crate::number::put_wide;
 
 /// How many Unix seconds are shown as a date: those of 32 bits.
@@ -32,8 +32,8 @@ fn put_moment(line: &mut Line, n: u128)
     ensures at_most { length line.new ≤ length line.old + 30 }
 {
     line.put_byte(b'Z');
-    put_part(line, (n % NANOSECONDS_PER_SECOND) as u32);
-    put_clock(line, (n / NANOSECONDS_PER_SECOND) as u32);
+    put_part(line, (n % PER_SECOND) as u32);
+    put_clock(line, (n / PER_SECOND) as u32);
 }
 
 /// Writes a tick that isn't before the Unix epoch, as this nanosecond.
@@ -42,7 +42,7 @@ fn put_moment_or_tick(line: &mut Line, tick: u128, n: u128)
     ensures text { line.new ≡ moment_or_tick tick n ++ line.old }
     ensures at_most { length line.new ≤ length line.old + 40 }
 {
-    if n / NANOSECONDS_PER_SECOND < SECONDS {
+    if n / PER_SECOND < SECONDS {
         put_moment(line, n);
     } else {
         put_wide(line, tick);

@@ -94,7 +94,7 @@ fn found(rt: HostRuntime) {
 const HEADING: &str =
     "   piece                begin                  end   low error ms  high error ms\n";
 
-const SERVER_HEADING: &str = "   piece                begin                  end   low error ms  \
+const LONG_HEADING: &str = "   piece                begin                  end   low error ms  \
     high error ms          server\n";
 
 const SERVER: &str = "       0 2001-09-09T01:46:40Z 2001-09-09T01:46:40Z     -10.000001      \
@@ -105,7 +105,7 @@ const SERVER: &str = "       0 2001-09-09T01:46:40Z 2001-09-09T01:46:40Z     -10
 fn bounded(rt: HostRuntime) {
     let alloc = rt.alloc();
     let moment = [
-        SERVER_HEADING,
+        LONG_HEADING,
         SERVER,
         "       0 2001-09-09T01:46:40Z 2001-09-09T01:46:40Z     -10.000001      10.001001\n",
         "bound 10.001001 ms piece 0\n",
