@@ -87,7 +87,9 @@ fn tagged(twice: bool) -> [u8; 98] {
 
 #[test]
 fn one_tag(rt: HostRuntime) {
-    assert_equal(&rt, datagram(&tagged(false)), Ok(REQUEST));
+    let frame = tagged(false);
+    assert_equal(&rt, datagram(&frame), Ok(REQUEST));
+    assert_equal(&rt, datagram(&frame[..16]), Err(Skip::Short));
 }
 
 #[test]
