@@ -30,7 +30,7 @@ MEANINGS = {
     YES: "shown: in every course of events that fits the capture",
     UNSUPPORTED: "a yes against which the folder's own evidence speaks",
     REFUTED: "not shown, and by nothing in the capture: a course of events fits it that breaks the claim",
-    NOTHING_FITS: "no course of events fits: something that the claim grants isn't true",
+    NOTHING_FITS: "no course of events fits: in this capture one of the premises fails",
     NO_EVIDENCE: "the capture says nothing about the clock",
     OPEN: "neither shown nor refuted",
     NOT_VERIFIED: "an audit.json that was neither made nor verified here: it may say what it likes",

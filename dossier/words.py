@@ -47,8 +47,8 @@ def sentence(entry: Entry) -> str:
     if entry.verdict == REFUTED:
         return f"The capture doesn't show that {span(claim)} {within}, and no certificate can. {reason(entry)}"
     if entry.verdict == NOTHING_FITS:
-        return (f"Whether {span(claim)} {within} can't be said: no course of events fits the capture, so something "
-                f"that the claim grants isn't true. {reason(entry)}")
+        return (f"Whether {span(claim)} {within} can't be said: no course of events fits the capture, so one "
+                f"of the premises fails in it. {reason(entry)}")
     if entry.verdict == NO_EVIDENCE:
         return (f"Whether {span(claim)} {within} can't be said: the capture says nothing about this clock. "
                 f"{reason(entry)}")
