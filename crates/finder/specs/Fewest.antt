@@ -57,6 +57,11 @@ module _ (samples : List Sample) (claim : ClaimData) where
     pub shown : shows p q ≡ true
     pub no_longer : (r : ℤ) → q <ℤ r → r ≤ℤ claim.last → shows p r ≡ false
 
+  -- the next tick from p isn't shown: the hull up to there, which is this one, isn't inside the bound
+  pub record FailsAt (p : ℤ) (hull : Hull) : Type 0 where
+    pub its_hull : hull ≡ hull_over p (next_tick p)
+    pub fails : is_inside claim.bound hull ≡ false
+
   -- ---- one piece after another
 
   -- the longest pieces from p on end at these ticks, and each before the span does

@@ -33,7 +33,7 @@ pub record AreEnds (samples : List Sample) (claim : ClaimData) (ends : List ℤ)
 abbrev pub IsReach : List Sample → ClaimData → Reach → Type 0
 IsReach samples claim (End ends) = AreEnds samples claim ends.items
 IsReach samples claim (Stuck begin end hull) = IsStuck samples claim (pos begin) (pos end) hull
-IsReach samples claim (TooLong begin ends) =
+IsReach samples claim (TooLong begin) =
     (long : IsTooLong samples claim) × (pos begin ≡ end_after claim.first long.earlier)
 
 -- this holds of whatever samples these are the tables of

@@ -11,7 +11,7 @@ ghost use Rattle.finder.specs.Piece.{IsStep};
 ghost use Rattle.finder.specs.Reach.{AreTablesFor, IsTabled};
 ghost use Rattle.finder.specs.Samples.{AreSamplesOf};
 
-use crate::guess::Guess;
+use crate::guess::likely_least;
 use crate::laws::{
     best_entries_show_as_much, best_hulls_hold_the_error, pieces_within_have_no_wider_hulls,
 };
@@ -68,8 +68,8 @@ pub fn least_bound<S: SampleSource>(
     Ok(found)
 }
 
-/// The least bound, by the tables of the servers, looked for from a number of nanoseconds on. Every
-/// fourth try halves what is left, so that there are at most two hundred.
+/// The least bound, by the tables of the servers, looked for where it likely is, and from there on
+/// in steps that double or halve: at most a hundred.
 fn least_bound_by(
     alloc: Global,
     tables: &[BestTable],
@@ -78,6 +78,7 @@ fn least_bound_by(
 ) -> Result<Option<LeastCarried>, AllocError>
     requires claim { IsLawful (claim_data claim.now) }
     requires tables { IsTabled (claim_data claim.now) tables.now }
+    requires in_range { start ≤ max_bound_ns }
     ensures { (samples : List TheSample) → AreTablesFor samples (claim_data claim.now) tables.now →
         FindsLeastBound samples (claim_data claim.now) result }
 {
@@ -89,21 +90,17 @@ fn least_bound_by(
     wider_bounds_hold_too();
     nanoseconds_lie_between_their_ticks();
     more_nanoseconds_have_no_fewer_ticks();
-    let mut guess = Guess::of_start(start);
-    let widest = try_bound(alloc, tables, claim, &mut guess, MOST_BOUND_NS)?;
+    let widest = try_bound(alloc, tables, claim, MOST_BOUND_NS)?;
     if widest.is_some() {
         return Ok(None);
     }
-    let mut guess = Guess::of_start(start);
+    let near = likely_least(alloc, tables, claim, start)?;
     let mut least = 0;
     let mut bound_ns = MOST_BOUND_NS;
     let mut tick = claim.first as u64;
-    let mut turn = 0u8;
     while least < bound_ns {
-        let near = guess.bound_at(turn, least, bound_ns);
         let tried_ns = trial(least, bound_ns, near, 0);
-        turn = turn.wrapping_add(1);
-        match try_bound(alloc, tables, claim, &mut guess, tried_ns)? {
+        match try_bound(alloc, tables, claim, tried_ns)? {
             None => bound_ns = tried_ns,
             Some(stop) => {
                 least = tried_ns + 1;
@@ -114,13 +111,12 @@ fn least_bound_by(
     Ok(Some(LeastCarried { bound_ns, tick }))
 }
 
-/// Takes the longest pieces with a bound of this many nanoseconds, of which the guess takes note. If
-/// they don't reach the span's end, the Unix tick at which they stop.
+/// Takes the longest pieces with a bound of this many nanoseconds. If they don't reach the span's
+/// end, the Unix tick at which they stop.
 fn try_bound(
     alloc: Global,
     tables: &[BestTable],
     claim: &Claim,
-    guess: &mut Guess,
     bound_ns: u64,
 ) -> Result<Option<u64>, AllocError>
     requires claim { IsLawful (claim_data claim.now) }
@@ -139,23 +135,14 @@ fn try_bound(
     nanoseconds_lie_between_their_ticks();
     let claim = claim_with(alloc, claim, bound_ns)?;
     match longest_ends(alloc, tables, &claim)? {
-        Reach::End(ends) => {
-            guess.see_end(alloc, tables, &claim, ends.as_slice())?;
-            Ok(None)
-        }
-        Reach::Stuck { begin, hull, .. } => {
-            guess.see_stuck(hull);
-            Ok(Some(begin))
-        }
-        Reach::TooLong { begin, ends } => {
-            guess.see_too_long(alloc, tables, &claim, bound_ns, ends.as_slice())?;
-            Ok(Some(begin))
-        }
+        Reach::End(_) => Ok(None),
+        Reach::Stuck { begin, .. } => Ok(Some(begin)),
+        Reach::TooLong { begin } => Ok(Some(begin)),
     }
 }
 
 /// The same claim with a bound of this many nanoseconds.
-fn claim_with(alloc: Global, claim: &Claim, bound_ns: u64) -> Result<Claim, AllocError>
+pub(crate) fn claim_with(alloc: Global, claim: &Claim, bound_ns: u64) -> Result<Claim, AllocError>
     requires { IsLawful (claim_data claim.now) }
     ensures { IfOk result (λ other. claim_data other ≡ with_bound (claim_data claim.now) bound_ns) }
 {

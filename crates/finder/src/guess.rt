@@ -1,194 +1,269 @@
 //! Which bound is likely the least one.
 //!
-//! Nothing rests on a guess but the time: every bound is tried before it is believed.
+//! Nothing rests on a guess but the time: every bound is tried before it is believed. The less the
+//! bound, the more pieces it takes, and mostly as many more for each nanosecond. So the bound that
+//! takes a thousand pieces is looked for first, since a thousand are soon counted, and from there on
+//! the one that takes ten thousand, and then as many as a certificate may have.
 
-ghost use Rattle.claim_file.specs.Claim.{IsLawful, data_of as claim_data};
+ghost use Rattle.std.specs.Prelude.{◌≤◌};
+ghost use Rattle.claim_file.specs.Claim.{IsLawful, data_of as claim_data, max_bound_ns};
 ghost use Rattle.finder.specs.Reach.{IsTabled};
 
-use crate::carried::MOST_BOUND_NS;
+use crate::carried::{MOST_BOUND_NS, claim_with};
 use crate::least::reach_of;
-use crate::longest::hull_over;
+use crate::longest::{Pace, longest_piece};
 use crate::neediest::in_nanoseconds;
 use certificate::MAX_PIECES;
 use claim_file::Claim;
+use era_unfold::laws::nanoseconds_lie_between_their_ticks;
 use intersection::kinds::Hull;
 use std::alloc::{AllocError, Global};
-use sweep::{BestTable, Places};
+use sweep::BestTable;
 
-/// What the bounds that were tried have shown of the least one, in nanoseconds.
+/// As many pieces as a certificate may have.
+const MOST_PIECES: u64 = MAX_PIECES as u64;
+
+/// How many pieces the bound that is looked for takes, one after another.
+const LEVELS: [u64; 3] = [MOST_PIECES / 100, MOST_PIECES / 10, MOST_PIECES];
+
+/// At most so many bounds are tried for each of these: as many as halving takes.
+const TRIES: u32 = 50;
+
+/// What a bound takes.
 #[derive(Clone, Copy)]
-pub(crate) struct Guess {
-    /// The last bound with which the pieces came too short; at first, where the search begins.
-    short: u64,
-    /// How many ticks they came.
-    reached: u64,
-    /// Below this the pieces are those of the last try that came too short.
-    low: u64,
-    /// Down to this the pieces are those of the last certificate.
-    high: u64,
-    /// How many pieces that certificate has; 0 if there is none.
+enum Count {
+    /// So many longest pieces reach the span's end.
+    Pieces(u64),
+    /// More than were counted.
+    More,
+    /// No number of pieces: some tick needs this many nanoseconds.
+    Needs(u64),
+}
+
+/// A bound in nanoseconds, and how many pieces it takes.
+#[derive(Clone, Copy)]
+struct Counted {
+    bound_ns: u64,
     pieces: u64,
-    /// Where the pieces would reach the span's end, if they grow with each nanosecond.
-    line: Option<u64>,
-    /// Which bound is likely the least one.
-    likely: u64,
 }
 
-impl Guess {
-    /// The search begins here, and nothing is tried.
-    pub(crate) fn of_start(start: u64) -> Guess {
-        Guess {
-            short: start,
-            reached: 0,
-            low: 0,
-            high: MOST_BOUND_NS,
-            pieces: 0,
-            line: None,
-            likely: start,
+/// Between which bounds the number of pieces comes to one that is looked for.
+#[derive(Clone, Copy)]
+struct Bracket {
+    /// The least bound that takes no more.
+    high: Counted,
+    /// A greater one, which takes fewer.
+    above: Option<Counted>,
+    /// The greatest bound that takes more, in nanoseconds.
+    low: u64,
+    /// How many it takes, if they were counted.
+    counted: Option<u64>,
+    /// A bound that takes more pieces than a certificate may have, in nanoseconds.
+    floor: u64,
+    /// Whether the last try took no more.
+    was_enough: bool,
+    /// How many tries before it showed the same.
+    run: u32,
+}
+
+impl Bracket {
+    /// What was counted last is where the search for more pieces begins.
+    fn begin(&mut self, most: u64) {
+        let last = self.counted.map(|pieces| Counted {
+            bound_ns: self.low,
+            pieces,
+        });
+        self.above = None;
+        self.low = self.floor;
+        self.counted = None;
+        self.was_enough = true;
+        self.run = 0;
+        match last {
+            Some(last) if last.pieces <= most => {
+                self.above = Some(self.high);
+                self.high = last;
+            }
+            Some(last) => {
+                self.low = last.bound_ns;
+                self.counted = Some(last.pieces);
+            }
+            None => {}
         }
     }
 
-    /// The bound to try next, of those from `least` to below `bound_ns`. Every fourth one halves
-    /// them, since a guess may be wrong where samples contradict each other.
-    pub(crate) fn bound_at(self, turn: u8, least: u64, bound_ns: u64) -> u64 {
-        if turn % 4 == 3 {
-            least.saturating_add(bound_ns.saturating_sub(least) / 2)
-        } else if self.high <= self.low {
-            self.high.saturating_sub(1)
-        } else {
-            self.likely
-        }
+    /// Whether nothing lies between the bounds, or the greater one takes nearly as many as are
+    /// looked for, and these aren't as many as a certificate may have.
+    fn is_narrow(self, most: u64) -> bool {
+        let is_near = most - most / 8 <= self.high.pieces && most < MOST_PIECES;
+        is_near || self.high.bound_ns.saturating_sub(self.low) <= 1
     }
 
-    /// Halfway between the bounds that are left.
-    fn middle(self) -> u64 {
-        self.low
-            .saturating_add(self.high.saturating_sub(self.low) / 2)
-    }
-
-    /// Takes note of pieces that reach the span's end.
-    pub(crate) fn see_end(
-        &mut self,
-        alloc: Global,
-        tables: &[BestTable],
-        claim: &Claim,
-        ends: &[i128],
-    ) -> Result<(), AllocError>
-        requires claim { IsLawful (claim_data claim.now) }
-        requires tables { IsTabled (claim_data claim.now) tables.now }
-    {
-        let needs = needs_of(alloc, tables, claim, ends, 0)?;
-        let high = needs.as_slice().last().copied().unwrap_or(0);
-        let pieces = ends.len() as u64;
-        self.likely = match self.by_pieces(high, pieces) {
-            Some(likely) => likely,
-            None if self.low == 0 => high.saturating_sub(1),
-            None => match self.line {
-                Some(line) => line.min(high.saturating_sub(1)),
-                None => self.low.saturating_add(high.saturating_sub(self.low) / 2),
-            },
-        };
-        self.high = high;
-        self.pieces = pieces;
-        Ok(())
-    }
-
-    /// Where there are as many pieces as a certificate may have, if their number goes on growing as
-    /// it did from the last certificate to one with this bound and so many pieces.
-    fn by_pieces(self, high: u64, pieces: u64) -> Option<u64> {
-        let more = pieces.checked_sub(self.pieces)?;
-        let fall = u128::from(self.high.checked_sub(high)?);
-        let left = u128::from((MAX_PIECES as u64).saturating_sub(pieces));
-        let likely = u128::from(high).checked_sub(left * fall / u128::from(more.max(1)))?;
-        let likely = likely as u64;
-        if 0 < self.pieces && self.low < likely && likely < high {
-            Some(likely)
-        } else {
-            None
-        }
-    }
-
-    /// Takes note of a tick whose hull isn't within the bound that was tried.
-    pub(crate) fn see_stuck(&mut self, hull: Hull) {
-        let need = need_of(hull);
-        self.likely = if need < self.high {
-            self.low = need;
-            need
-        } else {
-            self.middle()
-        };
-    }
-
-    /// Takes note of as many pieces as a certificate may have, which with this bound don't reach
-    /// the span's end.
-    ///
-    /// What each of them would need to go on says from which bound on some do. If that is far, it
-    /// is likely the least; else the one with which as many go on as there are too many, or, where
-    /// pieces grow with each nanosecond, the one with which they come that much farther.
-    pub(crate) fn see_too_long(
-        &mut self,
-        alloc: Global,
-        tables: &[BestTable],
-        claim: &Claim,
-        bound_ns: u64,
-        ends: &[i128],
-    ) -> Result<(), AllocError>
-        requires claim { IsLawful (claim_data claim.now) }
-        requires tables { IsTabled (claim_data claim.now) tables.now }
-    {
-        let needs = needs_of(alloc, tables, claim, ends, 1)?;
-        let first = claim.first as u64;
-        let span = (claim.last as u64).saturating_sub(first);
-        let reached = last_of(first, ends).saturating_sub(first);
-        let place = place_of(needs.len() as u64, span.saturating_sub(reached), span);
-        let farther = needs.as_slice().get(place).copied().unwrap_or(0);
-        self.low = needs.as_slice().first().copied().unwrap_or(0);
-        let skipped = self.low.saturating_sub(bound_ns);
-        self.line = if bound_ns.saturating_add(1) < farther {
+    /// The bound to try next: where the pieces are likely as many, if their number goes on growing
+    /// as it does, and mostly a little beyond, so that the next try comes from the other side.
+    /// Every fourth one halves what is left.
+    fn bound_at(self, turn: u32, most: u64) -> u64 {
+        let high = self.high.bound_ns;
+        let likely = if turn % 4 == 3 {
             None
         } else {
-            Some(self.by_reach(bound_ns, span, reached))
+            self.likely(most)
         };
-        let likely = if self.high.saturating_sub(self.low) < skipped {
-            self.low
-        } else {
-            self.line.unwrap_or(farther)
-        };
-        self.likely = if likely < self.high {
-            likely
-        } else {
-            self.middle()
-        };
-        self.short = bound_ns;
-        self.reached = reached;
-        Ok(())
+        let middle = self.low.saturating_add(high.saturating_sub(self.low) / 2);
+        match likely {
+            Some(likely) if self.low < likely && likely < high => likely,
+            _ => middle,
+        }
     }
 
-    /// The bound with which the pieces reach the span's end, if they go on growing as they did from
-    /// the last try that came too short to one with this bound that came so many ticks.
-    fn by_reach(self, bound_ns: u64, span: u64, reached: u64) -> u64 {
-        let more = u128::from(bound_ns.saturating_sub(self.short));
-        let farther = u128::from(reached.saturating_sub(self.reached).max(1));
-        let left = u128::from(span.saturating_sub(reached));
-        let bound = u128::from(bound_ns).saturating_add(left * more / farther + 1);
-        bound.min(u128::from(MOST_BOUND_NS)) as u64
+    /// The bound that likely takes a few more pieces than are looked for, if the last one took no
+    /// more, else a few less; twice as many with each try that shows the same.
+    fn likely(self, most: u64) -> Option<u64> {
+        let margin = 1u64.checked_shl(self.run.min(40))?;
+        let aim = if self.was_enough && self.counted.is_none() {
+            most.saturating_add(margin).saturating_add(most / 32)
+        } else if self.was_enough {
+            most.saturating_add(margin)
+        } else {
+            most.saturating_sub(margin)
+        };
+        let (nanoseconds, pieces) = self.growth()?;
+        let more = u128::from(aim.saturating_sub(self.high.pieces));
+        let fall = more.saturating_mul(u128::from(nanoseconds)) / u128::from(pieces.max(1));
+        let likely = u128::from(self.high.bound_ns).checked_sub(fall.max(1))?;
+        u64::try_from(likely).ok()
+    }
+
+    /// With how many nanoseconds less there are how many pieces more, if that is known and they are
+    /// enough to tell.
+    fn growth(self) -> Option<(u64, u64)> {
+        match (self.counted, self.above) {
+            (Some(counted), _) => {
+                let pieces = counted.checked_sub(self.high.pieces)?;
+                if pieces < 8 {
+                    return None;
+                }
+                Some((self.high.bound_ns.checked_sub(self.low)?, pieces))
+            }
+            (None, Some(above)) => Some((
+                above.bound_ns.checked_sub(self.high.bound_ns)?,
+                self.high.pieces.checked_sub(above.pieces)?,
+            )),
+            (None, None) => None,
+        }
+    }
+
+    /// Takes note of what a bound between the two takes.
+    fn see(&mut self, bound_ns: u64, count: Count, most: u64) {
+        let is_enough = matches!(count, Count::Pieces(pieces) if pieces <= most);
+        self.run = if is_enough == self.was_enough {
+            self.run.saturating_add(1)
+        } else {
+            0
+        };
+        self.was_enough = is_enough;
+        match count {
+            Count::Pieces(pieces) if pieces <= most => {
+                if self.high.pieces.saturating_add(most / 64) < pieces {
+                    self.above = Some(self.high);
+                }
+                self.high = Counted { bound_ns, pieces };
+            }
+            Count::Pieces(pieces) => {
+                self.low = bound_ns;
+                self.counted = Some(pieces);
+            }
+            Count::More => {
+                self.low = bound_ns;
+                self.counted = None;
+            }
+            Count::Needs(need) => {
+                let below = need.min(self.high.bound_ns).saturating_sub(1);
+                self.low = below.max(bound_ns);
+                self.floor = self.low;
+                self.counted = None;
+            }
+        }
     }
 }
 
-/// Where the last of these pieces ends.
-fn last_of(first: u64, ends: &[i128]) -> u64 {
-    ends.last().map_or(first, |end| tick_of(*end))
+/// The bound in nanoseconds that is likely the least one. `start` is tried first.
+pub(crate) fn likely_least(
+    alloc: Global,
+    tables: &[BestTable],
+    claim: &Claim,
+    start: u64,
+) -> Result<u64, AllocError>
+    requires claim { IsLawful (claim_data claim.now) }
+    requires tables { IsTabled (claim_data claim.now) tables.now }
+    requires in_range { start ≤ max_bound_ns }
+{
+    if let Count::Pieces(_) = count_with(alloc, tables, claim, start, MOST_PIECES)? {
+        return Ok(start);
+    }
+    let Count::Pieces(pieces) = count_with(alloc, tables, claim, MOST_BOUND_NS, MOST_PIECES)? else {
+        return Ok(MOST_BOUND_NS);
+    };
+    let mut bracket = Bracket {
+        high: Counted {
+            bound_ns: MOST_BOUND_NS,
+            pieces,
+        },
+        above: None,
+        low: start,
+        counted: None,
+        floor: start,
+        was_enough: true,
+        run: 0,
+    };
+    for most in LEVELS {
+        bracket.begin(most);
+        for turn in 0..TRIES {
+            if bracket.is_narrow(most) {
+                break;
+            }
+            let bound_ns = bracket.bound_at(turn, most).min(MOST_BOUND_NS);
+            let count = count_with(alloc, tables, claim, bound_ns, most.saturating_mul(2))?;
+            bracket.see(bound_ns, count, most);
+        }
+    }
+    Ok(bracket.high.bound_ns)
 }
 
-/// A tick in 64 bits, as those of a lawful claim are.
-fn tick_of(tick: i128) -> u64 {
-    u64::try_from(tick).unwrap_or(u64::MAX)
+/// How many pieces a bound takes, if they are no more than `most`.
+fn count_with(
+    alloc: Global,
+    tables: &[BestTable],
+    claim: &Claim,
+    bound_ns: u64,
+    most: u64,
+) -> Result<Count, AllocError>
+    requires claim { IsLawful (claim_data claim.now) }
+    requires tables { IsTabled (claim_data claim.now) tables.now }
+    requires in_range { bound_ns ≤ max_bound_ns }
+{
+    nanoseconds_lie_between_their_ticks();
+    let claim = claim_with(alloc, claim, bound_ns)?;
+    Ok(count_of(tables, &claim, most))
 }
 
-/// The place in a list of so many that stands to their number as a part to the whole.
-fn place_of(count: u64, part: u64, whole: u64) -> usize {
-    let place = u128::from(count) * u128::from(part) / u128::from(whole.max(1));
-    usize::try_from(place).unwrap_or(usize::MAX)
+/// How many pieces the claim's bound takes, if they are no more than `most`.
+fn count_of(tables: &[BestTable], claim: &Claim, most: u64) -> Count
+    requires claim { IsLawful (claim_data claim.now) }
+    requires tables { IsTabled (claim_data claim.now) tables.now }
+{
+    let last = claim.last as u64;
+    let mut begin = claim.first as u64;
+    let mut pace = Pace::of_first(last);
+    for number in 0..most {
+        match longest_piece(tables, &mut pace, claim, begin) {
+            Err(hull) => return Count::Needs(need_of(hull)),
+            Ok(end) => begin = end,
+        }
+        if begin == last {
+            return Count::Pieces(number + 1);
+        }
+    }
+    Count::More
 }
 
 /// The bound that a hull needs, in nanoseconds; the greatest if none holds.
@@ -197,31 +272,4 @@ fn need_of(hull: Hull) -> u64 {
         Hull::Bounded { lo, hi } => in_nanoseconds(reach_of(lo, hi)),
         Hull::Unbounded | Hull::Empty => MOST_BOUND_NS,
     }
-}
-
-/// The bounds that pieces with these ends need, each made longer by so many ticks: from the least
-/// to the greatest.
-fn needs_of(
-    alloc: Global,
-    tables: &[BestTable],
-    claim: &Claim,
-    ends: &[i128],
-    longer: u64,
-) -> Result<Vec<u64>, AllocError>
-    requires claim { IsLawful (claim_data claim.now) }
-    requires tables { IsTabled (claim_data claim.now) tables.now }
-{
-    let last = claim.last as u64;
-    let mut begin = claim.first as u64;
-    let mut places = Places::new();
-    let mut needs = Vec::new(alloc);
-    for end in ends {
-        let end = tick_of(*end).max(begin);
-        let farther = end.saturating_add(longer).min(last).max(begin);
-        let hull = hull_over(tables, &mut places, claim, begin, farther);
-        needs.push(need_of(hull))?;
-        begin = end;
-    }
-    needs.as_mut_slice().sort_unstable();
-    Ok(needs)
 }

@@ -1,12 +1,13 @@
 //! The longest piece from a reading.
 
 ghost use Rattle.std.specs.Prelude.{◌≡◌, ◌≤◌, pos, ◌+ℤ◌, ◌≤ℤ◌, true, List, length, IfOk};
+ghost use Rattle.std.specs.Prelude.{MatchResult};
 ghost use Rattle.std.specs.Int.{int_min};
 ghost use Rattle.claim_file.specs.Claim.{IsLawful, data_of};
 ghost use Rattle.pairing.specs.Exchange.{most_exchanges};
 ghost use Rattle.sample_interval.specs.declared.kinds.Sample.{Sample};
 ghost use Rattle.finder.specs.Entry.{best_hull};
-ghost use Rattle.finder.specs.Fewest.{IsLongest, shows, stretch_over};
+ghost use Rattle.finder.specs.Fewest.{FailsAt, IsLongest, shows, stretch_over};
 ghost use Rattle.finder.specs.Reach.{AreTablesFor, IsTabled};
 ghost use Rattle.finder.specs.Samples.{AreSamplesOf};
 
@@ -86,10 +87,66 @@ pub(crate) fn tick_after(begin: u64, last: u64) -> u64
     if begin < last { begin + 1 } else { last }
 }
 
+/// How the search for the ends of one piece after another goes on.
+#[derive(Clone, Copy)]
+pub(crate) struct Pace {
+    places: Places,
+    /// How many ticks the last piece has.
+    length: u64,
+    /// How many more or fewer than the one before.
+    change: u64,
+}
+
+impl Pace {
+    /// No piece is found yet: the first may be as long as this.
+    pub(crate) fn of_first(length: u64) -> Pace {
+        Pace {
+            places: Places::new(),
+            length,
+            change: length,
+        }
+    }
+
+    /// Takes note of a piece of so many ticks.
+    fn see(&mut self, length: u64) {
+        self.change = self.length.abs_diff(length);
+        self.length = length;
+    }
+}
+
+/// Where the longest piece from `begin` ends; or, if the piece of one tick from there doesn't show
+/// that the error is within the bound, the hull over it. The end is looked for at the length of the
+/// piece before, then as far from there as the lengths last changed; and each look-up goes on from
+/// where the last one ended.
+pub(crate) fn longest_piece(
+    tables: &[BestTable],
+    pace: &mut Pace,
+    claim: &Claim,
+    begin: u64,
+) -> Result<u64, Hull>
+    requires claim { IsLawful (data_of claim.now) }
+    requires tables { IsTabled (data_of claim.now) tables.now }
+    requires in_span { pos begin ≤ℤ claim.now.last }
+    ensures { (samples : List Sample) → AreTablesFor samples (data_of claim.now) tables.now →
+        MatchResult result (λ end. IsLongest samples (data_of claim.now) (pos begin) (pos end))
+        (FailsAt samples (data_of claim.now) (pos begin)) }
+{
+    let next = tick_after(begin, claim.last as u64);
+    let hull = hull_over(tables, &mut pace.places, claim, begin, next);
+    if !is_inside(claim.bound, hull) {
+        return Err(hull);
+    }
+    let near = begin.saturating_add(pace.length);
+    let step = pace.change;
+    let end = longest_end(tables, &mut pace.places, claim, begin, next, near, step);
+    pace.see(end.saturating_sub(begin));
+    Ok(end)
+}
+
 /// Where the longest piece from `begin` ends, if the piece from there to `next`, the next tick,
 /// shows that the error is within the bound. What a piece shows each shorter one shows too, so that
 /// the end is found by halving; it is looked for first at `near`, and then in steps from there.
-pub(crate) fn longest_end(
+fn longest_end(
     tables: &[BestTable],
     places: &mut Places,
     claim: &Claim,

@@ -5,13 +5,12 @@ ghost use Rattle.claim_file.specs.Claim.{IsLawful, data_of};
 ghost use Rattle.sample_interval.specs.declared.kinds.Sample.{Sample};
 ghost use Rattle.finder.specs.Reach.{AreTablesFor, IsReach, IsTabled};
 
-use crate::longest::{hull_over, longest_end, tick_after};
+use crate::longest::{Pace, longest_piece, tick_after};
 use certificate::MAX_PIECES;
 use claim_file::Claim;
 use intersection::kinds::Hull;
-use span_cover::is_inside;
 use std::alloc::{AllocError, Global};
-use sweep::{BestTable, Places};
+use sweep::BestTable;
 
 /// How far the longest pieces of a span reach, one after another.
 #[derive(Drop)]
@@ -21,14 +20,11 @@ pub(crate) enum Reach {
     /// To a tick after which the error isn't shown to be within the bound: the piece of one tick,
     /// and its hull.
     Stuck { begin: u64, end: u64, hull: Hull },
-    /// To this tick before the span's end, by as many as a certificate may have. These are their
-    /// ends.
-    TooLong { begin: u64, ends: Vec<i128> },
+    /// To this tick before the span's end, by as many as a certificate may have.
+    TooLong { begin: u64 },
 }
 
-/// Takes one longest piece after another, by the tables of the servers. Each is looked for first
-/// at the length of the one before, then as far from there as the lengths last changed; and each
-/// look-up goes on from where the last one ended.
+/// Takes one longest piece after another, by the tables of the servers.
 pub(crate) fn longest_ends(
     alloc: Global,
     tables: &[BestTable],
@@ -42,25 +38,20 @@ pub(crate) fn longest_ends(
 {
     let last = claim.last as u64;
     let mut begin = claim.first as u64;
-    let mut length = last;
-    let mut change = last;
-    let mut places = Places::new();
+    let mut pace = Pace::of_first(last);
     let mut ends: Vec<i128> = Vec::new(alloc);
     while ends.len() < MAX_PIECES {
-        let end = tick_after(begin, last);
-        let hull = hull_over(tables, &mut places, claim, begin, end);
-        if !is_inside(claim.bound, hull) {
-            return Ok(Reach::Stuck { begin, end, hull });
+        match longest_piece(tables, &mut pace, claim, begin) {
+            Err(hull) => {
+                let end = tick_after(begin, last);
+                return Ok(Reach::Stuck { begin, end, hull });
+            }
+            Ok(end) => begin = end,
         }
-        let near = begin.saturating_add(length);
-        let reached = longest_end(tables, &mut places, claim, begin, end, near, change);
-        change = length.abs_diff(reached.saturating_sub(begin));
-        length = reached.saturating_sub(begin);
-        begin = reached;
         ends.push(i128::from(begin))?;
         if begin == last {
             return Ok(Reach::End(ends));
         }
     }
-    Ok(Reach::TooLong { begin, ends })
+    Ok(Reach::TooLong { begin })
 }

@@ -3,11 +3,16 @@
 /// More than any list of peaks has.
 const NOWHERE: usize = usize::MAX;
 
+/// The second that begins two before zero, counted from the origin: most levels lie close to zero.
+const BEFORE_ZERO: u64 = (1 << 43) - 2;
+
 /// Where the last look-ups ended in the peaks of one kind of end.
 #[derive(Clone, Copy)]
 pub struct Near {
     pub early: usize,
     pub late: usize,
+    /// The whole second, counted from the origin, before that of the level that was found.
+    pub second: u64,
 }
 
 /// Where the last look-ups ended in a table.
@@ -30,6 +35,7 @@ impl Places {
         let near = Near {
             early: NOWHERE,
             late: NOWHERE,
+            second: BEFORE_ZERO,
         };
         let table = NearTable {
             lows: near,

@@ -8,9 +8,6 @@ const ORIGIN: i128 = 1 << 75;
 /// Twice as far from the origin as zero.
 const TWICE: u128 = 1 << 76;
 
-/// Two seconds before zero, counted from the origin.
-pub const NEAR_ZERO: u128 = (1 << 75) - (1 << 33);
-
 /// A number of ticks from -2^74 to 2^74, counted from the origin.
 pub fn from_origin(ticks: i128) -> u128
     requires { unsigned_abs ticks ≤ 2 ^ 74 }

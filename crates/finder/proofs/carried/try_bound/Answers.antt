@@ -9,7 +9,7 @@ returns-in-End c samples tabled =
     let claim = data_of c.args.claim.now in
     let n = c.args.bound_ns in
     let is = reached_by samples (data_of c.in_ok-claim.claim) (with_bound claim n) c.args.tables.now
-    c.in_ok-ends.field-0 c.in_ok-claim.ensures (c.in_ok-ends.ensures samples)
+    c.in_ok-longest_ends.field-0 c.in_ok-claim.ensures (c.in_ok-longest_ends.ensures samples)
     (tables_for_other samples claim n c.args.tables.now tabled) in
     carried_by_ends (record {
       best = c.best_samples_are_the_first_best.ensures;
@@ -20,14 +20,14 @@ returns-in-End c samples tabled =
       held = c.best_hulls_hold_the_error.ensures;
     }) samples (with_bound claim n)
     (lawful_with c.nanoseconds_lie_between_their_ticks.ensures.down claim n c.requires.in_range c.requires.claim)
-    (samples_of_other samples claim n tabled.of_claim) c.in-End.ends.items (rw c.in-End.is at is)
+    (samples_of_other samples claim n tabled.of_claim) c.in-End.field-0.items (rw c.in-End.is at is)
 
 pub returns-in-Stuck : goal.returns-in-Stuck
 returns-in-Stuck c samples tabled =
     let claim = data_of c.args.claim.now in
     let n = c.args.bound_ns in
     let is = reached_by samples (data_of c.in_ok-claim.claim) (with_bound claim n) c.args.tables.now
-    c.in_ok-ends.field-0 c.in_ok-claim.ensures (c.in_ok-ends.ensures samples)
+    c.in_ok-longest_ends.field-0 c.in_ok-claim.ensures (c.in_ok-longest_ends.ensures samples)
     (tables_for_other samples claim n c.args.tables.now tabled) in
     inl (_, _, rw c.in-Stuck.is at is)
 
@@ -36,6 +36,6 @@ returns c samples tabled =
     let claim = data_of c.args.claim.now in
     let n = c.args.bound_ns in
     let is = reached_by samples (data_of c.in_ok-claim.claim) (with_bound claim n) c.args.tables.now
-    c.in_ok-ends.field-0 c.in_ok-claim.ensures (c.in_ok-ends.ensures samples)
+    c.in_ok-longest_ends.field-0 c.in_ok-claim.ensures (c.in_ok-longest_ends.ensures samples)
     (tables_for_other samples claim n c.args.tables.now tabled) in
     inr (rw c.in-TooLong.is at is)

@@ -4,8 +4,8 @@ use Rattle.finder.proofs.FewestPieces.{Laws, first_in_span}
 use Rattle.finder.proofs.LongestPiece.{are_pieces}
 use Rattle.finder.proofs.fewest.fewest_by.Goals as goal
 
-pub returns-in-End : goal.returns-in-End
-returns-in-End g c =
+pub returns-in_ok-found-in-End : goal.returns-in_ok-found-in-End
+returns-in_ok-found-in-End g c =
     let is = rw c.in-End.is at c.in_ok-ends.ensures (g.S.SampleSource.samples c.args.samples) c.requires.tables in
     finds_certificate (record {
       best = c.best_samples_are_the_first_best.ensures;
@@ -32,8 +32,8 @@ returns-in-Stuck g c =
     c.from-in-Stuck.ensures
     (rw c.in-Stuck.is at c.in_ok-ends.ensures (g.S.SampleSource.samples c.args.samples) c.requires.tables)
 
-pub returns : goal.returns
-returns g c =
+pub returns-in-TooLong : goal.returns-in-TooLong
+returns-in-TooLong g c =
     finds_too_long (record {
       best = c.best_samples_are_the_first_best.ensures;
       narrow = c.best_entries_show_as_much.ensures;

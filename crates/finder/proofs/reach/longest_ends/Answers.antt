@@ -1,49 +1,36 @@
-use Rattle.std.proofs.Common.{pos, ap, ◌∙◌}
 use Rattle.claim_file.specs.Claim.{data_of}
-use Rattle.finder.proofs.LongestPiece.{all_taken, before_last, in_64_bits, last_is, one_longer, reach_begins, reach_ends, reach_more, room_left, tick_kept}
+use Rattle.finder.proofs.LongestPiece.{all_taken, before_last, in_64_bits, last_is, one_longer, reach_begins, reach_more, tick_kept}
 use Rattle.finder.proofs.reach.longest_ends.Goals as goal
 
-pub returns-then-begin-last : goal.returns-then-begin-last
-returns-then-begin-last c samples tabled =
-    let claim = data_of c.args.claim.now in
-    let long = c.longest_end-reached.ensures samples tabled in
-    let kept = tick_kept c.longest_end-reached.result c.from.result (in_64_bits c.longest_end-reached.result
-    c.args.claim.now.last long.in_span c.requires.claim.span_ends) c.from.ensures in
-    reach_ends samples claim c.loop-places.ends.items c.push.new.self.items c.loop-places.begin
-    c.longest_end-reached.result _
-    (c.loop-places.invariant.longest samples tabled) c.loop-places.invariant.begins long kept c.in_ok-push.ensures.items
-    (ap pos c.if-begin-last.true ∙ last_is claim c.requires.claim)
-    (room_left c.loop-places.ends c.len.result c.len.ensures c.loop-places-test.true)
-
-pub loop-places-preserved : goal.loop-places-preserved
-loop-places-preserved c =
+pub loop-pace-preserved : goal.loop-pace-preserved
+loop-pace-preserved c =
     let claim = data_of c.args.claim.now in
     let some = c.requires.tables in
-    let long = c.longest_end-reached.ensures some.0 some.1 in
+    let long = c.in-Ok.ensures some.0 some.1 in
     let within = long.in_span in
-    let kept = tick_kept c.longest_end-reached.result c.from.result (in_64_bits c.longest_end-reached.result
+    let kept = tick_kept c.in-Ok.end c.from.result (in_64_bits c.in-Ok.end
     c.args.claim.now.last within c.requires.claim.span_ends) c.from.ensures in
     record {
-      longest = λ samples tabled. reach_more samples claim c.loop-places.ends.items c.push.new.self.items
-          c.loop-places.begin c.longest_end-reached.result _ (c.loop-places.invariant.longest samples tabled)
-          c.loop-places.invariant.begins (c.longest_end-reached.ensures samples tabled) kept c.in_ok-push.ensures.items
-          (before_last c.longest_end-reached.result _ c.args.claim.now.last within (last_is claim c.requires.claim)
+      longest = λ samples tabled. reach_more samples claim c.loop-pace.ends.items c.push.new.self.items
+          c.loop-pace.begin c.in-Ok.end _ (c.loop-pace.invariant.longest samples tabled)
+          c.loop-pace.invariant.begins (c.in-Ok.ensures samples tabled) kept c.in_ok-push.ensures.items
+          (before_last c.in-Ok.end _ c.args.claim.now.last within (last_is claim c.requires.claim)
           c.if-begin-last.false);
-      begins = reach_begins some.0 claim c.loop-places.ends.items c.push.new.self.items
-          c.loop-places.begin c.longest_end-reached.result _ (c.loop-places.invariant.longest some.0 some.1)
-          c.loop-places.invariant.begins long kept c.in_ok-push.ensures.items;
+      begins = reach_begins some.0 claim c.loop-pace.ends.items c.push.new.self.items
+          c.loop-pace.begin c.in-Ok.end _ (c.loop-pace.invariant.longest some.0 some.1)
+          c.loop-pace.invariant.begins long kept c.in_ok-push.ensures.items;
       within = within;
-      few = one_longer c.loop-places.ends c.len.result c.len.ensures c.push.new.self.items _ c.loop-places-test.true
+      few = one_longer c.loop-pace.ends c.len.result c.len.ensures c.push.new.self.items _ c.loop-pace-test.true
           c.in_ok-push.ensures.items;
     }
 
 pub returns : goal.returns
 returns c samples tabled =
-    let few = c.loop-places.invariant.few in (
+    let few = c.loop-pace.invariant.few in (
       record {
-        earlier = c.loop-places.ends.items;
-        longest = c.loop-places.invariant.longest samples tabled;
-        as_many = all_taken c.loop-places.ends c.len.result c.len.ensures c.loop-places-test.false few;
+        earlier = c.loop-pace.ends.items;
+        longest = c.loop-pace.invariant.longest samples tabled;
+        as_many = all_taken c.loop-pace.ends c.len.result c.len.ensures c.loop-pace-test.false few;
       },
-      c.loop-places.invariant.begins,
+      c.loop-pace.invariant.begins,
     )

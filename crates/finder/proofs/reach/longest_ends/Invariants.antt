@@ -6,8 +6,8 @@ use Rattle.finder.specs.Fewest.{AreLongest, end_after}
 use Rattle.finder.specs.Reach.{AreTablesFor}
 use Rattle.finder.proofs.reach.longest_ends.Given as goal
 
-abbrev pub invariant-loop-places : goal.invariant-loop-places
-invariant-loop-places l = record {
+abbrev pub invariant-loop-pace : goal.invariant-loop-pace
+invariant-loop-pace l = record {
   longest : (samples : List Sample) → AreTablesFor samples (data_of l.claim) l.tables
       → AreLongest samples (data_of l.claim) l.claim.first l.ends.items;
   begins : pos l.begin ≡ end_after l.claim.first l.ends.items;
@@ -15,5 +15,5 @@ invariant-loop-places l = record {
   few : length l.ends.items ≤ max_pieces;
 }
 
-abbrev pub decreases-loop-places : goal.decreases-loop-places
-decreases-loop-places l = max_pieces - length l.ends.items
+abbrev pub decreases-loop-pace : goal.decreases-loop-pace
+decreases-loop-pace l = max_pieces - length l.ends.items

@@ -25,4 +25,4 @@ returns-clause-level c extremes are lawful some =
     (subst (λ (s : Stretch). IsEarlyLevel ppb (map mirrored_extreme extremes) s (late / m)) turned
     (c.early_rise-late.ensures (map mirrored_extreme extremes)
     (subst (ArePeaksOf ppb (map mirrored_extreme extremes)) (sym c.as_slice-2.ensures.value) are.late)))
-    _ (c.level_of.ensures ∙ ap (λ (n : ℕ). n / m) c.max.ensures ∙ higher_quotient early late m (omega arith))
+    _ (c.level_of-level.ensures ∙ ap (λ (n : ℕ). n / m) c.max.ensures ∙ higher_quotient early late m (omega arith))
