@@ -194,7 +194,7 @@ pub fn some_course_fits_where_a_cover_is_small()
 {}
 
 /// If some course fits, then at every reading one is observed that fits: a whole number of ticks
-/// that the clock shows.
+/// that the clock shows. The exchanges of one request share its moment.
 pub fn some_course_is_observed_at_any_reading()
     ensures { (claim : ClaimData) (xs : List Exchange) (reading : ℤ) → IsLawful claim →
         All (IsLawfulExchange (length claim.servers)) xs → SomeCourse claim xs →

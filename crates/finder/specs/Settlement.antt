@@ -15,7 +15,7 @@ use Rattle.checker.specs.Traceability.{HoldsError, samples_of}
 use Rattle.checker.specs.Verdict.{verdict_of}
 use Rattle.checker.specs.declared.verdict.Verdict.TheVariants.{Yes}
 use Rattle.courses.specs.Contradiction.{ShownConflict, AreAllConflicts, NoFewHoldAnEnd}
-use Rattle.courses.specs.Cover.{SomeCourse}
+use Rattle.courses.specs.Cover.{SomeCourse, SomeCourseAt}
 use Rattle.courses.specs.DriftRefutation.{IsRefutedWithDrift, HasDriftCourse}
 use Rattle.courses.specs.Evidence.{IsNoEvidence, count_with_exchange}
 use Rattle.courses.specs.PairMarks.{conflict_data}
@@ -47,10 +47,14 @@ module _ (claim : ClaimData) (xs : List Exchange) where
   abbrev pub IsHeard : Type 0
   IsHeard = claim.false_max < count_with_exchange claim xs
 
-  -- The certificate shows the claim: it is accepted, no accepted one has fewer pieces, and a course
-  -- fits the exchanges, so that it says something of some course.
+  -- At each reading a course is observed that fits, with one moment for the exchanges of a request.
+  abbrev pub IsFitted : Type 0
+  IsFitted = (reading : ℤ) → SomeCourseAt claim xs reading
+
+  -- The certificate shows the claim: it is accepted, no accepted one has fewer pieces, and courses
+  -- fit the exchanges, so that it says something of some course.
   pub record IsShownBy (certificate : CertificateData) : Type 0 where
-    pub course : SomeCourse claim xs
+    pub courses : IsFitted
     pub longest : IsOfLongest (samples_of xs claim) claim certificate
     pub accepted : verdict_of (samples_of xs claim) claim certificate ≡ Yes
     pub fewest : HasFewest (samples_of xs claim) claim certificate
@@ -82,7 +86,7 @@ module _ (claim : ClaimData) (xs : List Exchange) where
   -- lies in its hull at every moment whose reading lies there.
   pub record IsLeftOpen (begin end : ℤ) (hull : Hull) : Type 0 where
     pub heard : IsHeard
-    pub course : SomeCourse claim xs
+    pub courses : IsFitted
     pub stuck : IsStuck (samples_of xs claim) claim begin end hull
     pub none_accepted : NoneIsAccepted (samples_of xs claim) claim
     pub held : HoldsError claim (samples_of xs claim) (stretch_over begin end) hull

@@ -42,8 +42,9 @@ returns-in-Ok-Certificate g c =
     let xs = map g.X.ToExchange.shown c.args.exchanges.now in
     record {
       settled = shown_by claim xs c.in-Ok-Certificate.certificate
-          (fits_if c.has_cover.result c.if-not-has_cover.false c.has_cover.ensures.exact
-          c.in_ok-conflicts.ensures.covers)
+          (λ reading. c.some_course_is_observed_at_any_reading.ensures claim xs reading c.requires.claim
+          c.requires.exchanges (fits_if c.has_cover.result c.if-not-has_cover.false c.has_cover.ensures.exact
+          c.in_ok-conflicts.ensures.covers))
           (subst (λ (samples : List Sample).
           FindsFewest samples claim (Ok (found.Certificate c.in-Ok-Certificate.certificate)))
           c.exchange_samples-samples.ensures.samples
@@ -105,8 +106,8 @@ returns-in-Ok-Nothing g c =
     let tick = stuck_within claim c.requires.claim _ begin end c.in-Ok-Nothing.hull finds.stuck in
     record {
       settled = rw (tick.begin_kept, tick.end_kept) (left_open claim xs begin end c.in-Ok-Nothing.hull tick.forward
-          (heard claim xs c.groups_heard-groups.result c.groups_heard-groups.ensures c.if-groups-claim.false) course
-          (c.some_course_is_observed_at_any_reading.ensures claim xs begin c.requires.claim c.requires.exchanges course)
-          finds);
+          (heard claim xs c.groups_heard-groups.result c.groups_heard-groups.ensures c.if-groups-claim.false)
+          (λ reading. c.some_course_is_observed_at_any_reading.ensures claim xs reading c.requires.claim
+          c.requires.exchanges course) finds);
       refused = tt;
     }
