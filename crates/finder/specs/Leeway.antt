@@ -13,6 +13,8 @@ use Rattle.certificate.specs.Refutation.{RefutationData}
 use Rattle.courses.specs.Cover.{group_of, servers_of}
 use Rattle.courses.specs.DriftRefutation.{IsRefutedWithDrift}
 use Rattle.courses.specs.Groups.{holds}
+use Rattle.courses.specs.LeastCovers.{AreLeastCovers}
+use Rattle.courses.specs.declared.groups.Groups.{Groups}
 use Rattle.marks.specs.Mark.{low_mark, high_mark, AreCompatible}
 use Rattle.marks.specs.declared.mark.Mark.{Mark}
 use Rattle.pairing.specs.declared.exchange.Exchange.{Exchange}
@@ -117,6 +119,18 @@ pub record IsTriedInVain (claim : ClaimData) (xs : List Exchange) (cover : ℕ �
       IsNarrowed leeways (claim.false_max - count_by cover (numbers_below 32)) cover is_false
   pub refutes_nothing : (r : RefutationData) → IsCandidate claim xs side reading is_false r
       → ¬ (IsRefutedWithDrift claim xs r)
+
+-- so it is at each of these readings, to both sides
+abbrev pub IsTriedAtAll : ClaimData → List Exchange → List ℕ → Groups → Type 0
+IsTriedAtAll claim xs readings cover =
+    All (λ reading. (side : Side) → IsTriedInVain claim xs (holds cover) reading side) readings
+
+-- so it is with each of the least covers
+pub record IsSoughtInVain (claim : ClaimData) (xs : List Exchange) (readings : List ℕ)
+    : Type 0 where
+  pub covers : List Groups
+  pub least : AreLeastCovers claim xs covers
+  pub tried : All (IsTriedAtAll claim xs readings) covers
 
 -- so it is at each of these places, to both sides
 abbrev pub AreTriedInVain : ClaimData → List Exchange → List Place → Type 0

@@ -76,7 +76,7 @@ returns-in-Some g c =
     record {
       settled = contested_by claim xs _
           (heard claim xs c.groups_heard-groups.result c.groups_heard-groups.ensures c.if-groups-claim.false)
-          (rw c.in-Some.is at c.in_ok-refutation-in-Ok-Nothing.ensures);
+          (rw c.in-Some.is at c.in_ok-refutation-in-Ok-Nothing.ensures.settles);
       refused = tt;
     }
 
@@ -87,7 +87,7 @@ returns-in-Some-2 g c =
     record {
       settled = contested_by claim xs _
           (heard claim xs c.groups_heard-groups.result c.groups_heard-groups.ensures c.if-groups-claim.false)
-          (rw c.in-Some-2.is at c.in_ok-refutation-in-Err-TooManyPieces.ensures);
+          (rw c.in-Some-2.is at c.in_ok-refutation-in-Err-TooManyPieces.ensures.settles);
       refused = tt;
     }
 
@@ -108,6 +108,8 @@ returns-in-Ok-Nothing g c =
       settled = rw (tick.begin_kept, tick.end_kept) (left_open claim xs begin end c.in-Ok-Nothing.hull tick.forward
           (heard claim xs c.groups_heard-groups.result c.groups_heard-groups.ensures c.if-groups-claim.false)
           (λ reading. c.some_course_is_observed_at_any_reading.ensures claim xs reading c.requires.claim
-          c.requires.exchanges course) finds);
+          c.requires.exchanges course) finds
+          (rw (c.in-None.is, tick.begin_kept, tick.end_kept)
+          at c.in_ok-refutation-in-Ok-Nothing.ensures.all_tried));
       refused = tt;
     }
