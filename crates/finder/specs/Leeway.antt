@@ -33,6 +33,13 @@ turned Below ticks = neg_ℤ ticks
 abbrev pub mark_at : ℤ → ℤ → Mark
 mark_at reading error = record { place = reading; error = error }
 
+-- the mark of an exchange above which the error can't lie on a side: the high one, or the low one of
+-- a clock whose readings and errors are the negatives
+abbrev pub limit_of : Side → ℤ → Exchange → Mark
+limit_of Above allowance x = high_mark allowance x
+limit_of Below allowance x =
+    let mark = low_mark allowance x in mark_at (neg_ℤ mark.place) (neg_ℤ mark.error)
+
 -- an exchange lets the clock be off by so many ticks to this side when it shows the reading
 abbrev pub Lets : ClaimData → Side → ℤ → ℤ → Exchange → Type 0
 Lets claim Above reading ticks x =
