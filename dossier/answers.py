@@ -11,10 +11,10 @@ from .units import seconds_of
 
 
 def read_hull(words: list[str]) -> Hull:
-    """Two ends in ticks, or one of the words `unbounded` and `empty`."""
-    if len(words) > 1:
-        return int(words[0]), int(words[1])
-    return "empty" if words[0] == "empty" else "unbounded"
+    """Two ends in ticks, or one of the words `unbounded` and `empty`; what stands behind them isn't looked at."""
+    if words[0] == "empty":
+        return "empty"
+    return "unbounded" if words[0] == "unbounded" else (int(words[0]), int(words[1]))
 
 
 def read_counts(line: str) -> dict[str, int]:
@@ -87,8 +87,8 @@ def read_envelope(text: bytes) -> Envelope:
     lines, _ = lines_of(text)
     width, servers = width_of(lines), {}
     for place in range(width):
-        words = " ".join(lines[place :: width + 1]).split(" ")
-        servers[words[1]] = list(map(int, words[2::4])), list(map(int, words[3::4]))
+        words, fields = " ".join(lines[place :: width + 1]).split(" "), len(lines[place].split(" "))
+        servers[words[1]] = list(map(int, words[2::fields])), list(map(int, words[3::fields]))
     return read_hulls(text)._replace(servers=servers)
 
 

@@ -5,19 +5,22 @@ import os
 import shutil
 import tempfile
 import threading
+from collections.abc import Sequence
 from html.parser import HTMLParser
 from pathlib import Path
+from typing import Any
 
 import tally
 from leaps import LATER, leap_list
-from tally import DATA, ROOT, program, run
+from tally import DATA, ROOT, Ran, program, run
 
 PROGRAM = program()
 SCRIPT = ROOT / "ntpaudit-dossier"
 STATE = tempfile.mkdtemp(prefix="ntpaudit-state-")
 """Where the audits of tests are recorded: not in the user's own record."""
 atexit.register(shutil.rmtree, STATE, ignore_errors=True)
-ENVIRONMENT = {**os.environ, "XDG_STATE_HOME": STATE, "NTPAUDIT": PROGRAM, "PYTHONDONTWRITEBYTECODE": "1", "LC_ALL": "C.UTF-8",
+ENVIRONMENT = {**os.environ, "XDG_STATE_HOME": STATE, "NTPAUDIT": PROGRAM, "PYTHONDONTWRITEBYTECODE": "1",
+               "LC_ALL": "C.UTF-8",
                "NTPAUDIT_LEAP_SECONDS": str(leap_list(Path(STATE) / "leap-seconds.list", LATER, (78_796_800, 11)))}
 WITHOUT_EVIDENCE = {"clients-us.few.claim.json", "vlan-ns.silent.claim.json"}
 """Claims of which their capture says nothing, so that there are no figures."""
@@ -27,23 +30,25 @@ VOID = {"meta", "link", "br"}
 LOCK = threading.Lock()
 
 
-def check(name, **pairs):
+def check(name: str, **pairs: tuple[Any, Any]) -> None:
     """Counts a case; tests run side by side."""
     with LOCK:
         tally.check(name, **pairs)
 
 
-def skipped(name, why):
+def skipped(name: str, why: str) -> None:
     """Says that a test isn't made here."""
     with LOCK:
         print(f"skipped {name}: {why}", flush=True)
 
 
-def dossier(*words, **how):
-    return run([SCRIPT, *words], **{"env": ENVIRONMENT, **how})
+def dossier(*words: object, **how: Any) -> Ran:
+    how.setdefault("env", ENVIRONMENT)
+    return run([SCRIPT, *words], **how)
 
 
-def folder_of(parent, name, capture=DATA / "clients-us.pcap", claim=DATA / "clients-us.claim.json", **changes):
+def folder_of(parent: Path, name: str, capture: Path = DATA / "clients-us.pcap",
+              claim: Path = DATA / "clients-us.claim.json", **changes: object) -> Path:
     """A folder with a claim and a capture, and some of the claim's values changed."""
     folder = parent / name
     folder.mkdir(parents=True)
@@ -52,58 +57,65 @@ def folder_of(parent, name, capture=DATA / "clients-us.pcap", claim=DATA / "clie
     return folder
 
 
-def capture_of(path, *words):
+def capture_of(path: Path, *words: object) -> Path:
     path.write_bytes(run([ROOT / "tests" / "tools" / "capture_of", *words])[1])
     return path
 
 
-def table(*folders):
+def table(*folders: Path) -> list[dict[str, Any]]:
     """The table's lines, in the order of the folders."""
     rows = json.loads(dossier("page", "--json", *folders)[1])
     names = list(map(str, folders))
     return sorted(rows, key=lambda row: names.index(row["machine"]) if row["machine"] in names else 0)
 
 
-def parts_left(parent):
+def parts_left(parent: Path) -> list[str]:
     return [str(path) for path in parent.rglob(".*")]
+
+
+Attributes = list[tuple[str, str | None]]
 
 
 class Outline(HTMLParser):
     """Whether the tags of a page match, what it would fetch, and its words."""
 
-    def __init__(self, text):
+    def __init__(self, text: str) -> None:
         super().__init__()
-        self.open, self.wrong, self.fetched, self.tags, self.words, self.ids = [], [], [], set(), [], []
+        self.open, self.wrong, self.words = list[str](), list[str](), list[str]()
+        self.fetched, self.ids, self.tags = list[str | None](), list[str | None](), set[str]()
         self.feed(text)
         self.close()
         self.wrong += [f"<{tag}> isn't closed" for tag in self.open]
 
-    def handle_starttag(self, tag, attributes):
+    def handle_starttag(self, tag: str, attributes: Attributes) -> None:
         self.tags.add(tag)
         self.ids += [value for name, value in attributes if name == "id"]
-        self.fetched += [value for name, value in attributes if name in ("src", "href", "srcset", "action") and not value.startswith("#")]
+        self.fetched += [value for name, value in attributes
+                         if name in ("src", "href", "srcset", "action") and not str(value).startswith("#")]
         self.wrong += [f"{name} of <{tag}>" for name, _ in attributes if name.startswith("on")]
         if tag not in VOID:
             self.open.append(tag)
 
-    def handle_startendtag(self, tag, attributes):
+    def handle_startendtag(self, tag: str, attributes: Attributes) -> None:
         self.handle_starttag(tag, attributes)
         if tag not in VOID:
             self.open.pop()
 
-    def handle_endtag(self, tag):
+    def handle_endtag(self, tag: str) -> None:
         if not self.open or self.open.pop() != tag:
             self.wrong.append(f"</{tag}>")
 
-    def handle_data(self, words):
+    def handle_data(self, words: str) -> None:
         self.words.append(words)
 
 
-def check_page(name, text, links=()):
+def check_page(name: str, text: str, links: Sequence[str] = ()) -> "Outline":
     page = Outline(text)
-    check(f"{name} is well-formed", wrong=(page.wrong, []), ids=(len(page.ids), len(set(page.ids))), fetched=(page.fetched, list(links)),
-          scripts=(page.tags & {"script", "img", "iframe", "object", "link"}, set()), style=("url(" in text or "@import" in text, False))
+    check(f"{name} is well-formed", wrong=(page.wrong, []), ids=(len(page.ids), len(set(page.ids))),
+          fetched=(page.fetched, list(links)), scripts=(page.tags & {"script", "img", "iframe", "object", "link"},
+                                                        set()), style=("url(" in text or "@import" in text, False))
     if shutil.which("tidy"):
-        status, _, err = run(["tidy", "-e", "-q", "--drop-empty-elements", "no", "--show-warnings", "no"], text.encode())
-        check(f"{name} by tidy", run=((status < 2, err), (True, b"")))
+        status, _, err = run(["tidy", "-e", "-q", "--drop-empty-elements", "no", "--show-warnings", "no"],
+                             text.encode())
+        check(f"{name} by tidy", run=((status in (0, 1), err), (True, b"")))
     return page

@@ -2,10 +2,14 @@
 
 A course is made in whole numbers of a thousandth of a tick of 2^-32 s. Nothing here is shared with the program.
 """
+import random
 import struct
+from collections.abc import Iterable, Sequence
 from datetime import datetime, timezone
 
-from rules import BILLION, TICKS, Sample, ceiling
+from claims import Claim
+from columns import TICKS
+from rules import BILLION, Sample, ceiling
 
 FINE = 1000                                   # parts of a tick: the fineness of every course
 EPOCH = 2208988800                            # 1970 in seconds of NTP era 0
@@ -15,7 +19,7 @@ CLIENT = bytes((192, 0, 2, 10))
 class Record:
     """A record of the capture, whose time window holds a reading of the client's clock."""
 
-    def __init__(self, reading, unit, allowance, rng):
+    def __init__(self, reading: int, unit: int, allowance: int, rng: random.Random) -> None:
         moved = reading + FINE * rng.randint(-allowance, allowance)
         self.sec, self.sub = divmod(moved * unit // (TICKS * FINE), unit)
         self.low = self.sec * TICKS + self.sub * TICKS // unit
@@ -26,14 +30,14 @@ class Record:
 class Clock:
     """The client's clock: its error at each moment, by a walk within the drift rate from moment to moment."""
 
-    def __init__(self, times, ppb, error, rng):
+    def __init__(self, times: Sequence[int], ppb: int, error: int, rng: random.Random) -> None:
         self.error, self.at_second = {}, {}
         lean, before = rng.choice((-1, 0, 1)), times[0]
 
-        def step(most):
+        def step(most: int) -> int:
             return lean * most if lean and rng.random() < 0.9 else rng.randint(-most, most)
 
-        def whole(moved):
+        def whole(moved: int) -> int:
             # a whole tick on the way there, if there is one
             tick = FINE * (moved // FINE if moved > error else ceiling(moved, FINE))
             return tick if min(error, moved) <= tick <= max(error, moved) else moved
@@ -49,28 +53,31 @@ class Clock:
             error += step(ppb * (time - before) // BILLION)
             self.error[time], before = error, time
 
-    def reading(self, time):
+    def reading(self, time: int) -> int:
         return time + self.error[time]
 
 
-def ethernet(source, destination, source_port, destination_port, payload):
+def ethernet(source: bytes, destination: bytes, source_port: int, destination_port: int, payload: bytes) -> bytes:
     udp = struct.pack(">HHHH", source_port, destination_port, 8 + len(payload), 0) + payload
     ip = struct.pack(">BBHHHBBH4s4s", 0x45, 0, 20 + len(udp), 0, 0, 64, 17, 0, source, destination)
     return bytes(12) + struct.pack(">H", 0x0800) + ip + udp
 
 
-def ntp(first, stratum, precision, delay, dispersion, stamps):
+def ntp(first: int, stratum: int, precision: int, delay: int, dispersion: int, stamps: Iterable[int]) -> bytes:
     return struct.pack(">BBbbII4s4Q", first, stratum, 6, precision, delay, dispersion, b"TEST", *stamps)
 
 
-def stamp(ticks):
+def stamp(ticks: int) -> int:
     return (ticks + EPOCH * TICKS) % (1 << 64)
 
 
 class Exchange:
     """One request and its reply: the moments of the course, and what the packets say of them."""
+    request: Record
+    reply: Record
+    half: int | None
 
-    def __init__(self, server, times, says, distance):
+    def __init__(self, server: int, times: Sequence[int], says: Sequence[int], distance: tuple[int, int, int]) -> None:
         self.server, (self.t1, self.t2, self.t3, self.t4) = server, times
         self.receive, self.transmit = says
         self.delay, self.dispersion, self.precision = distance
@@ -78,7 +85,7 @@ class Exchange:
         self.distance = self.delay * 32768 + self.dispersion * 65536 + tick
 
 
-def make_exchange(server, honest, mean, start, rng):
+def make_exchange(server: int, honest: bool, mean: int, start: int, rng: random.Random) -> Exchange:
     """An exchange that begins about `start`: within its root distance where the server is honest.
 
     A mean course goes to the edge of what is allowed: the way out (or back) takes no time, and the server's stamp there
@@ -106,7 +113,7 @@ def make_exchange(server, honest, mean, start, rng):
 class Course:
     """A course of events, with the capture and the claim that go with it."""
 
-    def __init__(self, rng):
+    def __init__(self, rng: random.Random) -> None:
         count = rng.randint(1, 7)
         self.groups = split_into_groups(count, rng)
         self.false_max = rng.randint(0, max(0, (len(self.groups) - 1) // 2))
@@ -128,7 +135,7 @@ class Course:
         self.exchanges.sort(key=lambda x: x.t4)
         self.run(begin, rng)
 
-    def run(self, begin, rng):
+    def run(self, begin: int, rng: random.Random) -> None:
         """Lets the clock run through all moments, with many observations between them."""
         seen = [begin + rng.randint(-TICKS, (self.seconds + 1) * TICKS) * FINE for _ in range(60)]
         times = sorted({x.t1 for x in self.exchanges} | {x.t4 for x in self.exchanges} | {t for t in seen if t >= 0})
@@ -138,12 +145,12 @@ class Course:
             x.request = Record(self.clock.reading(x.t1), self.unit, self.allowance, rng)
             x.reply = Record(self.clock.reading(x.t4), self.unit, self.allowance, rng)
 
-    def worst(self):
+    def worst(self) -> int:
         """The greatest error, in fine parts, at the moments whose reading lies in the span."""
         low, high = self.first * TICKS * FINE, (self.first + self.seconds) * TICKS * FINE
         return max((abs(e) for t, e in self.clock.error.items() if low <= t + e <= high), default=0)
 
-    def capture(self):
+    def capture(self) -> bytes:
         magic = 0xA1B2C3D4 if self.unit == 10**6 else 0xA1B23C4D
         records = []
         for number, x in enumerate(self.exchanges):
@@ -159,22 +166,22 @@ class Course:
         out += [struct.pack("<IIII", r.sec, r.sub, len(frame), len(frame)) + frame for _, r, frame in records]
         return b"".join(out)
 
-    def samples(self):
+    def samples(self) -> list[Sample]:
         """What the capture says of each exchange, in the order of the replies."""
-        def allowed(record):
+        def allowed(record: Record) -> tuple[int, int]:
             return record.low - self.allowance, record.high + self.allowance
         return [Sample(x.server, allowed(x.request), allowed(x.reply), x.receive, x.transmit, x.distance)
                 for x in self.exchanges]
 
-    def claim(self, bound_ns):
+    def claim(self, bound_ns: int) -> Claim:
         return {"client": "192.0.2.10", "servers": [f"192.0.2.{20 + s}" for s in range(sum(map(len, self.groups)))],
                 "groups": self.groups, "false_max": self.false_max, "from": spelled(self.first),
                 "to": spelled(self.first + self.seconds), "bound_ns": bound_ns, "drift_ppb": self.ppb,
                 "reading_ns": self.reading_ns}
 
 
-def split_into_groups(count, rng):
-    groups = []
+def split_into_groups(count: int, rng: random.Random) -> list[list[int]]:
+    groups: list[list[int]] = []
     for server in range(count):
         if groups and rng.random() < 0.3:
             rng.choice(groups).append(server)
@@ -187,7 +194,7 @@ class PartedCourse(Course):
     """A course that no whole capture allows for, but each half of its span does: the clock was stepped before the span,
     after some exchanges, and other servers are false in the second half than in the first."""
 
-    def __init__(self, rng):
+    def __init__(self, rng: random.Random) -> None:
         count = rng.randint(2, 6)
         self.groups = split_into_groups(count, rng)
         self.false_max = rng.randint(0, max(0, (len(self.groups) - 1) // 2))
@@ -211,10 +218,10 @@ class PartedCourse(Course):
             self.add(x := make_exchange(server, True, 0, moment, rng), None)
             x.request, x.reply = (Record(time + jump, self.unit, self.allowance, rng) for time in (x.t1, x.t4))
 
-    def add(self, exchange, half):
+    def add(self, exchange: Exchange, half: int | None) -> None:
         exchange.half = half
         self.exchanges.append(exchange)
 
 
-def spelled(second):
+def spelled(second: int) -> str:
     return datetime.fromtimestamp(second, timezone.utc).strftime("%Y-%m-%dT%H:%M:%SZ")

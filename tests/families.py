@@ -12,7 +12,9 @@ from datetime import datetime, timezone
 from pathlib import Path
 from typing import NamedTuple
 
-from rules import BILLION, TICKS, Sample, ceiling
+from claims import Claim, changed
+from columns import TICKS
+from rules import BILLION, Sample, ceiling
 
 BEGIN = 1_700_000_000
 SECOND, DAY, CENTURY = 1, 86_400, 36_525 * 86_400
@@ -33,8 +35,6 @@ FILES = Path(__file__).resolve().parent.parent / "data" / "slow"
 
 Row = tuple[int, int, int, int, int]
 """A server's number, the nanoseconds of request and reply, the low and the high end."""
-
-Claim = dict
 
 
 # ---- exchanges
@@ -122,10 +122,11 @@ class Setting(NamedTuple):
     reading_ns: int = 0
 
     def claim(self, bound_ns: int, **changes: object) -> Claim:
-        return {"client": "192.0.2.10", "servers": [f"192.0.2.{101 + server}" for server in range(self.servers)],
-                "false_max": self.false_max, "from": spelled(self.begin), "to": spelled(self.begin + self.seconds),
-                "bound_ns": min(max(0, bound_ns), 10**15), "drift_ppb": self.ppb, "reading_ns": self.reading_ns,
-                **changes}
+        claim: Claim = {
+            "client": "192.0.2.10", "servers": [f"192.0.2.{101 + server}" for server in range(self.servers)],
+            "false_max": self.false_max, "from": spelled(self.begin), "to": spelled(self.begin + self.seconds),
+            "bound_ns": min(max(0, bound_ns), 10**15), "drift_ppb": self.ppb, "reading_ns": self.reading_ns}
+        return changed(claim, **changes)
 
     def drifted(self, ticks: int) -> int:
         """What the clock can have drifted over so many ticks."""

@@ -15,9 +15,12 @@ import marks
 import pieces
 import rules
 import settlement
-from pieces import Claim, Hulls, Stop
-from rules import TICKS, Sample
-from tally import run, short
+from claims import Claim, Piece, Refutation, changed
+from columns import TICKS, counted
+from marks import Conflicts
+from pieces import Hulls, Stop
+from rules import Sample
+from tally import Ran, run, short
 
 SOME = 3000
 """As many pieces are made by the reading where not all of them have to be."""
@@ -31,13 +34,14 @@ WAIT = 20
 FEW_COVERS = 4
 FAST_REFUTATION = 200
 
-Ran = tuple[int | str, bytes, bytes]
+OVER = f"ntpaudit: {settlement.OVER}\n".encode()
+
 Case = tuple[str, str]
 """What was tried, and what is wrong with it: nothing where that's an empty text."""
 
 
 def kind_of(ran: Ran) -> str:
-    if ran == (2, b"", f"ntpaudit: {settlement.OVER}\n".encode()):
+    if ran == (2, b"", OVER):
         return "over"
     kind = settlement.kind_of(ran[1])
     return kind if kind in settlement.KINDS.values() else f"{kind}: {short(ran)}"
@@ -73,13 +77,14 @@ def seconds_of_children() -> float:
 class Question:
     """A claim on a capture, and what the reading says of it."""
 
-    def __init__(self, name: str, claim: Claim, samples: list[Sample], records: list[tuple[int, int]], conflicts: dict,
-                 way: Way) -> None:
+    def __init__(self, name: str, claim: Claim, samples: list[Sample], records: list[tuple[int, int]],
+                 conflicts: Conflicts, way: Way) -> None:
         self.name, self.claim, self.samples, self.records, self.conflicts = name, claim, samples, records, conflicts
         self.way, folder = way, way.folder
         self.file, self.capture = folder / "claim.json", folder / "capture.pcap"
         self.file.write_text(json.dumps(claim))
         self.times: list[tuple[float, str]] = []
+        self.called: set[str] = set()
         seconds = (self.span[1] - self.span[0]) // TICKS
         self.step = min(86_400, max(1, seconds // 24))
 
@@ -99,6 +104,8 @@ class Question:
         """Runs a command on the claim and the capture. Its limit is of the processor's time, which no other load
         changes."""
         began, limit = seconds_of_children(), int(self.way.limit)
+        options = [str(word) for word in words if str(word).startswith("--") and word != "--step"]
+        self.called.add(" ".join((command, *options)))
         ran = run([self.way.program, command, claim or self.file, self.capture, *words], given, timeout=WAIT * limit,
                   preexec_fn=lambda: resource.setrlimit(resource.RLIMIT_CPU, (limit, limit + 1)))
         self.times.append((seconds_of_children() - began, f"{self.name}: {command} {' '.join(map(str, words))}"))
@@ -147,8 +154,8 @@ def settle_wrong(question: Question, ran: Ran, kind: str) -> str:
     _, stop = question.ends(claim["bound_ns"], lambda _: kind == "open")
     if stop is None:
         return f"{kind}, and there is a certificate"
-    wanted = (2, [], f"ntpaudit: {settlement.OVER}\n".encode()) if stop.is_over else (1, [settlement.open_line(stop)])
-    return differs(ran, *wanted) or refutable(question, stop)
+    wrong = differs(ran, 2, [], OVER) if stop.is_over else differs(ran, 1, [settlement.open_line(stop)])
+    return wrong or refutable(question, stop)
 
 
 def refutable(question: Question, stop: Stop) -> str:
@@ -179,7 +186,7 @@ def certificate_wrong(question: Question, claim: Claim, ran: Ran) -> str:
     return named_wrong(question, printed) if is_compact else "another spelling of a certificate"
 
 
-def named_wrong(question: Question, printed: list[dict]) -> str:
+def named_wrong(question: Question, printed: list[Piece]) -> str:
     """What is wrong with the samples that a certificate names. Of each piece they have the best ends, and where it
     isn't too much to look at, and in three pieces always, they are the first that have."""
     claim, samples = question.claim, question.samples
@@ -209,18 +216,13 @@ def envelope_lines(question: Question, with_servers: bool = False) -> list[str]:
     for number, (begin, end) in enumerate(rules.pieces_of(question.claim, question.step)):
         found = question.hulls.over(begin, end)
         if with_servers:
-            lines += [f"{number} {line}" for line in server_lines(question, begin, end)]
+            lines += rules.server_lines(question.claim, number, question.hulls.intervals(begin, end))
         needs.append(pieces.need_of(found))
-        lines.append(f"{number} {begin // TICKS} {end // TICKS} {rules.hull_words(found)}")
-    if None in needs:
+        lines.append(rules.piece_line(number, begin, end, found))
+    in_ns = [rules.ceiling(need * rules.BILLION, TICKS) for need in needs if need is not None]
+    if len(in_ns) < len(needs):
         return [*lines, f"bound_ns none piece {needs.index(None)}"]
-    in_ns = [rules.ceiling(need * rules.BILLION, TICKS) for need in needs]
     return [*lines, f"bound_ns {max(in_ns)} piece {in_ns.index(max(in_ns))}"]
-
-
-def server_lines(question: Question, begin: int, end: int) -> list[str]:
-    return [f"{question.claim['servers'][server]} {low} {high}"
-            for server, (low, high) in question.hulls.intervals(begin, end).items()]
 
 
 def envelope_case(question: Question) -> Iterator[Case]:
@@ -260,7 +262,7 @@ def carried_wrong(question: Question, bound_ns: int) -> str:
         return f"least_ns {bound_ns}, and the pieces stop at {stop}"
     if not question.covers:
         return ""
-    claim = {**question.claim, "bound_ns": bound_ns}
+    claim = changed(question.claim, bound_ns=bound_ns)
     file = question.way.folder / "least.json"
     file.write_text(json.dumps(claim))
     ran = question.call("settle", claim=file)
@@ -305,20 +307,17 @@ def at_case(question: Question) -> Iterator[Case]:
     begin, last = (place // TICKS for place in question.span)
     for second in sorted({begin, (begin + last) // 2, last}):
         place = second * TICKS
-        lines = [*server_lines(question, place, place), f"hull {rules.hull_words(question.hulls.over(place, place))}"]
+        lines = rules.moment_lines(question.claim, question.hulls.intervals(place, place),
+                                   question.hulls.over(place, place))
         yield f"at {second}", differs(question.call("at", families.spelled(second)), 0, lines)
 
 
 def samples_case(question: Question) -> Iterator[Case]:
-    lines = []
-    for number, (sample, records) in enumerate(zip(question.samples, question.records)):
-        fields = (number, question.claim["servers"][sample.server], *records, "offset", *sample.offset,
-                  "delay", *sample.delay, "low", sample.low, "high", sample.high)
-        lines.append(" ".join(map(str, fields)))
+    lines = [rules.sample_line(question.claim, number, sample, records)
+             for number, (sample, records) in enumerate(zip(question.samples, question.records))]
     known = len(lines)
-    lines.append(f"records {2 * known} requests {known} replies {known} samples {known} version 0 leap 0 stratum 0 "
-                 "precision 0 zero 0 norequest 0 ambiguous 0 warnings 0")
-    yield "samples", differs(question.call("samples"), 0, lines)
+    counts = counted(records=2 * known, requests=known, replies=known, samples=known)
+    yield "samples", differs(question.call("samples"), 0, [*lines, counts])
 
 
 def refute_case(question: Question) -> Iterator[Case]:
@@ -329,9 +328,9 @@ def refute_case(question: Question) -> Iterator[Case]:
         reading, named = sum(question.span) // 2, settlement.servers_of(claim, question.covers[0])
         greatest = marks.greatest_error(claim, samples, named, reading)
         for error in (greatest, greatest + 1) if greatest is not None and abs(greatest) < 2**62 else ():
-            tried = {"error": error, "false": named, "reading": reading}
-            for words, stands in ((["--drift"], marks.stands_with_drift), ([], rules.stands)):
-                is_right = stands(claim, samples, tried)
+            tried: Refutation = {"error": error, "false": named, "reading": reading}
+            for words, is_right in ((("--drift",), marks.stands_with_drift(claim, samples, tried)),
+                                    ((), rules.stands(claim, samples, tried))):
                 ran = question.call("refute", "/dev/stdin", *words, given=json.dumps(tried).encode())
                 wanted = ["refuted yes" if is_right else "refuted no"]
                 yield f"refute {' '.join(words)} of {tried}", differs(ran, int(not is_right), wanted)
@@ -344,6 +343,7 @@ def sought_wrong(question: Question, ran: Ran) -> str:
     claim, samples = question.claim, question.samples
     over = rules.bound_of(claim) + 1
     liars = rules.liars(samples, over)
+    found: Refutation | None
     if rules.group_count(claim, liars) <= claim["false_max"]:
         found = {"error": over, "false": liars, "reading": question.span[0]}
     elif len(samples) <= FAST_REFUTATION:
@@ -355,4 +355,5 @@ def sought_wrong(question: Question, ran: Ran) -> str:
     return differs(ran, int(not found), [rules.compact(found) if found else "nothing refutation"])
 
 
-CASES = settle_case, envelope_case, find_case, at_case, samples_case, refute_case
+CASES: tuple[Callable[[Question], Iterator[Case]],
+             ...] = settle_case, envelope_case, find_case, at_case, samples_case, refute_case

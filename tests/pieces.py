@@ -10,18 +10,16 @@ import heapq
 import json
 from bisect import bisect_right
 from collections.abc import Callable, Iterable
-from itertools import accumulate
 from typing import NamedTuple
 
 import rules
-from rules import BILLION, TICKS, Sample
+from claims import Certificate, Claim
+from columns import TICKS
+from rules import BILLION, Hull, Sample
 
 MOST_PIECES = 100_000
 MOST_BOUND_NS = 10**15
 """The greatest lawful bound."""
-
-Claim = dict
-Hull = tuple[int, int] | tuple[()] | None
 
 
 # ---- hulls of any piece
@@ -37,16 +35,16 @@ class Side:
         self.middles = [begin + end for (begin, end), _ in by_middle]
         to_last = [self.rest * low + ppb * begin for (begin, _), low in by_middle]
         to_first = [self.rest * low - ppb * end for (_, end), low in by_middle]
-        self.to_last = list(accumulate(to_last, max))
-        self.to_first = list(accumulate(reversed(to_first), max))[::-1]
+        self.to_last = rules.running(max, to_last)
+        self.to_first = rules.running(max, reversed(to_first))[::-1]
 
     def greatest(self, begin: int, end: int) -> int:
         at = bisect_right(self.middles, begin + end)
-        found = self.to_last[at - 1] - self.ppb * end if at else None
-        if at < len(self.middles):
-            other = self.to_first[at] + self.ppb * begin
-            found = other if found is None or other > found else found
-        return found // self.rest
+        last = self.to_last[at - 1] - self.ppb * end
+        if at == len(self.middles):
+            return last // self.rest
+        first = self.to_first[at] + self.ppb * begin
+        return (max(first, last) if at else first) // self.rest
 
 
 class Hulls:
@@ -82,15 +80,17 @@ def meeting(intervals: list[tuple[int, int]], wanted: int) -> Hull:
     """The first and the last point that lie in so many of these intervals."""
     whole = [(low, high) for low, high in intervals if low <= high]
     ends = sorted([(low, 0) for low, _ in whole] + [(high, 1) for _, high in whole])
-    count, first, last = 0, None, None
+    count, firsts, lasts = 0, list[int](), list[int]()
     for point, is_high in ends:
         if is_high:
-            last = point if count >= wanted else last
+            if count >= wanted:
+                lasts.append(point)
             count -= 1
         else:
             count += 1
-            first = point if count == wanted and first is None else first
-    return () if first is None else (first, last)
+            if count == wanted:
+                firsts.append(point)
+    return (firsts[0], lasts[-1]) if firsts else ()
 
 
 def need_of(found: Hull) -> int | None:
@@ -100,7 +100,7 @@ def need_of(found: Hull) -> int | None:
 
 def is_inside(bound: int, found: Hull) -> bool:
     """Whether a hull lies inside a bound in ticks."""
-    return bool(found) and -bound <= found[0] and found[1] <= bound
+    return -bound <= found[0] and found[1] <= bound if found else False
 
 
 def bound_in_ticks(bound_ns: int) -> int:
@@ -140,7 +140,7 @@ def farthest(is_good: Callable[[int], bool], known: int, last: int, guess: int) 
 
 def ends_of(span: tuple[int, int], hulls: Hulls, bound: int, most: int = MOST_PIECES) -> tuple[list[int], Stop | None]:
     """The ends of the pieces, each of which is as long as it can be; and where they stop, if they do."""
-    (begin, last), ends, length = span, [], 1
+    (begin, last), ends, length = span, list[int](), 1
     while not ends or begin < last:
         tick = min(begin + 1, last)
         found = hulls.over(begin, tick)
@@ -152,7 +152,7 @@ def ends_of(span: tuple[int, int], hulls: Hulls, bound: int, most: int = MOST_PI
     return ends, None
 
 
-def fewest(claim: Claim, samples: list[Sample]) -> tuple[dict | None, Stop | None]:
+def fewest(claim: Claim, samples: list[Sample]) -> tuple[Certificate | None, Stop | None]:
     """The certificate of fewest pieces, or the tick at which its pieces stop."""
     span = rules.span_of(claim)
     ends, stop = ends_of(span, Hulls(claim, samples), rules.bound_of(claim))
@@ -170,21 +170,21 @@ def neediest(hulls: Hulls, begin: int, end: int, most: int) -> tuple[int, int, i
     """The piece of one tick that needs most, of those with a hull: what it needs, and its ends; None where none has
     one. A piece within a piece needs no more, so the one that needs most is halved until it has one tick. After so
     many turns it is the neediest of those in the middle of what was halved."""
-    def with_need(*piece: int) -> list[tuple[int, tuple[int, ...]]]:
-        need = need_of(hulls.over(*piece))
-        return [] if need is None else [(-need, piece)]
-    waiting, seen = with_need(begin, end), []
+    def with_need(begin: int, end: int) -> list[tuple[int, int, int]]:
+        need = need_of(hulls.over(begin, end))
+        return [] if need is None else [(-need, begin, end)]
+    waiting, seen = with_need(begin, end), list[tuple[int, int, int]]()
     for _ in range(most):
         if not waiting:
             break
-        need, (begin, end) = heapq.heappop(waiting)
+        need, begin, end = heapq.heappop(waiting)
         if end - begin <= 1:
             return -need, begin, end
         middle = (begin + end) // 2
         for found in with_need(begin, middle) + with_need(middle, end):
             heapq.heappush(waiting, found)
         seen = sorted([*seen, *with_need(middle, middle + 1)])[:1]
-    return (-seen[0][0], *seen[0][1]) if seen else None
+    return (-seen[0][0], *seen[0][1:]) if seen else None
 
 
 # ---- the least bound
@@ -222,6 +222,7 @@ def piece_of(claim: Claim, hulls: Hulls, bound_ns: int, step: int) -> int:
     if bound_ns == 0:
         return 0
     _, stop = ends_of(span, hulls, bound_in_ticks(bound_ns - 1))
+    assert stop
     return (stop.begin - span[0]) // (step * TICKS) if stop.begin < span[1] else last_piece(span, step)
 
 

@@ -8,44 +8,60 @@ A claim is the value of its file, and servers and samples go by their numbers. T
 """
 import datetime
 import json
+from collections.abc import Callable, Collection, Iterable
+from itertools import accumulate
 
-TICKS = 1 << 32
+from claims import Certificate, Claim, Refutation
+from columns import MOMENT, NO_ENDS, PIECE, PIECE_OF_SERVER, SAMPLE, TICKS, written
+
 BILLION = 10**9
 
+Ends = tuple[int, int]
+Hull = Ends | tuple[()] | None
+"""None where it's unbounded, () where it's empty."""
 
-def ceiling(numerator, denominator):
+Intervals = dict[int, Ends]
+"""The interval of each server."""
+
+
+def ceiling(numerator: int, denominator: int) -> int:
     return -(-numerator // denominator)
+
+
+def running(of: Callable[[int, int], int], numbers: Iterable[int]) -> list[int]:
+    """The greatest of the numbers so far, or the least, at each of them."""
+    return list(accumulate(numbers, of))
 
 
 # ---- a claim
 
 
-def ticks_of(time):
+def ticks_of(time: str) -> int:
     return int(datetime.datetime.fromisoformat(time.replace("Z", "+00:00")).timestamp()) * TICKS
 
 
-def span_of(claim):
+def span_of(claim: Claim) -> Ends:
     return ticks_of(claim["from"]), ticks_of(claim["to"])
 
 
-def bound_of(claim):
+def bound_of(claim: Claim) -> int:
     return claim["bound_ns"] * TICKS // BILLION
 
 
-def groups_of(claim):
+def groups_of(claim: Claim) -> list[list[int]]:
     return claim.get("groups", [[server] for server in range(len(claim["servers"]))])
 
 
-def allowed(claim, low, high):
+def allowed(claim: Claim, low: int, high: int) -> Ends:
     """A record's time window, with the reading allowance on both sides."""
     allowance = ceiling(claim["reading_ns"] * TICKS, BILLION)
     return low - allowance, high + allowance
 
 
-def pieces_of(claim, step):
+def pieces_of(claim: Claim, step: int) -> list[Ends]:
     """The pieces of so many seconds, each with its begin and its end. A span of one moment has one."""
     begin, last = span_of(claim)
-    found = []
+    found: list[Ends] = []
     while not found or begin < last:
         found.append((begin, min(begin + step * TICKS, last)))
         begin = found[-1][1]
@@ -59,42 +75,43 @@ class Sample:
     """An exchange: its server, the windows in which the request left and the reply came, the reply's two timestamps,
     and its root distance. Where the clock doesn't drift its error lies between `low` and `high`."""
 
-    def __init__(self, server, sent, received, t2, t3, distance):
+    def __init__(self, server: int, sent: Ends, received: Ends, t2: int, t3: int, distance: int) -> None:
         self.server, self.sent, self.received = server, sent, received
         self.t2, self.t3, self.distance = t2, t3, distance
         self.low = sent[0] - t2 - distance
         self.high = received[1] - t3 + distance
 
     @property
-    def offset(self):
+    def offset(self) -> Ends:
         both = self.t2 + self.t3
         return (both - self.sent[1] - self.received[1]) // 2, ceiling(both - self.sent[0] - self.received[0], 2)
 
     @property
-    def delay(self):
+    def delay(self) -> Ends:
         served = self.t3 - self.t2
         return self.received[0] - self.sent[1] - served, self.received[1] - self.sent[0] - served
 
 
-def widening(claim, window, begin, end):
+def widening(claim: Claim, window: Ends, begin: int, end: int) -> int:
     """What the clock can have drifted between a window and a piece: the least whole W with W (10^9 - ppb) >= ppb times
     the way between them."""
     ppb = claim["drift_ppb"]
     return ceiling(ppb * max(end - window[0], window[1] - begin), BILLION - ppb)
 
 
-def moved_low(claim, sample, begin, end):
+def moved_low(claim: Claim, sample: Sample, begin: int, end: int) -> int:
     return sample.low - widening(claim, sample.sent, begin, end)
 
 
-def moved_high(claim, sample, begin, end):
+def moved_high(claim: Claim, sample: Sample, begin: int, end: int) -> int:
     return sample.high + widening(claim, sample.received, begin, end)
 
 
-def best_entries(claim, samples, begin, end, among=None):
+def best_entries(claim: Claim, samples: list[Sample], begin: int, end: int,
+                 among: Collection[int] | None = None) -> list[list[int]]:
     """For each server that has a sample, of all or of these numbers: the first sample with the greatest low end over
     the piece, and the first with the least high end."""
-    lows, highs = {}, {}
+    lows, highs = dict[int, list[tuple[int, int]]](), dict[int, list[tuple[int, int]]]()
     for k, sample in enumerate(samples):
         if among is None or k in among:
             lows.setdefault(sample.server, []).append((-moved_low(claim, sample, begin, end), k))
@@ -102,13 +119,13 @@ def best_entries(claim, samples, begin, end, among=None):
     return [[min(lows[server])[1], min(highs[server])[1]] for server in sorted(lows)]
 
 
-def intervals(claim, samples, entries, begin, end):
+def intervals(claim: Claim, samples: list[Sample], entries: list[list[int]], begin: int, end: int) -> Intervals:
     """The interval of each server that has an entry."""
     return {samples[a].server: (moved_low(claim, samples[a], begin, end), moved_high(claim, samples[b], begin, end))
             for a, b in entries}
 
 
-def hull(claim, samples, entries, begin, end):
+def hull(claim: Claim, samples: list[Sample], entries: list[list[int]], begin: int, end: int) -> Hull:
     """The hull over the groups of the entries, where an interval of a group is what all its servers have in common:
     None where it's unbounded, () where it's empty."""
     of_servers, of_groups = intervals(claim, samples, entries, begin, end), []
@@ -125,23 +142,48 @@ def hull(claim, samples, entries, begin, end):
 # ---- what the commands print
 
 
-def hull_words(hull):
-    return "unbounded" if hull is None else f"{hull[0]} {hull[1]}" if hull else "empty"
+def hull_fields(hull: Hull) -> tuple[object, object]:
+    """The two ends, or a word and nothing."""
+    return hull if hull else (NO_ENDS[hull is not None], "")
 
 
-def moment(claim, samples, time):
+def hull_words(hull: Hull) -> str:
+    return " ".join(map(str, hull_fields(hull))).rstrip()
+
+
+def sample_line(claim: Claim, number: int, sample: Sample, records: tuple[int, int]) -> str:
+    """A line of `samples`, of a sample whose request and reply have these numbers of records."""
+    return written(SAMPLE, number, claim["servers"][sample.server], *records, *sample.offset, *sample.delay, sample.low,
+                   sample.high)
+
+
+def moment_lines(claim: Claim, of_servers: Intervals, hull: Hull) -> list[str]:
     """The lines of `at`."""
-    entries = best_entries(claim, samples, time, time)
-    lines = [f"{claim['servers'][server]} {low} {high}"
-             for server, (low, high) in intervals(claim, samples, entries, time, time).items()]
-    return [*lines, f"hull {hull_words(hull(claim, samples, entries, time, time))}"]
+    lines = [written(MOMENT, claim["servers"][server], *ends) for server, ends in of_servers.items()]
+    return [*lines, written(MOMENT, "hull", *hull_fields(hull))]
 
 
-def compact(value):
+def server_lines(claim: Claim, number: int, of_servers: Intervals) -> list[str]:
+    """The lines of the servers of a piece of `envelope`."""
+    return [written(PIECE_OF_SERVER, number, claim["servers"][server], *ends) for server, ends in of_servers.items()]
+
+
+def piece_line(number: int, begin: int, end: int, hull: Hull) -> str:
+    """The line of a piece of `envelope`."""
+    return written(PIECE, number, begin // TICKS, end // TICKS, *hull_fields(hull))
+
+
+def moment(claim: Claim, samples: list[Sample], time: int) -> list[str]:
+    """What `at` prints."""
+    of_moment = claim, samples, best_entries(claim, samples, time, time), time, time
+    return moment_lines(claim, intervals(*of_moment), hull(*of_moment))
+
+
+def compact(value: object) -> str:
     return json.dumps(value, separators=(",", ":"))
 
 
-def certificate(claim, samples, step):
+def certificate(claim: Claim, samples: list[Sample], step: int) -> str:
     """The line of `find`: a certificate, or the first piece that fails."""
     pieces = []
     for k, (begin, end) in enumerate(pieces_of(claim, step)):
@@ -153,7 +195,7 @@ def certificate(claim, samples, step):
     return compact({"pieces": pieces})
 
 
-def verdict(claim, samples, certificate):
+def verdict(claim: Claim, samples: list[Sample], certificate: Certificate) -> str:
     """What `check` says of a certificate."""
     begin, last = span_of(claim)
     for number, piece in enumerate(certificate["pieces"]):
@@ -179,7 +221,8 @@ def verdict(claim, samples, certificate):
     return "yes"
 
 
-def envelope(claim, samples, step):
+def envelope(claim: Claim, samples: list[Sample],
+             step: int) -> tuple[list[tuple[int, int, Intervals, Hull]], int | None, int]:
     """The pieces, each with its begin, its end, its intervals and its hull; and the least bound inside which all hulls
     lie, with the first piece that needs it: None where a piece has no hull, the first of which is given."""
     pieces = []
@@ -187,44 +230,42 @@ def envelope(claim, samples, step):
         entries = best_entries(claim, samples, begin, end)
         of_piece = claim, samples, entries, begin, end
         pieces.append((begin, end, intervals(*of_piece), hull(*of_piece)))
-    without = [k for k, (*_, found) in enumerate(pieces) if not found]
-    if without:
-        return pieces, None, without[0]
-    needs = [ceiling(max(0, -low, high) * BILLION, TICKS) for *_, (low, high) in pieces]
-    return pieces, max(needs), needs.index(max(needs))
+    needs = [ceiling(max(0, -found[0], found[1]) * BILLION, TICKS) if found else None for *_, found in pieces]
+    known = [need for need in needs if need is not None]
+    if len(known) < len(needs):
+        return pieces, None, needs.index(None)
+    return pieces, max(known), known.index(max(known))
 
 
-def envelope_lines(claim, samples, step, with_servers):
+def envelope_lines(claim: Claim, samples: list[Sample], step: int, with_servers: bool) -> list[str]:
     """The lines of `envelope`, without that of `--least`."""
     (pieces, bound, worst), lines = envelope(claim, samples, step), []
     for k, (begin, end, of_servers, found) in enumerate(pieces):
-        if with_servers:
-            lines += [f"{k} {claim['servers'][server]} {low} {high}" for server, (low, high) in of_servers.items()]
-        lines.append(f"{k} {begin // TICKS} {end // TICKS} {hull_words(found)}")
+        lines += [*(server_lines(claim, k, of_servers) if with_servers else []), piece_line(k, begin, end, found)]
     return [*lines, f"bound_ns {'none' if bound is None else bound} piece {worst}"]
 
 
 # ---- refutations
 
 
-def admits(sample, error):
+def admits(sample: Sample, error: int) -> bool:
     """Whether the moments of an exchange can come one after another, if the clock is off by this error throughout."""
     (w, _), (_, z), t2, t3, r = sample.sent, sample.received, sample.t2, sample.t3, sample.distance
     return (w - error <= t2 + r and t3 - r <= z - error and w <= z and w - error <= t3 + r and t2 - r <= t3 + r
             and t2 - r <= z - error)
 
 
-def liars(samples, error):
+def liars(samples: list[Sample], error: int) -> list[int]:
     """The servers with an exchange that doesn't leave room for the error."""
     return sorted({sample.server for sample in samples if not admits(sample, error)})
 
 
-def group_count(claim, servers):
+def group_count(claim: Claim, servers: Collection[int]) -> int:
     """In how many groups these servers are."""
     return sum(any(server in servers for server in group) for group in groups_of(claim))
 
 
-def refutation(claim, samples):
+def refutation(claim: Claim, samples: list[Sample]) -> Refutation | None:
     """What `find --refutation` finds: the least error beyond the bound that few enough groups refuse, the positive ones
     first. Only the first error, and ends, need be tried."""
     over = bound_of(claim) + 1
@@ -239,7 +280,7 @@ def refutation(claim, samples):
     return None
 
 
-def stands(claim, samples, refutation):
+def stands(claim: Claim, samples: list[Sample], refutation: Refutation) -> bool:
     """Whether `refute` accepts a refutation."""
     error, named, reading = refutation["error"], refutation["false"], refutation["reading"]
     begin, last = span_of(claim)

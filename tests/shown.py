@@ -1,123 +1,73 @@
 """What `--human` shows, read off the lines that the same command prints without it: a second reading, in whole numbers.
+tests/columns.py says how the fields of a table are shown, and this file all else:
 
-- an end of a range, in ticks of 2^-32 s, is in milliseconds with six decimals: a low end rounded down, a high end up
-- a Unix second is a time of UTC, nanoseconds are milliseconds, parts of 10^9 are parts of 10^6
+- nanoseconds are milliseconds, parts of 10^9 are parts of 10^6
 - a reference identifier is its four letters, or else an address
 - a record's time and the ends of a tick have nanoseconds, unless it is a whole second
-- `samples`, `at` and `envelope` have columns under one line of headings
 
 Nothing here is shared with the program.
 """
-from datetime import datetime, timedelta
-
-TICKS = 1 << 32
-
-# The headings, each as wide as its column. Columns stand one space apart, and everything ends where its column ends.
-SAMPLES = [("sample", 8), ("server", 15), ("request", 8), ("reply", 8), ("low offset ms", 14), ("high offset ms", 14),
-           ("low delay ms", 14), ("high delay ms", 14), ("low error ms", 14), ("high error ms", 14)]
-PARTS = [("server", 15), ("low error ms", 14), ("high error ms", 14)]
-PIECES = [("piece", 8), ("begin", 20), ("end", 20), ("low error ms", 14), ("high error ms", 14)]
-SERVER = [("server", 15)]
+from columns import (HULL, MOMENT, PIECE, PIECE_OF_SERVER, PIECES_WITH_SERVERS, SAMPLE, TICKS, cells, milliseconds,
+                     read, table, time)
 
 
-def milliseconds(nanoseconds):
-    whole, part = divmod(abs(nanoseconds), 10**6)
-    return f"{'-' if nanoseconds < 0 else ''}{whole}.{part:06}"
-
-
-def low(ticks):
-    return milliseconds(int(ticks) * 10**9 // TICKS)
-
-
-def high(ticks):
-    return milliseconds(-(-int(ticks) * 10**9 // TICKS))
-
-
-def time(second):
-    return (datetime(1970, 1, 1) + timedelta(seconds=int(second))).isoformat() + "Z"
-
-
-def millionths(ppb):
+def millionths(ppb: str) -> str:
     return f"{int(ppb) // 1000}.{int(ppb) % 1000:03}"
 
 
-def reference(digits):
+def reference(digits: str) -> str:
     named = bytes.fromhex(digits)
     return named.decode() if all(0x21 <= byte <= 0x7E for byte in named) else ".".join(map(str, named))
-
-
-def line(columns, *texts):
-    return " ".join(f"{text:>{width}}" for (_, width), text in zip(columns, texts))
-
-
-def heading(columns):
-    return line(columns, *(name for name, _ in columns))
-
-
-def range_of(ends):
-    """The texts of a hull, in the columns of its ends: both, or a word in the first."""
-    return [low(ends[0]), high(ends[1])] if len(ends) == 2 else ends
 
 
 # ---- each command's lines
 
 
-def samples(lines):
+def samples(lines: list[str]) -> list[str]:
     *rows, counts = lines
-    shown = [heading(SAMPLES)]
-    for row in rows:
-        f = row.split(" ")
-        assert f[4] == "offset" and f[7] == "delay" and f[10] == "low" and f[12] == "high" and len(f) == 14, row
-        ends = [low(f[5]), high(f[6]), low(f[8]), high(f[9]), low(f[11]), high(f[13])]
-        shown.append(line(SAMPLES, *f[:4], *ends))
-    return [*shown, counts]
+    return [*table(SAMPLE, [read(SAMPLE, row) for row in rows]), counts]
 
 
-def at(lines):
-    *rows, hull = (row.split(" ") for row in lines)
-    shown = [heading(PARTS)] + [line(PARTS, server, low(begin), high(end)) for server, begin, end in rows]
-    assert hull[0] == "hull", hull
-    return [*shown, line(PARTS, "hull", *range_of(hull[1:]))]
+def at(lines: list[str]) -> list[str]:
+    rows = [read(MOMENT, row) for row in lines]
+    assert [row["SERVER"] for row in rows].index("hull") == len(rows) - 1, lines
+    return table(MOMENT, rows)
 
 
-def envelope(lines, servers):
+def envelope(lines: list[str], servers: bool) -> list[str]:
     """A server's line has the begin and the end of its piece, whose own line comes after those of the servers."""
     at_end = [row for row in lines if row.startswith(("bound_ns ", "least_ns "))]
-    rows = [row.split(" ") for row in lines[:len(lines) - len(at_end)]]
-    times = {f[0]: [time(f[1]), time(f[2])] for f in rows if "." not in f[1]}
-    shown = [heading(PIECES + SERVER if servers else PIECES)]
-    for number, *f in rows:
-        if "." in f[0]:
-            shown.append(line(PIECES + SERVER, number, *times[number], low(f[1]), high(f[2]), f[0]))
-        else:
-            shown.append(line(PIECES, number, *times[number], *range_of(f[2:])))
-    return shown + [bound(row) for row in at_end]
+    rows = [read(PIECE_OF_SERVER if "." in row.split(" ")[1] else PIECE, row) for row in lines[:-len(at_end)]]
+    times = {row["K"]: {"FROM": row["FROM"], "TO": row["TO"]} for row in rows if "FROM" in row}
+    columns = PIECES_WITH_SERVERS if servers else PIECE
+    return table(columns, [{**times[row["K"]], **row} for row in rows]) + [bound(row) for row in at_end]
 
 
-def bound(row):
+def bound(row: str) -> str:
     """The last lines: the least bound, and the least that a certificate carries."""
     name, amount, *rest = row.split(" ")
-    return " ".join([name.removesuffix("_ns"), *([amount] if amount == "none" else [milliseconds(int(amount)), "ms"]), *rest])
+    shown = [amount] if amount == "none" else [milliseconds(int(amount)), "ms"]
+    return " ".join([name.removesuffix("_ns"), *shown, *rest])
 
 
-def find(lines):
+def find(lines: list[str]) -> list[str]:
     """A piece that fails is shown, and what is found stays as it is."""
     return [bounded(row) if row.startswith("nothing piece ") else row for row in lines]
 
 
-def bounded(row):
+def bounded(row: str) -> str:
     """A line whose hull stands at its end, in no columns."""
     words, hull = row.split(" hull ")
-    return " ".join([words, "hull", *range_of(hull.split(" "))])
+    return " ".join([words, "hull", *filter(None, cells(HULL, read(HULL, hull)))])
 
 
-def moment(nanoseconds):
+def moment(nanoseconds: int) -> str:
     """A time in Unix nanoseconds, with nine decimals, or none at a whole second."""
     second, part = divmod(nanoseconds, 10**9)
     return time(second).replace("Z", f".{part:09}Z" if part else "Z")
 
 
-def settle(lines, times):
+def settle(lines: list[str], times: dict[int, int]) -> list[str]:
     """Conflicts and what stays open are shown, with the times of the records by their numbers in Unix nanoseconds, and
     what is found stays as it is."""
     shown = []
@@ -125,7 +75,8 @@ def settle(lines, times):
         f = row.split(" ")
         if f[0] == "conflict":
             ends = zip(("request", "reply"), f[1::2], f[2::2])
-            row = " ".join(["conflict", *(f"{server} {what} {record} at {moment(times[int(record)])}" for what, server, record in ends)])
+            row = " ".join(["conflict", *(f"{server} {what} {record} at {moment(times[int(record)])}"
+                                          for what, server, record in ends)])
         elif f[0] == "open":
             begin, end = int(f[1]) * 10**9 // TICKS, -(-int(f[2]) * 10**9 // TICKS)
             row = bounded(" ".join(["open", moment(begin), moment(end), *f[3:]]))
@@ -133,7 +84,7 @@ def settle(lines, times):
     return shown
 
 
-def check(lines):
+def check(lines: list[str]) -> list[str]:
     shown = []
     for row in lines:
         f = row.split(" ")
@@ -147,7 +98,7 @@ def check(lines):
     return shown
 
 
-def of(words, text):
+def of(words: list[str], text: bytes) -> bytes:
     """What a command prints with `--human`, of its words and what it prints without."""
     command, lines = words[0], text.decode().splitlines()
     if command in ("samples", "at") and lines:

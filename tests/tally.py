@@ -1,21 +1,31 @@
-"""What the test scripts share: counting cases, showing what was wrong, and the last line 'N passed, M failed', also of a
-script that breaks off."""
+"""What the test scripts share: counting cases, showing what was wrong, and the last line 'N passed, M failed', also of
+a script that breaks off."""
 import hashlib
 import os
 import subprocess
 import sys
+import tempfile
+import traceback
+from collections.abc import Callable, Iterable, Sized
 from pathlib import Path
+from types import TracebackType
+from typing import Any
 
 ROOT = Path(__file__).resolve().parent.parent
 DATA = ROOT / "data"
 
-# A run that takes longer than this has hung; no test depends on being quicker.
 SECONDS = 120
+"""A run that takes longer than this has hung; no test depends on being quicker."""
 
-passed, failed = 0, []
+Ran = tuple[int | str, bytes, bytes]
+"""Status, standard output and standard error of a command. A run that doesn't end, or that can't be begun, has a text
+for its status."""
+
+passed = 0
+failed: list[str] = []
 
 
-def program():
+def program() -> str:
     """The program under test: the file that the environment's NTPAUDIT names (from the repository's root), or the one
     that the launcher keeps, which the launcher has made sure of just now."""
     if "NTPAUDIT" in os.environ:
@@ -32,7 +42,7 @@ def program():
     return str(kept if kept.exists() else ROOT / "dist" / "ntpaudit")
 
 
-def count(name, wrong):
+def count(name: str, wrong: str) -> None:
     """Counts a case, and prints what is wrong with it: nothing where that's an empty text."""
     global passed
     if wrong:
@@ -42,7 +52,7 @@ def count(name, wrong):
         passed += 1
 
 
-def check(name, **pairs):
+def check(name: str, **pairs: tuple[Any, Any]) -> None:
     """Counts a case: each pair is what was seen and what is wanted, or what was seen and a test of it."""
     wrong = []
     for what, (seen, wanted) in pairs.items():
@@ -51,19 +61,29 @@ def check(name, **pairs):
     count(name, "; ".join(wrong))
 
 
-def short(seen):
+def test_each(tests: Iterable[Callable[[Path], None]]) -> None:
+    """Runs these tests, each in a folder of its own. One that breaks off is a failure, and those after it are run."""
+    for test in tests:
+        with tempfile.TemporaryDirectory(prefix="ntpaudit-") as folder:
+            try:
+                test(Path(folder))
+            except Exception as error:
+                traceback.print_exc()
+                count(f"{test.__name__} comes to its end", repr(error))
+
+
+def short(seen: object) -> str:
     text = repr(seen)
-    return text if len(text) < 300 else f"{text[:140]} .. {text[-140:]} ({len(seen)} long)"
+    long = len(seen if isinstance(seen, Sized) else text)
+    return text if len(text) < 300 else f"{text[:140]} .. {text[-140:]} ({long} long)"
 
 
-def run(words, given=b"", **how):
-    """Status, standard output and standard error of a command. A run that doesn't end, or that can't be begun, has a text
-    for its status."""
+def run(words: Iterable[object], given: bytes | None = b"", **how: Any) -> Ran:
+    how = {"stdout": subprocess.PIPE, "stderr": subprocess.PIPE, "timeout": SECONDS, **how}
     if given is not None:
         how["input"] = given
     try:
-        ran = subprocess.run([str(word) if not isinstance(word, bytes) else word for word in words],
-                             **{"stdout": subprocess.PIPE, "stderr": subprocess.PIPE, "timeout": SECONDS, **how})
+        ran = subprocess.run([word if isinstance(word, bytes) else str(word) for word in words], **how)
     except subprocess.TimeoutExpired:
         return "no end", b"", b""
     except OSError as error:
@@ -71,20 +91,21 @@ def run(words, given=b"", **how):
     return ran.returncode, ran.stdout, ran.stderr
 
 
-def broken_off(kind, error, trace):
+def broken_off(kind: type[BaseException], error: BaseException, trace: TracebackType | None) -> None:
     """A script that breaks off says where, and counts that as a failure."""
     sys.__excepthook__(kind, error, trace)
-    print(f"FAILED: broken off by {kind.__name__} ({error}), above\n{passed} passed, {len(failed) + 1} failed", flush=True)
+    print(f"FAILED: broken off by {kind.__name__} ({error}), above")
+    print(f"{passed} passed, {len(failed) + 1} failed", flush=True)
 
 
 sys.excepthook = broken_off
 
 
-def sum_of(data):
+def sum_of(data: bytes) -> str:
     return hashlib.sha256(data).hexdigest()
 
 
-def sum_of_sources(top):
+def sum_of_sources(top: Path) -> str:
     """The sum of the files that the program is built of, as the launcher takes it: of the sums of all files with their
     paths, sorted by bytes."""
     folders = [folder for name in ("src", "specs", "proofs") for folder in top.glob(f"crates/*/{name}")]
@@ -93,12 +114,12 @@ def sum_of_sources(top):
     return sum_of(b"".join(lines))
 
 
-def manifest_of(top, toolchain):
+def manifest_of(top: Path, toolchain: str) -> str:
     """What dist/MANIFEST has to say of the program in dist/."""
     return (f"program {sum_of((top / 'dist/ntpaudit').read_bytes())}\nsources {sum_of_sources(top)}\n"
             f"toolchain {toolchain}\n")
 
 
-def finish():
+def finish() -> None:
     print(f"{passed} passed, {len(failed)} failed")
     sys.exit(bool(failed))

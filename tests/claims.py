@@ -1,0 +1,20 @@
+"""A claim, a certificate and a refutation, as their files have them (docs/FORMATS.md)."""
+import json
+from pathlib import Path
+from typing import NotRequired, TypedDict, cast
+
+Claim = TypedDict("Claim", {
+    "client": str, "servers": list[str], "false_max": int, "from": str, "to": str, "bound_ns": int, "drift_ppb": int,
+    "reading_ns": int, "groups": NotRequired[list[list[int]]]})
+Piece = TypedDict("Piece", {"entries": list[list[int]], "upto": int})
+Certificate = TypedDict("Certificate", {"pieces": list[Piece]})
+Refutation = TypedDict("Refutation", {"error": int, "false": list[int], "reading": int})
+
+
+def changed(claim: Claim, **changes: object) -> Claim:
+    """The claim with some of its values changed, maybe to what no claim may have."""
+    return cast(Claim, {**claim, **changes})
+
+
+def read_claim(path: Path | str) -> Claim:
+    return cast(Claim, json.loads(Path(path).read_text()))
