@@ -95,6 +95,7 @@ course_beyond claim xs r against (course, of) =
     record {
       course = course;
       fits = of.fits;
+      shares_requests = of.shares_requests;
       in_span = rw of.observed (
         times_le claim.first (pos r.reading) n span.0,
         times_le (pos r.reading) claim.last n
@@ -114,6 +115,7 @@ drift_course_beyond claim xs r against of =
     record {
       course = of.course;
       fits = of.fits;
+      shares_requests = of.shares_requests;
       in_span = rw of.observed.reading (
         times_le claim.first (pos r.reading) n span.0,
         times_le (pos r.reading) claim.last n span.1,

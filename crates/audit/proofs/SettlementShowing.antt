@@ -35,6 +35,7 @@ module _ (e : EvidenceData) (agree : AllPairs SameRequest e.collection.exchanges
       by_pieces = (traced certificate).by_pieces h.accepted;
     };
     shown_by = h;
+    agree = agree;
   }
   settled_of (settles.refuted refutation) h = record {
     accepted = h.accepted;

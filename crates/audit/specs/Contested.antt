@@ -12,6 +12,7 @@ use Rattle.pairing.specs.declared.exchange.Exchange.{Exchange}
 use Rattle.report.specs.ClaimInput.{claim_read}
 use Rattle.sample_interval.specs.Moment.{error_of, IsInWindow}
 use Rattle.checker.specs.Course.{Course, Fits}
+use Rattle.checker.specs.Refutation.{SharesRequests}
 use Rattle.checker.specs.RefutationTest.{is_refuted}
 use Rattle.audit.specs.CaptureInput.{capture_read}
 use Rattle.audit.specs.Captured.{CapturedFrame, IsCaptureOf}
@@ -30,11 +31,13 @@ IsBeyondNanoseconds course bound_ns =
     (course.fineness * (bound_ns * ticks_per_second))
     < (nanoseconds_per_second * unsigned_abs (error_of course.observation))
 
--- Some course of events fits a claim and exchanges. Its observation is at a reading of the span,
--- and its error there is a whole number of ticks, beyond the bound.
+-- Some course of events fits a claim and exchanges, and those of one request share its moment. Its
+-- observation is at a reading of the span, and its error there is a whole number of ticks, beyond
+-- the bound.
 pub record HasCourseBeyond (claim : ClaimData) (xs : List Exchange) : Type 0 where
   pub course : Course
   pub fits : Fits claim xs course
+  pub shares_requests : SharesRequests xs course
   pub in_span : IsInWindow course.fineness claim.first claim.last course.observation.reading
   pub error : ℤ
   pub error_is : error_of course.observation ≡ (error *ℤ pos course.fineness)
@@ -42,8 +45,9 @@ pub record HasCourseBeyond (claim : ClaimData) (xs : List Exchange) : Type 0 whe
 
 -- The claim's bytes are the text of a claim that keeps its limits, and the capture's bytes are a
 -- capture of frames. These are the exchanges in the frames, and none is missing. Some course of
--- events fits the claim and all of them. The client's clock is observed in it at a reading of the
--- span, and its error there is beyond the bound, in ticks and in nanoseconds.
+-- events fits the claim and all of them, in which each request packet leaves at one moment. The
+-- client's clock is observed in it at a reading of the span, and its error there is beyond the
+-- bound, in ticks and in nanoseconds.
 pub record IsContestedShown (claim_bytes capture_bytes : List ℕ) : Type 0 where
   pub claim : ClaimData
   pub order : Endian
@@ -58,6 +62,7 @@ pub record IsContestedShown (claim_bytes capture_bytes : List ℕ) : Type 0 wher
   pub none_is_missing : (x : Exchange) → IsExchangeIn claim unit frames x → IsAmong exchanges x
   pub course : Course
   pub fits : Fits claim exchanges course
+  pub shares_requests : SharesRequests exchanges course
   pub in_span : IsInWindow course.fineness claim.first claim.last course.observation.reading
   pub beyond : IsBeyond course claim.bound
   pub beyond_nanoseconds : IsBeyondNanoseconds course claim.bound_ns

@@ -6,7 +6,7 @@
 use Rattle.std.specs.Prelude.{ℕ, pos, ◌<◌, ◌≤◌, Bool, true, false, Option, Some, None, Ok, IfSome}
 use Rattle.claim_file.specs.Claim.{ClaimData, max_bound_ns}
 use Rattle.courses.specs.Cover.{SomeCourse}
-use Rattle.finder.specs.Carried.{AlwaysFinds, FindsLeastBound, piece_holding}
+use Rattle.finder.specs.Carried.{FindsLeastBound, IsCarried, piece_holding}
 use Rattle.finder.specs.Envelope.{with_bound}
 use Rattle.finder.specs.Fewest.{NoneOfFewIsAccepted}
 use Rattle.finder.specs.declared.carried.LeastCarried.{LeastCarried}
@@ -29,10 +29,10 @@ least_line_of claim step true (Some found) = Some (line_of claim step found)
 
 -- What the bound shows of evidence: it is what the search answers. If some course of events fits
 -- the exchanges, then under a lesser bound no certificate is accepted that may be written, and with
--- each wider one the search finds a certificate, unless memory runs out.
+-- each wider one the search finds a certificate.
 pub record IsLeastBoundOf (e : EvidenceData) (found : Option LeastCarried) : Type 0 where
   pub finds : FindsLeastBound (samples_in e) e.claim (Ok found)
   pub none_below : SomeCourse e.claim e.collection.exchanges → IfSome found (λ least. (m : ℕ) →
       m < least.bound_ns → NoneOfFewIsAccepted (samples_in e) (with_bound e.claim m))
   pub enough : SomeCourse e.claim e.collection.exchanges → IfSome found (λ least. (m : ℕ) →
-      least.bound_ns ≤ m → m ≤ max_bound_ns → AlwaysFinds (samples_in e) (with_bound e.claim m))
+      least.bound_ns ≤ m → m ≤ max_bound_ns → IsCarried (samples_in e) (with_bound e.claim m))

@@ -1,7 +1,7 @@
 -- The report of `settle`, and what it shows: that the claim is shown, refuted, fitted by no course
 -- or without evidence, or that it stays open. Which refutation is found has no definition of its
 -- own, so the report is one on what was found.
-use Rattle.std.specs.Prelude.{◌≡◌, ℕ, true, List, ◌++◌, codes, Result, Ok, Err}
+use Rattle.std.specs.Prelude.{◌≡◌, ℕ, true, List, AllPairs, ◌++◌, codes, Result, Ok, Err}
 use Rattle.byte_stream.specs.Bytes.{IsBytes}
 use Rattle.byte_stream.specs.State.{FeedState}
 use Rattle.certificate.specs.Certificate.{CertificateData}
@@ -11,6 +11,7 @@ use Rattle.certificate.specs.Writing.{certificate_text}
 use Rattle.finder.specs.Settlement.{SettledData, shown, refuted, fitted_by_none, no_evidence, left_open}
 use Rattle.finder.specs.Settlement.{IsFittedByNone, IsLeftOpen, IsShownBy, IsUnheard}
 use Rattle.finder.specs.declared.fault.FindFault.{FindFault}
+use Rattle.pairing.specs.Exchange.{SameRequest}
 use Rattle.report.specs.declared.fault.Outcome.{Outcome}
 use Rattle.report.specs.declared.fault.Outcome.TheVariants.{Yes, No}
 use Rattle.report.specs.Reports.{Report, refused, whole_text}
@@ -46,11 +47,13 @@ settle_report style (Err fault) e = refused (find_run_fault_of fault)
 
 -- ---- what a finding shows of evidence
 
--- The certificate shows the claim: all that a yes of `check` says of it, a course fits, and no
--- accepted certificate has fewer pieces.
+-- The certificate shows the claim: all that a yes of `check` says of it, courses fit, and no
+-- accepted certificate has fewer pieces. The exchanges of one request agree, so that they share its
+-- moment in these courses.
 pub record IsShownOf (certificate : CertificateData) (e : EvidenceData) : Type 0 where
   pub yes : HasVerdictYes certificate e
   pub shown_by : IsShownBy e.claim e.collection.exchanges certificate
+  pub agree : AllPairs SameRequest e.collection.exchanges
 
 -- one of five answers: a refutation is one for which `refute --drift` says yes
 abbrev pub IsSettledOf : EvidenceData → SettledData → Type 0

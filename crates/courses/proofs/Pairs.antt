@@ -11,7 +11,7 @@ use Rattle.checker.specs.Groups.{false_group_count}
 use Rattle.courses.specs.Cover.{SomeCourseAt}
 use Rattle.courses.specs.TrueMarks.{true_exchanges, low_marks, AreAllCompatible, DoAgree, FitsWithFalse}
 use Rattle.courses.specs.LowestCourse.{lowest_course}
-use Rattle.courses.proofs.LowestCourse.{Needs, lowest_fits}
+use Rattle.courses.proofs.LowestCourse.{Needs, lowest_fits, lowest_shares}
 
 -- the first of some marks, or one at 0
 first_of : List Mark → Mark
@@ -42,8 +42,12 @@ module _ (claim : ClaimData) (xs : List Exchange) (is_false : ℕ → Bool) (law
 
   -- observed at any reading
   pub agreement_gives_course_at : (reading : ℤ) → SomeCourseAt claim xs reading
-  agreement_gives_course_at reading =
-      (lowest_course claim is_false first reading xs, lowest_fits needs reading few, refl)
+  agreement_gives_course_at reading = (
+    lowest_course claim is_false first reading xs,
+    lowest_fits needs reading few,
+    refl,
+    lowest_shares claim is_false first reading xs,
+  )
 
   pub agreement_gives_course : FitsWithFalse claim is_false xs
   agreement_gives_course =

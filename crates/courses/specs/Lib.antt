@@ -20,3 +20,4 @@ pub mod PairMarks
 pub mod ToldConflicts
 pub mod NumberedMarks
 pub mod Evidence
+pub mod LeastCovers

@@ -14,6 +14,7 @@ ghost use Rattle.checker.specs.Course.{Course, Fits};
 ghost use Rattle.checker.specs.Groups.{holds_false, false_group_count};
 ghost use Rattle.checker.specs.Refutation.{SharesRequests};
 ghost use Rattle.courses.specs.ConflictTable.{IsConflictTable, HasSmallTableCover};
+ghost use Rattle.courses.specs.Conflicts.{ConflictData, IsCover as IsCoverBy};
 ghost use Rattle.courses.specs.Cover.{IsCover, size_of, HasSmallCover, SomeCourse, SomeCourseAt};
 ghost use Rattle.courses.specs.DriftSettlement.{SettlesFit};
 ghost use Rattle.courses.specs.Keeping.{KeepsLow, KeepsHigh};
@@ -194,21 +195,26 @@ pub fn some_course_fits_where_a_cover_is_small()
 {}
 
 /// If some course fits, then at every reading one is observed that fits: a whole number of ticks
-/// that the clock shows.
+/// that the clock shows. The exchanges of one request share its moment.
 pub fn some_course_is_observed_at_any_reading()
     ensures { (claim : ClaimData) (xs : List Exchange) (reading : ℤ) → IsLawful claim →
         All (IsLawfulExchange (length claim.servers)) xs → SomeCourse claim xs →
         SomeCourseAt claim xs reading }
 {}
 
-/// A table of broken groups and conflicts has a small cover exactly if the exchanges have one. So a
-/// search in the table settles whether a course fits.
+/// A table of broken groups and conflicts has a small cover exactly if the exchanges have one: its
+/// covers are theirs. So a search in the table settles whether a course fits.
 pub fn tables_settle_covers()
-    ensures { (claim : ClaimData) (xs : List Exchange) (is_broken : ℕ → Bool)
+    ensures small { (claim : ClaimData) (xs : List Exchange) (is_broken : ℕ → Bool)
         (is_edge : ℕ → ℕ → Bool) → IsLawful claim →
         All (IsLawfulExchange (length claim.servers)) xs →
         IsConflictTable claim xs is_broken is_edge →
         HasSmallCover claim xs ↔ HasSmallTableCover claim is_broken is_edge }
+    ensures each { (claim : ClaimData) (xs : List Exchange) (table : ConflictData)
+        (is_in : ℕ → Bool) → IsLawful claim → All (IsLawfulExchange (length claim.servers)) xs →
+        table.groups ≡ length claim.groups →
+        IsConflictTable claim xs table.is_broken table.is_edge →
+        IsCover claim xs is_in ↔ IsCoverBy table is_in }
 {}
 
 /// An exact answer on whether a course fits is one on covers, and the other way about.

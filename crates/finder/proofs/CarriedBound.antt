@@ -5,7 +5,7 @@ use Rattle.std.specs.Prelude.{MatchOption}
 use Rattle.std.specs.declared.alloc.AllocError.{AllocError}
 use Rattle.era_unfold.specs.Nanoseconds.{nanoseconds_per_second, ticks_down}
 use Rattle.era_unfold.specs.Window.{ticks_per_second}
-use Rattle.certificate.specs.Certificate.{CertificateData, PieceData}
+use Rattle.certificate.specs.Certificate.{CertificateData, PieceData, max_pieces}
 use Rattle.claim_file.specs.Claim.{ClaimData, IsLawful, max_bound_ns}
 use Rattle.sample_interval.specs.declared.kinds.Sample.{Sample}
 use Rattle.span_cover.specs.declared.part.Part.{Part}
@@ -16,18 +16,17 @@ use Rattle.checker.specs.declared.verdict.Verdict.{Verdict}
 use Rattle.checker.specs.declared.verdict.Verdict.TheVariants.{Yes}
 use Rattle.checker.specs.declared.verdict.Why.{Why}
 use Rattle.checker.specs.declared.verdict.Why.TheVariants.{Cut}
-use Rattle.finder.specs.Carried.{AlwaysFinds, FindsLeastBound, IsCarried, IsFirst, IsNeverEmpty, IsTick, StopsAt}
+use Rattle.finder.specs.Carried.{FindsLeastBound, IsCarried, IsFirst, IsNeverEmpty, IsTick, StopsAt}
 use Rattle.finder.specs.Entry.{best_hull}
 use Rattle.finder.specs.Envelope.{with_bound}
 use Rattle.finder.specs.Fewest.{AreLongest, IsOfLongest, NoneOfFewIsAccepted, end_after, hull_over, next_tick, pieces_over, stretch_over}
 use Rattle.finder.specs.Reach.{AreEnds, AreTablesFor, IsReach}
 use Rattle.finder.specs.Samples.{AreSamplesOf}
 use Rattle.finder.specs.declared.carried.LeastCarried.{LeastCarried}
-use Rattle.finder.specs.declared.fault.FindFault.TheVariants.{Memory, TooManyPieces}
-use Rattle.finder.specs.declared.fewest.Fewest.TheVariants as found
 use Rattle.finder.specs.declared.reach.Reach.{Reach}
 use Rattle.finder.proofs.FewestAnswer.{finds_nothing, finds_too_long}
 use Rattle.finder.proofs.FewestPieces.{Laws, as_many_pieces, first_in_span, one_more_end, yes_from}
+use Rattle.finder.proofs.OneWay.{one_of_three}
 
 -- ---- what a claimed bound has no part in
 
@@ -116,16 +115,10 @@ reached_by samples a b tables reach same reaches tabled =
 
 pub carried_by_ends : (laws : Laws) (samples : List Sample) (claim : ClaimData) → IsLawful claim
     → AreSamplesOf claim samples → (ends : List ℤ) → AreEnds samples claim ends → IsCarried samples claim
-carried_by_ends laws samples claim lawful are ends is =
-    let all = is.earlier ++ claim.last ∷ [] in
-    let few = is.few in
-    let count : length (pieces_over samples claim claim.first all) ≡ length is.earlier + 1 =
-    as_many_pieces laws samples claim lawful are claim.first all
-    ∙ one_more_end laws samples claim lawful are is.earlier claim.last in (
-      record { pieces = pieces_over samples claim claim.first all },
-      record { earlier = is.earlier; longest = is.longest; last = is.last; pieces = refl },
-      omega (arith, count, few),
-    )
+carried_by_ends laws samples claim lawful are ends is = (
+  record { pieces = pieces_over samples claim claim.first (is.earlier ++ claim.last ∷ []) },
+  record { earlier = is.earlier; longest = is.longest; last = is.last; few = is.few; pieces = refl },
+)
 
 -- what holds of no answer, if there is none
 pub none_of : {A : Type 0} (P : Type 0) (Q : A → Type 0) (o : Option A) → is_some o ≡ false → MatchOption o P Q → P
@@ -213,6 +206,18 @@ module _ (laws : BoundLaws) (samples : List Sample) (claim : ClaimData) (lawful 
       ∙ yes_from laws.fewest samples bounded lawful' are' 0 claim.first is.earlier
       (first_in_span laws.fewest samples bounded lawful' are') is.longest is.last
 
+  few_pieces : (m : ℕ) → m ≤ max_bound_ns → (certificate : CertificateData)
+      → (is : IsOfLongest samples (with_bound claim m) certificate) → length certificate.pieces ≤ max_pieces
+  few_pieces m small certificate is =
+      let bounded = with_bound claim m in
+      let lawful' = lawful_with laws.down claim m small lawful in
+      let are' = samples_of_other samples claim m are in
+      let count = ap length is.pieces
+      ∙ as_many_pieces laws.fewest samples bounded lawful' are' claim.first (is.earlier ++ claim.last ∷ [])
+      ∙ one_more_end laws.fewest samples bounded lawful' are' is.earlier claim.last in
+      let few = is.few in
+      omega (arith, count, few)
+
   -- ---- the answers
 
   least_under : (n : ℕ) (tick : ℤ) → n ≤ max_bound_ns → IsFirst samples claim n tick → IsNeverEmpty samples claim
@@ -223,15 +228,15 @@ module _ (laws : BoundLaws) (samples : List Sample) (claim : ClaimData) (lawful 
       (accepted_wider m below certificate (omega arith) accepted)
 
   enough_over : (n : ℕ) → n ≤ max_bound_ns → IsCarried samples (with_bound claim n) → IsNeverEmpty samples claim
-      → (m : ℕ) → n ≤ m → m ≤ max_bound_ns → AlwaysFinds samples (with_bound claim m)
-  enough_over n small (certificate, longest, few) never m le small' (Ok (found.Certificate _)) finds = (tt, tt)
-  enough_over n small (certificate, longest, few) never m le small' (Ok (found.Nothing begin end hull)) finds =
-      absurd (none_where_stopped m begin small' never (inl (end, hull, finds.stuck)) certificate few
-      (accepted_wider n m certificate le (accepted_if_carried n small certificate longest)))
-  enough_over n small (certificate, longest, few) never m le small' (Err Memory) finds = (tt, refl)
-  enough_over n small (certificate, longest, few) never m le small' (Err TooManyPieces) finds =
-      absurd (finds.too_many refl certificate few
-      (accepted_wider n m certificate le (accepted_if_carried n small certificate longest)))
+      → (m : ℕ) → n ≤ m → m ≤ max_bound_ns → IsCarried samples (with_bound claim m)
+  enough_over n small (certificate, longest) never m le small' =
+      let never_stops : (tick : ℤ) → StopsAt samples (with_bound claim m) tick → ⊥ =
+      λ tick stops. none_where_stopped m tick small' never stops certificate (few_pieces n small certificate longest)
+      (accepted_wider n m certificate le (accepted_if_carried n small certificate longest)) in
+      ⊎_elim (λ carried. carried) (λ stops. absurd (⊎_elim
+      (λ stuck. never_stops stuck.0 (inl (stuck.1, stuck.2, stuck.3)))
+      (λ long. never_stops (end_after claim.first long.earlier) (inr (long, refl))) stops))
+      (one_of_three samples (with_bound claim m))
 
   pub finds_least : (least : LeastCarried) → least.bound_ns ≤ max_bound_ns
       → IsCarried samples (with_bound claim least.bound_ns) → IsFirst samples claim least.bound_ns (pos least.tick)

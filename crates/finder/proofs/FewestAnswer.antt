@@ -34,7 +34,7 @@ module _ (laws : Laws) (samples : List Sample) (claim : ClaimData) (lawful : IsL
       ∙ one_more_end laws samples claim lawful are is.earlier claim.last in
       let few = is.few in
       record {
-        exact = record { earlier = is.earlier; longest = is.longest; last = is.last; pieces = e };
+        exact = record { earlier = is.earlier; longest = is.longest; last = is.last; few = few; pieces = e };
         stuck = tt;
         refused = tt;
         accepted = ap (verdict_from samples claim 0 claim.first) e

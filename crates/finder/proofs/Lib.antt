@@ -34,3 +34,4 @@ pub mod Liar
 pub mod RefutationFinding
 pub mod GroupLeeway
 pub mod TriedError
+pub mod OneWay

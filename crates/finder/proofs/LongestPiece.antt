@@ -98,8 +98,9 @@ module _ (laws : Laws) (samples : List Sample) (claim : ClaimData) (lawful : IsL
       }
 
   pub halved_end : (low high : ℕ) → IsHalved samples claim begin next low high → high ≤ low
+      → shows samples claim (pos begin) (pos next) ≡ true
       → IsLongest samples claim (pos begin) (pos low)
-  halved_end low high is met =
+  halved_end low high is met least =
       let some = is.some in
       let order = is.in_order in
       let top = is.within in
@@ -107,6 +108,7 @@ module _ (laws : Laws) (samples : List Sample) (claim : ClaimData) (lawful : IsL
       record {
         some_tick = subst (λ (z : ℤ). z ≤ℤ pos low) next_is up;
         in_span = omega (arith, ints);
+        tick_shown = subst (λ (z : ℤ). shows samples claim (pos begin) z ≡ true) next_is least;
         shown = is.shown;
         no_longer = λ r beyond within. is.no_longer r (omega (arith, ints)) within;
       }

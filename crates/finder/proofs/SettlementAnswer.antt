@@ -20,12 +20,13 @@ use Rattle.checker.specs.Traceability.{IsObservedIn, samples_of}
 use Rattle.checker.specs.Verdict.{verdict_of}
 use Rattle.checker.specs.declared.verdict.Verdict.TheVariants.{Yes}
 use Rattle.courses.specs.Contradiction.{AreAllConflicts, HoldsAnEnd, ShownConflict}
-use Rattle.courses.specs.Cover.{HasSmallCover, IsCover, SomeCourse, SomeCourseAt}
+use Rattle.courses.specs.Cover.{HasSmallCover, IsCover, SomeCourse}
 use Rattle.courses.specs.DriftSettlement.{SettlesWithDrift}
 use Rattle.courses.specs.Evidence.{IsNoEvidence, count_with_exchange}
 use Rattle.finder.specs.Fewest.{AreLongest, IsStuck, end_after}
 use Rattle.finder.specs.FewestAnswer.{FindsFewest}
-use Rattle.finder.specs.Settlement.{IsContestedBy, IsFittedByNone, IsHeard, IsLeftOpen, IsShownBy, IsUnheard}
+use Rattle.finder.specs.Leeway.{IsSoughtInVain}
+use Rattle.finder.specs.Settlement.{IsContestedBy, IsFitted, IsFittedByNone, IsHeard, IsLeftOpen, IsShownBy, IsUnheard}
 use Rattle.finder.specs.declared.fewest.Fewest.TheVariants as found
 use Rattle.finder.proofs.LongestPiece.{end_kept, fits_64}
 
@@ -137,11 +138,11 @@ module _ (claim : ClaimData) (xs : List Exchange) where
   heard groups is more = subst (λ n. claim.false_max < n) is more
 
   -- a certificate that shows the claim
-  pub shown_by : (certificate : Certificate) → SomeCourse claim xs
+  pub shown_by : (certificate : Certificate) → IsFitted claim xs
       → FindsFewest (samples_of xs claim) claim (Ok (found.Certificate certificate))
       → IsShownBy claim xs (certificate_data certificate)
-  shown_by certificate course finds = record {
-    course = course;
+  shown_by certificate courses finds = record {
+    courses = courses;
     longest = finds.exact;
     accepted = finds.accepted;
     fewest = finds.fewest;
@@ -167,15 +168,17 @@ module _ (claim : ClaimData) (xs : List Exchange) where
       rw is (omega (arith, ints), further)
 
   -- as some course fits, the samples don't contradict each other there, and so no certificate is accepted
-  pub left_open : (begin end : ℤ) (hull : Hull) → begin ≤ℤ end → IsHeard claim xs → SomeCourse claim xs
-      → SomeCourseAt claim xs begin
+  pub left_open : (begin end : ℤ) (hull : Hull) → begin ≤ℤ end → IsHeard claim xs → IsFitted claim xs
       → FindsFewest (samples_of xs claim) claim (Ok (found.Nothing begin end hull))
+      → IsSoughtInVain claim xs (unsigned_abs begin ∷ unsigned_abs end ∷ [])
       → IsLeftOpen claim xs begin end hull
-  left_open begin end hull forward is_heard some (course, fits, reads) finds = record {
+  left_open begin end hull forward is_heard courses finds all_tried = record {
     heard = is_heard;
-    course = some;
+    courses = courses;
     stuck = finds.stuck;
     none_accepted = finds.none_accepted (λ empty.
-        finds.contradiction empty xs course refl fits (observed begin end course forward reads));
+        let at = courses begin in
+        finds.contradiction empty xs at.0 refl at.1 (observed begin end at.0 forward at.2));
     held = finds.held;
+    all_tried = all_tried;
   }

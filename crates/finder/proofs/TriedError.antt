@@ -1,11 +1,16 @@
 -- What is tried at a reading is the greatest error that the groups that are left let be.
-use Rattle.std.proofs.Common.{◌≡◌, ℕ, ◌+◌, ◌<◌, ◌≤◌, ◌^◌, ℤ, pos, ◌-ℤ◌, ◌≤ℤ◌, ◌<ℤ◌, Bool, false, ⊎_elim, Option, None, Some, List, length, get_or, sym, ap, ◌∙◌, subst, arith}
-use Rattle.std.specs.Prelude.{All, IfNone}
+use Rattle.std.proofs.Common.{◌≡◌, ℕ, ◌+◌, ◌<◌, ◌≤◌, ◌^◌, ℤ, pos, ◌-ℤ◌, ◌≤ℤ◌, ◌<ℤ◌, Bool, false, is_some, ⊎_elim, Option, None, Some, List, length, get_or, sym, ap, ◌∙◌, subst, arith}
+use Rattle.std.specs.Prelude.{◌↔◌, All, IfNone, count_by}
 use Rattle.std.proofs.lemmas.Int.{ints}
 use Rattle.certificate.specs.Refutation.{RefutationData}
 use Rattle.claim_file.specs.Claim.{ClaimData}
 use Rattle.pairing.specs.declared.exchange.Exchange.{Exchange}
-use Rattle.courses.specs.Groups.{holds}
+use Rattle.courses.specs.Conflicts.{ConflictData, group_count, IsCover as IsCoverBy}
+use Rattle.courses.specs.Cover.{IsCover, size_of}
+use Rattle.courses.specs.Groups.{HoldsOneOr64, holds}
+use Rattle.courses.specs.LeastCovers.{AreLeastCovers}
+use Rattle.courses.specs.declared.groups.Groups.{Groups}
+use Rattle.span_cover.specs.Group.{numbers_below}
 use Rattle.finder.specs.Leeway.{AreLeeways, DoOthersLet, IsCandidate, IsLimit, IsMade, IsNothingSaid, IsTriedInVain, IsUnlimited, leeway_in, no_limit, turned}
 use Rattle.finder.specs.Sought.{IsErrorOf64Bits}
 use Rattle.finder.specs.declared.drift_refutation.Place.{Place}
@@ -16,6 +21,10 @@ use Rattle.finder.proofs.GroupLeeway.{below_or_at, same_default}
 pub if_none : {A : Type 0} (o : Option A) (P : Type 0) → P → IfNone o P
 if_none None P p = p
 if_none (Some a) P p = tt
+
+pub none_left : {A : Type 0} (o : Option A) (P : Type 0) → is_some o ≡ false → IfNone o P → P
+none_left None P none p = p
+none_left (Some a) P none p = absurd cc
 
 -- 64 bits hold no more ticks than this
 few_ticks : (side : Side) (ticks error : ℤ) → error ≡ turned side ticks → IsErrorOf64Bits error → ticks ≤ℤ pos (2 ^ 63)
@@ -86,21 +95,45 @@ both_sides None P above below = go
     go Below = below
 both_sides (Some a) P above below = tt
 
-module _ (claim : ClaimData) (xs : List Exchange) (places : List Place) where
-  abbrev IsTried : Place → Type 0
-  IsTried place = (side : Side) → IsTriedInVain claim xs (holds place.cover) place.reading side
-
-  -- the first so many were tried
+-- what is so of the first n elements, one after another
+module _ {X : Type 0} (IsTried : X → Type 0) (xs : List X) where
   abbrev pub AreTriedTo : ℕ → Type 0
-  AreTriedTo n = (k : ℕ) (d : Place) → k < n → IsTried (get_or places k d)
+  AreTriedTo n = (k : ℕ) (d : X) → k < n → IsTried (get_or xs k d)
 
-  pub one_more_tried : (n : ℕ) (other : Place) → n < length places → IsTried (get_or places n other) → AreTriedTo n
+  pub one_more_tried : (n : ℕ) (other : X) → n < length xs → IsTried (get_or xs n other) → AreTriedTo n
       → AreTriedTo (n + 1)
   one_more_tried n other within tried before k d below = ⊎_elim
       (λ earlier. before k d earlier)
       (λ same.
-      subst IsTried (same_default places n other d within ∙ ap (λ (i : ℕ). get_or places i d) (sym same)) tried)
+      subst IsTried (same_default xs n other d within ∙ ap (λ (i : ℕ). get_or xs i d) (sym same)) tried)
       (below_or_at k n below)
 
-  pub all_tried : (n : ℕ) → length places ≤ n → AreTriedTo n → All IsTried places
+  pub all_tried : (n : ℕ) → length xs ≤ n → AreTriedTo n → All IsTried xs
   all_tried n past tried k d below = tried k d (omega (arith, past, below))
+
+-- a place is tried to both sides
+abbrev pub IsTriedPlace : ClaimData → List Exchange → Place → Type 0
+IsTriedPlace claim xs place = (side : Side) → IsTriedInVain claim xs (holds place.cover) place.reading side
+
+-- and so is a reading with a cover
+abbrev pub IsTriedReading : ClaimData → List Exchange → Groups → ℕ → Type 0
+IsTriedReading claim xs cover reading = (side : Side) → IsTriedInVain claim xs (holds cover) reading side
+
+-- ---- the covers that are tried
+
+module _ (claim : ClaimData) (xs : List Exchange) (d : ConflictData) (groups : d.groups ≡ length claim.groups)
+    (same : (is_in : ℕ → Bool) → IsCover claim xs is_in ↔ IsCoverBy d is_in) (covers : List Groups) where
+  as_few : (is_in : ℕ → Bool) → group_count d is_in ≡ size_of claim is_in
+  as_few is_in = ap (λ (n : ℕ). count_by is_in (numbers_below n)) groups
+
+  pub least_covers : All (λ cover. IsCoverBy d (holds cover)) covers
+      → All (λ cover. group_count d (holds cover) ≤ claim.false_max) covers
+      → ((is_in : ℕ → Bool) → IsCoverBy d is_in → group_count d is_in ≤ claim.false_max
+      → HoldsOneOr64 covers is_in)
+      → AreLeastCovers claim xs covers
+  least_covers are few all = record {
+    are = λ k c below. (same (holds (get_or covers k c))).1 (are k c below);
+    few = λ k c below. subst (λ (n : ℕ). n ≤ claim.false_max) (as_few (holds (get_or covers k c))) (few k c below);
+    all_or_64 = λ is_in cover small. all is_in ((same is_in).0 cover)
+        (subst (λ (n : ℕ). n ≤ claim.false_max) (sym (as_few is_in)) small);
+  }

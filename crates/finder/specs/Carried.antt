@@ -5,23 +5,19 @@
 -- Where some course of events fits, no tick's hull is empty, and then no certificate that may be
 -- written carries a lesser bound, and each wider one has a certificate too.
 use Rattle.std.specs.Prelude.{◌≡◌, ◌≢◌, ◌⊎◌, ℕ, pos, ◌+◌, ◌*◌, ◌/◌, ◌<◌, ◌≤◌, ℤ, ◌-ℤ◌, ◌≤ℤ◌, ◌<ℤ◌, unsigned_abs}
-use Rattle.std.specs.Prelude.{List, length, Option, Result, IfOk, IfErr, IfSome, MatchOption}
+use Rattle.std.specs.Prelude.{List, Option, Result, IfOk, IfSome, MatchOption}
 use Rattle.std.specs.declared.alloc.AllocError.{AllocError}
 use Rattle.era_unfold.specs.Window.{ticks_per_second}
-use Rattle.certificate.specs.Certificate.{CertificateData, max_pieces}
+use Rattle.certificate.specs.Certificate.{CertificateData}
 use Rattle.claim_file.specs.Claim.{ClaimData, max_bound_ns}
 use Rattle.intersection.specs.declared.kinds.Hull.{Hull}
 use Rattle.intersection.specs.declared.kinds.Hull.TheVariants.{Empty}
 use Rattle.sample_interval.specs.declared.kinds.Sample.{Sample}
 use Rattle.finder.specs.Envelope.{with_bound}
-use Rattle.finder.specs.Fewest.{IfNothing, IsOfLongest, IsStuck, IsTooLong, NoneOfFewIsAccepted, end_after, hull_over, next_tick, stretch_over}
-use Rattle.finder.specs.FewestAnswer.{FindsFewest}
+use Rattle.finder.specs.Fewest.{IsOfLongest, IsStuck, IsTooLong, NoneOfFewIsAccepted, end_after, hull_over, next_tick, stretch_over}
 use Rattle.finder.specs.Piece.{stretch_at}
 use Rattle.finder.specs.Refusal.{HoldsWhole}
 use Rattle.finder.specs.declared.carried.LeastCarried.{LeastCarried}
-use Rattle.finder.specs.declared.fault.FindFault.{FindFault}
-use Rattle.finder.specs.declared.fault.FindFault.TheVariants.{Memory}
-use Rattle.finder.specs.declared.fewest.Fewest.{Fewest}
 
 -- a piece of one tick begins here: at the first reading of the span, or before the last
 pub record IsTick (claim : ClaimData) (p : ℤ) : Type 0 where
@@ -32,7 +28,10 @@ module _ (samples : List Sample) (claim : ClaimData) where
   -- the search for the certificate of fewest pieces finds one
   abbrev pub IsCarried : Type 0
   IsCarried = (certificate : CertificateData) × IsOfLongest samples claim certificate
-      × (length certificate.pieces ≤ max_pieces)
+
+  -- it gets stuck at some tick
+  abbrev pub GetStuck : Type 0
+  GetStuck = (begin : ℤ) × (end : ℤ) × (hull : Hull) × IsStuck samples claim begin end hull
 
   -- it finds none: the longest pieces come to this tick, which isn't shown, or they are as many as
   -- a certificate may have
@@ -44,12 +43,6 @@ module _ (samples : List Sample) (claim : ClaimData) where
   abbrev pub IsNeverEmpty : Type 0
   IsNeverEmpty = (p : ℤ) → IsTick claim p
       → hull_over samples claim p (next_tick samples claim p) ≢ Empty
-
-  -- whatever the search answers, it is a certificate, unless memory ran out
-  abbrev pub AlwaysFinds : Type 0
-  AlwaysFinds = (answer : Result Fewest FindFault) → FindsFewest samples claim answer
-      → IfOk answer (λ found. IfNothing found (λ begin end hull. ⊥))
-      × IfErr answer (λ fault. fault ≡ Memory)
 
 -- a bound of this many nanoseconds is the first with a certificate: with a nanosecond less the
 -- search stops at this tick, and a bound of 0 has no lesser one
@@ -72,8 +65,7 @@ pub record FindsLeastBound (samples : List Sample) (claim : ClaimData)
       (m : ℕ) → m < least.bound_ns → NoneOfFewIsAccepted samples (with_bound claim m)))
   -- and with each wider one a certificate is found
   pub enough : IfOk result (λ some. IfSome some (λ least. IsNeverEmpty samples claim →
-      (m : ℕ) → least.bound_ns ≤ m → m ≤ max_bound_ns →
-      AlwaysFinds samples (with_bound claim m)))
+      (m : ℕ) → least.bound_ns ≤ m → m ≤ max_bound_ns → IsCarried samples (with_bound claim m)))
   -- there is none exactly if none is found with the greatest bound that a claim may have
   pub none : IfOk result (λ some. MatchOption some
       ((tick : ℤ) × StopsAt samples (with_bound claim max_bound_ns) tick)

@@ -4,7 +4,7 @@
 -- best entries lies inside the bound, and the next one begins there. A piece has at least one tick,
 -- unless the span is one moment, which is one piece. Where the hull over the one tick from a
 -- piece's begin isn't inside the bound, there is no such piece.
-use Rattle.std.specs.Prelude.{◌≡◌, ◌≤◌, ℤ, pos, ◌+ℤ◌, ◌≤ℤ◌, ◌<ℤ◌, unsigned_abs, ⊤}
+use Rattle.std.specs.Prelude.{◌≡◌, ◌<◌, ◌≤◌, ℤ, pos, ◌+ℤ◌, ◌≤ℤ◌, ◌<ℤ◌, unsigned_abs, ⊤}
 use Rattle.std.specs.Prelude.{Bool, true, false, List, [], ◌∷◌, ◌++◌, length}
 use Rattle.std.specs.Int.{int_min}
 use Rattle.certificate.specs.Certificate.{PieceData, CertificateData, data_of as certificate_data, max_pieces}
@@ -50,10 +50,11 @@ module _ (samples : List Sample) (claim : ClaimData) where
   abbrev pub next_tick : ℤ → ℤ
   next_tick p = int_min (p +ℤ pos 1) claim.last
 
-  -- the longest piece from p ends at q
+  -- the longest piece from p ends at q; the tick from p by itself is shown too
   pub record IsLongest (p q : ℤ) : Type 0 where
     pub some_tick : next_tick p ≤ℤ q
     pub in_span : q ≤ℤ claim.last
+    pub tick_shown : shows p (next_tick p) ≡ true
     pub shown : shows p q ≡ true
     pub no_longer : (r : ℤ) → q <ℤ r → r ≤ℤ claim.last → shows p r ≡ false
 
@@ -88,20 +89,22 @@ end_after p (q ∷ ends) = end_after q ends
 -- ---- what is found
 
 module _ (samples : List Sample) (claim : ClaimData) where
-  -- the longest pieces of the span, one after another: the last one ends with the span, and each
-  -- other one before it
+  -- the longest pieces of the span, one after another, no more than a certificate may have: the
+  -- last one ends with the span, and each other one before it
   pub record IsOfLongest (certificate : CertificateData) : Type 0 where
     pub earlier : List ℤ
     pub longest : AreLongest samples claim claim.first earlier
     pub last : IsLongest samples claim (end_after claim.first earlier) claim.last
+    pub few : length earlier < max_pieces
     pub pieces : certificate.pieces
         ≡ pieces_over samples claim claim.first (earlier ++ claim.last ∷ [])
 
-  -- where the longest pieces have come to, the next tick doesn't show it: the hull, which is this
-  -- one, isn't inside the bound
+  -- where the longest pieces have come to, fewer than a certificate may have, the next tick doesn't
+  -- show it: the hull, which is this one, isn't inside the bound
   pub record IsStuck (begin end : ℤ) (hull : Hull) : Type 0 where
     pub earlier : List ℤ
     pub longest : AreLongest samples claim claim.first earlier
+    pub few : length earlier < max_pieces
     pub begins : begin ≡ end_after claim.first earlier
     pub ends : end ≡ next_tick samples claim begin
     pub its_hull : hull ≡ hull_over samples claim begin end

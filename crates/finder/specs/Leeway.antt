@@ -13,6 +13,8 @@ use Rattle.certificate.specs.Refutation.{RefutationData}
 use Rattle.courses.specs.Cover.{group_of, servers_of}
 use Rattle.courses.specs.DriftRefutation.{IsRefutedWithDrift}
 use Rattle.courses.specs.Groups.{holds}
+use Rattle.courses.specs.LeastCovers.{AreLeastCovers}
+use Rattle.courses.specs.declared.groups.Groups.{Groups}
 use Rattle.marks.specs.Mark.{low_mark, high_mark, AreCompatible}
 use Rattle.marks.specs.declared.mark.Mark.{Mark}
 use Rattle.pairing.specs.declared.exchange.Exchange.{Exchange}
@@ -30,6 +32,13 @@ turned Below ticks = neg_ℤ ticks
 -- an error at a reading, as a mark
 abbrev pub mark_at : ℤ → ℤ → Mark
 mark_at reading error = record { place = reading; error = error }
+
+-- the mark of an exchange above which the error can't lie on a side: the high one, or the low one of
+-- a clock whose readings and errors are the negatives
+abbrev pub limit_of : Side → ℤ → Exchange → Mark
+limit_of Above allowance x = high_mark allowance x
+limit_of Below allowance x =
+    let mark = low_mark allowance x in mark_at (neg_ℤ mark.place) (neg_ℤ mark.error)
 
 -- an exchange lets the clock be off by so many ticks to this side when it shows the reading
 abbrev pub Lets : ClaimData → Side → ℤ → ℤ → Exchange → Type 0
@@ -117,6 +126,18 @@ pub record IsTriedInVain (claim : ClaimData) (xs : List Exchange) (cover : ℕ �
       IsNarrowed leeways (claim.false_max - count_by cover (numbers_below 32)) cover is_false
   pub refutes_nothing : (r : RefutationData) → IsCandidate claim xs side reading is_false r
       → ¬ (IsRefutedWithDrift claim xs r)
+
+-- so it is at each of these readings, to both sides
+abbrev pub IsTriedAtAll : ClaimData → List Exchange → List ℕ → Groups → Type 0
+IsTriedAtAll claim xs readings cover =
+    All (λ reading. (side : Side) → IsTriedInVain claim xs (holds cover) reading side) readings
+
+-- so it is with each of the least covers
+pub record IsSoughtInVain (claim : ClaimData) (xs : List Exchange) (readings : List ℕ)
+    : Type 0 where
+  pub covers : List Groups
+  pub least : AreLeastCovers claim xs covers
+  pub tried : All (IsTriedAtAll claim xs readings) covers
 
 -- so it is at each of these places, to both sides
 abbrev pub AreTriedInVain : ClaimData → List Exchange → List Place → Type 0

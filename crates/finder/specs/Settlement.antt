@@ -4,7 +4,7 @@
 -- capture, and no more is asked. If no more groups have a sample than may be false, the capture
 -- says nothing about the clock. Otherwise a certificate shows the claim, or a refutation contests
 -- it, or neither was found, and no certificate is accepted.
-use Rattle.std.specs.Prelude.{◌≡◌, ◌⊎◌, ◌<◌, ◌≤◌, ℕ, ℤ, List, length, map, AllPairs, Result, IfOk, IfErr}
+use Rattle.std.specs.Prelude.{◌≡◌, ◌⊎◌, ◌<◌, ◌≤◌, ℕ, ℤ, unsigned_abs, List, [], ◌∷◌, length, map, AllPairs, Result, IfOk, IfErr}
 use Rattle.certificate.specs.Certificate.{CertificateData, data_of as certificate_data, max_pieces}
 use Rattle.certificate.specs.Refutation.{RefutationData, data_of as refutation_data}
 use Rattle.claim_file.specs.Claim.{ClaimData}
@@ -15,11 +15,12 @@ use Rattle.checker.specs.Traceability.{HoldsError, samples_of}
 use Rattle.checker.specs.Verdict.{verdict_of}
 use Rattle.checker.specs.declared.verdict.Verdict.TheVariants.{Yes}
 use Rattle.courses.specs.Contradiction.{ShownConflict, AreAllConflicts, NoFewHoldAnEnd}
-use Rattle.courses.specs.Cover.{SomeCourse}
+use Rattle.courses.specs.Cover.{SomeCourse, SomeCourseAt}
 use Rattle.courses.specs.DriftRefutation.{IsRefutedWithDrift, HasDriftCourse}
 use Rattle.courses.specs.Evidence.{IsNoEvidence, count_with_exchange}
 use Rattle.courses.specs.PairMarks.{conflict_data}
 use Rattle.finder.specs.Fewest.{HasFewest, IsOfLongest, IsStuck, IsTooLong, NoneIsAccepted, NoneOfFewIsAccepted, stretch_over}
+use Rattle.finder.specs.Leeway.{IsSoughtInVain}
 use Rattle.finder.specs.declared.fault.FindFault.{FindFault}
 use Rattle.finder.specs.declared.fault.FindFault.TheVariants.{TooManyPieces, Memory}
 use Rattle.finder.specs.declared.settlement.Settled.{Settled}
@@ -47,10 +48,14 @@ module _ (claim : ClaimData) (xs : List Exchange) where
   abbrev pub IsHeard : Type 0
   IsHeard = claim.false_max < count_with_exchange claim xs
 
-  -- The certificate shows the claim: it is accepted, no accepted one has fewer pieces, and a course
-  -- fits the exchanges, so that it says something of some course.
+  -- At each reading a course is observed that fits, with one moment for the exchanges of a request.
+  abbrev pub IsFitted : Type 0
+  IsFitted = (reading : ℤ) → SomeCourseAt claim xs reading
+
+  -- The certificate shows the claim: it is accepted, no accepted one has fewer pieces, and courses
+  -- fit the exchanges, so that it says something of some course.
   pub record IsShownBy (certificate : CertificateData) : Type 0 where
-    pub course : SomeCourse claim xs
+    pub courses : IsFitted
     pub longest : IsOfLongest (samples_of xs claim) claim certificate
     pub accepted : verdict_of (samples_of xs claim) claim certificate ≡ Yes
     pub fewest : HasFewest (samples_of xs claim) claim certificate
@@ -79,13 +84,15 @@ module _ (claim : ClaimData) (xs : List Exchange) where
 
   -- A course fits, and no certificate is accepted, though the capture is evidence. Where the
   -- longest pieces have come to, the next tick isn't shown; in every course that fits, the error
-  -- lies in its hull at every moment whose reading lies there.
+  -- lies in its hull at every moment whose reading lies there. At neither end of it does an error
+  -- that is tried refute the claim.
   pub record IsLeftOpen (begin end : ℤ) (hull : Hull) : Type 0 where
     pub heard : IsHeard
-    pub course : SomeCourse claim xs
+    pub courses : IsFitted
     pub stuck : IsStuck (samples_of xs claim) claim begin end hull
     pub none_accepted : NoneIsAccepted (samples_of xs claim) claim
     pub held : HoldsError claim (samples_of xs claim) (stretch_over begin end) hull
+    pub all_tried : IsSoughtInVain claim xs (unsigned_abs begin ∷ unsigned_abs end ∷ [])
 
   abbrev pub IsSettledAs : SettledData → Type 0
   IsSettledAs (shown certificate) = IsShownBy certificate

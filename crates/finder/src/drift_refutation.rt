@@ -8,7 +8,7 @@ ghost use Rattle.courses.specs.ConflictsView.{data_of};
 ghost use Rattle.courses.specs.DriftRefutation.{IsRefutedWithDrift};
 ghost use Rattle.courses.specs.DriftSettlement.{SettlesWithDrift};
 ghost use Rattle.courses.specs.Groups.{holds};
-ghost use Rattle.finder.specs.Leeway.{AreTriedInVain, IsTriedInVain, turned};
+ghost use Rattle.finder.specs.Leeway.{AreTriedInVain, IsTriedAtAll, IsTriedInVain, turned};
 ghost use Rattle.finder.specs.Leeway.{IsMade, IsNothingSaid, IsSayable};
 ghost use Rattle.finder.specs.declared.side.Side.{Side};
 ghost use Rattle.pairing.specs.Exchange.{IsLawful as IsLawfulExchange};
@@ -66,7 +66,7 @@ pub fn find_refutation_with_drift<X: ToExchange>(
 }
 
 /// The same, by what [`courses::conflicts_of`] makes of the same exchanges. It takes no memory.
-pub(crate) fn find_by_conflicts<X: ToExchange>(
+fn find_by_conflicts<X: ToExchange>(
     exchanges: &[X],
     claim: &Claim,
     conflicts: &Conflicts,
@@ -85,6 +85,34 @@ pub(crate) fn find_by_conflicts<X: ToExchange>(
 {
     for place in places {
         if let Some(found) = find_at(exchanges, claim, conflicts, *place) {
+            return Some(found);
+        }
+    }
+    None
+}
+
+/// The same with these groups taken for false, at each of these readings.
+pub(crate) fn find_with_cover<X: ToExchange>(
+    exchanges: &[X],
+    claim: &Claim,
+    conflicts: &Conflicts,
+    cover: Groups,
+    readings: &[u64],
+) -> Option<Refutation>
+    requires claim { IsLawful (claim_data claim.now) }
+    requires exchanges { All (IsLawfulExchange (length claim.now.servers.items))
+        (map X.shown exchanges.now) }
+    requires groups { (data_of conflicts.now).groups ≡ length claim.now.groups.items }
+    requires table { IsConflictTable (claim_data claim.now) (map X.shown exchanges.now)
+        (data_of conflicts.now).is_broken (data_of conflicts.now).is_edge }
+    ensures settles { IfSome result (λ found. SettlesWithDrift
+        (claim_data claim.now) (map X.shown exchanges.now) (refutation_data found) true) }
+    ensures all_tried { IfNone result (IsTriedAtAll (claim_data claim.now)
+        (map X.shown exchanges.now) readings.now cover) }
+{
+    for reading in readings {
+        let reading = *reading;
+        if let Some(found) = find_at(exchanges, claim, conflicts, Place { cover, reading }) {
             return Some(found);
         }
     }

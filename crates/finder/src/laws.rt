@@ -15,10 +15,10 @@ ghost use Rattle.courses.specs.Cover.{SomeCourse};
 ghost use Rattle.span_cover.specs.Group.{is_inside, piece_hull};
 ghost use Rattle.span_cover.specs.Piece.{IsPiece};
 ghost use Rattle.span_cover.specs.declared.stretch.Stretch.{Stretch};
-ghost use Rattle.finder.specs.Carried.{HoldsTick, IsNeverEmpty, IsTick, piece_holding};
+ghost use Rattle.finder.specs.Carried.{GetStuck, HoldsTick, IsCarried, IsNeverEmpty, IsTick, piece_holding};
 ghost use Rattle.finder.specs.Entry.{best_entries, best_hull, parts_named};
 ghost use Rattle.finder.specs.Envelope.{EnvelopeData, IsCertified, IsLeast, IsNotCertified, envelope_of, least_of, with_bound};
-ghost use Rattle.finder.specs.Fewest.{AreLongest, IsNoWider, stretch_over};
+ghost use Rattle.finder.specs.Fewest.{AreLongest, IsNoWider, IsOfLongest, IsStuck, IsTooLong, stretch_over};
 ghost use Rattle.finder.specs.Found.{found_of, hull_at};
 ghost use Rattle.finder.specs.Piece.{IsPieceCount, count_of, piece_count_of};
 ghost use Rattle.finder.specs.Refusal.{HoldsWhole};
@@ -212,6 +212,25 @@ pub fn courses_leave_no_hull_empty()
     some_course_is_observed_at_any_reading();
     samples_of_exchanges_keep_limits();
 }
+
+/// The longest pieces end in one of three ways, and in no two of them: they are the certificate of
+/// fewest pieces, they get stuck at a tick, or as many as a certificate may have don't reach the
+/// span's end. There is one such certificate, and one such tick.
+pub fn longest_pieces_end_in_one_way()
+    ensures one { (samples : List Sample) (claim : ClaimData) →
+        IsCarried samples claim ⊎ (GetStuck samples claim ⊎ IsTooLong samples claim) }
+    ensures carried_or_stuck { (samples : List Sample) (claim : ClaimData) →
+        IsCarried samples claim → ¬ (GetStuck samples claim) }
+    ensures carried_or_too_long { (samples : List Sample) (claim : ClaimData) →
+        IsCarried samples claim → ¬ (IsTooLong samples claim) }
+    ensures stuck_or_too_long { (samples : List Sample) (claim : ClaimData) →
+        GetStuck samples claim → ¬ (IsTooLong samples claim) }
+    ensures one_certificate { (samples : List Sample) (claim : ClaimData)
+        (a b : CertificateData) → IsOfLongest samples claim a → IsOfLongest samples claim b →
+        a ≡ b }
+    ensures one_tick { (samples : List Sample) (claim : ClaimData) (p q r s : ℤ) (g h : Hull) →
+        IsStuck samples claim p q g → IsStuck samples claim r s h → p ≡ r }
+{}
 
 /// If the span is cut at equal steps, each tick of it lies whole in the piece that holds its begin.
 pub fn pieces_hold_their_ticks()

@@ -1,6 +1,6 @@
 //! What settles a claim.
 
-ghost use Rattle.std.specs.Prelude.{◌≡◌, ◌≤◌, true, length, map, All, IfOk, IfSome};
+ghost use Rattle.std.specs.Prelude.{◌≡◌, ◌≤◌, true, length, map, All, IfNone, IfOk, IfSome};
 ghost use Rattle.certificate.specs.Refutation.{data_of as refutation_data};
 ghost use Rattle.claim_file.specs.Claim.{IsLawful, data_of as claim_data};
 ghost use Rattle.checker.specs.Traceability.{samples_of};
@@ -8,12 +8,13 @@ ghost use Rattle.courses.specs.ConflictTable.{IsConflictTable};
 ghost use Rattle.courses.specs.ConflictsView.{data_of};
 ghost use Rattle.courses.specs.DriftSettlement.{SettlesWithDrift};
 ghost use Rattle.courses.specs.Evidence.{count_with_exchange};
+ghost use Rattle.finder.specs.Leeway.{IsSoughtInVain};
 ghost use Rattle.finder.specs.Reach.{IsTabled};
 ghost use Rattle.finder.specs.Samples.{AreSamplesOf};
 ghost use Rattle.finder.specs.Settlement.{Settles};
 ghost use Rattle.pairing.specs.Exchange.{IsLawful as IsLawfulExchange, most_exchanges};
 
-use crate::drift_refutation::{Place, find_by_conflicts};
+use crate::drift_refutation::find_with_cover;
 use crate::fault::FindFault;
 use crate::fewest::{Fewest, fewest_by};
 use crate::laws::samples_of_exchanges_keep_limits;
@@ -24,6 +25,7 @@ use claim_file::Claim;
 use courses::laws::{
     ends_of_all_conflicts_are_a_cover, few_groups_are_no_evidence, no_evidence_gives_no_yes,
     some_course_fits_where_a_cover_is_small, some_course_is_observed_at_any_reading,
+    tables_settle_covers,
 };
 use courses::{Conflict, Conflicts, conflicts_of, first_contradictions, groups_with_exchanges};
 use intersection::kinds::Hull;
@@ -90,8 +92,8 @@ fn groups_heard<X: ToExchange>(exchanges: &[X], claim: &Claim) -> u8
     groups_with_exchanges(exchanges, claim).count(claim.servers.len() as u8)
 }
 
-/// A refutation with drift, if one is found: for each cover at both ends of the tick that needs
-/// most with it left out, and at these readings.
+/// A refutation with drift, if one is found: for each least cover at both ends of the tick that
+/// needs most with it left out, and at these readings.
 fn refutation_of<X: ToExchange>(
     alloc: Global,
     exchanges: &[X],
@@ -107,26 +109,31 @@ fn refutation_of<X: ToExchange>(
     requires table { IsConflictTable (claim_data claim.now) (map X.shown exchanges.now)
         (data_of conflicts.now).is_broken (data_of conflicts.now).is_edge }
     requires tables { IsTabled (claim_data claim.now) tables.now }
-    ensures { IfOk result (λ sought. IfSome sought (λ found. SettlesWithDrift
+    ensures settles { IfOk result (λ sought. IfSome sought (λ found. SettlesWithDrift
         (claim_data claim.now) (map X.shown exchanges.now) (refutation_data found) true)) }
+    ensures all_tried { IfOk result (λ sought. IfNone sought
+        (IsSoughtInVain (claim_data claim.now) (map X.shown exchanges.now) readings.now)) }
 {
-    let covers = conflicts.covers(claim.false_max);
+    tables_settle_covers();
+    let least = conflicts.covers(claim.false_max);
+    let covers = least.as_slice();
     let most = most_stretches(exchanges.len(), covers.len());
-    let mut places = Vec::new(alloc);
-    for cover in &covers {
+    for cover in covers {
         let cover = *cover;
         if let Some(tick) = neediest_tick(alloc, tables, claim, cover, most)? {
             let begin = tick.begin.0;
-            for reading in [begin, begin.saturating_add(tick.reach)] {
-                places.push(Place { cover, reading })?;
+            let ends = [begin, begin.saturating_add(tick.reach)];
+            let there = find_with_cover(exchanges, claim, conflicts, cover, &ends);
+            if there.is_some() {
+                return Ok(there);
             }
         }
-        for reading in readings {
-            let reading = *reading;
-            places.push(Place { cover, reading })?;
+        let found = find_with_cover(exchanges, claim, conflicts, cover, readings);
+        if found.is_some() {
+            return Ok(found);
         }
     }
-    Ok(find_by_conflicts(exchanges, claim, conflicts, &places))
+    Ok(None)
 }
 
 /// Settles a claim: by a certificate if there is one, or else by a refutation with drift if one is

@@ -2,7 +2,7 @@
 
 ghost use Rattle.std.specs.Prelude.{◌≡◌, ◌↔◌, ◌^◌, ◌≤◌, ℤ, pos, ◌≤ℤ◌, unsigned_abs};
 ghost use Rattle.claim_file.specs.Claim.{ClaimData};
-ghost use Rattle.finder.specs.Leeway.{Lets, mark_at, turned};
+ghost use Rattle.finder.specs.Leeway.{Lets, limit_of, mark_at, turned};
 ghost use Rattle.marks.specs.Mark.{AreCompatible};
 ghost use Rattle.marks.specs.Range.{IsWithinRange};
 ghost use Rattle.sample_interval.specs.Exchange.{IsOfSomeClaim};
@@ -43,6 +43,7 @@ impl Side {
         requires from_zero { pos 0 ≤ℤ allowance }
         requires at_most_a_second { allowance ≤ℤ pos (2 ^ 32) }
         ensures range { IsWithinRange result }
+        ensures value { result ≡ limit_of self allowance exchange.now }
         ensures exact { (claim : ClaimData) (reading ticks : ℤ) → claim.reading ≡ allowance →
             AreCompatible claim.drift_ppb (mark_at (turned self reading) ticks) result
             ↔ Lets claim self reading ticks exchange.now }

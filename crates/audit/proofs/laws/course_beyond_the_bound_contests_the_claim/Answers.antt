@@ -34,6 +34,7 @@ returns c claim_bytes capture_bytes claim collection all claim_read' capture_rea
           lawful.addresses_differ;
       course = has.course;
       fits = has.fits;
+      shares_requests = has.shares_requests;
       in_span = has.in_span;
       beyond = beyond_in_ticks claim_bytes claim text xs has;
       beyond_nanoseconds = beyond_in_nanoseconds claim_bytes claim text xs has;

@@ -9,7 +9,7 @@ pub returns : goal.returns
 returns c claim xs lawful each some p tick empty =
     let samples = samples_of xs claim in
     let next = next_tick samples claim p in
-    let (course, fits, reads) = c.some_course_is_observed_at_any_reading.ensures claim xs p lawful each some in
+    let (course, fits, reads, shares) = c.some_course_is_observed_at_any_reading.ensures claim xs p lawful each some in
     subst (IsInHull course) empty
     (c.best_hulls_hold_the_error.ensures claim samples (stretch_over p next) lawful
     (c.samples_of_exchanges_keep_limits.ensures.listed claim xs each) xs course refl fits

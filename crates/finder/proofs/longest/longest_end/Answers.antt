@@ -66,4 +66,4 @@ returns c samples tabled =
       held = c.best_hulls_hold_the_error.ensures;
     }) samples (data_of c.args.claim.now) c.requires.claim tabled.of_claim
     c.args.begin c.args.next c.requires.in_span c.requires.next c.loop-low.low c.loop-low.high
-    (c.loop-low.invariant samples tabled) c.loop-low-test.false
+    (c.loop-low.invariant samples tabled) c.loop-low-test.false (c.requires.shown samples tabled)

@@ -42,8 +42,9 @@ returns-in-Ok-Certificate g c =
     let xs = map g.X.ToExchange.shown c.args.exchanges.now in
     record {
       settled = shown_by claim xs c.in-Ok-Certificate.certificate
-          (fits_if c.has_cover.result c.if-not-has_cover.false c.has_cover.ensures.exact
-          c.in_ok-conflicts.ensures.covers)
+          (λ reading. c.some_course_is_observed_at_any_reading.ensures claim xs reading c.requires.claim
+          c.requires.exchanges (fits_if c.has_cover.result c.if-not-has_cover.false c.has_cover.ensures.exact
+          c.in_ok-conflicts.ensures.covers))
           (subst (λ (samples : List Sample).
           FindsFewest samples claim (Ok (found.Certificate c.in-Ok-Certificate.certificate)))
           c.exchange_samples-samples.ensures.samples
@@ -75,7 +76,7 @@ returns-in-Some g c =
     record {
       settled = contested_by claim xs _
           (heard claim xs c.groups_heard-groups.result c.groups_heard-groups.ensures c.if-groups-claim.false)
-          (rw c.in-Some.is at c.in_ok-refutation-in-Ok-Nothing.ensures);
+          (rw c.in-Some.is at c.in_ok-refutation-in-Ok-Nothing.ensures.settles);
       refused = tt;
     }
 
@@ -86,7 +87,7 @@ returns-in-Some-2 g c =
     record {
       settled = contested_by claim xs _
           (heard claim xs c.groups_heard-groups.result c.groups_heard-groups.ensures c.if-groups-claim.false)
-          (rw c.in-Some-2.is at c.in_ok-refutation-in-Err-TooManyPieces.ensures);
+          (rw c.in-Some-2.is at c.in_ok-refutation-in-Err-TooManyPieces.ensures.settles);
       refused = tt;
     }
 
@@ -105,8 +106,10 @@ returns-in-Ok-Nothing g c =
     let tick = stuck_within claim c.requires.claim _ begin end c.in-Ok-Nothing.hull finds.stuck in
     record {
       settled = rw (tick.begin_kept, tick.end_kept) (left_open claim xs begin end c.in-Ok-Nothing.hull tick.forward
-          (heard claim xs c.groups_heard-groups.result c.groups_heard-groups.ensures c.if-groups-claim.false) course
-          (c.some_course_is_observed_at_any_reading.ensures claim xs begin c.requires.claim c.requires.exchanges course)
-          finds);
+          (heard claim xs c.groups_heard-groups.result c.groups_heard-groups.ensures c.if-groups-claim.false)
+          (λ reading. c.some_course_is_observed_at_any_reading.ensures claim xs reading c.requires.claim
+          c.requires.exchanges course) finds
+          (rw (c.in-None.is, tick.begin_kept, tick.end_kept)
+          at c.in_ok-refutation-in-Ok-Nothing.ensures.all_tried));
       refused = tt;
     }

@@ -1,10 +1,22 @@
-use Rattle.std.proofs.Common.{◌≡◌, neg_ℤ, sym, ap, ◌∙◌}
+use Rattle.std.proofs.Common.{◌≡◌, neg_ℤ, sym, ap, ap₂, ◌∙◌}
 use mir.Syntax.{w128}
 use Rattle.std.proofs.lemmas.Int.{to_z-of_z}
 use Rattle.marks.specs.Mark.{low_mark}
 use Rattle.marks.specs.declared.mark.Mark.{Mark}
+use Rattle.finder.specs.Leeway.{mark_at}
 use Rattle.finder.proofs.GroupLeeway.{let_below, negative_kept}
 use Rattle.finder.proofs.side.Side.mark_of.Goals as goal
+
+pub returns-in-Below-clause-value : goal.returns-in-Below-clause-value
+returns-in-Below-clause-value c =
+    let x = c.args.exchange.now in
+    let range = c.low_mark-mark.ensures.range in
+    let mark : c.low_mark-mark.result ≡ low_mark c.args.allowance x =
+    c.low_mark-mark.ensures.exact
+    ∙ ap (λ allowance. low_mark allowance x) (to_z-of_z w128 c.args.allowance c.ranges.allowance) in
+    rw c.in-Below.is (ap₂ mark_at
+    (negative_kept c.low_mark-mark.result.place range.place ∙ ap (λ (m : Mark). neg_ℤ m.place) mark)
+    (negative_kept c.low_mark-mark.result.error range.error ∙ ap (λ (m : Mark). neg_ℤ m.error) mark))
 
 pub returns-in-Below-clause-exact : goal.returns-in-Below-clause-exact
 returns-in-Below-clause-exact c claim reading ticks is =
