@@ -1,9 +1,9 @@
 //! The tick that needs the widest bound where some groups have no say.
 //!
 //! If the groups of a cover are left out, what is left has no conflict: no hull is empty, and its
-//! ends change no faster than the clock may drift. So looking into the stretch first that needs
-//! most finds the neediest tick by some two hulls for each exchange. Nothing rests on it but where
-//! other searches begin.
+//! ends change no faster than the clock may drift. So the span is cut at once into stretches that
+//! are hardly longer than from sample to sample, and looking into the one first that needs most
+//! soon finds the neediest tick. Nothing rests on it but where other searches begin.
 
 ghost use Rattle.std.specs.Prelude.{◌<◌, ◌≤◌, IfOk, length, All};
 ghost use Rattle.claim_file.specs.Claim.{IsLawful, data_of as claim_data, max_bound_ns};
@@ -21,7 +21,7 @@ use span_cover::{Part, piece_hull};
 use std::alloc::{AllocError, Global};
 use std::cmp::Reverse;
 use std::collections::BinaryHeap;
-use sweep::{BestTable, parts_over};
+use sweep::{BestTable, Places, parts_near};
 
 /// A stretch of the span, by how many ticks the bound of its hull has to have. The one that needs
 /// most is the greatest, and of those that need as much the first.
@@ -48,10 +48,10 @@ pub(crate) fn likely_bound(
     requires tables { IsTabled (claim_data claim.now) tables.now }
     ensures { IfOk result (λ bound_ns. bound_ns ≤ max_bound_ns) }
 {
-    let hulls = most_stretches(samples, covers.len());
+    let effort = Effort::of(samples, covers.len());
     let mut most = 0;
     for cover in covers {
-        if let Some(tick) = neediest_tick(alloc, tables, claim, *cover, hulls)? {
+        if let Some(tick) = neediest_tick(alloc, tables, claim, *cover, effort)? {
             most = most.max(tick.ticks);
         }
     }
@@ -68,29 +68,50 @@ pub(crate) fn in_nanoseconds(ticks: u128) -> u64
     nanoseconds_of(ticks).min(u128::from(MOST_BOUND_NS)) as u64
 }
 
-/// How many stretches may be cut for each of some covers: all in all 4 for each sample and 100,000
-/// besides.
-pub(crate) fn most_stretches(samples: usize, covers: usize) -> usize {
-    samples.saturating_mul(4).saturating_add(100_000) / covers.max(1)
+/// How many stretches are looked at for one cover.
+#[derive(Clone, Copy)]
+pub(crate) struct Effort {
+    /// Into how many the span is cut at first.
+    parts: u64,
+    /// How many of them are halved at most.
+    halved: usize,
+}
+
+impl Effort {
+    /// The effort for each of some covers: all in all a stretch for two samples at first, and 4
+    /// halved for each sample and 100,000 besides.
+    pub(crate) fn of(samples: usize, covers: usize) -> Effort {
+        let covers = covers.max(1);
+        Effort {
+            parts: (samples / 2 / covers).max(1) as u64,
+            halved: samples.saturating_mul(4).saturating_add(100_000) / covers,
+        }
+    }
 }
 
 /// The tick that needs most where the groups of a cover have no say, if some tick needs a bound; or
-/// where the stretch begins that needs most, once this many were cut.
+/// where the stretch begins that needs most, once as many were halved as may be.
 pub(crate) fn neediest_tick(
     alloc: Global,
     tables: &[BestTable],
     claim: &Claim,
     cover: Groups,
-    most: usize,
+    effort: Effort,
 ) -> Result<Option<StretchNeed>, AllocError>
     requires claim { IsLawful (claim_data claim.now) }
     requires tables { IsTabled (claim_data claim.now) tables.now }
 {
+    let mut places = Places::new();
     let mut left = BinaryHeap::new(alloc);
-    let first = claim.first as u64;
     let last = claim.last as u64;
-    add_stretch(&mut left, tables, claim, cover, first, last - first)?;
-    for _ in 0..most {
+    let mut begin = claim.first as u64;
+    let length = (last.saturating_sub(begin) / effort.parts.max(1)).saturating_add(1);
+    for _ in 0..effort.parts {
+        let reach = length.min(last.saturating_sub(begin));
+        add_stretch(&mut left, tables, &mut places, claim, cover, begin, reach)?;
+        begin = begin.saturating_add(reach);
+    }
+    for _ in 0..effort.halved {
         let Some(widest) = left.pop() else {
             return Ok(None);
         };
@@ -100,8 +121,9 @@ pub(crate) fn neediest_tick(
         let half = widest.reach / 2;
         let begin = widest.begin.0;
         let middle = begin.saturating_add(half);
-        add_stretch(&mut left, tables, claim, cover, begin, half)?;
-        add_stretch(&mut left, tables, claim, cover, middle, widest.reach - half)?;
+        let rest = widest.reach - half;
+        add_stretch(&mut left, tables, &mut places, claim, cover, begin, half)?;
+        add_stretch(&mut left, tables, &mut places, claim, cover, middle, rest)?;
     }
     Ok(left.pop())
 }
@@ -110,6 +132,7 @@ pub(crate) fn neediest_tick(
 fn add_stretch(
     left: &mut BinaryHeap<StretchNeed>,
     tables: &[BestTable],
+    places: &mut Places,
     claim: &Claim,
     cover: Groups,
     begin: u64,
@@ -119,7 +142,7 @@ fn add_stretch(
     requires tables { IsTabled (claim_data claim.now) tables.now }
 {
     let end = begin.saturating_add(reach);
-    if let Hull::Bounded { lo, hi } = hull_without(tables, claim, cover, begin, end) {
+    if let Hull::Bounded { lo, hi } = hull_without(tables, places, claim, cover, begin, end) {
         left.push(StretchNeed {
             ticks: reach_of(lo, hi),
             begin: Reverse(begin),
@@ -131,13 +154,26 @@ fn add_stretch(
 
 /// The hull over a stretch of what the groups outside a cover say, if as many of them may be false
 /// as are left.
-fn hull_without(tables: &[BestTable], claim: &Claim, cover: Groups, begin: u64, end: u64) -> Hull
+fn hull_without(
+    tables: &[BestTable],
+    places: &mut Places,
+    claim: &Claim,
+    cover: Groups,
+    begin: u64,
+    end: u64,
+) -> Hull
     requires claim { IsLawful (claim_data claim.now) }
     requires tables { IsTabled (claim_data claim.now) tables.now }
     requires in_order { begin ≤ end }
 {
     best_samples_are_the_first_best();
-    let all = parts_over(tables, i128::from(begin), i128::from(end), claim.drift_ppb);
+    let all = parts_near(
+        tables,
+        places,
+        i128::from(begin),
+        i128::from(end),
+        claim.drift_ppb,
+    );
     let parts = parts_without(all.as_slice(), claim, cover);
     let false_max = claim.false_max.saturating_sub(cover.count(32));
     piece_hull(parts.as_slice(), claim.groups.as_slice(), false_max)

@@ -3,8 +3,8 @@ use Rattle.claim_file.specs.Claim.{data_of}
 use Rattle.finder.proofs.Part.{listed_said}
 use Rattle.finder.proofs.neediest.hull_without.Goals as goal
 
-pub parts_over-all-requires-clause-few : goal.parts_over-all-requires-clause-few
-parts_over-all-requires-clause-few c = c.requires.tables.1.few
+pub parts_near-all-requires-clause-few : goal.parts_near-all-requires-clause-few
+parts_near-all-requires-clause-few c = c.requires.tables.1.few
 
 pub parts_without-parts-requires-clause-listed : goal.parts_without-parts-requires-clause-listed
 parts_without-parts-requires-clause-listed c =
@@ -14,6 +14,6 @@ parts_without-parts-requires-clause-listed c =
     rw (
       c.as_slice.ensures.value,
       c.requires.claim.group_for_each,
-      c.parts_over-all.ensures samples (length claim.servers) tabled.are,
+      c.parts_near-all.ensures samples (length claim.servers) tabled.are,
     )
     (listed_said c.best_samples_are_the_first_best.ensures samples claim _ _ tabled.of_claim)
