@@ -26,4 +26,5 @@ returns c =
     subst (λ (given : Option (List ℕ)). IfSome c.get_one.result (λ seconds. option_map number given ≡ Some seconds))
     (one_text-rows f (codes "step"))
     (reads _ (λ text x. ParsesUnsigned 32 10 text x × ExplainsUnsignedError 10 text x × HasUnsignedDigitsIfOk text x)
-    (λ text x parsed. parsed.0) (one_text f (codes "step")) c.get_one.result c.get_one.ensures.none c.get_one.ensures.value)
+    (λ text x parsed. parsed.0) (one_text f (codes "step")) c.get_one.result
+    c.get_one.ensures.none c.get_one.ensures.value)
