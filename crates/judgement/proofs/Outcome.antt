@@ -17,7 +17,7 @@ use Rattle.audit.specs.Report.{after_capture, after_claim, after_second}
 use Rattle.audit.specs.Run.{AnswersFor, ShowsAt}
 use Rattle.audit.specs.Second.{SecondData, second_read}
 use Rattle.judgement.specs.Holding.{Feeds, feeds}
-use Rattle.judgement.specs.Judgement.{IsAnsweredFor, NoShows, YesShows, in_memory}
+use Rattle.judgement.specs.Judgement.{HaveNotFailed, IsAnsweredFor, NoShows, YesShows, in_memory}
 use Rattle.judgement.specs.Question.{asked_of}
 use Rattle.judgement.specs.declared.judgement.Judgement.{Judgement}
 use Rattle.judgement.specs.declared.judgement.Judgement.TheVariants.{Check, Refute}
@@ -75,6 +75,7 @@ module _ (style : Style) (c s f : List â„•) (are_bytes : IsBytes f) (status : â„
     pub answers : AnswersFor (asked_of judgement style)
         (run_state feeds.claim feeds.second feeds.capture sink) ended second second' capture capture' err err' status
     pub shows : ShowsAt status (asked_of judgement style).question feeds.claim feeds.second feeds.capture
+    pub unfailed : HaveNotFailed ended
 
   -- what holds of the feeds holds of memory
   of_memory : {T F : Type 0} {judgement : Judgement} {sink err err' : SinkState} {ended : RunState}
@@ -98,6 +99,7 @@ module _ (style : Style) (c s f : List â„•) (are_bytes : IsBytes f) (status : â„
       record {
         ended = ended;
         sink_is = refl;
+        unfailed = told.unfailed;
         answers = record {
           answer = answers.answer;
           promise = subst (Î» report. Reports report (run_state (in_memory c) (in_memory s) (in_memory f) sink) ended

@@ -32,12 +32,18 @@ pub record IsHeld (digest : List ℕ) (known : Option (List ℕ)) (read : List �
   pub digest_is : sha256 read ≡ digest
   pub whole : IfSome known (λ bytes. read ≡ bytes)
 
+-- An input was read: bytes that have another digest, and all that its feed had, if that is known.
+pub record IsOther (digest : List ℕ) (known : Option (List ℕ)) (read : List ℕ) : Type 0 where
+  pub bytes : IsBytes read
+  pub digest_differs : sha256 read ≢ digest
+  pub whole : IfSome known (λ bytes. read ≡ bytes)
+
 -- why an input isn't held to this digest: its length, its digest, its device, or memory
 abbrev pub IsUnheld : Input → List ℕ → Option (List ℕ) → RunFault → Type 0
 IsUnheld which digest known (TooBig input) =
     (input ≡ which) × IfSome known (λ bytes. limit_of which < length bytes)
 IsUnheld which digest known (Refused (Differ input)) =
-    (input ≡ which) × IfSome known (λ bytes. sha256 bytes ≢ digest)
+    (input ≡ which) × (read : List ℕ) × IsOther digest known read
 IsUnheld which digest known (Device input) = input ≡ which
 IsUnheld which digest known Memory = Unit {0}
 IsUnheld which digest known fault = ⊥
@@ -57,21 +63,21 @@ pub record AreHeld (digests : Digests) (before : Feeds) (held : HeldInputs) : Ty
   pub second : IsHeld digests.second before.second.remaining held.second.items
   pub capture : IsHeld digests.capture before.capture.remaining held.capture.items
 
--- the bytes, if they are known, have this digest
-abbrev pub HasDigest : List ℕ → Option (List ℕ) → Type 0
-HasDigest digest known = IfSome known (λ bytes. sha256 bytes ≡ digest)
+-- bytes that have this digest were read
+abbrev pub WasHeld : List ℕ → Option (List ℕ) → Type 0
+WasHeld digest known = (read : List ℕ) × IsHeld digest known read
 
 -- Why the inputs aren't held: the fault is that of the first, in the order claim, second input,
--- capture, that isn't. Those before it have their digests, and those after it weren't read.
+-- capture, that isn't. Those before it were read and held, and those after it weren't read.
 abbrev pub AreUnheld : Input → Digests → Feeds → Feeds → RunFault → Type 0
 AreUnheld which digests before after fault =
     (IsUnheld inputs.Claim digests.claim before.claim.remaining fault
     × (after.second ≡ before.second) × (after.capture ≡ before.capture))
-    ⊎ ((HasDigest digests.claim before.claim.remaining
+    ⊎ ((WasHeld digests.claim before.claim.remaining
     × IsUnheld which digests.second before.second.remaining fault
     × (after.capture ≡ before.capture))
-    ⊎ (HasDigest digests.claim before.claim.remaining
-    × HasDigest digests.second before.second.remaining
+    ⊎ (WasHeld digests.claim before.claim.remaining
+    × WasHeld digests.second before.second.remaining
     × IsUnheld inputs.Capture digests.capture before.capture.remaining fault))
 
 -- Bytes with the SHA-256 that a file of sums gives to this name; those that a feed had, if they are

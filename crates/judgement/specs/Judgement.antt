@@ -53,13 +53,20 @@ NoShows judgements.Check claim second capture = IsDenied claim second capture
 NoShows (judgements.Refute drift) claim second capture =
     GiveRefutation (IsUncontestedOf drift) (Some second) claim capture
 
+-- none of a run's inputs has failed
+pub record HaveNotFailed (run : RunState) : Type 0 where
+  pub claim : run.claim.faults ≡ 0
+  pub second : run.second.faults ≡ 0
+  pub capture : run.capture.faults ≡ 0
+
 -- The text that is written, the fault that is reported and the exit status are those that the
--- definitions have for these bytes of claim, second input and capture. Status 0 and 1 show what a
--- yes and a no show of them.
+-- definitions have for these bytes of claim, second input and capture. They are in memory, so the
+-- fault isn't that of a device of theirs. Status 0 and 1 show what a yes and a no show of them.
 pub record IsAnsweredFor (judgement : Judgement) (style : Style) (claim second capture : List ℕ)
     (sink sink' err err' : SinkState) (status : ℕ) : Type 0 where
   pub ended : RunState
   pub sink_is : ended.sink ≡ sink'
+  pub unfailed : HaveNotFailed ended
   pub answers : Answers (report_of_bytes (asked_of judgement style) no_finding
       (Some claim) (Some second) (Some capture))
       (run_state (in_memory claim) (in_memory second) (in_memory capture) sink) ended

@@ -9,9 +9,10 @@ ghost use Rattle.judgement.specs.Sums.{data_of};
 
 use crate::inputs::{HeldInputs, hold_inputs};
 use crate::judgement::Judgement;
+use crate::memory_feed::MemoryFeed;
 use crate::sums::Sums;
 use audit::{Check, Outputs, Refute, Style, answer};
-use byte_stream::{Feed, ReadFeed, Sink};
+use byte_stream::{Feed, Sink};
 use report::tell;
 use std::alloc::Global;
 use std::hash::BuildHasher;
@@ -32,9 +33,9 @@ fn judge<S: Sink, E: Sink, H: BuildHasher + Drop>(
         held.now.claim.items held.now.second.items held.now.capture.items
         (S.state to.old.out) (S.state to.new.out) (E.state to.old.err) (E.state to.new.err) result }
 {
-    let mut claim = ReadFeed::new(held.claim.as_slice());
-    let mut second = ReadFeed::new(held.second.as_slice());
-    let capture = ReadFeed::new(held.capture.as_slice());
+    let mut claim = MemoryFeed::new(held.claim.as_slice());
+    let mut second = MemoryFeed::new(held.second.as_slice());
+    let capture = MemoryFeed::new(held.capture.as_slice());
     let (claim, second) = (&mut claim, &mut second);
     match judgement {
         Judgement::Check => answer(alloc, Check, style, claim, second, capture, to, hasher).1,

@@ -1,11 +1,13 @@
 //! One input, read whole and held to its sum.
 
-ghost use Rattle.std.specs.Prelude.{◌≡◌, ◌+◌, IfOk, IfErr};
+ghost use Rattle.std.specs.Prelude.{◌≡◌, ◌+◌, ◌↔◌, IsOk, IfOk, IfErr};
 ghost use Rattle.byte_stream.specs.Bytes.{IsBytes};
 ghost use Rattle.byte_stream.specs.Fault.{CountsFault};
 ghost use Rattle.byte_stream.specs.Intake.{TakesAtMost};
 ghost use Rattle.byte_stream.specs.State.{IsReadable};
 ghost use Rattle.report.specs.Input.{read_failed};
+ghost use Rattle.report.specs.declared.fault.RunFault.TheVariants.{Sums as Refused};
+ghost use Rattle.report.specs.declared.fault.SumsFault.TheVariants.{Differ};
 ghost use Rattle.sha2.specs.Sha256.{sha256};
 ghost use Rattle.judgement.specs.Holding.{IsHeld, IsUnheld, limit_of};
 
@@ -39,6 +41,19 @@ fn digest(bytes: &[u8]) -> [u8; 32]
     Sha256::digest(bytes)
 }
 
+/// Holds the bytes of an input to a digest, their SHA-256. The fault is that they have another.
+fn hold(which: Input, read: &[u8], sum: &[u8; 32]) -> Result<(), RunFault>
+    ensures held { IsOk result ↔ (sha256 read.now ≡ sum.now) }
+    ensures fault { IfErr result (λ fault. fault ≡ Refused (Differ which)) }
+    ensures bytes { IsBytes read.now }
+{
+    if digest(read) == *sum {
+        Ok(())
+    } else {
+        Err(RunFault::Sums(SumsFault::Differ(which)))
+    }
+}
+
 /// Reads an input whole, and holds it to a digest, its SHA-256.
 ///
 /// `Sums` comes if its bytes have another digest, `TooBig` if it has more than its limit, after one
@@ -57,9 +72,6 @@ pub(crate) fn read_held<F: Feed>(
     ensures at_most { TakesAtMost (limit_of which + 1) (F.state feed.old) (F.state feed.new) }
 {
     let read = read_input(alloc, feed, which, limit(which))?;
-    if digest(read.as_slice()) == *sum {
-        Ok(read)
-    } else {
-        Err(RunFault::Sums(SumsFault::Differ(which)))
-    }
+    hold(which, read.as_slice(), sum)?;
+    Ok(read)
 }

@@ -10,9 +10,9 @@
 //! `judgement/src/engine.rt` does, with its proof:
 //!
 //! ```text
-//! let mut claim = ReadFeed::new(held.claim.as_slice());
-//! let mut second = ReadFeed::new(held.second.as_slice());
-//! let capture = ReadFeed::new(held.capture.as_slice());
+//! let mut claim = MemoryFeed::new(held.claim.as_slice());
+//! let mut second = MemoryFeed::new(held.second.as_slice());
+//! let capture = MemoryFeed::new(held.capture.as_slice());
 //! let (claim, second) = (&mut claim, &mut second);
 //! match judgement {
 //!     Judgement::Check => answer(alloc, Check, style, claim, second, capture, to, hasher).1,
@@ -24,6 +24,7 @@ mod engine;
 mod holding;
 mod inputs;
 mod judgement;
+mod memory_feed;
 mod sums;
 
 pub use engine::answer_by_sums;

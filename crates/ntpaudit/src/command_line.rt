@@ -1,7 +1,8 @@
 //! The process's command line, read.
 
-use crate::commands::{invocation_of, program};
+use crate::commands::program;
 use crate::invocation::Invocation;
+use crate::words::invocation_of;
 use clap::{Error, error};
 use std::alloc::{AllocError, Global};
 use std::env;

@@ -1,6 +1,7 @@
 //! What the words of a command line call for.
 
-use audit::{At, Envelope, Find, Refute, Style};
+use audit::{At, Envelope, Find, Style};
+use judgement::Judgement;
 
 /// The paths of the files that a question is asked of, and for whom the answer is written.
 #[derive(Drop)]
@@ -24,27 +25,32 @@ pub(crate) struct JudgedPaths {
     pub(crate) sums: Option<String>,
 }
 
+/// A question without a second input.
+#[derive(Clone, Copy, Debug)]
+pub(crate) enum Request {
+    /// Show the samples.
+    Samples,
+    /// Show what each server says at a moment.
+    At(At),
+    /// Settle the claim.
+    Settle,
+    /// Look for a certificate.
+    Find(Find),
+    /// Look for a refutation.
+    Seek,
+    /// Show how far off the clock may have been.
+    Envelope(Envelope),
+}
+
 /// What the words of a command line call for.
 #[derive(Drop)]
 pub(crate) enum Invocation {
     /// List a capture: the file of this path, or standard input.
     List(Option<String>),
-    /// Show the samples.
-    Samples(Paths),
-    /// Show what each server says at a moment.
-    At(At, Paths),
-    /// Settle the claim.
-    Settle(Paths),
-    /// Check a certificate.
-    Check(JudgedPaths),
-    /// Look for a certificate.
-    Find(Find, Paths),
-    /// Look for a refutation.
-    Seek(Paths),
-    /// Judge a refutation.
-    Refute(Refute, JudgedPaths),
-    /// Show how far off the clock may have been.
-    Envelope(Envelope, Paths),
+    /// Answer a question.
+    Ask(Request, Paths),
+    /// Judge a certificate or a refutation.
+    Judge(Judgement, JudgedPaths),
     /// Show this text: help, or the version.
     Show(String),
     /// The command line is refused, for the reason in this text.

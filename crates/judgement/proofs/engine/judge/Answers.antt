@@ -1,4 +1,4 @@
-use Rattle.std.proofs.Common.{◌∙◌, ap}
+use Rattle.std.proofs.Common.{◌∙◌, ap, refl}
 use Rattle.judgement.specs.Holding.{feeds}
 use Rattle.judgement.specs.Judgement.{in_memory}
 use Rattle.judgement.specs.declared.judgement.Judgement.TheVariants.{Check, Refute}
@@ -16,6 +16,7 @@ returns-in-Check g c =
       capture_is = c.new-capture.ensures ∙ ap in_memory c.as_slice-3.ensures.value;
       answers = c.answer.ensures.answers;
       shows = c.answer.ensures.shows;
+      unfailed = record { claim = refl; second = refl; capture = refl };
     }))
 
 pub returns-in-Refute : goal.returns-in-Refute
@@ -29,4 +30,5 @@ returns-in-Refute g c =
       capture_is = c.new-capture.ensures ∙ ap in_memory c.as_slice-3.ensures.value;
       answers = c.answer-in-Refute.ensures.answers;
       shows = c.answer-in-Refute.ensures.shows;
+      unfailed = record { claim = refl; second = refl; capture = refl };
     }))

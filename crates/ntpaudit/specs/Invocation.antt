@@ -1,0 +1,124 @@
+-- What the words of a command line call for.
+use Rattle.std.specs.Prelude.{◌≡◌, ◌⊎◌, ◌||◌, ℕ, Bool, true, false, List, [], Option, Some, None}
+use Rattle.std.specs.Prelude.{option_map, unwrap_or, codes, string_bytes}
+use Rattle.std.specs.Str.{bytes_eq}
+use Rattle.std.specs.Str.Parse.{digits_value, without_leading_plus}
+use Rattle.claim_file.specs.Time.{time_of}
+use Rattle.clap.specs.Words.{Row, Text, first_of, one_of}
+use Rattle.line_writer.specs.declared.field.Style.{Style}
+use Rattle.line_writer.specs.declared.field.Style.TheVariants.{Human, Plain}
+use Rattle.audit.specs.declared.step.Step.{Step}
+use Rattle.judgement.specs.declared.judgement.Judgement.{Judgement}
+use Rattle.judgement.specs.declared.judgement.Judgement.TheVariants as judgements
+use Rattle.ntpaudit.specs.declared.invocation.Invocation.{Invocation}
+use Rattle.ntpaudit.specs.declared.invocation.Invocation.TheVariants as calls
+use Rattle.ntpaudit.specs.declared.invocation.JudgedPaths.{JudgedPaths}
+use Rattle.ntpaudit.specs.declared.invocation.Paths.{Paths}
+use Rattle.ntpaudit.specs.declared.invocation.Request.{Request}
+use Rattle.ntpaudit.specs.declared.invocation.Request.TheVariants as requests
+
+-- the text of an operand among the rows that were found, empty if it was left out
+abbrev pub operand : Text → List Row → Text
+operand name rows = unwrap_or (first_of name rows) []
+
+-- whether an option without a value was given
+pub record IsFlag (name : Text) (rows : List Row) (given : Bool) : Type 0 where
+  pub yes : one_of name rows ≡ Some (codes "true") → given ≡ true
+  pub no : one_of name rows ≡ Some (codes "false") → given ≡ false
+  pub none : one_of name rows ≡ None → given ≡ false
+
+-- whether a style is for a person, and the style of lines that is
+abbrev pub is_human : Style → Bool
+is_human Plain = false
+is_human style = true
+
+abbrev pub style_of : Bool → Style
+style_of true = Human
+style_of false = Plain
+
+-- the number that is given for the length of a piece, in seconds
+abbrev pub step_given : List Row → Option ℕ
+step_given rows =
+    option_map (λ text. digits_value 10 (without_leading_plus text)) (one_of (codes "step") rows)
+
+abbrev pub HasStep : List Row → Step → Type 0
+HasStep rows step = step_given rows ≡ Some step.seconds
+
+-- The claim, the capture and the style are those of the words.
+pub record AreNamed (rows : List Row) (paths : Paths) : Type 0 where
+  pub human : IsFlag (codes "human") rows (is_human paths.style)
+  pub style_is : paths.style ≡ style_of (is_human paths.style)
+  pub claim : string_bytes paths.claim ≡ operand (codes "CLAIM") rows
+  pub capture : string_bytes paths.capture ≡ operand (codes "CAPTURE") rows
+
+-- The same of a command with a second input, an operand of this name, and with sums.
+pub record AreJudgedNamed (second : Text) (rows : List Row) (paths : JudgedPaths) : Type 0 where
+  pub evidence : AreNamed rows paths.evidence
+  pub second_is : string_bytes paths.second ≡ operand second rows
+  pub sums : option_map string_bytes paths.sums ≡ first_of (codes "sums") rows
+
+-- the Unix second of the operand TIME, if it is written as a claim's times are
+abbrev pub time_given : List Row → Option ℕ
+time_given rows = time_of (operand (codes "TIME") rows)
+
+-- whether a command has this name
+abbrev pub is_command : Text → Bool
+is_command name = bytes_eq name (codes "list") || bytes_eq name (codes "samples")
+    || bytes_eq name (codes "at") || bytes_eq name (codes "settle") || bytes_eq name (codes "check")
+    || bytes_eq name (codes "find") || bytes_eq name (codes "refute")
+    || bytes_eq name (codes "envelope")
+
+-- Of another name nothing can be said, nor of a command that cuts pieces of no length.
+abbrev pub IsRefusable : Text → Type 0
+IsRefusable name =
+    (is_command name ≡ false) ⊎ ((name ≡ codes "find") ⊎ (name ≡ codes "envelope"))
+
+-- what a command without a second input asks
+abbrev pub IsRequest : Text → List Row → Request → Type 0
+IsRequest name rows requests.Samples = name ≡ codes "samples"
+IsRequest name rows (requests.At at) =
+    (name ≡ codes "at") × (time_given rows ≡ Some at.second)
+IsRequest name rows requests.Settle = name ≡ codes "settle"
+IsRequest name rows (requests.Find find) =
+    (name ≡ codes "find") × IsFlag (codes "refutation") rows false × HasStep rows find.step
+IsRequest name rows requests.Seek = (name ≡ codes "find") × IsFlag (codes "refutation") rows true
+IsRequest name rows (requests.Envelope envelope) = (name ≡ codes "envelope")
+    × IsFlag (codes "servers") rows envelope.servers × IsFlag (codes "least") rows envelope.least
+    × HasStep rows envelope.step
+
+-- this question is asked of the files that are named
+abbrev pub IsAsking : Request → List Row → Invocation → Type 0
+IsAsking request rows (calls.Ask asked paths) = (asked ≡ request) × AreNamed rows paths
+IsAsking request rows invocation = ⊥
+
+-- what a command with a second input judges, and which of its operands that input is
+abbrev pub IsJudgement : Text → List Row → Judgement → Type 0
+IsJudgement name rows judgements.Check = name ≡ codes "check"
+IsJudgement name rows (judgements.Refute drift) =
+    (name ≡ codes "refute") × IsFlag (codes "drift") rows drift
+
+abbrev pub second_operand : Judgement → Text
+second_operand judgements.Check = codes "CERTIFICATE"
+second_operand (judgements.Refute drift) = codes "REFUTATION"
+
+-- what a command with these rows calls for
+abbrev pub IsCalled : Text → List Row → Invocation → Type 0
+IsCalled name rows (calls.List path) =
+    (name ≡ codes "list") × (option_map string_bytes path ≡ first_of (codes "CAPTURE") rows)
+IsCalled name rows (calls.Ask request paths) = IsRequest name rows request × AreNamed rows paths
+IsCalled name rows (calls.Judge judgement paths) = IsJudgement name rows judgement
+    × AreJudgedNamed (second_operand judgement) rows paths
+IsCalled name rows calls.RefuseTime =
+    (name ≡ codes "at") × (time_given rows ≡ None)
+IsCalled name rows (calls.Refuse text) = IsRefusable name
+IsCalled name rows (calls.Show text) = ⊥
+
+-- a refusal
+abbrev pub IsRefusal : Invocation → Type 0
+IsRefusal (calls.Refuse text) = Unit {0}
+IsRefusal invocation = ⊥
+
+-- what the rows of a command line call for: those of its command
+abbrev pub IsCalledBy : Option (Text × List Row) → Invocation → Type 0
+IsCalledBy (Some found) invocation = IsCalled found.0 found.1 invocation
+IsCalledBy None invocation = IsRefusal invocation

@@ -1,0 +1,2 @@
+pub mod Invocation
+pub mod Response
