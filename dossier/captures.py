@@ -14,7 +14,7 @@ from typing import NamedTuple
 from . import pcapng
 from .call import Caller, find_tool
 from .claim import Part
-from .classic import HEADER, MOST_RECORDS, Classic, Runs, join, runs_of, write
+from .classic import HEADER, Classic, Runs, join, runs_of, write
 from .entry import Alert
 from .fault import fault
 from .folder import BLOCK, JOINED, MOST_OF_A_CAPTURE, Copy, too_big
@@ -62,7 +62,7 @@ def open_capture(name: str, copy: str, caller: Caller) -> tuple[str, int | None]
             path = f"{copy}.classic"
             torn = pcapng.convert(name, data, path, caller.limit)
     capture = Classic(path, caller.limit)
-    if capture.is_one and capture.is_torn(end := capture.end(MOST_RECORDS)):
+    if capture.is_one and capture.is_torn(end := capture.end()):
         os.truncate(path, end)
         torn = end if torn is None else torn
     return path, torn
@@ -118,8 +118,7 @@ def cut(path: str, parts: list[Part], limit: Limit) -> Iterator[Callable[[str], 
     is, and nothing is written."""
     whole = Classic(path, limit)
     spans = [(part.claim.first - MARGIN, part.claim.last + MARGIN) for part in parts]
-    is_cut = whole.is_one and whole.end() == whole.size
-    for runs in runs_of(whole, spans) if is_cut else [[[HEADER, whole.size]] for _ in parts]:
+    for runs in runs_of(whole, spans):
         yield partial(put, whole, runs)
 
 

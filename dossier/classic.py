@@ -72,13 +72,19 @@ class Classic:
             if number % OFTEN == 0:
                 self.limit.left()
 
-    def end(self, most: int | None = None) -> int:
-        """Where its whole records end, of which no more may be looked for."""
-        end = HEADER
-        for number, (_, _, end) in enumerate(self.rows(), 1):
-            if number == most:
+    def end(self) -> int:
+        """Where its whole records end, of which no more are looked for than the program takes."""
+        length, last, at = Struct(f"{self.order}I").unpack_from, self.size - HEAD, HEADER
+        for number in range(MOST_RECORDS):
+            if number % OFTEN == 0:
+                self.limit.left()
+            if at > last:
                 break
-        return end
+            captured, = length(self.data, at + 8)
+            if captured > MOST_CAPTURED or captured > last - at:
+                break
+            at += HEAD + captured
+        return at
 
     def is_torn(self, end: int) -> bool:
         """Whether it ends inside the record that begins there."""
@@ -134,10 +140,11 @@ def join(captures: dict[str, Classic], path: str, limit: Limit) -> None:
 
 
 def runs_of(capture: Classic, spans: list[tuple[int, int]]) -> list[Runs]:
-    """Of each span of Unix seconds the records whose times lie in it. The spans have to be in order, as their ends."""
+    """Of each span of Unix seconds the records whose times lie in it, or all, if they can't all be told apart. The spans
+    have to be in order, as their ends."""
     begins, ends = ([second * capture.unit for second in side] for side in zip(*spans))
     found: list[Runs] = [[] for _ in spans]
-    left = MOST_RUNS
+    left, end = MOST_RUNS, HEADER
     for time, begin, end in capture.rows():
         for runs in found[bisect_left(ends, time) : bisect_right(begins, time)]:
             if runs and runs[-1][1] == begin:
@@ -147,4 +154,4 @@ def runs_of(capture: Classic, spans: list[tuple[int, int]]) -> list[Runs]:
                 left -= 1
         if left < 0:
             raise fault("the times of the capture go back and forth between days too often")
-    return found
+    return found if end == capture.size else [[[HEADER, capture.size]] for _ in spans]
