@@ -235,9 +235,13 @@ def linux_sll(whole):
 
 
 NEEDED = {
-    "magic": (lambda whole: run(["editcap", "-F", "snoop", "-", "-"], whole)[1], "editcap"), "version": (lambda whole: whole[:6] + b"\x05\x00" + whole[8:], "editcap"), "link": (linux_sll, "editcap"),
+    "torn": (lambda whole: whole[:-20], "head"),
+    "magic": (lambda whole: run(["editcap", "-F", "snoop", "-", "-"], whole)[1], "editcap"),
+    "version": (lambda whole: whole[:6] + b"\x05\x00" + whole[8:], "editcap"),
+    "link": (lambda whole: linux_sll(whole), "editcap"),
     "joined by cat": (lambda whole: halves(whole), "head"),
-    "too many": (lambda whole: whole + (struct.pack("<IIII", 1_795_331_030, 0, 1, 60) + b"x") * 4_000_001, "tcpdump"),
+    "too many": (lambda whole: whole + 4_000_001 * short_record(1_795_331_030), "tcpdump"),
+    "back and forth": (lambda whole: whole + 600_000 * (short_record(1_795_331_030) + short_record(1_795_331_030 + DAY)), "reordercap"),
 }
 """Of each remedy a capture that needs it, made of a good one, and the tool that its commands call."""
 
@@ -247,24 +251,38 @@ def halves(whole):
     return whole[:24] + b"".join(records[: len(records) // 2]) + whole[:24] + b"".join(records[len(records) // 2 :])
 
 
+def short_record(second):
+    return struct.pack("<IIII", second, 0, 1, 60) + b"x"
+
+
+def commands_of(words):
+    """The commands in a remedy that read a capture."""
+    return [command for command in re.findall(r"`([^`]*)`", words) if "f.pcap" in command and ".pcap" in command.split("f.pcap", 1)[1]]
+
+
 def test_remedies_work(place):
-    """Each command that a remedy names, on a capture that needs it: what comes out is audited."""
+    """Each command that a remedy names for a capture, on one that needs it: what comes out is audited."""
     from dossier.remedies import REMEDIES, remedy
-    whole = (DATA / "clients-us.pcap").read_bytes()
+    whole, tried, to = (DATA / "clients-us.pcap").read_bytes(), set(), {"to": "2026-11-24T00:00:00Z"}
     for name, (spoil, tool) in NEEDED.items():
+        days = name == "back and forth"
+        folder = folder_of(place, name, **(to if days else {}))
         if not shutil.which(tool):
             skipped(f"the remedy of a capture: {name}", f"{tool} isn't installed")
             continue
-        folder = folder_of(place, name)
         (folder / "f.pcap").write_bytes(spoil(whole))
-        status, out, _ = dossier("audit", folder)
-        place_of = (re.findall(rb" at (\d+)", out) or [b"0"])[0].decode()
-        commands = [command for command in re.findall(r"`([^`]*)`", remedy(out.decode())[1]) if command.startswith((tool, "tail")) and "g.pcap" in command + "g.pcap" * command.startswith("tail")]
-        ran = [run(["sh", "-c", command.replace("PLACE", place_of)], cwd=folder)[0] for command in commands]
+        line = dossier("audit", "--days", folder)[1] if days else run([PROGRAM, "list", folder / "f.pcap"])[2]
+        commands = commands_of(remedy(line.decode())[1])
+        at = (re.findall(rb" at (\d+)", line) or [b"0"])[0].decode()
+        ran = {run(["sh", "-c", command.replace("PLACE", at)], cwd=folder)[0] for command in commands}
         (folder / "f.pcap").unlink()
-        again, said, _ = dossier("audit", folder)
-        check(f"the remedy of a capture: {name}", refused=(status, 2), commands=(bool(commands), True), ran=(set(ran), {0}), audited=(again, 0), verdict=(said.decode().split(":")[0].split()[0], "yes"))
+        status, said, _ = dossier("audit", *(["--days"] if days else []), folder)
+        check(f"the remedy of a capture: {name}", commands=(bool(commands), True), ran=(ran, {0}), audited=(status, int(days)),
+              verdict=(said.split()[0].decode(), "refuted" if days else "yes"))
+        tried.update(commands)
     named = " ".join(known.what for known in REMEDIES)
+    if all(shutil.which(tool) for _, tool in NEEDED.values()):
+        check("no command of a remedy is left out", missing=(sorted(set(commands_of(named)) - tried), []))
     check("no remedy writes another format", editcap=([command for command in re.findall(r"`(editcap [^`]*)`", named) if "-F pcap" not in command], []),
           filters=([command for command in re.findall(r"`(tcpdump -[^`]*-w[^`]*)`", named) if "vlan and udp port 123" not in command], []))
 
