@@ -140,8 +140,8 @@ def join(captures: dict[str, Classic], path: str, limit: Limit) -> None:
 
 
 def runs_of(capture: Classic, spans: list[tuple[int, int]]) -> list[Runs]:
-    """Of each span of Unix seconds the records whose times lie in it, or all, if they can't all be told apart. The spans
-    have to be in order, as their ends."""
+    """Of each span of Unix seconds the records whose times lie in it, or all, if they can't be told apart to the end.
+    The spans have to be in order, as their ends."""
     begins, ends = ([second * capture.unit for second in side] for side in zip(*spans))
     found: list[Runs] = [[] for _ in spans]
     left, end = MOST_RUNS, HEADER

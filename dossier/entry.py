@@ -115,9 +115,10 @@ class Alert:
     place: Count = 0
 
 
-AGAINST = frozenset({"drift", "reading", "step", "leap-second", "leap-ends"})
-"""The warnings that take a yes away: by the folder's own evidence something that the claim grants isn't so, or isn't
-known."""
+AGAINST = {"drift": "more drift than is granted", "reading": "a greater allowance than is granted",
+           "step": "a logged step", "leap-second": "a leap second", "leap-ends": "the list of leap seconds has ended"}
+"""The warnings that take a yes away, in short: by the folder's own evidence something that the claim grants isn't so,
+or isn't known."""
 
 
 @dataclass(frozen=True)
