@@ -9,8 +9,8 @@ _ntpaudit_dossier() {
     fi
     case $command in
     draft) options='--help --client --day --drift-ppb --chrony --ntpd --tracking --oscillator-ppb --evidence --reading-ns --measured' ;;
-    audit) options='--help --step --days --jobs --again --leap-seconds --state --limit' ;;
-    page) options='--help --json --csv --split --verify --title --output --signers --leap-seconds --state --limit' ;;
+    audit) options='--help --step --days --jobs --again --leap-seconds --metrics --state --limit' ;;
+    page) options='--help --json --csv --split --verify --title --output --signers --leap-seconds --metrics --state --limit' ;;
     verify) options='--help --signers --leap-seconds --state --limit' ;;
     sign) options='--help --key --state --limit' ;;
     measure) options='--help --interface --count --load --output' ;;

@@ -26,6 +26,7 @@ complete -c ntpaudit-dossier -n "__fish_seen_subcommand_from audit" -l days
 complete -c ntpaudit-dossier -n "__fish_seen_subcommand_from audit" -x -l jobs
 complete -c ntpaudit-dossier -n "__fish_seen_subcommand_from audit" -l again
 complete -c ntpaudit-dossier -n "__fish_seen_subcommand_from audit page verify" -r -l leap-seconds
+complete -c ntpaudit-dossier -n "__fish_seen_subcommand_from audit page" -r -l metrics
 complete -c ntpaudit-dossier -n "__fish_seen_subcommand_from audit page verify sign" -r -l state
 complete -c ntpaudit-dossier -n "__fish_seen_subcommand_from audit page verify sign" -x -l limit
 complete -c ntpaudit-dossier -n "__fish_seen_subcommand_from page" -l json

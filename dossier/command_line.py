@@ -62,6 +62,9 @@ def parser() -> Parser:
                              help="who may sign, as ssh-keygen's file of allowed signers has it: signatures are "
                                   "checked")
         command.add_argument("--leap-seconds", metavar="FILE", help=LEAPS)
+    for command in (audit, page):
+        command.add_argument("--metrics", metavar="FILE",
+                             help="write what came of it to FILE too, for Prometheus, whole or not at all")
     for command in (audit, page, verify, sign):
         command.add_argument("--state", metavar="DIR",
                              help="where it is recorded which audits were made or verified here; else below "
@@ -223,7 +226,7 @@ def run_on_folders(given: argparse.Namespace, folders: list[str], limit: Limit) 
         from .task import Task
         from .work import audit_all
         wanted = Audit(Options(given.step, given.days), given.again, leaps, given.leap_seconds is not None, known)
-        return audit_all(Task(folders, wanted, program), given.jobs or len(os.sched_getaffinity(0)))
+        return audit_all(Task(folders, wanted, program, given.metrics), given.jobs or len(os.sched_getaffinity(0)))
     from .verify import Verifier, verify_all
     verifier = Verifier(program, known, leaps)
     if given.command == "page":

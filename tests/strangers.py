@@ -4,12 +4,14 @@ tests/dossier calls them, each in a folder of its own. A victim is a file outsid
 is.
 """
 import errno
+import fcntl
 import hashlib
 import http.server
 import json
 import os
 import re
 import shutil
+import signal
 import socket
 import stat
 import subprocess
@@ -384,6 +386,22 @@ def test_every_write(place):
             kept = {path.name: path.read_bytes() for path in folder.iterdir()}
             check(f"{type(error).__name__} at write {last}", kept=(kept in (old, new), True))
     check("both came", seen=(set(seen), {Fault, KeyboardInterrupt}), both=(len(seen), 10))
+    folder, mkdir, handler = place / "new", os.mkdir, signal.signal(signal.SIGINT, signal.default_int_handler)
+    folder.mkdir()
+
+    def stopped(*words, **how):
+        mkdir(*words, **how)
+        os.kill(os.getpid(), signal.SIGINT)
+    placing.os.mkdir = stopped
+    try:
+        with Folder(str(folder), Limit()) as held:
+            placing.place(held, {name: placing.blocks_of(name) for name in names})
+    except KeyboardInterrupt:
+        seen.append(KeyboardInterrupt)
+    finally:
+        placing.os.mkdir = mkdir
+        signal.signal(signal.SIGINT, handler)
+    check("Ctrl-C where a folder is made", seen=(len(seen), 11), left=(sorted(os.listdir(folder)), sorted(names)))
 
 
 def test_at_once(place):
@@ -394,6 +412,14 @@ def test_at_once(place):
     ended = [(call.communicate(timeout=SECONDS)[1], call.returncode) for call in calls]
     check("audits at once", ended=(ended, [(b"", 0)] * 4), verified=(dossier("verify", folder)[0], 0),
           left=(parts_left(place), []))
+    held = os.open(folder, os.O_RDONLY)
+    fcntl.flock(held, fcntl.LOCK_EX)
+    (folder / "audit.json").unlink()
+    call = subprocess.Popen([SCRIPT, "audit", folder], env=ENVIRONMENT, stdout=subprocess.DEVNULL)
+    time.sleep(1.5)
+    check("an audit while another writes", waits=((call.poll(), (folder / "audit.json").exists()), (None, False)))
+    os.close(held)
+    check("an audit after another wrote", status=(call.wait(SECONDS), 0), made=((folder / "audit.json").exists(), True))
     from dossier.known import Known
     state = place / "state"
     known = [Known(str(state), True) for _ in range(4)]
