@@ -71,6 +71,12 @@ def parser() -> Parser:
                                   "$XDG_STATE_HOME, or ~/.local/state")
         command.add_argument("--limit", type=in_range(1, 1_000_000), default=SECONDS, metavar="N",
                              help=f"seconds for each folder, which is refused after them; {SECONDS} if it is left out")
+    day = commands.add_parser("day", help="make the folders of days from what a recorder left")
+    day.add_argument("--from", required=True, dest="source", metavar="DIR", help="where the recorder's files are")
+    day.add_argument("--to", required=True, dest="target", metavar="DIR",
+                     help="where the days' folders are, with the claim of any day, and evidence")
+    day.add_argument("--date", metavar="DATE",
+                     help="the day (UTC), such as 2026-11-22; each whole day before today if it is left out")
     add_measure(commands.add_parser("measure", help="measure how far the times of records are from the clock"))
     picture = commands.add_parser("picture", help="print the picture of a claim and a capture, as SVG")
     picture.add_argument("claim", metavar="CLAIM", help="a JSON file")
@@ -195,6 +201,9 @@ def run(given: argparse.Namespace) -> int:
     limit = Limit(getattr(given, "limit", SECONDS))
     if given.command in ("audit", "page", "verify", "sign"):
         return run_on_folders(given, [tidy(folder) for folder in given.folders], limit)
+    if given.command == "day":
+        from .day import make_days
+        return make_days(given.source, given.target, given.date, limit)
     program = find_program(limit)
     if given.version:
         print(f"ntpaudit-dossier, form {VERSION} of audit.json\n{program.made.version}, SHA-256 {program.made.sha256}")

@@ -99,9 +99,8 @@ class Refutation:
 class Alert:
     """A warning that stands beside a verdict."""
 
-    kind: Literal["outside", "no-drift", "falls", "far", "leap", "leap-second", "leap-ends", "sources", "reference",
-                  "apart", "drift", "reading", "step", "oscillator", "torn", "interleaved",
-                  "no-list"]
+    kind: Literal["outside", "no-drift", "falls", "silence", "far", "leap", "leap-second", "leap-ends", "sources",
+                  "reference", "apart", "drift", "reading", "step", "oscillator", "torn", "interleaved", "no-list"]
     count: Count = 0
     record: Count = 0
     before: Nanoseconds = 0

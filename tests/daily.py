@@ -1,15 +1,20 @@
-"""Tests of what is done each day on many machines: metrics, and the alerts and the dashboard that read them.
+"""Tests of what is done each day on many machines: the folders of days, systemd's units, metrics, and the alerts and
+the dashboard that read them.
 
-tests/dossier calls them, each in a folder of its own. promtool, which comes with Prometheus, reads what is written for
-it, where it is installed.
+tests/dossier calls them, each in a folder of its own. promtool, which comes with Prometheus, and systemd-analyze read
+what is written for them, where they are installed.
 """
 import json
+import os
 import re
+import shlex
 import shutil
 import time
 from calendar import timegm
 
-from audits import ENVIRONMENT, SCRIPT, check, dossier, folder_of, skipped, table
+from audits import ENVIRONMENT, SCRIPT, capture_of, check, check_page, dossier, folder_of, skipped, table
+from captures import records_of
+from evidence import why_no_recording
 from tally import DATA, ROOT, run
 from verdicts import GOOD, good_folder
 
@@ -184,4 +189,207 @@ def test_dashboard(place):
     by_promtool("the dashboard", "check", "rules", place / "asked.yml")
 
 
-DAILY_TESTS = [test_metrics, test_metrics_of_days, test_metrics_written, test_alerts, test_dashboard]
+# ---- days
+
+DAY, NIGHT = 86_400, 1_000_000_000 - 1_000_000_000 % 86_400
+"""2001-09-09T00:00:00Z, and the seconds of a day."""
+
+
+def hours_of(place, hours, night=NIGHT):
+    """A recorder's files of some hours since a night, with exchanges each minute, each last written at its end."""
+    words = [f"{server}:-1000..1000@{night + 3600 * hour + second}" for hour in hours for second in range(0, 3600, 60)
+             for server in (1, 2)]
+    whole = capture_of(place.parent / "whole.pcap", *words).read_bytes()
+    records, names, each = records_of(whole), [], 2 * 2 * 60
+    for number, hour in enumerate(hours):
+        begin = night + 3600 * hour
+        names.append(time.strftime("eth0-%Y-%m-%dT%H%M%SZ.pcap", time.gmtime(begin)))
+        (place / names[-1]).write_bytes(whole[:24] + b"".join(records[each * number : each * (number + 1)]))
+        os.utime(place / names[-1], times=(begin, begin + 3599))
+    return names
+
+
+def recorded(place, hours, night=NIGHT):
+    """The folders of recorder and days, with the claim of any day."""
+    recorder, days = place / "record", place / "days"
+    for path in (recorder, days):
+        path.mkdir()
+    claim = {"client": "192.0.2.10", "servers": ["192.0.2.1", "192.0.2.2"], "false_max": 0, "bound_ns": 60_000_000,
+             "from": "2001-01-01T00:00:00Z", "to": "2001-01-01T00:00:00Z", "drift_ppb": 600_000, "reading_ns": 0}
+    (days / "claim.json").write_text(json.dumps(claim))
+    return recorder, days, hours_of(recorder, hours, night)
+
+
+def kept_in(folder):
+    return {path.name: (path.read_bytes(), path.stat().st_mtime_ns) for path in folder.iterdir()}
+
+
+def test_day(place):
+    """A day's folder has the files of the day and of the hours beside it, and its claim; nothing is written twice."""
+    recorder, days, names = recorded(place, range(-3, 29))
+    made = days / "2001-09-09"
+    words = ("day", "--from", recorder, "--to", days, "--date", "2001-09-09")
+    check("day", run=(dossier(*words), (0, f"{made}\n".encode(), b"")))
+    claim = json.loads((made / "claim.json").read_text())
+    check("the folder of a day", files=(sorted(path.name for path in made.iterdir()), ["claim.json", *names[2:29]]),
+          span=((claim["from"], claim["to"]), ("2001-09-09T00:00:00Z", "2001-09-10T00:00:00Z")),
+          rest=({**claim, "from": "", "to": ""},
+                {**json.loads((days / "claim.json").read_text()), "from": "", "to": ""}),
+          same=([(made / name).read_bytes() == (recorder / name).read_bytes() for name in names[2:29]], [True] * 27))
+    check("a day is shown", run=(dossier("audit", made)[0], 0), row=(table(made)[0]["verdict"], "yes"))
+    before = kept_in(made)
+    check("day again", run=(dossier(*words), (0, f"{made}\n".encode(), b"")), same=(kept_in(made) == before, True))
+    (made / names[9]).rename(made / f"{names[9]}.zst")
+    (made / names[10]).unlink()
+    (made / "claim.json").write_text("mine")
+    dossier(*words)
+    after = kept_in(made)
+    check("day of a folder that has some", packed=((names[9] in after, f"{names[9]}.zst" in after), (False, True)),
+          missing=(names[10] in after, True), claim=(after["claim.json"][0], b"mine"))
+    today = int(time.time()) // DAY * DAY
+    own = place / "own"
+    own.mkdir()
+    recorder, days, _ = recorded(own, range(-60, 2), today)
+    (days / "evidence.json").write_text(json.dumps({"drift": "sheet.pdf"}))
+    (days / "sheet.pdf").write_text("a sheet")
+    paths = [days / time.strftime("%Y-%m-%d", time.gmtime(today - DAY * number)) for number in (2, 1)]
+    check("days", run=(dossier("day", "--from", recorder, "--to", days)[:2],
+                       (0, "".join(f"{path}\n" for path in paths).encode())),
+          evidence=([{"evidence.json", "sheet.pdf"} <= set(kept_in(path)) for path in paths], [True] * 2),
+          audited=(dossier("audit", *paths)[0], 0))
+
+
+def test_day_of_others(place):
+    """What isn't finished, isn't there, or isn't a recorder's file."""
+    recorder, days, names = recorded(place, range(4))
+    words = ("day", "--from", recorder, "--to", days, "--date", "2001-09-09")
+    (recorder / names[3]).touch()
+    (recorder / "other.pcap").write_bytes(b"")
+    (recorder / "eth0-2001-09-32T000000Z.pcap").write_bytes(b"")
+    status, out, err = dossier(*words)
+    check("a file that grows", run=((status, err), (
+        0, f"{names[3]} is still being written: call again when it is finished\n".encode())),
+        files=(sorted(kept_in(days / "2001-09-09")), ["claim.json", *names[:3]]))
+    os.utime(recorder / names[3], times=(NIGHT, NIGHT + 9999))
+    dossier(*words)
+    check("a file that grew", files=(sorted(kept_in(days / "2001-09-09")), ["claim.json", *names]))
+    status, out, err = dossier(*words[:-1], "2001-09-15")
+    check("a day without a recording", run=((status, err), (0, f"{days}/2001-09-15: nothing was recorded\n".encode())),
+          files=(list(kept_in(days / "2001-09-15")), ["claim.json"]),
+          audit=(dossier("audit", days / "2001-09-15")[0], 4))
+    (recorder / names[1]).unlink()
+    (recorder / names[1]).symlink_to(recorder / names[2])
+    (days / "2001-09-09" / names[1]).unlink()
+    check("a recorder's file that is a link",
+          run=(dossier(*words), (2, b"", f"ntpaudit-dossier: {names[1]} is a link\n".encode())),
+          files=(names[1] in kept_in(days / "2001-09-09"), False))
+    shutil.rmtree(days / "2001-09-09")
+    (place / "victim").mkdir()
+    (days / "2001-09-09").symlink_to(place / "victim")
+    check("a day's folder that is a link",
+          run=(dossier(*words), (2, b"", b"ntpaudit-dossier: the folder is a link: name the folder itself\n")),
+          victim=(list(kept_in(place / "victim")), []))
+    check("no such date", status=(dossier(*words[:-1], "2001-02-30")[0], 5))
+    (days / "claim.json").unlink()
+    check("no claim of any day", run=(dossier(*words)[::2], (
+        4, b"ntpaudit-dossier: claim.json can't be read (No such file or directory)\n")))
+
+
+def test_odd_day(place):
+    """A missing hour, a server apart, a recorder that was killed, a step in the log: all are told, and none hides
+    another."""
+    recorder, days, names = recorded(place, [hour for hour in range(-1, 26) if hour != 13])
+    whole = (recorder / names[5]).read_bytes()
+    (recorder / names[5]).write_bytes(whole[:-20])
+    log = {"drift_ppb": 600_000, "oscillator_ppb": 100_000, "made": "2001-09-10T00:00:00Z",
+           "configuration": {"client": "chronyd", "files": {}, "slew_ppb": 500_000}}
+    (days / "evidence.json").write_text(json.dumps({"drift": "drift.json"}))
+    (days / "drift.json").write_text(json.dumps(log))
+    dossier("day", "--from", recorder, "--to", days, "--date", "2001-09-09")
+    folder = days / "2001-09-09"
+    status, _, _ = dossier("audit", folder)
+    row = table(folder)[0]
+    said = ["No server was heard from 2001-09-09 12:59:00 to 2001-09-09 14:00:0", f"{names[5]} ends inside a record"]
+    text = "".join(check_page("a page of an odd day", dossier("page", folder)[1].decode()).words)
+    check("an odd day", status=((status, row["verdict"]), (1, "refuted")),
+          told=([any(words in warning for warning in row["warnings"]) for words in said], [True] * 2),
+          page=([words in text for words in said], [True] * 2), verified=(dossier("verify", folder)[0], 0))
+    even = capture_of(place / "even.pcap", *(f"1:0..9@{NIGHT + 600 * k}" for k in range(20)))
+    quiet = {"from": "2001-09-09T00:00:00Z", "to": "2001-09-09T03:10:00Z", "servers": ["192.0.2.1"]}
+    for name, capture, is_told in (("polls as usual", even, False), ("a poll that is missing", capture_of(
+            place / "gap.pcap", *(f"1:0..9@{NIGHT + 60 * k}" for k in range(190) if not 90 < k < 101)), True)):
+        other = folder_of(place, name, capture, days / "claim.json", **quiet)
+        dossier("audit", other)
+        check(f"silences: {name}",
+              told=(any("No server was heard" in words for words in table(other)[0]["warnings"]), is_told))
+
+
+# ---- systemd
+
+
+UNITS = ROOT / "systemd"
+
+
+def started_by(unit):
+    return re.findall(r"^ExecStart=-?(.*)$", (UNITS / unit).read_text(), flags=re.M)
+
+
+def test_units(place):
+    """systemd takes the units, and finds them shut."""
+    if not shutil.which("systemd-analyze"):
+        skipped("systemd's units", "systemd isn't installed")
+        return
+    names = ("ntpaudit-record@.service", "ntpaudit-daily.service", "ntpaudit-daily.timer")
+    for name in names:
+        text = (UNITS / name).read_text().replace("=ntpaudit-dossier ", f"={SCRIPT} ")
+        (place / name.replace("@.", "@lo.")).write_text(text.replace("=tcpdump ", f"={shutil.which('true')} "))
+    own = [place / name.replace("@.", "@lo.") for name in names]
+    check("systemd-analyze verify", run=(run(["systemd-analyze", "verify", "--man=no", *own]), (0, b"", b"")))
+    for unit in own[:2]:
+        status, out, _ = run(["systemd-analyze", "security", "--offline=yes", "--threshold=20", "--no-pager", unit])
+        check(f"systemd-analyze security {unit.name}", status=(status, 0), told=(b"exposure level" in out, True))
+
+
+def test_recorder(place):
+    """The recorder's command, called by hand: the names of its files are read by `day`."""
+    command, = started_by("ntpaudit-record@.service")
+    check("the recorder keeps tagged frames", filter=("'udp port 123 or (vlan and udp port 123)'" in command, True),
+          own=(all(word in command for word in (" -U ", " -G 3600 ", "--time-stamp-precision=nano")), True))
+    if why := why_no_recording():
+        skipped("the recorder's command", why)
+        return
+    (place / "ntpaudit" / "record").mkdir(parents=True)
+    words = shlex.split(command.replace("%S", str(place)).replace("%I", "lo").replace("%i", "lo").replace("%%", "%"))
+    run(["timeout", "-s", "INT", "3", *words, "-Z", "root"] if os.geteuid() == 0
+        else ["timeout", "-s", "INT", "3", *words], env={**ENVIRONMENT, "TZ": "UTC"})
+    from dossier.day import recordings
+    from dossier.folder import Folder
+    from dossier.limit import Limit
+    with Folder(str(place / "ntpaudit" / "record"), Limit()) as folder:
+        found = recordings(folder)
+        check("the recorder's files", read=(([one.name for one in found], len(found) < 2), (folder.names(), True)),
+              now=([abs(one.begin - time.time()) < 60 and one.grows for one in found], [True] * len(folder.names())))
+
+
+def test_daily(place):
+    """The commands of the daily unit, called by hand: folder, audit, page and metrics of a day."""
+    state = place / "ntpaudit"
+    state.mkdir()
+    recorder, days, _ = recorded(state, range(-30, 30))
+    environment = {**ENVIRONMENT, "XDG_STATE_HOME": str(place), "PATH": f"{ROOT}:{os.environ['PATH']}"}
+    commands = [command.replace("%S", str(place)).replace("%%", "%")
+                for command in started_by("ntpaudit-daily.service")]
+    check("the daily unit", commands=(len(commands), lambda count: count >= 4))
+    commands[0] += " --date 2001-09-09"
+    for command in commands:
+        status, _, err = run(shlex.split(command), env=environment, cwd=days)
+        check(f"the daily command {command[:60]}", run=((status, err), (0, b"")))
+    check_page("the page of the daily unit", (state / "pages" / "index.html").read_text(), ["00001.html"])
+    ones = [dict(labels) for (name, *labels), value in metrics_of(state / "ntpaudit.prom").items()
+            if name == "verdict" and value == "1"]
+    check("the metrics of the daily unit", ones=(ones, [{"folder": "2001-09-09", "verdict": "yes"}]))
+    check("the record of the daily unit", there=((state / "audits").exists(), True))
+
+
+DAILY_TESTS = [test_day, test_day_of_others, test_odd_day, test_units, test_recorder, test_daily, test_metrics,
+               test_metrics_of_days, test_metrics_written, test_alerts, test_dashboard]

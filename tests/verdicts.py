@@ -131,7 +131,7 @@ def test_no_audit(place):
     status, out, err = dossier("--version")
     program = run([PROGRAM, "--version"])[1].splitlines()[0]
     check("version", run=((status, err), (0, b"")),
-          lines=(out.splitlines()[0], b"ntpaudit-dossier, form 7 of audit.json"),
+          lines=(out.splitlines()[0], b"ntpaudit-dossier, form 8 of audit.json"),
           program=(out.splitlines()[1].startswith(program + b", SHA-256 "), True))
 
 
