@@ -51,7 +51,8 @@ def parser() -> Parser:
     page = commands.add_parser("page", help="print a page of audits that were made")
     verify = commands.add_parser("verify", help="audit the inputs again, and compare all that stands in the folder")
     sign = commands.add_parser("sign", help="sign audits with an ssh key")
-    for command in (audit, page, verify, sign):
+    keep = commands.add_parser("keep", help="keep audits for years: pack captures, and take away what was made of them")
+    for command in (audit, page, verify, sign, keep):
         command.add_argument("folders", nargs="+", metavar="FOLDER", help=FOLDER)
     add_audit(audit)
     add_page(page)
@@ -65,7 +66,9 @@ def parser() -> Parser:
     for command in (audit, page):
         command.add_argument("--metrics", metavar="FILE",
                              help="write what came of it to FILE too, for Prometheus, whole or not at all")
-    for command in (audit, page, verify, sign):
+    keep.add_argument("--years", type=in_range(1, 100), metavar="N",
+                      help="take away folders whose span ended so many years ago; none if it is left out")
+    for command in (audit, page, verify, sign, keep):
         command.add_argument("--state", metavar="DIR",
                              help="where it is recorded which audits were made or verified here; else below "
                                   "$XDG_STATE_HOME, or ~/.local/state")
@@ -199,7 +202,7 @@ def say(line: str) -> None:
 
 def run(given: argparse.Namespace) -> int:
     limit = Limit(getattr(given, "limit", SECONDS))
-    if given.command in ("audit", "page", "verify", "sign"):
+    if given.command in ("audit", "page", "verify", "sign", "keep"):
         return run_on_folders(given, [tidy(folder) for folder in given.folders], limit)
     if given.command == "day":
         from .day import make_days
@@ -224,6 +227,9 @@ def run_on_folders(given: argparse.Namespace, folders: list[str], limit: Limit) 
     if given.command == "sign":
         from .signing import sign_all
         return sign_all(folders, given.key, known, limit)
+    if given.command == "keep":
+        from .keeping import keep_all
+        return keep_all(folders, given.years, known, limit)
     if given.command == "page" and not given.verify:
         from .page import write_page
         return write_page(folders, given, known, limit)

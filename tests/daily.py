@@ -4,17 +4,20 @@ the dashboard that read them.
 tests/dossier calls them, each in a folder of its own. promtool, which comes with Prometheus, and systemd-analyze read
 what is written for them, where they are installed.
 """
+import gzip
+import hashlib
 import json
 import os
 import re
 import shlex
 import shutil
+import sys
 import time
 from calendar import timegm
 
-from audits import ENVIRONMENT, SCRIPT, capture_of, check, check_page, dossier, folder_of, skipped, table
+from audits import ENVIRONMENT, PROGRAM, SCRIPT, capture_of, check, check_page, dossier, folder_of, skipped, table
 from captures import records_of
-from evidence import why_no_recording
+from evidence import key_of, why_no_recording
 from tally import DATA, ROOT, run
 from verdicts import GOOD, good_folder
 
@@ -324,6 +327,156 @@ def test_odd_day(place):
               told=(any("No server was heard" in words for words in table(other)[0]["warnings"]), is_told))
 
 
+# ---- years
+
+
+def listed(folder):
+    return sorted(str(path.relative_to(folder)) for path in folder.rglob("*") if path.is_file())
+
+
+def seen_of(*folders):
+    """The rows of folders, and their pages without the sums of files, the time, and how a capture is unpacked."""
+    pages = [re.sub(r"put together at \S+|<h3>Files</h3>.*?</table>|zstd -dk \S+\n", "",
+                    dossier("page", folder)[1].decode(), flags=re.S) for folder in folders]
+    return table(*folders), pages
+
+
+def test_keep(place):
+    """What is kept is verified, shown and signed as before: captures packed, and nothing that is made of them."""
+    if not shutil.which("zstd"):
+        skipped("folders that are kept", "zstd isn't installed")
+        return
+    whole = (DATA / "clients-us.pcap").read_bytes()
+    half = whole[:24] + b"".join(records_of(whole)[:70]), whole[:24] + b"".join(records_of(whole)[70:])
+    days = {"from": "2026-11-22T07:03:36Z", "to": "2026-11-24T00:00:00Z"}
+    one, two, packed, of_days = (folder_of(place, name, **(days if name == "days" else {}))
+                                 for name in ("one", "two", "packed", "days"))
+    for name, data in zip(("f.pcap", "g.pcap"), half):
+        (two / name).write_bytes(data)
+    (packed / "f.pcap").unlink()
+    (packed / "f.pcap.gz").write_bytes(gzip.compress(whole))
+    folders = [one, two, packed, of_days]
+    dossier("audit", one, two, packed)
+    dossier("audit", "--days", of_days)
+    before, files = seen_of(*folders), [set(listed(folder)) for folder in folders]
+    check("keep",
+          run=(dossier("keep", *folders), (0, "".join(f"{folder}: kept\n" for folder in folders).encode(), b"")))
+    gone = [{"f.pcap"}, {"f.pcap", "g.pcap", "joined.pcap"}, {"joined.pcap"},
+            {"f.pcap", "2026-11-23/joined.pcap"}]
+    came = [{"f.pcap.zst"}, {"f.pcap.zst", "g.pcap.zst"}, set(), {"f.pcap.zst"}]
+    for folder, had, off, new in zip(folders, files, gone, came):
+        check(f"what is kept of {folder.name}", files=(set(listed(folder)), had - off | new))
+    check("what is kept is shown as before", same=(seen_of(*folders) == before, True))
+    verified = (0, "".join(f"{folder}: verified\n" for folder in folders).encode(), b"")
+    check("what is kept is verified", run=(dossier("verify", *folders), verified),
+          elsewhere=(dossier("verify", *folders, env={**ENVIRONMENT, "XDG_STATE_HOME": str(place / "x")}), verified))
+    check("what is kept isn't audited again", lines=(dossier("audit", one, two, packed)[1].count(b"(unchanged)"), 3),
+          days=(dossier("audit", "--days", of_days)[1].count(b"(unchanged)"), 2))
+    dossier("audit", two)
+    check("keep again", run=(dossier("keep", one, two, packed)[0], 0))
+    run(["zstd", "-dqk", one / "f.pcap.zst"])
+    check("a capture that is kept is the one that was recorded", same=((one / "f.pcap").read_bytes() == whole, True),
+          verified=(dossier("verify", one)[0], 0), check=(run([PROGRAM, "check", one / "claim.json", one / "f.pcap",
+                                                               one / "certificate.json"])[0], 0))
+    dossier("keep", one)
+    check("a keeping that was broken off is ended", files=("f.pcap" in listed(one), False))
+    key = key_of(place, "key")[0] if shutil.which("ssh-keygen") else None
+    if key:
+        check("what is kept is signed", run=(dossier("sign", one, "--key", key)[0], 0),
+              verified=(dossier("verify", one)[0], 0))
+        signed = folder_of(place, "signed")
+        dossier("audit", signed)
+        dossier("sign", signed, "--key", key)
+        check("what is signed isn't kept", run=(dossier("keep", signed)[:2], (
+            5, f"{signed}: ntpaudit-dossier: signed: a folder is kept before it is signed\n".encode())),
+            files=("f.pcap" in listed(signed), True))
+
+
+def test_kept_by_strangers(place):
+    """Whatever lies in a folder that is kept: nothing but what was audited is verified, and nothing else taken away."""
+    if not shutil.which("zstd"):
+        return
+    folder = folder_of(place, "host")
+    dossier("audit", folder)
+    dossier("keep", folder)
+    kept = {path.name: path.read_bytes() for path in folder.iterdir()}
+    other = (DATA / "vlan-ns.pcap").read_bytes()
+    record = json.loads(kept["audit.json"])
+
+    def forged(**changes):
+        return {"audit.json": json.dumps({**record, **changes}).encode()}
+    packed = run(["zstd", "-qc"], other)[1]
+    swapped = {"f.pcap.zst": packed, **forged(kept={"sums": {"f.pcap": hashlib.sha256(packed).hexdigest()}})}
+    for name, files, said, status in (("another beside it", {"f.pcap": other}, "f.pcap isn't the file that was audited",
+                                       1),
+                                      ("another in it", {"f.pcap.zst": packed},
+                                       "f.pcap isn't the file that was audited", 1),
+                                      ("another with its sum", swapped, "report.txt: from byte 0 on (line 1) it is", 1),
+                                      ("a joined one", {"joined.pcap": other}, "joined.pcap isn't of this", 1),
+                                      ("one that isn't packed", {"f.pcap.zst": other},
+                                       "f.pcap isn't the file that was audited", 1),
+                                      ("one that isn't there", {"f.pcap.zst": None}, "no capture in the folder", 4),
+                                      ("a name that is no capture's", forged(kept={"sums": {"claim.json": "0" * 64}}),
+                                       "isn't one that is taken", 2),
+                                      ("a name that is no input's", forged(kept={"sums": {"g.pcap": "0" * 64}}),
+                                       "isn't one that is taken", 2)):
+        for file, data in files.items():
+            (folder / file).write_bytes(data) if data is not None else (folder / file).unlink()
+        found = dossier("verify", folder)
+        check(f"kept with {name}", status=(found[0], status), said=(said in found[1].decode(), True),
+              page=(table(folder)[0]["verdict"], lambda verdict: verdict in ("not verified", "refused")))
+        before = kept_in(folder)
+        state = {**ENVIRONMENT, "XDG_STATE_HOME": str(place / "none")}
+        dossier("keep", "--years", "1", folder, env=state)
+        check(f"nothing is taken away with {name}", same=(kept_in(folder) == before, True))
+        for file in files:
+            (folder / file).unlink(missing_ok=True)
+        for file, data in kept.items():
+            (folder / file).write_bytes(data)
+    victim, odd = place / "victim", folder_of(place, "odd")
+    dossier("audit", odd)
+    (odd / "f.pcap.zst").symlink_to(victim)
+    check("keep beside a link", run=(dossier("keep", odd)[0], 2), files=("f.pcap" in listed(odd), True),
+          victim=(victim.exists(), False))
+    (odd / "f.pcap.zst").unlink()
+    for name, script in (("lies", "echo nothing"), ("fails", "exit 1"),
+                         ("is cut off", 'head -c 99 "$3" 2>/dev/null || cat')):
+        (place / "zstd").write_text(f"#!/bin/sh\n{script}\n")
+        (place / "zstd").chmod(0o755)
+        before = kept_in(odd)
+        status, out, _ = dossier("keep", odd, env={**ENVIRONMENT, "PATH": f"{place}:{os.environ['PATH']}"})
+        check(f"a zstd that {name}", run=((status, b"f.pcap can't be packed" in out), (4, True)),
+              same=(kept_in(odd) == before, True))
+    bare = {**ENVIRONMENT, "PATH": str(place / "bin")}
+    (place / "bin").mkdir()
+    (place / "bin" / "python3").symlink_to(sys.executable)
+    (place / "bin" / "env").symlink_to(shutil.which("env"))
+    check("keep without zstd", run=(dossier("keep", odd, env=bare)[0], 70), same=(kept_in(odd) == before, True))
+    stranger = folder_of(place, "stranger")
+    dossier("audit", stranger, env=state)
+    check("what isn't known isn't kept", run=(dossier("keep", stranger)[0], 5),
+          files=("f.pcap" in listed(stranger), True))
+
+
+def test_years(place):
+    """Folders whose span ended long ago are taken away, if they are as they were audited, and no others."""
+    old, lately, kept, changed, more = (good_folder(place, name) if name != "lately" else folder_of(place, name)
+                                        for name in ("old", "lately", "kept", "changed", "more"))
+    dossier("audit", old, lately, kept, changed, more)
+    if shutil.which("zstd"):
+        dossier("keep", kept)
+        check("years that aren't over", run=(dossier("keep", "--years", "90", kept)[0], 0), there=(kept.exists(), True))
+    (changed / "report.txt").write_text("mine")
+    (more / "notes.txt").write_text("mine")
+    status, out, _ = dossier("keep", "--years", "20", old, kept, changed, more)
+    check("years", status=(status, 2),
+          gone=([path.exists() for path in (old, kept, changed, more)], [False, False, True, True]),
+          left=(listed(more), ["notes.txt"]), changed=("f.pcap" in listed(changed), True),
+          said=(out.decode().splitlines()[0], f"{old}: taken away"))
+    dossier("keep", "--years", "1", lately)
+    check("what ended lately", there=("claim.json" in listed(lately), True))
+
+
 # ---- systemd
 
 
@@ -391,5 +544,6 @@ def test_daily(place):
     check("the record of the daily unit", there=((state / "audits").exists(), True))
 
 
-DAILY_TESTS = [test_day, test_day_of_others, test_odd_day, test_units, test_recorder, test_daily, test_metrics,
-               test_metrics_of_days, test_metrics_written, test_alerts, test_dashboard]
+DAILY_TESTS = [test_keep, test_kept_by_strangers, test_years, test_day, test_day_of_others, test_odd_day, test_units,
+               test_recorder, test_daily, test_metrics, test_metrics_of_days, test_metrics_written, test_alerts,
+               test_dashboard]
