@@ -51,7 +51,7 @@ def recordings(folder: Folder) -> list[Recorded]:
         if match and is_time(begun):
             recorders.setdefault(match[1] + match[5], []).append((seconds_of(begun), name))
     found = []
-    for files in map(sorted, recorders.values()):
+    for files in (sorted(files) for files in recorders.values()):
         for (begin, name), (after, _) in zip(files, [*files[1:], (FOREVER, "")]):
             written = int(os.stat(name, dir_fd=folder.place, follow_symlinks=False).st_mtime)
             end = min(max(begin, written), after)  # (a copy may have been written at any time)
