@@ -16,6 +16,7 @@ Sample = tuple[str, str, int]
 
 HELP = {
     "verdict": "1 for the verdict of a folder, 0 for each other.",
+    "clock_off": "1 if the clock was off by more than the bound, if what the claim grants is true.",
     "claimed_bound_seconds": "The bound that is claimed.",
     "least_bound_seconds": "The least bound that a certificate carries, if there is one.",
     "samples": "Exchanges of which an error follows.",
@@ -48,6 +49,7 @@ def of_entry(folder: str, entry: Entry) -> Iterator[Sample]:
     day = "" if entry.part == "." else entry.part
     labels = labels_of(folder=folder, day=day)
     yield from of_verdict(folder, entry.verdict, day)
+    yield "clock_off", labels, int(entry.reason is not None and entry.reason.why == "off")
     yield "claimed_bound_seconds", labels, entry.claim.bound_ns
     if entry.least_ns is not None:
         yield "least_bound_seconds", labels, entry.least_ns

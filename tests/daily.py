@@ -52,9 +52,10 @@ def folders_of_all(place):
     apart = [word.replace("4:-1000..1000", "4:900000000..900001000") for word in GOOD]
     spoilt = good_folder(place, "spoilt")
     (spoilt / "f.pcap").write_bytes(b"")
+    off = [word.replace("-1000..1000", "900000000..900001000") for word in GOOD]
     return [good_folder(place, "good"), good_folder(place, 'a "name"\\n'), good_folder(place, "wrong", bound_ns=1),
-            good_folder(place, "apart", words=apart), good_folder(place, "nothing", client="192.0.2.11"), spoilt,
-            place / "missing"]
+            good_folder(place, "off", words=off), good_folder(place, "apart", words=apart),
+            good_folder(place, "nothing", client="192.0.2.11"), spoilt, place / "missing"]
 
 
 def test_metrics(place):
@@ -77,12 +78,15 @@ def test_metrics(place):
         least = {} if row["least_bound_ns"] is None else {"least_bound_seconds": seconds(row["least_bound_ns"])}
         end = record["leap_seconds"]["good_until"] * 10**9
         made, span_end = (timegm(time.strptime(text, "%Y-%m-%dT%H:%M:%SZ")) for text in (record["made"], row["end"]))
-        check(f"the figures of {folder.name} as metrics", own=(own, {
-            **least, "claimed_bound_seconds": seconds(row["bound_ns"]), "samples": str(row["samples"]),
-            "servers_apart": str(sum("apart" in words for words in row["warnings"])),
-            "warnings": str(len(row["warnings"])), "span_end_timestamp_seconds": seconds(span_end * 10**9),
-            "leap_list_end_timestamp_seconds": seconds(end), "last_audit_timestamp_seconds": seconds(made * 10**9),
-            "audit_duration_seconds": seconds(round(record["seconds"] * 10**9))}))
+        check(f"the figures of {folder.name} as metrics",
+              own=(own,
+                   {**least, "clock_off": str(int(folder.name == "off")),
+                    "claimed_bound_seconds": seconds(row["bound_ns"]), "samples": str(row["samples"]),
+                    "servers_apart": str(sum("apart" in words for words in row["warnings"])),
+                    "warnings": str(len(row["warnings"])), "span_end_timestamp_seconds": seconds(span_end * 10**9),
+                    "leap_list_end_timestamp_seconds": seconds(end),
+                    "last_audit_timestamp_seconds": seconds(made * 10**9),
+                    "audit_duration_seconds": seconds(round(record["seconds"] * 10**9))}))
     dossier("page", "--json", "--metrics", other, *folders)
     check("page --metrics", same=(other.read_text(), file.read_text()))
     by_promtool("metrics", "check", "metrics", given=file.read_bytes())
@@ -126,8 +130,8 @@ def test_metrics_written(place):
           changed=(kept.read_bytes() != text, True))
 
 
-ALERTS = {"good": [], "wrong": ["ClockRefuted"], "apart": ["ClockServerApart"], "nothing": ["ClockNotShown"],
-          "spoilt": ["ClockNotAudited"], "missing": ["ClockNotAudited"]}
+ALERTS = {"good": [], "wrong": ["ClockNotShown"], "off": ["ClockOff"], "apart": ["ClockServerApart"],
+          "nothing": ["ClockNotShown"], "spoilt": ["ClockNotAudited"], "missing": ["ClockNotAudited"]}
 """The alerts of each folder."""
 
 
@@ -161,8 +165,10 @@ def test_alerts(place):
 
 
 def labels_of(series, folder, name):
-    """The labels of the series of a folder that has an alert: its servers apart, or the verdict that is 1."""
-    kind, value = ("servers_apart", "") if name == "ClockServerApart" else ("verdict", "1x")
+    """The labels of the series of a folder that has an alert: its servers apart, that it was off, or the verdict that
+    is 1."""
+    kinds = {"ClockServerApart": "servers_apart", "ClockOff": "clock_off"}
+    kind, value = kinds.get(name, "verdict"), "" if name in kinds else "1x"
     own, = (line["series"] for line in series if f'ntpaudit_{kind}{{folder="{folder}"' in line["series"]
             and line["values"].startswith(value))
     return dict(re.findall(r'([a-z]+)="([^"]*)"', own))
