@@ -130,6 +130,39 @@ def test_many_files(place):
           records=((folder / "joined.pcap").read_bytes()[24:], whole[24:]))
 
 
+def test_joins(place):
+    """Records of several files come in order of time, as a merge by hand has them: of those of one time the first
+    file's, whether the files follow one another or not, and in the order of each file where its times fall."""
+    from dossier.classic import Classic, join
+    from dossier.limit import Limit
+    rnd, seen = random.Random(11), {True: 0, False: 0}
+    for trial in range(400):
+        times = [rnd.randrange(40) for _ in range(rnd.randrange(12))]
+        times = sorted(times) if rnd.random() < 0.8 else times
+        cuts = sorted(rnd.randrange(len(times) + 1) for _ in range(rnd.randrange(4)))
+        files = [times[a:b] for a, b in zip([0, *cuts], [*cuts, len(times)])]
+        if rnd.random() < 0.5:
+            rnd.shuffle(files)
+        units = [rnd.choice((10**6, 10**9)) if trial % 3 == 0 else 10**9 for _ in files]
+        unit, left, wanted = min(units), [list(enumerate(own)) for own in files], []
+        while any(left):
+            _, number = min((own[0][1], number) for number, own in enumerate(left) if own)
+            position, time = left[number].pop(0)
+            wanted.append(struct.pack("<IIII", time, 7 * unit // 10, 2, 60) + bytes((number, position)))
+        captures = {}
+        for number, (own, each) in enumerate(zip(files, units)):
+            order = rnd.choice("<>")
+            data = struct.pack(f"{order}IHHIIII", {10**6: 0xA1B2C3D4, 10**9: 0xA1B23C4D}[each], 2, 4, 0, 0, 262_144, 1)
+            for position, time in enumerate(own):
+                data += struct.pack(f"{order}IIII", time, 7 * each // 10, 2, 60) + bytes((number, position))
+            (place / f"{number}").write_bytes(data)
+            captures[f"{number}"] = Classic(str(place / f"{number}"), Limit())
+        join(captures, str(place / "joined"), Limit())
+        found = (place / "joined").read_bytes()
+        seen[found[24:] == b"".join(wanted) and records_of(found) == wanted] += 1
+    check("joins", seen=(seen, {True: 400, False: 0}))
+
+
 def test_units(place):
     """No time becomes more exact than it was: of nanoseconds and microseconds together microseconds are left."""
     nano = (DATA / "vlan-ns.pcap").read_bytes()
@@ -421,5 +454,5 @@ def test_hostile_captures(place):
           left=((place / "bomb.gz.unpacked").stat().st_size <= 10_000_000, True))
 
 
-CAPTURE_TESTS = [test_people_have, test_many_files, test_units, test_torn, test_step, test_own_records,
+CAPTURE_TESTS = [test_people_have, test_many_files, test_joins, test_units, test_torn, test_step, test_own_records,
                  test_many_exchanges, test_remedies_work, test_hostile_captures]
