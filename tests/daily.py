@@ -439,6 +439,14 @@ def test_kept_by_strangers(place):
             (folder / file).unlink(missing_ok=True)
         for file, data in kept.items():
             (folder / file).write_bytes(data)
+    joined = folder_of(place, "joined")
+    (joined / "g.pcap").write_bytes((joined / "f.pcap").read_bytes()[:24])
+    dossier("audit", joined)
+    dossier("keep", joined)
+    gone = "joined.pcap" in listed(joined)
+    (joined / "joined.pcap").write_bytes(other)
+    check("kept with another joined capture", gone=(gone, False), run=(dossier("verify", joined)[0], 1),
+          page=(table(joined)[0]["verdict"], "not verified"))
     victim, odd = place / "victim", folder_of(place, "odd")
     dossier("audit", odd)
     (odd / "f.pcap.zst").symlink_to(victim)
@@ -493,7 +501,7 @@ def started_by(unit):
     return re.findall(r"^ExecStart=-?(.*)$", (UNITS / unit).read_text(), flags=re.M)
 
 
-def test_units(place):
+def test_systemd_units(place):
     """systemd takes the units, and finds them shut."""
     if not shutil.which("systemd-analyze"):
         skipped("systemd's units", "systemd isn't installed")
@@ -550,6 +558,6 @@ def test_daily(place):
     check("the record of the daily unit", there=((state / "audits").exists(), True))
 
 
-DAILY_TESTS = [test_keep, test_kept_by_strangers, test_years, test_day, test_day_of_others, test_odd_day, test_units,
-               test_recorder, test_daily, test_metrics, test_metrics_of_days, test_metrics_written, test_alerts,
-               test_dashboard]
+DAILY_TESTS = [test_keep, test_kept_by_strangers, test_years, test_day, test_day_of_others, test_odd_day,
+               test_systemd_units, test_recorder, test_daily, test_metrics, test_metrics_of_days, test_metrics_written,
+               test_alerts, test_dashboard]
