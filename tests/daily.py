@@ -19,7 +19,7 @@ from audits import ENVIRONMENT, PROGRAM, SCRIPT, capture_of, check, check_page, 
 from captures import records_of
 from evidence import key_of, why_no_recording
 from tally import DATA, ROOT, run
-from verdicts import GOOD, good_folder
+from verdicts import GOOD, SETUP, good_folder, logged
 
 MONITORING = ROOT / "monitoring"
 LINE = re.compile(r'(ntpaudit_[a-z_]+)\{((?:[a-z]+="(?:[^"\\\n]|\\[\\"n])*",?)*)\} (\S+)')
@@ -305,24 +305,24 @@ def test_day_of_others(place):
 
 
 def test_odd_day(place):
-    """A missing hour, a server apart, a recorder that was killed, a step in the log: all are told, and none hides
-    another."""
-    recorder, days, names = recorded(place, [hour for hour in range(-1, 26) if hour != 13])
+    """A missing hour, a machine that was off, a recorder that was killed, a step in the log: all are told, and none
+    hides another."""
+    recorder, days, names = recorded(place, [hour for hour in range(-1, 21) if hour != 13])
     whole = (recorder / names[5]).read_bytes()
     (recorder / names[5]).write_bytes(whole[:-20])
-    log = {"drift_ppb": 600_000, "oscillator_ppb": 100_000, "made": "2001-09-10T00:00:00Z",
-           "configuration": {"client": "chronyd", "files": {}, "slew_ppb": 500_000}}
+    log = {**SETUP, "tracking": logged("2001-09-09T05:00:00Z")}
     (days / "evidence.json").write_text(json.dumps({"drift": "drift.json"}))
     (days / "drift.json").write_text(json.dumps(log))
     dossier("day", "--from", recorder, "--to", days, "--date", "2001-09-09")
     folder = days / "2001-09-09"
     status, _, _ = dossier("audit", folder)
     row = table(folder)[0]
-    said = ["No server was heard from 2001-09-09 12:59:00 to 2001-09-09 14:00:0", f"{names[5]} ends inside a record"]
+    said = ["No server was heard from 2001-09-09 12:59:00 to 2001-09-09 14:00:0", f"{names[5]} ends inside a record",
+            "it ends 3.0 h after the last NTP packet", "The client logged a step of the clock at 2001-09-09 05:00:00"]
     text = "".join(check_page("a page of an odd day", dossier("page", folder)[1].decode()).words)
     check("an odd day", status=((status, row["verdict"]), (1, "refuted")),
-          told=([any(words in warning for warning in row["warnings"]) for words in said], [True] * 2),
-          page=([words in text for words in said], [True] * 2), verified=(dossier("verify", folder)[0], 0))
+          told=([any(words in warning for warning in row["warnings"]) for words in said], [True] * 4),
+          page=([words in text for words in said], [True] * 4), verified=(dossier("verify", folder)[0], 0))
     even = capture_of(place / "even.pcap", *(f"1:0..9@{NIGHT + 600 * k}" for k in range(20)))
     quiet = {"from": "2001-09-09T00:00:00Z", "to": "2001-09-09T03:10:00Z", "servers": ["192.0.2.1"]}
     for name, capture, is_told in (("polls as usual", even, False), ("a poll that is missing", capture_of(
