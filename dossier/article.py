@@ -194,9 +194,12 @@ def again(record: Record, entry: Entry) -> Html:
         calls.append(["refute", claim, capture, files.REFUTATION, "--drift"])
     is_packed = not is_own and record.kept is not None and record.capture in record.kept.sums
     unpacks = [["zstd", "-dk", f"{capture}.zst"]] if is_packed else []
+    anew = element("p", f"{files.JOINED} isn\u2019t kept: ", element("code", "ntpaudit-dossier audit --again"),
+                   " makes it anew, in a copy of the folder.") if record.is_left_out(capture) else ""
     return lines([
         element("h3", "To see it again"),
         element("p", f"What each line shows: {see('The verdict')}.", class_="soft"),
+        *([anew] if anew else []),
         element("pre", lines(map(shlex.join, [*unpacks, *(["ntpaudit", *call] for call in calls)])))])
 
 

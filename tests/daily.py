@@ -342,8 +342,8 @@ def listed(folder):
 
 def seen_of(*folders):
     """The rows of folders, and their pages without the sums of files, the time, and how a capture is unpacked."""
-    pages = [re.sub(r"put together at \S+|<h3>Files</h3>.*?</table>|zstd -dk \S+\n", "",
-                    dossier("page", folder)[1].decode(), flags=re.S) for folder in folders]
+    pages = [re.sub(r"put together at \S+|<h3>Files</h3>.*?</table>|zstd -dk \S+\n|<p>joined\.pcap isn.t kept.*?</p>\n",
+                    "", dossier("page", folder)[1].decode(), flags=re.S) for folder in folders]
     return table(*folders), pages
 
 
@@ -443,6 +443,12 @@ def test_kept_by_strangers(place):
     (joined / "g.pcap").write_bytes((joined / "f.pcap").read_bytes()[:24])
     dossier("audit", joined)
     dossier("keep", joined)
+    check("the page of a kept folder with a joined capture",
+          said=("joined.pcap isn\u2019t kept: <code>ntpaudit-dossier" in dossier("page", joined)[1].decode(), True))
+    copy = place / "copy"
+    shutil.copytree(joined, copy)
+    check("a joined capture is made anew", run=(dossier("audit", "--again", copy)[0], 0),
+          there=("joined.pcap" in listed(copy), True), verified=(dossier("verify", copy)[0], 0))
     gone = "joined.pcap" in listed(joined)
     (joined / "joined.pcap").write_bytes(other)
     check("kept with another joined capture", gone=(gone, False), run=(dossier("verify", joined)[0], 1),
