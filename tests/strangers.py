@@ -312,6 +312,28 @@ def test_links_of_parts(place):
           there=(os.listdir(other), ["claim.json"]))
 
 
+def test_names_of_outputs(place):
+    """An audit.json whose outputs have names that no audit leaves: it isn't taken, even if it were known here, and
+    nothing of these names is taken away."""
+    folder, state = folder_of(place, "host"), place / "state"
+    (place / "victim").write_text("victim")
+    dossier("audit", "--state", state, folder)
+    record = json.loads((folder / "audit.json").read_text())
+    for name in ("../victim", "/etc/hostname", "claim.json", "f.pcap", "2026-11-22/../../victim", "2026-11-22/f.pcap",
+                 "x/report.txt", "../report.txt", "audit.json", ""):
+        outputs = {**record["entries"][0]["outputs"], name: hashlib.sha256(b"victim").hexdigest()}
+        text = json.dumps({**record, "entries": [{**record["entries"][0], "outputs": outputs}]}).encode()
+        (folder / "audit.json").write_bytes(text)
+        with open(state / "audits", "a") as opened:
+            opened.write(f"{hashlib.sha256(text).hexdigest()}\n")
+        status, out, _ = dossier("verify", "--state", state, folder)
+        check(f"an output {name}", verify=((status, b"audit.json isn't one that is taken" in out), (2, True)),
+              page=(json.loads(dossier("page", "--json", "--state", state, folder)[1])[0]["verdict"], "refused"),
+              keep=(dossier("keep", "--years", "1", "--state", state, folder)[0], 2),
+              audit=(dossier("audit", "--again", "--state", state, folder)[0], 0),
+              victim=((place / "victim").read_text(), "victim"), inputs=((folder / "f.pcap").exists(), True))
+
+
 def test_named_outputs(place):
     """-o: a link is followed first, and what is no regular file is written into."""
     folder, target, link = folder_of(place, "host"), place / "target.html", place / "link.html"
@@ -738,5 +760,5 @@ def test_browser(place):
 
 ALONE = [test_every_write, test_own_faults]
 STRANGER_TESTS = [test_no_files, test_forged_audit, test_hidden_capture, test_swapped_record, test_socket_and_rights,
-                  test_links_of_parts, test_named_outputs, test_at_once, test_programs, test_fields,
-                  test_hostile_records, test_hostile_inputs, test_no_evidence, test_browser]
+                  test_links_of_parts, test_names_of_outputs, test_named_outputs, test_at_once, test_programs,
+                  test_fields, test_hostile_records, test_hostile_inputs, test_no_evidence, test_browser]
