@@ -458,7 +458,7 @@ def test_measuring(place):
         (place / "measured.json").write_text(text)
         got, claim, err = drafted(folder / "f.pcap", "--measured", place / "measured.json")
         check(f"a draft by {name}", status=(got, status), reading=(claim.get("reading_ns"), reading),
-              said=(f"reading_ns is 130000: 1,000 packets that web-1" in err, not status))
+              said=("reading_ns is 130000: 1,000 packets that web-1" in err, not status))
     check("a draft by a number and a measurement",
           status=(drafted(folder / "f.pcap", "--measured", place / "measured.json", "--reading-ns", "5")[0], 5))
     (folder / "measured.json").write_text(json.dumps({**asdict(small), "greatest_ns": 1}))
@@ -616,7 +616,7 @@ def test_steps(place):
     spans = {"around": ("13:04:30", "13:04:50"), "after": ("13:08:00", "13:08:10")}
     for name, (first, last) in spans.items():
         capture = capture_of(place / f"{name}.pcap", f"1:-1000..1000@{unix(first)}", f"1:-1000..1000@{unix(last)}")
-        for log, words, count in ((stepping, f"(an offset beyond makestep's threshold) is inside the span", len(steps)),
+        for log, words, count in ((stepping, "(an offset beyond makestep's threshold) is inside the span", len(steps)),
                                   (falls, "A step at 2026-11-25 13:03:00 (the times of the log fall back)", 0),
                                   (messages,
                                    "A step of -0.250000 s at 2026-11-25 13:04:41 (it says so) is inside the span", 1)):
