@@ -25,7 +25,7 @@ from tally import DATA, SECONDS, run
 
 KILOBYTES = 3_000_000
 """Of memory that a call may have here, so that one that takes all of it fails by itself."""
-QUICK = 60
+QUICK = SECONDS
 
 
 def limited(*words, **how):
