@@ -2,19 +2,21 @@
 
 use crate::commands::{invocation_of, program};
 use crate::invocation::Invocation;
+use crate::standard_input::read_once;
+use crate::words::{advised, counted};
 use clap::{Error, error};
 use std::alloc::{AllocError, Global};
 use std::env;
 use std::io::ErrorKind;
 
 /// What a refusal of the command line, or a call for help, asks for.
-fn told(alloc: Global, error: &Error) -> Result<Invocation, AllocError> {
+fn told(alloc: Global, words: &[String], error: &Error) -> Result<Invocation, AllocError> {
     if error.kind() == error::ErrorKind::OutOfMemory {
         return Err(AllocError);
     }
     let text = error.to_string(alloc)?;
     if error.use_stderr() {
-        Ok(Invocation::Refuse(text))
+        Ok(Invocation::Refuse(advised(alloc, words, text.as_str())?))
     } else {
         Ok(Invocation::Show(text))
     }
@@ -35,8 +37,9 @@ pub(crate) fn read_command_line(rt: &HostRuntime) -> Result<Invocation, AllocErr
     for word in arguments {
         words.push(word)?;
     }
-    match program(alloc)?.try_get_matches_from(words.as_slice()) {
-        Ok(matches) => invocation_of(alloc, &matches),
-        Err(error) => told(alloc, &error),
+    let words = &words[..counted(words.as_slice())];
+    match program(alloc)?.try_get_matches_from(words) {
+        Ok(matches) => read_once(alloc, invocation_of(alloc, &matches)?),
+        Err(error) => told(alloc, words, &error),
     }
 }

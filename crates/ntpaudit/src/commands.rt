@@ -1,6 +1,6 @@
 //! The commands: operands and options, what help says about them, and what their words call for.
 
-use crate::invocation::{Invocation, JudgedPaths, Paths};
+use crate::invocation::{Invocation, JudgedPaths, Listed, Paths, STDIN};
 use audit::{At, Envelope, Find, Refute, Step, Style};
 use claim_file::read_time;
 use clap::{Arg, ArgAction, ArgMatches, Command};
@@ -129,7 +129,8 @@ fn list_command<'a>(alloc: Global) -> Result<Command<'a>, AllocError> {
     Command::new(alloc, "list")
         .about("Print one line for each NTP packet of a capture")
         .after_help(LIST_HELP)
-        .arg(capture)
+        .arg(capture)?
+        .arg(flag(alloc, "human", "Say more about a fault").short('H'))
 }
 
 /// The command `samples`.
@@ -156,7 +157,7 @@ fn settle_command<'a>(alloc: Global) -> Result<Command<'a>, AllocError> {
 /// The command `check`.
 fn check_command<'a>(alloc: Global) -> Result<Command<'a>, AllocError> {
     let certificate = Arg::new(alloc, "CERTIFICATE").help("The certificate, a JSON file");
-    let about = "Settle a claim by a capture and a certificate";
+    let about = "Check a certificate for a claim against a capture";
     evidence_command(alloc, "check", about, CHECK_HELP)?
         .arg(certificate.required(true))?
         .arg(sums_option(alloc))
@@ -166,7 +167,7 @@ fn check_command<'a>(alloc: Global) -> Result<Command<'a>, AllocError> {
 fn refute_command<'a>(alloc: Global) -> Result<Command<'a>, AllocError> {
     let refutation = Arg::new(alloc, "REFUTATION").help("The refutation, a JSON file");
     let drift = "Let the clock's error drift as the claim grants, not stay the same";
-    let about = "Settle whether a refutation stands against a claim";
+    let about = "Check a refutation of a claim against a capture";
     evidence_command(alloc, "refute", about, REFUTE_HELP)?
         .arg(refutation.required(true))?
         .arg(flag(alloc, "drift", drift))?
@@ -255,21 +256,26 @@ fn operand(alloc: Global, matches: &ArgMatches, name: &str) -> Result<String, Al
 
 /// What `list` calls for.
 fn list(alloc: Global, matches: &ArgMatches) -> Result<Invocation, AllocError> {
-    match matches.get_str("CAPTURE") {
-        Some(path) => Ok(Invocation::List(Some(String::from_str(alloc, path)?))),
-        None => Ok(Invocation::List(None)),
+    let path = matches.get_str("CAPTURE").unwrap_or(STDIN);
+    Ok(Invocation::List(Listed {
+        style: style_of(matches),
+        path: String::from_str(alloc, path)?,
+    }))
+}
+
+/// For whom the answer is written.
+fn style_of(matches: &ArgMatches) -> Style {
+    if matches.get_flag("human") {
+        Style::Human
+    } else {
+        Style::Plain
     }
 }
 
 /// The claim and the capture that are named, and for whom the answer is written.
 fn paths(alloc: Global, matches: &ArgMatches) -> Result<Paths, AllocError> {
-    let style = if matches.get_flag("human") {
-        Style::Human
-    } else {
-        Style::Plain
-    };
     Ok(Paths {
-        style,
+        style: style_of(matches),
         claim: operand(alloc, matches, "CLAIM")?,
         capture: operand(alloc, matches, "CAPTURE")?,
     })
@@ -292,9 +298,13 @@ fn judged(alloc: Global, matches: &ArgMatches, name: &str) -> Result<JudgedPaths
 
 /// What `at` calls for: its TIME is read before anything else is done.
 fn at(alloc: Global, matches: &ArgMatches) -> Result<Invocation, AllocError> {
-    match read_time(matches.get_str("TIME").unwrap_or("")) {
+    let time = matches.get_str("TIME").unwrap_or("");
+    match read_time(time) {
         Some(second) => Ok(Invocation::At(At { second }, paths(alloc, matches)?)),
-        None => Ok(Invocation::RefuseTime),
+        None if matches.get_flag("human") => {
+            Ok(Invocation::RefuseTime(Some(String::from_str(alloc, time)?)))
+        }
+        None => Ok(Invocation::RefuseTime(None)),
     }
 }
 

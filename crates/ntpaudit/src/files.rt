@@ -3,7 +3,7 @@
 ghost use Rattle.std.specs.Prelude.{◌≡◌, ◌⊎◌, IfOk, IfErr};
 ghost use Rattle.report.specs.declared.fault.RunFault.TheVariants.{Device};
 
-use crate::invocation::{JudgedPaths, Paths};
+use crate::invocation::{JudgedPaths, Paths, STDIN};
 use byte_stream::{Feed, ReadFeed};
 use report::{Input, RunFault};
 use std::fs;
@@ -29,6 +29,15 @@ pub(crate) struct Judged {
     pub(crate) capture: ReadFeed<File>,
 }
 
+/// The path of an operand.
+pub(crate) fn path_of(operand: &str) -> &str {
+    if operand == STDIN {
+        "/dev/stdin"
+    } else {
+        operand
+    }
+}
+
 /// Opens the file of an input, which hasn't failed yet. If it can't be opened, that's the fault of
 /// the input's device.
 pub(crate) fn open(rt: &HostRuntime, path: &str, which: Input) -> Result<ReadFeed<File>, RunFault>
@@ -36,7 +45,7 @@ pub(crate) fn open(rt: &HostRuntime, path: &str, which: Input) -> Result<ReadFee
     ensures untaken { IfOk result (λ feed. (⟦<ReadFeed<File> as Feed>⟧.state feed).taken ≡ 0) }
     ensures fault { IfErr result (λ fault. fault ≡ Device which) }
 {
-    match fs::open(rt, path) {
+    match fs::open(rt, path_of(path)) {
         Ok(file) => Ok(ReadFeed::new(file)),
         Err(_) => Err(RunFault::Device(which)),
     }

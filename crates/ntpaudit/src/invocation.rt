@@ -2,6 +2,18 @@
 
 use audit::{At, Envelope, Find, Refute, Style};
 
+/// The operand that is standard input.
+pub(crate) const STDIN: &str = "-";
+
+/// The capture that is listed, and for whom its faults are told.
+#[derive(Drop)]
+pub(crate) struct Listed {
+    /// The style of a fault.
+    pub(crate) style: Style,
+    /// The capture's path.
+    pub(crate) path: String,
+}
+
 /// The paths of the files that a question is asked of, and for whom the answer is written.
 #[derive(Drop)]
 pub(crate) struct Paths {
@@ -27,8 +39,8 @@ pub(crate) struct JudgedPaths {
 /// What the words of a command line call for.
 #[derive(Drop)]
 pub(crate) enum Invocation {
-    /// List a capture: the file of this path, or standard input.
-    List(Option<String>),
+    /// List a capture.
+    List(Listed),
     /// Show the samples.
     Samples(Paths),
     /// Show what each server says at a moment.
@@ -49,6 +61,7 @@ pub(crate) enum Invocation {
     Show(String),
     /// The command line is refused, for the reason in this text.
     Refuse(String),
-    /// The command line is refused, since its TIME isn't written as a claim's times are.
-    RefuseTime,
+    /// The command line is refused, since its TIME, which is here for a person, isn't written as a
+    /// claim's times are.
+    RefuseTime(Option<String>),
 }

@@ -14,12 +14,17 @@ mod command_line;
 mod commands;
 mod files;
 mod invocation;
+mod second_look;
+mod standard_input;
+mod words;
 
 use crate::command_line::read_command_line;
 use crate::files::{Evidence, Judged, open, open_evidence, open_judged};
-use crate::invocation::{Invocation, JudgedPaths, Paths};
+use crate::invocation::{Invocation, JudgedPaths, Paths, STDIN};
+use crate::second_look::{asked_of, say};
 use audit::{Outputs, Question, Refute, Samples, Seek, Settle, answer, answer_check};
 use byte_stream::{Feed, ReadFeed, Sink, WriteSink};
+use fault_words::KeptSink;
 use judgement::{Judgement, MAX_SUMS, Sums, answer_by_sums};
 use listing::answer_list;
 use report::{Input, RunFault, read_input, refuse, refuse_time, show, tell};
@@ -28,8 +33,8 @@ use std::fs::File;
 use std::hash::{BuildHasher, BuildHasherDefault, FoldHasher, RandomState};
 use std::process::ExitCode;
 
-/// Lists the capture of this path, or standard input. The result is the exit status.
-fn list<S: Sink, E: Sink>(rt: &HostRuntime, path: &Option<String>, to: &mut Outputs<S, E>) -> u8
+/// Lists the capture of this path. The result is the exit status.
+fn list<S: Sink, E: Sink>(rt: &HostRuntime, path: &str, to: &mut Outputs<S, E>) -> u8
     requires out { IsWritable (S.state to.old.out) }
     requires err { IsWritable (E.state to.old.err) }
     ensures closed { (E.state to.new.err).is_open ≡ false }
@@ -37,12 +42,12 @@ fn list<S: Sink, E: Sink>(rt: &HostRuntime, path: &Option<String>, to: &mut Outp
     let alloc = rt.alloc();
     let out = &mut to.out;
     let err = &mut to.err;
-    match path {
-        None => answer_list(alloc, ReadFeed::new(rt.stdin()), out, err).1,
-        Some(path) => match open(rt, path.as_str(), Input::Capture) {
-            Ok(capture) => answer_list(alloc, capture, out, err).1,
-            Err(fault) => tell(&Err(fault), err),
-        },
+    if path == STDIN {
+        return answer_list(alloc, ReadFeed::new(rt.stdin()), out, err).1;
+    }
+    match open(rt, path, Input::Capture) {
+        Ok(capture) => answer_list(alloc, capture, out, err).1,
+        Err(fault) => tell(&Err(fault), err),
     }
 }
 
@@ -174,7 +179,7 @@ fn respond<S: Sink, E: Sink, H: BuildHasher + Drop>(
     ensures closed { (E.state to.new.err).is_open ≡ false }
 {
     match invocation {
-        Invocation::List(path) => list(rt, &path, to),
+        Invocation::List(listed) => list(rt, listed.path.as_str(), to),
         Invocation::Samples(paths) => ask(rt, Samples, &paths, to, hasher),
         Invocation::At(at, paths) => ask(rt, at, &paths, to, hasher),
         Invocation::Settle(paths) => ask(rt, Settle, &paths, to, hasher),
@@ -187,26 +192,31 @@ fn respond<S: Sink, E: Sink, H: BuildHasher + Drop>(
         Invocation::Envelope(envelope, paths) => ask(rt, envelope, &paths, to, hasher),
         Invocation::Show(text) => show(text, &mut to.out, &mut to.err),
         Invocation::Refuse(text) => refuse(text, &mut to.err),
-        Invocation::RefuseTime => refuse_time(&mut to.err),
+        Invocation::RefuseTime(_) => refuse_time(&mut to.err),
     }
 }
 
 fn main(rt: HostRuntime) -> ExitCode {
     let mut outputs = Outputs {
         out: WriteSink::new(rt.stdout()),
-        err: WriteSink::new(rt.stderr()),
+        err: KeptSink::new(rt.alloc(), WriteSink::new(rt.stderr())),
     };
+    let mut asked = None;
     let code = match read_command_line(&rt) {
         // A random key, so that nobody can write a capture whose packets collide. If the system has
         // no random bytes a fixed key has to do: it slows such a capture down, no more.
-        Ok(invocation) => match RandomState::new(&rt) {
-            Ok(hasher) => respond(&rt, invocation, &mut outputs, hasher),
-            Err(_) => {
-                let hasher = BuildHasherDefault::<FoldHasher>::new();
-                respond(&rt, invocation, &mut outputs, hasher)
+        Ok(invocation) => {
+            asked = asked_of(rt.alloc(), &invocation);
+            match RandomState::new(&rt) {
+                Ok(hasher) => respond(&rt, invocation, &mut outputs, hasher),
+                Err(_) => {
+                    let hasher = BuildHasherDefault::<FoldHasher>::new();
+                    respond(&rt, invocation, &mut outputs, hasher)
+                }
             }
-        },
+        }
         Err(AllocError) => tell(&Err(RunFault::Memory), &mut outputs.err),
     };
+    say(&rt, &asked, outputs.err.kept());
     ExitCode::from(code)
 }
