@@ -26,9 +26,10 @@ pub fn look(
         RunFault::Claim(fault) => look_at_claim(alloc, fault, bytes),
         RunFault::Certificate(CertificateFault::Top)
         | RunFault::Refutation(RefutationFault::Shape) => another_json(alloc, bytes, is_whole),
-        RunFault::Capture(CaptureFault::TornHeader | CaptureFault::Magic) => {
-            no_capture(alloc, bytes)
+        RunFault::Capture(CaptureFault::TornHeader) if bytes.is_empty() => {
+            looks_like(alloc, "empty")
         }
+        RunFault::Capture(CaptureFault::Magic) => no_capture(alloc, bytes),
         RunFault::Capture(CaptureFault::Link) => look_at_link(alloc, bytes),
         RunFault::TooBig(_) => looks_like(alloc, kind_of(bytes)),
         _ => Ok(Found::nothing(alloc)),

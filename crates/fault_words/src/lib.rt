@@ -3,6 +3,16 @@
 //! [`sentence_of`] has the sentence of each fault, and `claim_field` those of a claim's fields.
 //! [`explain`] puts them behind the name of the file that the fault is of, with what [`look`] sees
 //! there. What is seen is no more than help: it changes no sentence's subject and no fault.
+//!
+//! The fault is found from the line that an engine wrote, as in `words_of_line` of
+//! `ntpaudit/src/second_look.rt`:
+//!
+//! ```text
+//! match fault_of_line(alloc, line)? {
+//!     Some(fault) => words_of_fault(rt, names, &fault),
+//!     None => Ok(String::new(alloc)),
+//! }
+//! ```
 
 #![tactic(auto)]
 
