@@ -37,12 +37,15 @@ names = record {
   bound = codes "bound_ns";
   drift = codes "drift_ppb";
   reading = codes "reading_ns";
-  groups = codes "groups" }
+  groups = codes "groups";
+}
 
 abbrev an_address : List ℕ
 an_address = codes "write an address as \"192.0.2.1\": no host name, no IPv6, no leading zeros"
+
 abbrev a_time : List ℕ
 a_time = codes "write a time as \"2026-11-22T06:46:09Z\", in UTC"
+
 abbrev nanoseconds : List ℕ
 nanoseconds = codes "write nanoseconds as a bare whole number: 5 ms are 5000000"
 
@@ -56,7 +59,8 @@ ranges = record {
   bound = codes "has to be a whole number from 0 to 10^15";
   drift = codes "has to be a whole number from 0 to 500000000";
   reading = codes "has to be a whole number from 0 to 10^9";
-  groups = codes "has to be an array of arrays of server numbers" }
+  groups = codes "has to be an array of arrays of server numbers";
+}
 
 abbrev remedies : Texts
 remedies = record {
@@ -68,7 +72,8 @@ remedies = record {
   bound = nanoseconds;
   drift = codes "write parts of 10^9 as a bare whole number: 100 ppm are 100000";
   reading = nanoseconds;
-  groups = codes "number the servers from 0, as [[0,1],[2]]; or leave \"groups\" out" }
+  groups = codes "number the servers from 0, as [[0,1],[2]]; or leave \"groups\" out";
+}
 
 -- what a field is called
 abbrev pub field_name : ℕ → List ℕ

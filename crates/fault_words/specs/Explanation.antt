@@ -21,7 +21,8 @@ abbrev pub found_data : Found → FoundData
 found_data found = record {
   field = found.field;
   is_missing = found.is_missing;
-  seen = string_bytes found.seen }
+  seen = string_bytes found.seen;
+}
 
 -- the field of the claim that a claim's fault is of, or 0
 abbrev pub claim_field_of : ClaimFault → ℕ → ℕ
@@ -40,7 +41,7 @@ field_of _ seen = 0
 abbrev pub field_sentence : ℕ → Bool → SentenceData
 field_sentence field is_missing = says
     (codes "\"" ++ field_name field ++ codes "\" " ++
-      (if is_missing then codes "is missing" else field_range field))
+    (if is_missing then codes "is missing" else field_range field))
     (field_remedy field)
 
 -- the sentence of a fault: that of the field, if it is of one

@@ -21,7 +21,8 @@ names_data names = record {
   claim = names.claim.now;
   capture = names.capture.now;
   second = names.second.now;
-  sums = names.sums.now }
+  sums = names.sums.now;
+}
 
 -- each input's own
 abbrev pub name_of : NamesData → Input → List ℕ

@@ -46,14 +46,18 @@ fn add_field(text: &mut String, field: u8, is_missing: bool) -> Result<(), Alloc
     text.push_str("\"")?;
     text.push_str(field_name(field))?;
     text.push_str("\" ")?;
-    text.push_str(if is_missing { "is missing" } else { field_range(field) })
+    text.push_str(if is_missing {
+        "is missing"
+    } else {
+        field_range(field)
+    })
 }
 
 /// Adds the sentence of a fault about a subject, what was seen, and what to do.
 fn add_sentence(text: &mut String, fault: &RunFault, found: &Found) -> Result<(), AllocError>
     ensures { OnOk result (string_bytes text.new ≡ string_bytes text.old
         ++ spec.ending (spec.fault_sentence fault.now (found_data found.now))
-            (found_data found.now).seen) }
+        (found_data found.now).seen) }
 {
     let field = field_of(fault, found.field);
     let sentence = sentence_of(fault);
@@ -64,7 +68,11 @@ fn add_sentence(text: &mut String, fault: &RunFault, found: &Found) -> Result<()
     }
     text.push_str(found.seen.as_str())?;
     text.push_str("\n  ")?;
-    text.push_str(if field == 0 { sentence.remedy } else { field_remedy(field) })?;
+    text.push_str(if field == 0 {
+        sentence.remedy
+    } else {
+        field_remedy(field)
+    })?;
     text.push_str("\n")
 }
 
@@ -77,7 +85,7 @@ pub fn explain(
     fault: &RunFault,
     found: &Found,
 ) -> Result<String, AllocError>
-    ensures { IfOk result (λ text. string_bytes text
+    ensures says { IfOk result (λ text. string_bytes text
         ≡ spec.explanation (names_data names.now) fault.now (found_data found.now)) }
 {
     let mut text = String::from_str(alloc, "  ")?;
@@ -89,5 +97,9 @@ pub fn explain(
 /// The words about a TIME that is none.
 pub fn explain_time(alloc: Global, time: &str) -> Result<String, AllocError> {
     let time = quoted(alloc, time)?;
-    format!(in alloc; "  TIME has to be a time of UTC; it is \"{}\"\n  {}\n", time.as_str(), field_remedy(4))
+    format!(in alloc;
+        "  TIME has to be a time of UTC; it is \"{}\"\n  {}\n",
+        time.as_str(),
+        field_remedy(4)
+    )
 }

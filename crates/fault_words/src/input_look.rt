@@ -54,9 +54,7 @@ fn no_json(alloc: Global, bytes: &[u8], is_whole: bool) -> Result<Found, AllocEr
         Err(error) if error.is_memory() => Err(AllocError),
         Err(error) => {
             let (line, column) = (error.line(), error.column());
-            Ok(Found::seen(
-                format!(in alloc; " at line {line}, column {column}")?,
-            ))
+            Ok(Found::seen(format!(in alloc; " at line {line}, column {column}")?))
         }
         Ok(_) => Ok(Found::nothing(alloc)),
     }
@@ -120,7 +118,5 @@ fn look_at_link(alloc: Global, bytes: &[u8]) -> Result<Found, AllocError> {
         return Ok(Found::nothing(alloc));
     };
     let name = link_name(link);
-    Ok(Found::seen(
-        format!(in alloc; "; its link type is {link}{name}")?,
-    ))
+    Ok(Found::seen(format!(in alloc; "; its link type is {link}{name}")?))
 }

@@ -93,7 +93,7 @@ fn fault_among(
 /// The fault that has this line, which has no line feed. It is sought by writing the line of each
 /// fault anew, so that no other fault is ever told.
 pub fn fault_of_line(alloc: Global, line: &[u8]) -> Result<Option<RunFault>, AllocError>
-    ensures { IfOk result (λ found. IfSome found (λ fault. fault_text fault ≡ line.now)) }
+    ensures line { IfOk result (λ found. IfSome found (λ fault. fault_text fault ≡ line.now)) }
 {
     let number = number_of(line);
     if let Some(fault) = fault_among(alloc, &evidence_faults(number), line)? {

@@ -63,18 +63,12 @@ fn capture_sentence(fault: &CaptureFault) -> Sentence
             "has over 4000000 records",
             "cut it: editcap -F pcap -c 4000000 IN OUT (-F nsecpcap for nanoseconds)",
         ),
-        CaptureFault::Read => says(
-            "can't be read",
-            "see what it is and who may read it: ls -l",
-        ),
+        CaptureFault::Read => says("can't be read", "see what it is and who may read it: ls -l"),
         CaptureFault::Memory => says(
             "needs more memory than the system gives",
             "see what limits it: ulimit -v, or a container's limit",
         ),
-        CaptureFault::Failed => says(
-            "had a fault before",
-            "read it again from its beginning",
-        ),
+        CaptureFault::Failed => says("had a fault before", "read it again from its beginning"),
     }
 }
 
@@ -83,10 +77,7 @@ fn claim_sentence(fault: &ClaimFault) -> Sentence
     ensures { sentence_data result ≡ spec.claim_sentence fault.now }
 {
     match fault {
-        ClaimFault::Json => says(
-            "isn't JSON",
-            "mend it there: python3 -m json.tool IN",
-        ),
+        ClaimFault::Json => says("isn't JSON", "mend it there: python3 -m json.tool IN"),
         ClaimFault::Field(_) => says(
             "has a name that no claim has, or is no object",
             "the names are client servers false_max from to bound_ns drift_ppb reading_ns groups",
@@ -212,10 +203,7 @@ pub fn sentence_of(fault: &RunFault) -> Sentence
             "is larger than such a file may be",
             "give the files in the order of ntpaudit COMMAND --help",
         ),
-        RunFault::Device(_) => says(
-            "can't be read",
-            "see what it is and who may read it: ls -l",
-        ),
+        RunFault::Device(_) => says("can't be read", "see what it is and who may read it: ls -l"),
         RunFault::Write(_) => says(
             "the output can't be written: the disk is full, or its reader went away",
             "make room, and call again; behind head nothing is wrong",

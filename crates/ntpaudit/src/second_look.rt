@@ -7,13 +7,15 @@ use crate::files::path_of;
 use crate::invocation::{Invocation, Paths, STDIN};
 use audit::Style;
 use byte_stream::{Feed, ReadFeed, WriteSink};
-use fault_words::{Found, Names, explain, explain_time, fault_of_line, input_of};
-use fault_words::{look, look_at_records, shown};
+use fault_words::{
+    Found, Names, explain, explain_time, fault_of_line, input_of, look, look_at_records, shown,
+};
 use pcap_reader::CaptureFault;
 use report::{Input, RunFault, deliver, read_input};
 use std::alloc::{AllocError, Global};
 use std::fs;
 use std::fs::{File, Files};
+use std::io::IsTerminal;
 
 /// How many bytes of a file are looked at, if there are no more.
 const MOST_SEEN: u64 = 1_048_576;
@@ -37,6 +39,8 @@ pub(crate) enum Asked {
     Inputs(InputNames),
     /// A TIME that is none.
     Time(String),
+    /// A run that wasn't asked to say more.
+    Nothing,
 }
 
 /// What a command line asks for, if it is a person's. Where memory is refused nothing is told.
@@ -59,7 +63,8 @@ pub(crate) fn asked_of(alloc: Global, invocation: &Invocation) -> Option<Asked> 
         Invocation::RefuseTime(Some(time)) => {
             Some(Asked::Time(String::from_str(alloc, time.as_str()).ok()?))
         }
-        Invocation::RefuseTime(None) | Invocation::Show(_) | Invocation::Refuse(_) => None,
+        Invocation::RefuseTime(None) => Some(Asked::Nothing),
+        Invocation::Show(_) | Invocation::Refuse(_) => None,
     }
 }
 
@@ -85,8 +90,18 @@ fn names(
             second: String::from_str(alloc, second).ok()?,
             sums: String::from_str(alloc, sums).ok()?,
         })),
-        _ => None,
+        _ => Some(Asked::Nothing),
     }
+}
+
+/// What a fault line is followed by at a terminal, if it wasn't asked to say more.
+fn hint(rt: &HostRuntime, line: &[u8]) -> Result<String, AllocError> {
+    let text = if !line.is_empty() && rt.stderr().is_terminal() {
+        "  (--human says more)\n"
+    } else {
+        ""
+    };
+    String::from_str(rt.alloc(), text)
 }
 
 /// Says in words what stands in the line that was written on standard error.
@@ -94,6 +109,7 @@ pub(crate) fn say(rt: &HostRuntime, asked: &Option<Asked>, line: &[u8]) {
     let words = match asked {
         Some(Asked::Inputs(names)) => words_of_line(rt, names, line),
         Some(Asked::Time(time)) => explain_time(rt.alloc(), time.as_str()),
+        Some(Asked::Nothing) => hint(rt, line),
         None => return,
     };
     if let Ok(words) = words {

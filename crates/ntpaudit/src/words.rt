@@ -41,7 +41,9 @@ pub(crate) fn advised(alloc: Global, words: &[String], text: &str) -> Result<Str
         }
     }
     if begins_with_human(words) {
-        said.push_str("\n  tip: '--human' comes behind the command: ntpaudit list --human f.pcap\n")?;
+        said.push_str(
+            "\n  tip: '--human' comes behind the command: ntpaudit list --human f.pcap\n",
+        )?;
     }
     Ok(said)
 }
