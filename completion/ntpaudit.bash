@@ -12,7 +12,7 @@ _ntpaudit() {
     envelope) options='--step --servers --least --human --help' ;;
     check) options='--sums --human --help' ;;
     refute) options='--drift --sums --human --help' ;;
-    samples | at | settle) options='--human --help' ;;
+    list | samples | at | settle) options='--human --help' ;;
     help) options='list samples at envelope settle find check refute' ;;
     *) options='--help' ;;
     esac

@@ -1,8 +1,9 @@
 -- What the words of a command line call for.
 use Rattle.std.specs.Prelude.{◌≡◌, ◌⊎◌, ◌||◌, ℕ, Bool, true, false, List, [], Option, Some, None}
-use Rattle.std.specs.Prelude.{option_map, unwrap_or, codes, string_bytes}
+use Rattle.std.specs.Prelude.{String, IfSome, is_some, option_map, unwrap_or, codes, string_bytes}
 use Rattle.std.specs.Str.{bytes_eq}
 use Rattle.std.specs.Str.Parse.{digits_value, without_leading_plus}
+use Rattle.std.specs.declared.alloc.Global.{Global}
 use Rattle.claim_file.specs.Time.{time_of}
 use Rattle.clap.specs.Words.{Row, Text, first_of, one_of}
 use Rattle.line_writer.specs.declared.field.Style.{Style}
@@ -13,6 +14,7 @@ use Rattle.judgement.specs.declared.judgement.Judgement.TheVariants as judgement
 use Rattle.ntpaudit.specs.declared.invocation.Invocation.{Invocation}
 use Rattle.ntpaudit.specs.declared.invocation.Invocation.TheVariants as calls
 use Rattle.ntpaudit.specs.declared.invocation.JudgedPaths.{JudgedPaths}
+use Rattle.ntpaudit.specs.declared.invocation.Listed.{Listed}
 use Rattle.ntpaudit.specs.declared.invocation.Paths.{Paths}
 use Rattle.ntpaudit.specs.declared.invocation.Request.{Request}
 use Rattle.ntpaudit.specs.declared.invocation.Request.TheVariants as requests
@@ -43,6 +45,17 @@ step_given rows =
 
 abbrev pub HasStep : List Row → Step → Type 0
 HasStep rows step = step_given rows ≡ Some step.seconds
+
+-- The capture and the style are those of the words.
+pub record IsListed (rows : List Row) (listed : Listed) : Type 0 where
+  pub human : IsFlag (codes "human") rows (is_human listed.style)
+  pub style_is : listed.style ≡ style_of (is_human listed.style)
+  pub path : option_map string_bytes listed.path ≡ first_of (codes "CAPTURE") rows
+
+-- A person is told of the operand TIME.
+pub record IsToldTime (rows : List Row) (told : Option (String Global)) : Type 0 where
+  pub human : IsFlag (codes "human") rows (is_some told)
+  pub time : IfSome told (λ text. string_bytes text ≡ operand (codes "TIME") rows)
 
 -- The claim, the capture and the style are those of the words.
 pub record AreNamed (rows : List Row) (paths : Paths) : Type 0 where
@@ -103,13 +116,12 @@ second_operand (judgements.Refute drift) = codes "REFUTATION"
 
 -- what a command with these rows calls for
 abbrev pub IsCalled : Text → List Row → Invocation → Type 0
-IsCalled name rows (calls.List path) =
-    (name ≡ codes "list") × (option_map string_bytes path ≡ first_of (codes "CAPTURE") rows)
+IsCalled name rows (calls.List listed) = (name ≡ codes "list") × IsListed rows listed
 IsCalled name rows (calls.Ask request paths) = IsRequest name rows request × AreNamed rows paths
 IsCalled name rows (calls.Judge judgement paths) = IsJudgement name rows judgement
     × AreJudgedNamed (second_operand judgement) rows paths
-IsCalled name rows calls.RefuseTime =
-    (name ≡ codes "at") × (time_given rows ≡ None)
+IsCalled name rows (calls.RefuseTime told) =
+    (name ≡ codes "at") × (time_given rows ≡ None) × IsToldTime rows told
 IsCalled name rows (calls.Refuse text) = IsRefusable name
 IsCalled name rows (calls.Show text) = ⊥
 

@@ -102,6 +102,6 @@ SaysAlone (calls.Show text) sink sink' err err' status =
     err err' status
 SaysAlone (calls.Refuse text) sink sink' err err' status =
     (sink' ≡ sink) × IsDelivered (string_bytes text) err err' × (status ≡ refused_status)
-SaysAlone calls.RefuseTime sink sink' err err' status =
+SaysAlone (calls.RefuseTime told) sink sink' err err' status =
     (sink' ≡ sink) × IsDelivered (codes "ntpaudit: time\n") err err' × (status ≡ refused_status)
 SaysAlone _ sink sink' err err' status = Unit {0}

@@ -126,7 +126,8 @@ fn list_command<'a>(alloc: Global) -> Result<Command<'a>, AllocError> {
     Command::new(alloc, "list")
         .about("Print one line for each NTP packet of a capture")
         .after_help(LIST_HELP)
-        .arg(capture)
+        .arg(capture)?
+        .arg(flag(alloc, "human", "Say more about a fault").short('H'))
 }
 
 /// The command `samples`.
@@ -153,7 +154,7 @@ fn settle_command<'a>(alloc: Global) -> Result<Command<'a>, AllocError> {
 /// The command `check`.
 fn check_command<'a>(alloc: Global) -> Result<Command<'a>, AllocError> {
     let certificate = Arg::new(alloc, "CERTIFICATE").help("The certificate, a JSON file");
-    let about = "Settle a claim by a capture and a certificate";
+    let about = "Check a certificate for a claim against a capture";
     evidence_command(alloc, "check", about, CHECK_HELP)?
         .arg(certificate.required(true))?
         .arg(sums_option(alloc))
@@ -163,7 +164,7 @@ fn check_command<'a>(alloc: Global) -> Result<Command<'a>, AllocError> {
 fn refute_command<'a>(alloc: Global) -> Result<Command<'a>, AllocError> {
     let refutation = Arg::new(alloc, "REFUTATION").help("The refutation, a JSON file");
     let drift = "Let the clock's error drift as the claim grants, not stay the same";
-    let about = "Settle whether a refutation stands against a claim";
+    let about = "Check a refutation of a claim against a capture";
     evidence_command(alloc, "refute", about, REFUTE_HELP)?
         .arg(refutation.required(true))?
         .arg(flag(alloc, "drift", drift))?

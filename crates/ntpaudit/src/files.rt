@@ -3,7 +3,7 @@
 ghost use Rattle.std.specs.Prelude.{◌≡◌, ◌⊎◌, IfOk, IfErr, IfSome, option_map, string_bytes};
 ghost use Rattle.report.specs.declared.fault.RunFault.TheVariants.{Device};
 
-use crate::invocation::{JudgedPaths, Paths};
+use crate::invocation::{JudgedPaths, Paths, STDIN};
 use byte_stream::{Feed, FeedFault, ReadFeed};
 use report::{Input, RunFault};
 use std::fs;
@@ -12,7 +12,7 @@ use std::fs::File;
 /// A file that was opened, under its name.
 #[derive(Drop)]
 pub(crate) struct NamedFile<'a> {
-    /// The path by which it was opened.
+    /// The operand that names it.
     pub(crate) name: &'a str,
     feed: ReadFeed<File>,
 }
@@ -51,6 +51,15 @@ pub(crate) struct Judged<C, T, F, U> {
     pub(crate) sums: Option<U>,
 }
 
+/// The path of an operand.
+pub(crate) fn path_of(operand: &str) -> &str {
+    if operand == STDIN {
+        "/dev/stdin"
+    } else {
+        operand
+    }
+}
+
 /// Opens the file of an input, which hasn't failed yet. If it can't be opened, that's the fault of
 /// the input's device.
 pub(crate) fn open<'a>(
@@ -63,7 +72,7 @@ pub(crate) fn open<'a>(
     ensures untaken { IfOk result (λ file. (⟦<NamedFile<'a> as Feed>⟧.state file).taken ≡ 0) }
     ensures fault { IfErr result (λ fault. fault ≡ Device which) }
 {
-    match fs::open(rt, path) {
+    match fs::open(rt, path_of(path)) {
         Ok(file) => Ok(NamedFile {
             name: path,
             feed: ReadFeed::new(file),

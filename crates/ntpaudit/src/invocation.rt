@@ -3,6 +3,28 @@
 use audit::{At, Envelope, Find, Style};
 use judgement::Judgement;
 
+/// The operand that is standard input.
+pub(crate) const STDIN: &str = "-";
+
+/// The capture that is listed, and for whom its faults are told.
+#[derive(Drop)]
+pub(crate) struct Listed {
+    /// The style of a fault.
+    pub(crate) style: Style,
+    /// The capture's path, and none for standard input.
+    pub(crate) path: Option<String>,
+}
+
+impl Listed {
+    /// The operand that names the capture.
+    pub(crate) fn operand(&self) -> &str {
+        match &self.path {
+            Some(path) => path.as_str(),
+            None => STDIN,
+        }
+    }
+}
+
 /// The paths of the files that a question is asked of, and for whom the answer is written.
 #[derive(Drop)]
 pub(crate) struct Paths {
@@ -45,8 +67,8 @@ pub(crate) enum Request {
 /// What the words of a command line call for.
 #[derive(Drop)]
 pub(crate) enum Invocation {
-    /// List a capture: the file of this path, or standard input.
-    List(Option<String>),
+    /// List a capture.
+    List(Listed),
     /// Answer a question.
     Ask(Request, Paths),
     /// Judge a certificate or a refutation.
@@ -55,6 +77,7 @@ pub(crate) enum Invocation {
     Show(String),
     /// The command line is refused, for the reason in this text.
     Refuse(String),
-    /// The command line is refused, since its TIME isn't written as a claim's times are.
-    RefuseTime,
+    /// The command line is refused, since its TIME, which is here for a person, isn't written as a
+    /// claim's times are.
+    RefuseTime(Option<String>),
 }

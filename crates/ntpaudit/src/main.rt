@@ -11,27 +11,32 @@ ghost use Rattle.std.specs.Prelude.{◌≡◌, false};
 ghost use Rattle.byte_stream.specs.State.{IsWritable};
 ghost use Rattle.ntpaudit.specs.Response.{SaysAlone};
 
+mod advice;
 mod command_line;
 mod commands;
 mod files;
 mod invocation;
 mod response;
+mod second_look;
+mod standard_input;
 mod words;
 
 use crate::command_line::read_command_line;
 use crate::files::{open, open_evidence, open_judged};
-use crate::invocation::Invocation;
+use crate::invocation::{Invocation, Listed, STDIN};
 use crate::response::{ask, judge};
+use crate::second_look::{asked_of, say};
 use audit::Outputs;
 use byte_stream::{ReadFeed, Sink, WriteSink};
+use fault_words::KeptSink;
 use listing::answer_list;
 use report::{Input, RunFault, refuse, refuse_time, show, tell};
 use std::alloc::AllocError;
 use std::hash::{BuildHasher, BuildHasherDefault, FoldHasher, RandomState};
 use std::process::ExitCode;
 
-/// Lists the capture of this path, or standard input. The result is the exit status.
-fn list<S: Sink, E: Sink>(rt: &HostRuntime, path: &Option<String>, to: &mut Outputs<S, E>) -> u8
+/// Lists a capture. The result is the exit status.
+fn list<S: Sink, E: Sink>(rt: &HostRuntime, listed: &Listed, to: &mut Outputs<S, E>) -> u8
     requires out { IsWritable (S.state to.old.out) }
     requires err { IsWritable (E.state to.old.err) }
     ensures closed { (E.state to.new.err).is_open ≡ false }
@@ -39,12 +44,13 @@ fn list<S: Sink, E: Sink>(rt: &HostRuntime, path: &Option<String>, to: &mut Outp
     let alloc = rt.alloc();
     let out = &mut to.out;
     let err = &mut to.err;
-    match path {
-        None => answer_list(alloc, ReadFeed::new(rt.stdin()), out, err).1,
-        Some(path) => match open(rt, path.as_str(), Input::Capture) {
-            Ok(capture) => answer_list(alloc, capture, out, err).1,
-            Err(fault) => tell(&Err(fault), err),
-        },
+    let path = listed.operand();
+    if path == STDIN {
+        return answer_list(alloc, ReadFeed::new(rt.stdin()), out, err).1;
+    }
+    match open(rt, path, Input::Capture) {
+        Ok(capture) => answer_list(alloc, capture, out, err).1,
+        Err(fault) => tell(&Err(fault), err),
     }
 }
 
@@ -64,7 +70,7 @@ fn respond<S: Sink, E: Sink, H: BuildHasher + Drop>(
 {
     let alloc = rt.alloc();
     match invocation {
-        Invocation::List(path) => list(rt, &path, to),
+        Invocation::List(listed) => list(rt, &listed, to),
         Invocation::Ask(request, paths) => match open_evidence(rt, &paths) {
             Ok(evidence) => ask(alloc, request, &paths, evidence, to, hasher),
             Err(fault) => tell(&Err(fault), &mut to.err),
@@ -75,26 +81,31 @@ fn respond<S: Sink, E: Sink, H: BuildHasher + Drop>(
         },
         Invocation::Show(text) => show(text, &mut to.out, &mut to.err),
         Invocation::Refuse(text) => refuse(text, &mut to.err),
-        Invocation::RefuseTime => refuse_time(&mut to.err),
+        Invocation::RefuseTime(_) => refuse_time(&mut to.err),
     }
 }
 
 fn main(rt: HostRuntime) -> ExitCode {
     let mut outputs = Outputs {
         out: WriteSink::new(rt.stdout()),
-        err: WriteSink::new(rt.stderr()),
+        err: KeptSink::new(rt.alloc(), WriteSink::new(rt.stderr())),
     };
+    let mut asked = None;
     let code = match read_command_line(&rt) {
         // A random key, so that nobody can write a capture whose packets collide. If the system has
         // no random bytes a fixed key has to do: it slows such a capture down, no more.
-        Ok(invocation) => match RandomState::new(&rt) {
-            Ok(hasher) => respond(&rt, invocation, &mut outputs, hasher),
-            Err(_) => {
-                let hasher = BuildHasherDefault::<FoldHasher>::new();
-                respond(&rt, invocation, &mut outputs, hasher)
+        Ok(invocation) => {
+            asked = asked_of(rt.alloc(), &invocation);
+            match RandomState::new(&rt) {
+                Ok(hasher) => respond(&rt, invocation, &mut outputs, hasher),
+                Err(_) => {
+                    let hasher = BuildHasherDefault::<FoldHasher>::new();
+                    respond(&rt, invocation, &mut outputs, hasher)
+                }
             }
-        },
+        }
         Err(AllocError) => tell(&Err(RunFault::Memory), &mut outputs.err),
     };
+    say(&rt, &asked, outputs.err.kept());
     ExitCode::from(code)
 }

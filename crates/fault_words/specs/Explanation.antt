@@ -1,0 +1,62 @@
+-- The words about a fault: two lines that begin with two blanks.
+use Rattle.std.specs.Prelude.{List, ℕ, ◌++◌, codes, Bool, nat_eq, if◌then◌else◌, string_bytes}
+use Rattle.claim_file.specs.declared.fault.ClaimFault.{ClaimFault}
+use Rattle.claim_file.specs.declared.fault.ClaimFault.TheVariants as claims
+use Rattle.report.specs.declared.fault.RunFault.{RunFault}
+use Rattle.report.specs.declared.fault.RunFault.TheVariants as faults
+use Rattle.fault_words.specs.ClaimField.{field_name, field_range, field_remedy}
+use Rattle.fault_words.specs.Sentence.{SentenceData, says, sentence_of}
+use Rattle.fault_words.specs.declared.found.Found.{Found}
+use Rattle.fault_words.specs.Subject.{NamesData, input_of, subject}
+
+-- what was seen of a fault when its input was looked at again: the field of a claim, or 0, whether
+-- it isn't there, and what is said behind the sentence
+pub record FoundData : Type 0 where
+  pub field : ℕ
+  pub is_missing : Bool
+  pub seen : List ℕ
+
+-- the same of a value of the program
+abbrev pub found_data : Found → FoundData
+found_data found = record {
+  field = found.field;
+  is_missing = found.is_missing;
+  seen = string_bytes found.seen;
+}
+
+-- the field of the claim that a claim's fault is of, or 0
+abbrev pub claim_field_of : ClaimFault → ℕ → ℕ
+claim_field_of (claims.Field code) seen = code
+claim_field_of claims.Address seen = seen
+claim_field_of claims.Time seen = seen
+claim_field_of claims.Range seen = seen
+claim_field_of _ seen = 0
+
+-- the same of any fault
+abbrev pub field_of : RunFault → ℕ → ℕ
+field_of (faults.Claim fault) seen = claim_field_of fault seen
+field_of _ seen = 0
+
+-- the sentence of a field
+abbrev pub field_sentence : ℕ → Bool → SentenceData
+field_sentence field is_missing = says
+    (codes "\"" ++ field_name field ++ codes "\" " ++
+    (if is_missing then codes "is missing" else field_range field))
+    (field_remedy field)
+
+-- the sentence of a fault: that of the field, if it is of one
+abbrev pub fault_sentence : RunFault → FoundData → SentenceData
+fault_sentence fault found =
+    if nat_eq (field_of fault found.field) 0 then sentence_of fault
+    else field_sentence (field_of fault found.field) found.is_missing
+
+-- a sentence behind its subject, what was seen, and the line of what to do
+abbrev pub ending : SentenceData → List ℕ → List ℕ
+ending sentence seen =
+    sentence.wrong ++ seen ++ codes "\n  " ++ sentence.remedy ++ codes "\n"
+
+-- the words about a fault of inputs with these names
+abbrev pub explanation : NamesData → RunFault → FoundData → List ℕ
+explanation names fault found =
+    codes "  " ++ subject names (input_of fault) ++
+    ending (fault_sentence fault found) found.seen

@@ -1,0 +1,4 @@
+pub mod Subject
+pub mod ClaimField
+pub mod Sentence
+pub mod Explanation

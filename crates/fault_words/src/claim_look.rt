@@ -1,0 +1,191 @@
+//! What stands in a claim that is refused.
+
+use crate::claim_field::field_name;
+use crate::found::Found;
+use crate::quote::quoted;
+use claim_file::{ClaimFault, read_claim, read_time};
+use json_text::parse;
+use serde_json::Value;
+use std::alloc::{AllocError, Global};
+use std::net::Ipv4Addr;
+
+/// What is seen of a claim's fault in its bytes: nothing if they haven't this very fault.
+pub(crate) fn look_at_claim(
+    alloc: Global,
+    fault: &ClaimFault,
+    bytes: &[u8],
+) -> Result<Found, AllocError> {
+    if !has_fault(alloc, fault, bytes) {
+        return Ok(Found::nothing(alloc));
+    }
+    match parse(alloc, bytes)? {
+        Some(value) => look_at_members(alloc, fault, &value),
+        None => Ok(Found::nothing(alloc)),
+    }
+}
+
+/// Whether this is the fault of the bytes of a claim.
+fn has_fault(alloc: Global, fault: &ClaimFault, bytes: &[u8]) -> bool {
+    match read_claim(alloc, bytes) {
+        Ok(_) => false,
+        Err(seen) => seen == *fault,
+    }
+}
+
+/// The same of what its JSON text says.
+fn look_at_members(alloc: Global, fault: &ClaimFault, value: &Value) -> Result<Found, AllocError> {
+    match fault {
+        ClaimFault::Field(0) => unknown_name(alloc, value),
+        ClaimFault::Field(code) => at_field(alloc, value, *code),
+        ClaimFault::Address => at_address(alloc, value),
+        ClaimFault::Time => at_time(alloc, value),
+        ClaimFault::Range => at_range(alloc, value),
+        ClaimFault::RepeatedServer => repeated(alloc, value),
+        ClaimFault::Json | ClaimFault::Memory | ClaimFault::Groups => Ok(Found::nothing(alloc)),
+    }
+}
+
+/// The first name that no claim has.
+fn unknown_name(alloc: Global, value: &Value) -> Result<Found, AllocError> {
+    let Some(members) = value.as_object() else {
+        return Ok(Found::nothing(alloc));
+    };
+    for name in members.keys() {
+        if !is_known(name.as_str()) {
+            let name = quoted(alloc, name.as_str())?;
+            return Ok(Found::seen(format!(in alloc; ": \"{}\"", name.as_str())?));
+        }
+    }
+    Ok(Found::nothing(alloc))
+}
+
+/// Whether a claim may have this name.
+fn is_known(name: &str) -> bool {
+    for code in 1..10u8 {
+        if field_name(code) == name {
+            return true;
+        }
+    }
+    false
+}
+
+/// What stands in the field of this code.
+fn at_field(alloc: Global, value: &Value, field: u8) -> Result<Found, AllocError> {
+    let Some(member) = value.get(field_name(field)) else {
+        return Ok(Found {
+            field,
+            is_missing: true,
+            seen: String::new(alloc),
+        });
+    };
+    let text = member.to_string(alloc)?;
+    let text = quoted(alloc, text.as_str())?;
+    Ok(Found {
+        field,
+        is_missing: false,
+        seen: format!(in alloc; "; it is {}", text.as_str())?,
+    })
+}
+
+/// Whether a text is an IPv4 address.
+fn is_address(text: &str) -> bool {
+    text.parse::<Ipv4Addr>().is_ok()
+}
+
+/// The first address that is none: the client's, or one of a server.
+fn at_address(alloc: Global, value: &Value) -> Result<Found, AllocError> {
+    let client = value.get("client").and_then(Value::as_str).unwrap_or("");
+    if !is_address(client) {
+        return at_field(alloc, value, 1);
+    }
+    let Some(servers) = value.get("servers").and_then(Value::as_array) else {
+        return Ok(Found::nothing(alloc));
+    };
+    for server in servers.iter() {
+        let text = server.as_str().unwrap_or("");
+        if !is_address(text) {
+            let text = quoted(alloc, text)?;
+            return Ok(Found {
+                field: 2,
+                is_missing: false,
+                seen: format!(in alloc; "; \"{}\" is none", text.as_str())?,
+            });
+        }
+    }
+    Ok(Found::nothing(alloc))
+}
+
+/// The first time that is none.
+fn at_time(alloc: Global, value: &Value) -> Result<Found, AllocError> {
+    let begin = value.get("from").and_then(Value::as_str).unwrap_or("");
+    if read_time(begin).is_none() {
+        return at_field(alloc, value, 4);
+    }
+    at_field(alloc, value, 5)
+}
+
+/// The number in the field of this code.
+fn number_at(value: &Value, field: u8) -> u64 {
+    value
+        .get(field_name(field))
+        .and_then(Value::as_u64)
+        .unwrap_or(0)
+}
+
+/// The time in the field of this code.
+fn time_at(value: &Value, field: u8) -> Option<u32> {
+    read_time(value.get(field_name(field))?.as_str()?)
+}
+
+/// How many servers there are.
+fn server_count(value: &Value) -> usize {
+    match value.get("servers").and_then(Value::as_array) {
+        Some(servers) => servers.len(),
+        None => 0,
+    }
+}
+
+/// The first field that is out of its range.
+fn at_range(alloc: Global, value: &Value) -> Result<Found, AllocError> {
+    let count = server_count(value);
+    if count == 0 || 32 < count {
+        return Ok(Found {
+            field: 2,
+            is_missing: false,
+            seen: format!(in alloc; "; it has {count}")?,
+        });
+    }
+    if 31 < number_at(value, 3) {
+        return at_field(alloc, value, 3);
+    }
+    if time_at(value, 5) < time_at(value, 4) {
+        return at_field(alloc, value, 4);
+    }
+    if 1_000_000_000_000_000 < number_at(value, 6) {
+        return at_field(alloc, value, 6);
+    }
+    if 500_000_000 < number_at(value, 7) {
+        return at_field(alloc, value, 7);
+    }
+    at_field(alloc, value, 8)
+}
+
+/// The first address that stands twice.
+fn repeated(alloc: Global, value: &Value) -> Result<Found, AllocError> {
+    let client = value.get("client").and_then(Value::as_str).unwrap_or("");
+    let Some(servers) = value.get("servers").and_then(Value::as_array) else {
+        return Ok(Found::nothing(alloc));
+    };
+    for (count, server) in servers.iter().enumerate() {
+        let text = server.as_str().unwrap_or("");
+        let stands_before = servers
+            .iter()
+            .take(count)
+            .any(|other| other.as_str().unwrap_or("") == text);
+        if text == client || stands_before {
+            let text = quoted(alloc, text)?;
+            return Ok(Found::seen(format!(in alloc; ": \"{}\"", text.as_str())?));
+        }
+    }
+    Ok(Found::nothing(alloc))
+}

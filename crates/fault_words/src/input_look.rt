@@ -1,0 +1,122 @@
+//! What is seen of a fault when its input is looked at again.
+
+use crate::claim_look::look_at_claim;
+use crate::found::Found;
+use crate::kind::{is_object, kind_of};
+use certificate::{CertificateFault, RefutationFault};
+use claim_file::ClaimFault;
+use json_text::parse;
+use pcap_reader::CaptureFault;
+use report::RunFault;
+use serde_json::Value;
+use std::alloc::{AllocError, Global};
+
+/// What is seen of a fault in the first bytes of the input that it is of, which are all of them if
+/// `is_whole` is true.
+pub fn look(
+    alloc: Global,
+    fault: &RunFault,
+    bytes: &[u8],
+    is_whole: bool,
+) -> Result<Found, AllocError> {
+    match fault {
+        RunFault::Claim(ClaimFault::Json)
+        | RunFault::Certificate(CertificateFault::Json)
+        | RunFault::Refutation(RefutationFault::Json) => no_json(alloc, bytes, is_whole),
+        RunFault::Claim(fault) => look_at_claim(alloc, fault, bytes),
+        RunFault::Certificate(CertificateFault::Top)
+        | RunFault::Refutation(RefutationFault::Shape) => another_json(alloc, bytes, is_whole),
+        RunFault::Capture(CaptureFault::TornHeader) if bytes.is_empty() => {
+            looks_like(alloc, "empty")
+        }
+        RunFault::Capture(CaptureFault::Magic) => no_capture(alloc, bytes),
+        RunFault::Capture(CaptureFault::Link) => look_at_link(alloc, bytes),
+        RunFault::TooBig(_) => looks_like(alloc, kind_of(bytes)),
+        _ => Ok(Found::nothing(alloc)),
+    }
+}
+
+/// What a file looks like.
+fn looks_like(alloc: Global, kind: &str) -> Result<Found, AllocError> {
+    if kind.is_empty() {
+        return Ok(Found::nothing(alloc));
+    }
+    Ok(Found::seen(format!(in alloc; "; it is {kind}")?))
+}
+
+/// What a file looks like that isn't JSON, or else where its fault is.
+fn no_json(alloc: Global, bytes: &[u8], is_whole: bool) -> Result<Found, AllocError> {
+    let kind = kind_of(bytes);
+    if !kind.is_empty() || !is_whole {
+        return looks_like(alloc, kind);
+    }
+    match Value::from_slice(alloc, bytes) {
+        Err(error) if error.is_memory() => Err(AllocError),
+        Err(error) => {
+            let (line, column) = (error.line(), error.column());
+            Ok(Found::seen(format!(in alloc; " at line {line}, column {column}")?))
+        }
+        Ok(_) => Ok(Found::nothing(alloc)),
+    }
+}
+
+/// What JSON it is instead of the second input.
+fn another_json(alloc: Global, bytes: &[u8], is_whole: bool) -> Result<Found, AllocError> {
+    if !is_whole {
+        return Ok(Found::nothing(alloc));
+    }
+    let Some(value) = parse(alloc, bytes)? else {
+        return Ok(Found::nothing(alloc));
+    };
+    if value.get("client").is_some() {
+        return looks_like(alloc, "a claim");
+    }
+    if value.get("pieces").is_some() {
+        return looks_like(alloc, "a certificate, for check");
+    }
+    if value.get("reading").is_some() {
+        return looks_like(alloc, "a refutation, for refute");
+    }
+    Ok(Found::nothing(alloc))
+}
+
+/// What a file looks like that isn't a capture.
+fn no_capture(alloc: Global, bytes: &[u8]) -> Result<Found, AllocError> {
+    if is_object(bytes) {
+        return looks_like(alloc, "JSON, and the claim comes before the capture");
+    }
+    looks_like(alloc, kind_of(bytes))
+}
+
+/// The number in the capture's field of the link type.
+fn link_of(bytes: &[u8]) -> Option<u32> {
+    let field: [u8; 4] = bytes.get(20..24)?.try_into().ok()?;
+    match bytes.first()? {
+        0xa1 => Some(u32::from_be_bytes(field)),
+        _ => Some(u32::from_le_bytes(field)),
+    }
+}
+
+/// The name of a link type.
+fn link_name(link: u32) -> &'static str {
+    match link {
+        0 => ", NULL",
+        9 => ", PPP",
+        12 | 14 | 101 => ", RAW",
+        105 => ", IEEE802_11",
+        113 => ", LINUX_SLL",
+        127 => ", IEEE802_11_RADIO",
+        228 => ", IPV4",
+        276 => ", LINUX_SLL2",
+        _ => "",
+    }
+}
+
+/// The capture's link type.
+fn look_at_link(alloc: Global, bytes: &[u8]) -> Result<Found, AllocError> {
+    let Some(link) = link_of(bytes) else {
+        return Ok(Found::nothing(alloc));
+    };
+    let name = link_name(link);
+    Ok(Found::seen(format!(in alloc; "; its link type is {link}{name}")?))
+}

@@ -1,0 +1,42 @@
+//! What is said about a fault to a person: what is wrong, with which file, and what to do.
+//!
+//! [`sentence_of`] has the sentence of each fault, and `claim_field` those of a claim's fields.
+//! [`explain`] puts them behind the name of the file that the fault is of, with what [`look`] sees
+//! there. What is seen is no more than help: it changes no sentence's subject and no fault.
+//!
+//! The fault is found from the line that an engine wrote, as in `words_of_line` of
+//! `ntpaudit/src/second_look.rt`:
+//!
+//! ```text
+//! match fault_of_line(alloc, line)? {
+//!     Some(fault) => words_of_fault(rt, names, &fault),
+//!     None => Ok(String::new(alloc)),
+//! }
+//! ```
+
+#![tactic(auto)]
+
+mod claim_field;
+mod claim_look;
+mod explanation;
+mod found;
+mod input_look;
+mod kept_sink;
+mod kind;
+pub mod laws;
+mod line_fault;
+mod quote;
+mod record_count;
+mod sentence;
+mod subject;
+
+pub use claim_field::field_name;
+pub use explanation::{explain, explain_time};
+pub use found::Found;
+pub use input_look::look;
+pub use kept_sink::KeptSink;
+pub use line_fault::fault_of_line;
+pub use quote::{quoted, shown};
+pub use record_count::look_at_records;
+pub use sentence::{Sentence, sentence_of};
+pub use subject::{Names, input_of};

@@ -1,0 +1,46 @@
+//! How many records of a capture stand before its fault.
+
+ghost use Rattle.std.specs.Prelude.{◌^◌, ◌-◌, ◌<◌};
+ghost use Rattle.byte_stream.specs.State.{IsReadable};
+ghost use Rattle.pcap_reader.specs.Source.{IsFresh};
+
+use crate::found::Found;
+use byte_stream::Feed;
+use pcap_reader::{Capture, CaptureFault, RecordSource};
+use std::alloc::{AllocError, Global};
+
+/// One more than the records that a capture has at most: its end.
+const MOST_CALLS: u32 = 4_000_001;
+
+/// How many whole records a source gives before this fault, if it has it.
+fn whole_records<S: RecordSource>(source: &mut S, fault: &CaptureFault) -> Option<u32>
+    requires room { (S.state source.old).fault_count < 2 ^ 64 - 1 }
+{
+    for count in 0..MOST_CALLS {
+        match source.next_record() {
+            Ok(Some(_)) => {}
+            Ok(None) => return None,
+            Err(seen) => return if seen == *fault { Some(count) } else { None },
+        }
+    }
+    None
+}
+
+/// How many whole records stand before a record's fault, in the words of a person.
+pub fn look_at_records<F: Feed + Drop>(
+    alloc: Global,
+    feed: F,
+    fault: &CaptureFault,
+) -> Result<Found, AllocError>
+    requires { IsReadable (F.state feed) }
+{
+    let Ok(mut source) = Capture::begin(alloc, feed) else {
+        return Ok(Found::nothing(alloc));
+    };
+    let seen = match whole_records(&mut source, fault) {
+        Some(1) => String::from_str(alloc, "; 1 whole record stands before it")?,
+        Some(count) => format!(in alloc; "; {count} whole records stand before it")?,
+        None => String::new(alloc),
+    };
+    Ok(Found::seen(seen))
+}
