@@ -41,7 +41,8 @@ fn look_at_members(alloc: Global, fault: &ClaimFault, value: &Value) -> Result<F
         ClaimFault::Time => at_time(alloc, value),
         ClaimFault::Range => at_range(alloc, value),
         ClaimFault::RepeatedServer => repeated(alloc, value),
-        ClaimFault::Json | ClaimFault::Memory | ClaimFault::Groups => Ok(Found::nothing(alloc)),
+        ClaimFault::Json | ClaimFault::Groups => Ok(Found::nothing(alloc)),
+        ClaimFault::Memory => Ok(Found::nothing(alloc)),
     }
 }
 

@@ -44,14 +44,14 @@ fn looks_like(alloc: Global, kind: &str) -> Result<Found, AllocError> {
     Ok(Found::seen(format!(in alloc; "; it is {kind}")?))
 }
 
-/// What a file looks like that isn't JSON, or else where its fault is.
+/// What a file looks like that isn't JSON, or else where its fault is, if there is memory for that.
 fn no_json(alloc: Global, bytes: &[u8], is_whole: bool) -> Result<Found, AllocError> {
     let kind = kind_of(bytes);
     if !kind.is_empty() || !is_whole {
         return looks_like(alloc, kind);
     }
     match Value::from_slice(alloc, bytes) {
-        Err(error) if error.is_memory() => Err(AllocError),
+        Err(error) if error.is_memory() => Ok(Found::nothing(alloc)),
         Err(error) => {
             let (line, column) = (error.line(), error.column());
             Ok(Found::seen(format!(in alloc; " at line {line}, column {column}")?))

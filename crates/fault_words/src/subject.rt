@@ -54,6 +54,7 @@ pub fn input_of(fault: &RunFault) -> Option<Input>
         RunFault::Refutation(_) => Some(Input::Refutation),
         RunFault::TooBig(input) | RunFault::Device(input) => Some(*input),
         RunFault::Sums(fault) => Some(sums_input(fault)),
-        RunFault::Write(_) | RunFault::Memory => None,
+        RunFault::Write(_) => None,
+        RunFault::Memory => None,
     }
 }

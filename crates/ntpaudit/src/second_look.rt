@@ -227,7 +227,6 @@ fn look_at_bytes(
     };
     match read_input(alloc, &mut ReadFeed::new(file), input, MOST_SEEN) {
         Ok(bytes) => look(alloc, fault, bytes.as_slice(), true),
-        Err(RunFault::Memory) => Err(AllocError),
         Err(_) => look_at_front(rt, path, fault),
     }
 }
