@@ -238,8 +238,11 @@ fn look_at_front(rt: &HostRuntime, path: &str, fault: &RunFault) -> Result<Found
         return Ok(Found::nothing(alloc));
     };
     let mut front = [0; FRONT];
-    match ReadFeed::new(file).pull(&mut front) {
-        Ok(count) => look(alloc, fault, &front[..count], false),
-        Err(_) => Ok(Found::nothing(alloc)),
+    let Ok(count) = ReadFeed::new(file).pull(&mut front) else {
+        return Ok(Found::nothing(alloc));
+    };
+    match front.get(..count) {
+        Some(bytes) => look(alloc, fault, bytes, false),
+        None => Ok(Found::nothing(alloc)),
     }
 }
