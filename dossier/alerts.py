@@ -34,6 +34,14 @@ def falls(found: Alert) -> str:
             f"from {before} to {after}, by {by}). If the clock was stepped, the claim can't be made of this span.")
 
 
+def silence(found: Alert) -> str:
+    more = f", the longest of {found.count:,} such times" if found.count > 1 else ""
+    first, last = shown_time(found.before // SECOND), shown_time(-(-found.after // SECOND))
+    by = span_of_seconds((found.after - found.before) / SECOND)
+    return (f"No server was heard from {first} to {last} ({by}){more}: the machine, its recorder or the network was "
+            f"off, or nobody answered. {ON_DRIFT}")
+
+
 def far(found: Alert) -> str:
     by = span_of_seconds(found.distance / SECOND)
     where = f", {between(found.piece.from_, found.piece.to)}" if found.piece else ""
@@ -110,9 +118,9 @@ def reference(found: Alert) -> str:
 
 
 WORDS: dict[str, Callable[[Alert], str]] = {
-    "outside": outside, "no-drift": no_drift, "falls": falls, "far": far, "leap": leap, "leap-second": leap_second,
-    "leap-ends": leap_ends, "sources": sources, "reference": reference, "apart": apart, "drift": drift,
-    "reading": reading, "step": step, "oscillator": oscillator, "torn": torn,
+    "outside": outside, "no-drift": no_drift, "falls": falls, "silence": silence, "far": far, "leap": leap,
+    "leap-second": leap_second, "leap-ends": leap_ends, "sources": sources, "reference": reference, "apart": apart,
+    "drift": drift, "reading": reading, "step": step, "oscillator": oscillator, "torn": torn,
     "interleaved": interleaved, "no-list": no_list,
 }
 TO_DO = {

@@ -192,10 +192,15 @@ def again(record: Record, entry: Entry) -> Html:
     if entry.refutation:
         claim = files.CLAIM if entry.answer == REFUTED else files.CLAIM_OF_0
         calls.append(["refute", claim, capture, files.REFUTATION, "--drift"])
+    is_packed = not is_own and record.kept is not None and record.capture in record.kept.sums
+    unpacks = [["zstd", "-dk", f"{capture}.zst"]] if is_packed else []
+    anew = element("p", f"{files.JOINED} isn\u2019t kept: ", element("code", "ntpaudit-dossier audit --again"),
+                   " makes it anew, in a copy of the folder.") if record.is_left_out(capture) else ""
     return lines([
         element("h3", "To see it again"),
         element("p", f"What each line shows: {see('The verdict')}.", class_="soft"),
-        element("pre", lines(shlex.join(["ntpaudit", *call]) for call in calls))])
+        *([anew] if anew else []),
+        element("pre", lines(map(shlex.join, [*unpacks, *(["ntpaudit", *call] for call in calls)])))])
 
 
 def see(section: str) -> str:
@@ -206,6 +211,8 @@ def see(section: str) -> str:
 def sums(record: Record, entry: Entry) -> Iterator[Html]:
     """The sums of all files and of the program, and when the audit was made."""
     found = [[name, "input", sum_] for name, sum_ in record.inputs.items()]
+    kept = record.kept.sums if record.kept else {}
+    found += [[f"{name}.zst", "the same, packed", sum_] for name, sum_ in kept.items()]
     found += [[name, "left by the audit", sum_] for name, sum_ in entry.outputs.items()]
     found.append([record.program.version or "ntpaudit", "the program", record.program.sha256])
     yield element("h3", "Files")

@@ -96,7 +96,7 @@ def is_same(folder: Folder, old: Record, wanted: Wanted, program: Program) -> bo
 def change_of(folder: Folder, record: Record) -> str:
     """The first file that isn't there any more, or isn't what it was, or that came, if it is an input or has the name
     of an output; nothing if there is none."""
-    now = sums_of_inputs(folder)
+    now = sums_of_inputs(folder, record)
     for name, sum_ in record.inputs.items():
         if now.get(name) != sum_:
             return f"{name} isn't the file that was audited ({short(now.get(name))}, {files.AUDIT} has {short(sum_)})"
@@ -104,6 +104,8 @@ def change_of(folder: Folder, record: Record) -> str:
     if new:
         return f"{new[0]} is new, and {files.AUDIT} has no sum of it"
     for name, sum_ in record.outputs.items():
+        if record.is_left_out(name) and not folder.has(name):
+            continue
         if not folder.has(name):
             return f"{name} isn't there"
         if folder.sum(name) != sum_:

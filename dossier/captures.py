@@ -14,7 +14,7 @@ from typing import NamedTuple
 from . import pcapng
 from .call import Caller, find_tool
 from .claim import Part
-from .classic import HEADER, MOST_RECORDS, Classic, Runs, join, runs_of, write
+from .classic import HEADER, Classic, Extent, Runs, join, runs_of, write
 from .entry import Alert
 from .fault import fault
 from .folder import BLOCK, JOINED, MOST_OF_A_CAPTURE, Copy, too_big
@@ -37,13 +37,14 @@ class Audited(NamedTuple):
 def audited(copies: dict[str, str], caller: Caller) -> Audited:
     """One capture of all, given by their names and their copies."""
     opened = {name: open_capture(name, copy, caller) for name, copy in copies.items()}
-    torn = [(name, place) for name, (_, place) in opened.items() if place is not None]
+    torn = [(name, place) for name, (_, place, _) in opened.items() if place is not None]
     alerts = [Alert("torn", len(torn), file=torn[0][0], place=torn[0][1])] if torn else []
-    (name, (path, place)), *others = opened.items()
+    (name, (path, place, _)), *others = opened.items()
     if others:
         most = resource.getrlimit(resource.RLIMIT_NOFILE)[1]
         resource.setrlimit(resource.RLIMIT_NOFILE, (most, most))  # (each capture is held by a descriptor)
-        whole = {name: Classic(path, caller.limit) for name, (path, _) in opened.items() if os.stat(path).st_size}
+        whole = {name: Classic(path, caller.limit, extent) for name, (path, _, extent) in opened.items()
+                 if os.stat(path).st_size}
         join(whole, JOINED, caller.limit)
     elif path != copies[name] or place is not None:
         os.rename(path, JOINED)
@@ -54,18 +55,19 @@ def audited(copies: dict[str, str], caller: Caller) -> Audited:
     return Audited(JOINED, True, alerts)
 
 
-def open_capture(name: str, copy: str, caller: Caller) -> tuple[str, int | None]:
-    """The classic capture that a copy holds, and where it was cut off, if it was: there it ends now."""
+def open_capture(name: str, copy: str, caller: Caller) -> tuple[str, int | None, Extent]:
+    """The classic capture that a copy holds; where it was cut off, if it was: there it ends now; and its extent."""
     path, torn = unpacked(name, copy, caller)
     if begins(path, pcapng.MAGIC):
         with open(path, "rb") as opened, mmap.mmap(opened.fileno(), 0, access=mmap.ACCESS_READ) as data:
             path = f"{copy}.classic"
             torn = pcapng.convert(name, data, path, caller.limit)
     capture = Classic(path, caller.limit)
-    if capture.is_one and capture.is_torn(end := capture.end(MOST_RECORDS)):
+    end = capture.extent.end
+    if capture.is_one and capture.is_torn(end):
         os.truncate(path, end)
         torn = end if torn is None else torn
-    return path, torn
+    return path, torn, capture.extent
 
 
 def begins(path: str, magic: bytes) -> bool:
@@ -118,8 +120,7 @@ def cut(path: str, parts: list[Part], limit: Limit) -> Iterator[Callable[[str], 
     is, and nothing is written."""
     whole = Classic(path, limit)
     spans = [(part.claim.first - MARGIN, part.claim.last + MARGIN) for part in parts]
-    is_cut = whole.is_one and whole.end() == whole.size
-    for runs in runs_of(whole, spans) if is_cut else [[[HEADER, whole.size]] for _ in parts]:
+    for runs in runs_of(whole, spans):
         yield partial(put, whole, runs)
 
 

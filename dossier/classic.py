@@ -10,9 +10,10 @@ import os
 from bisect import bisect_left, bisect_right
 from collections.abc import Iterable, Iterator
 from heapq import merge
-from itertools import chain
+from itertools import chain, pairwise
 from operator import itemgetter
 from struct import Struct
+from typing import NamedTuple
 
 from .fault import fault
 from .folder import BLOCK, Copy
@@ -38,11 +39,19 @@ Runs = list[list[int]]
 """Where records that follow one another begin and end."""
 
 
-class Classic:
-    """A capture in a file of one's own; nothing has to be one."""
+class Extent(NamedTuple):
+    """Where the whole records of a capture end, of which no more are looked for than the program takes; and the first
+    and the greatest of their times, if each of them is one."""
 
-    def __init__(self, path: str, limit: Limit):
-        self.path, self.limit = path, limit
+    end: int
+    times: tuple[int, int] | None
+
+
+class Classic:
+    """A capture in a file of one's own; nothing has to be one. Its extent may be known already."""
+
+    def __init__(self, path: str, limit: Limit, extent: Extent | None = None):
+        self.path, self.limit, self.found = path, limit, extent
         with open(path, "rb") as opened:
             self.size = os.fstat(opened.fileno()).st_size
             self.data: bytes | mmap.mmap = b""
@@ -72,13 +81,31 @@ class Classic:
             if number % OFTEN == 0:
                 self.limit.left()
 
-    def end(self, most: int | None = None) -> int:
-        """Where its whole records end, of which no more may be looked for."""
-        end = HEADER
-        for number, (_, _, end) in enumerate(self.rows(), 1):
-            if number == most:
+    @property
+    def extent(self) -> Extent:
+        self.found = self.found or self.look()
+        return self.found
+
+    def look(self) -> Extent:
+        head, last, at, unit = Struct(f"{self.order}III").unpack_from, self.size - HEAD, HEADER, self.unit
+        first, greatest, most = None, -1, -1
+        for number in range(MOST_RECORDS):
+            if number % OFTEN == 0:
+                self.limit.left()
+            if at > last:
                 break
-        return end
+            seconds, part, captured = head(self.data, at)
+            if captured > MOST_CAPTURED or captured > last - at:
+                break
+            at += HEAD + captured
+            time = seconds * unit + part
+            if first is None:
+                first = time
+            if time > greatest:
+                greatest = time
+            if part > most:
+                most = part
+        return Extent(at, None if first is None or most >= unit else (first, greatest))
 
     def is_torn(self, end: int) -> bool:
         """Whether it ends inside the record that begins there."""
@@ -92,6 +119,14 @@ class Classic:
             return self.data[begin:end]
         seconds, part, captured, length = Struct(f"{self.order}IIII").unpack_from(self.data, begin)
         return NEW_HEAD.pack(seconds, part * unit // self.unit, captured, length) + self.data[begin + HEAD : end]
+
+
+    def all_renewed(self, unit: int) -> Iterator[bytes]:
+        """All of its records, some at once, if each is whole."""
+        if (self.order, self.unit) == ("<", unit):
+            yield from (self.data[at : at + BLOCK] for at in range(HEADER, self.size, BLOCK))
+        else:
+            yield from (self.renewed(begin, end, unit) for _, begin, end in self.rows())
 
 
 def new_header(unit: int, kind: tuple[int, int, int]) -> bytes:
@@ -129,15 +164,35 @@ def join(captures: dict[str, Classic], path: str, limit: Limit) -> None:
             yield time * of, number, capture.renewed(begin, end, unit)
         if end != capture.size:
             raise fault(f"{name} is damaged from byte {end} on, so it can't be joined with the others")
-    rows = merge(*(records(number, *of_name) for number, of_name in enumerate(captures.items())), key=itemgetter(0, 1))
-    write(path, chain([new_header(unit, first.kind)], map(itemgetter(2), rows)), limit)
+    blocks: Iterator[bytes]
+    if ordered := one_after_another(list(captures.values())):
+        blocks = chain.from_iterable(capture.all_renewed(unit) for capture in ordered)
+    else:
+        rows = merge(*(records(number, *each) for number, each in enumerate(captures.items())), key=itemgetter(0, 1))
+        blocks = map(itemgetter(2), rows)
+    write(path, chain([new_header(unit, first.kind)], blocks), limit)
+
+
+def one_after_another(captures: list[Classic]) -> list[Classic]:
+    """Captures in order of time, if none begins before the one before it has ended, and all are whole; else nothing."""
+    spans = []
+    for number, capture in enumerate(captures):
+        end, times = capture.extent
+        if end != capture.size or (times is None and end > HEADER):
+            return []
+        low, high = (time * (10**9 // capture.unit) for time in times or (0, 0))
+        spans += [(low, number, high, capture)] if times else []
+    spans.sort(key=itemgetter(0, 1))
+    is_so = all((high, number) < (low, after) for (_, number, high, _), (low, after, _, _) in pairwise(spans))
+    return [capture for _, _, _, capture in spans] if is_so else []
 
 
 def runs_of(capture: Classic, spans: list[tuple[int, int]]) -> list[Runs]:
-    """Of each span of Unix seconds the records whose times lie in it. The spans have to be in order, as their ends."""
+    """Of each span of Unix seconds the records whose times lie in it, or all, if they can't be told apart to the end.
+    The spans have to be in order, as their ends."""
     begins, ends = ([second * capture.unit for second in side] for side in zip(*spans))
     found: list[Runs] = [[] for _ in spans]
-    left = MOST_RUNS
+    left, end = MOST_RUNS, HEADER
     for time, begin, end in capture.rows():
         for runs in found[bisect_left(ends, time) : bisect_right(begins, time)]:
             if runs and runs[-1][1] == begin:
@@ -147,4 +202,4 @@ def runs_of(capture: Classic, spans: list[tuple[int, int]]) -> list[Runs]:
                 left -= 1
         if left < 0:
             raise fault("the times of the capture go back and forth between days too often")
-    return found
+    return found if end == capture.size else [[[HEADER, capture.size]] for _ in spans]

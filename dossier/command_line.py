@@ -51,7 +51,8 @@ def parser() -> Parser:
     page = commands.add_parser("page", help="print a page of audits that were made")
     verify = commands.add_parser("verify", help="audit the inputs again, and compare all that stands in the folder")
     sign = commands.add_parser("sign", help="sign audits with an ssh key")
-    for command in (audit, page, verify, sign):
+    keep = commands.add_parser("keep", help="keep audits for years: pack captures, and take away what was made of them")
+    for command in (audit, page, verify, sign, keep):
         command.add_argument("folders", nargs="+", metavar="FOLDER", help=FOLDER)
     add_audit(audit)
     add_page(page)
@@ -62,12 +63,23 @@ def parser() -> Parser:
                              help="who may sign, as ssh-keygen's file of allowed signers has it: signatures are "
                                   "checked")
         command.add_argument("--leap-seconds", metavar="FILE", help=LEAPS)
-    for command in (audit, page, verify, sign):
+    for command in (audit, page):
+        command.add_argument("--metrics", metavar="FILE",
+                             help="write what came of it to FILE too, for Prometheus, whole or not at all")
+    keep.add_argument("--years", type=in_range(1, 100), metavar="N",
+                      help="take away folders whose span ended so many years ago; none if it is left out")
+    for command in (audit, page, verify, sign, keep):
         command.add_argument("--state", metavar="DIR",
                              help="where it is recorded which audits were made or verified here; else below "
                                   "$XDG_STATE_HOME, or ~/.local/state")
         command.add_argument("--limit", type=in_range(1, 1_000_000), default=SECONDS, metavar="N",
                              help=f"seconds for each folder, which is refused after them; {SECONDS} if it is left out")
+    day = commands.add_parser("day", help="make the folders of days from what a recorder left")
+    day.add_argument("--from", required=True, dest="source", metavar="DIR", help="where the recorder's files are")
+    day.add_argument("--to", required=True, dest="target", metavar="DIR",
+                     help="where the days' folders are, with the claim of any day, and evidence")
+    day.add_argument("--date", metavar="DATE",
+                     help="the day (UTC), such as 2026-11-22; each whole day before today if it is left out")
     add_measure(commands.add_parser("measure", help="measure how far the times of records are from the clock"))
     picture = commands.add_parser("picture", help="print the picture of a claim and a capture, as SVG")
     picture.add_argument("claim", metavar="CLAIM", help="a JSON file")
@@ -190,8 +202,11 @@ def say(line: str) -> None:
 
 def run(given: argparse.Namespace) -> int:
     limit = Limit(getattr(given, "limit", SECONDS))
-    if given.command in ("audit", "page", "verify", "sign"):
+    if given.command in ("audit", "page", "verify", "sign", "keep"):
         return run_on_folders(given, [tidy(folder) for folder in given.folders], limit)
+    if given.command == "day":
+        from .day import make_days
+        return make_days(given.source, given.target, given.date, limit)
     program = find_program(limit)
     if given.version:
         print(f"ntpaudit-dossier, form {VERSION} of audit.json\n{program.made.version}, SHA-256 {program.made.sha256}")
@@ -212,6 +227,9 @@ def run_on_folders(given: argparse.Namespace, folders: list[str], limit: Limit) 
     if given.command == "sign":
         from .signing import sign_all
         return sign_all(folders, given.key, known, limit)
+    if given.command == "keep":
+        from .keeping import keep_all
+        return keep_all(folders, given.years, known, limit)
     if given.command == "page" and not given.verify:
         from .page import write_page
         return write_page(folders, given, known, limit)
@@ -223,7 +241,7 @@ def run_on_folders(given: argparse.Namespace, folders: list[str], limit: Limit) 
         from .task import Task
         from .work import audit_all
         wanted = Audit(Options(given.step, given.days), given.again, leaps, given.leap_seconds is not None, known)
-        return audit_all(Task(folders, wanted, program), given.jobs or len(os.sched_getaffinity(0)))
+        return audit_all(Task(folders, wanted, program, given.metrics), given.jobs or len(os.sched_getaffinity(0)))
     from .verify import Verifier, verify_all
     verifier = Verifier(program, known, leaps)
     if given.command == "page":

@@ -8,7 +8,7 @@ from typing import Annotated, Any, Final, Literal
 from . import VERSION
 from .claim import Claim
 from .fault import DEVICE, REFUSED as INPUT_REFUSED, fault
-from .folder import AUDIT, CLAIM, JOINED, LEFT, LIMITS
+from .folder import AUDIT, CLAIM, JOINED, LEFT, LIMITS, is_capture
 from .typed import (Address, Count, Mangled, Name, Nanoseconds, Seconds, Small, Sum, Text, Ticks, Time, is_name,
                     is_time, length, mangled, matching, or_nothing, parsed, said, typed, within)
 
@@ -99,9 +99,8 @@ class Refutation:
 class Alert:
     """A warning that stands beside a verdict."""
 
-    kind: Literal["outside", "no-drift", "falls", "far", "leap", "leap-second", "leap-ends", "sources", "reference",
-                  "apart", "drift", "reading", "step", "oscillator", "torn", "interleaved",
-                  "no-list"]
+    kind: Literal["outside", "no-drift", "falls", "silence", "far", "leap", "leap-second", "leap-ends", "sources",
+                  "reference", "apart", "drift", "reading", "step", "oscillator", "torn", "interleaved", "no-list"]
     count: Count = 0
     record: Count = 0
     before: Nanoseconds = 0
@@ -115,9 +114,10 @@ class Alert:
     place: Count = 0
 
 
-AGAINST = frozenset({"drift", "reading", "step", "leap-second", "leap-ends"})
-"""The warnings that take a yes away: by the folder's own evidence something that the claim grants isn't so, or isn't
-known."""
+AGAINST = {"drift": "more drift than is granted", "reading": "a greater allowance than is granted",
+           "step": "a logged step", "leap-second": "a leap second", "leap-ends": "the list of leap seconds has ended"}
+"""The warnings that take a yes away, in short: by the folder's own evidence something that the claim grants isn't so,
+or isn't known."""
 
 
 @dataclass(frozen=True)
@@ -203,6 +203,15 @@ class Options:
 
 
 @dataclass(frozen=True)
+class Kept:
+    """How a folder is kept for years: its captures are packed by zstd, each in a file with `.zst` behind its name, and
+    what was made of them isn't there."""
+
+    sums: dict[Annotated[str, is_capture], Sum] = field(default_factory=dict)
+    """The SHA-256 of each packed file, by the name of the capture in it."""
+
+
+@dataclass(frozen=True)
 class Record:
     """What audit.json says about a folder."""
 
@@ -220,8 +229,11 @@ class Record:
     entries: Annotated[list[Entry], length(0, 40_000)]
     refusal: Refusal | None = None
     leap_seconds: LeapList | None = None
+    kept: Kept | None = None
 
     def __post_init__(self) -> None:
+        if self.kept and not self.kept.sums.keys() <= self.inputs.keys():
+            raise Mangled("kept")
         if bool(self.entries) == bool(self.refusal) or bool(self.entries) != bool(self.leap_seconds):
             raise Mangled("entries")
         if self.capture not in {"", JOINED, *self.inputs}:
@@ -230,6 +242,10 @@ class Record:
     @property
     def status(self) -> int:
         return self.refusal.status if self.refusal else int(any(entry.verdict != YES for entry in self.entries))
+
+    def is_left_out(self, name: str) -> bool:
+        """Whether an output isn't there since the folder is kept: it may be made anew."""
+        return self.kept is not None and name.rpartition("/")[2] == JOINED
 
     @property
     def verdicts(self) -> list[str]:

@@ -225,7 +225,7 @@ class Copy:
     def take(self, block: bytes) -> None:
         self.size += len(block)
         try:
-            if block.count(0) == len(block):
+            if block[:1] in (b"", b"\0") and block.count(0) == len(block):
                 os.ftruncate(self.file, self.size)
                 os.lseek(self.file, self.size, os.SEEK_SET)
             else:

@@ -5,6 +5,7 @@ This is a function of texts that the program printed; `verify` calls it again on
 from __future__ import annotations
 
 from collections.abc import Iterator
+from itertools import pairwise
 from operator import sub
 from typing import NamedTuple
 
@@ -21,6 +22,8 @@ from .units import bound_ticks
 
 FAR = 10
 """A piece is far from the samples if the nearest is farther than this part of the span."""
+SILENCE, UNUSUAL = 60 * SECOND, 10
+"""Servers are silent if none is heard for this time, and for so many times as long as usual."""
 MORE = 10
 """So many times the claim's drift is tried where nothing fits, or that of an oscillator alone."""
 
@@ -187,6 +190,7 @@ def warnings(claim: Claim, recording: Recording, envelope: Envelope, advice: dic
     if recording.fall:
         record, before, after = recording.fall
         yield Alert("falls", recording.falls, record, before, after)
+    yield from silences(claim, recording)
     yield from far_pieces(claim, recording, envelope)
     if recording.counts.get("warnings"):
         yield Alert("leap", recording.counts["warnings"])
@@ -196,6 +200,20 @@ def warnings(claim: Claim, recording: Recording, envelope: Envelope, advice: dic
         yield Alert("reference", reference=advice["reference"])
     if apart := [server for server, seen in ranges_of(envelope).items() if seen.apart]:
         yield Alert("apart", servers=apart)
+
+
+def silences(claim: Claim, recording: Recording) -> Iterator[Alert]:
+    """The longest of the times within the span in which no server was heard for longer than usual, and their number."""
+    gaps = sorted(map(sub, recording.times[1:], recording.times))
+    usual = gaps[len(gaps) // 2] if gaps else 0
+    limit = max(SILENCE, UNUSUAL * usual)
+    if not gaps or gaps[-1] <= limit:
+        return
+    found = [(after - before, before, after) for before, after in pairwise(recording.times)
+             if after - before > limit and before < claim.last * SECOND and claim.first * SECOND < after]
+    if found:
+        _, before, after = max(found)
+        yield Alert("silence", len(found), before=before, after=after)
 
 
 def far_pieces(claim: Claim, recording: Recording, envelope: Envelope) -> Iterator[Alert]:

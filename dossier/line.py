@@ -1,7 +1,7 @@
 """An audit in one line for a terminal."""
 from __future__ import annotations
 
-from .entry import REFUSED, Entry
+from .entry import AGAINST, REFUSED, UNSUPPORTED, Entry
 from .text import plain
 from .units import ns_ms, ns_up_ms
 
@@ -14,7 +14,14 @@ def refusal_of(folder: str, line: str) -> str:
 def line_of(folder: str, entry: Entry) -> str:
     """One line for a terminal: the verdict, the folder, and the figures."""
     name = plain(folder) + ("" if entry.part == "." else f" {entry.part}")
-    return f"{entry.verdict:14}{name}: {figures(entry)}"
+    return f"{entry.verdict:14}{name}: {figures(entry)}{against(entry)}"
+
+
+def against(entry: Entry) -> str:
+    """What takes a yes away, if anything does."""
+    if entry.verdict != UNSUPPORTED:
+        return ""
+    return f" ({'; '.join(AGAINST[warning.kind] for warning in entry.warnings if warning.kind in AGAINST)})"
 
 
 def figures(entry: Entry) -> str:

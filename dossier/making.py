@@ -5,15 +5,17 @@ it.
 """
 from __future__ import annotations
 
+import os
 import time
 from collections.abc import Callable
 from dataclasses import dataclass
 
 from . import VERSION
 from .backing import Backing, backing
-from .captures import audited, cut
+from .call import Caller
+from .captures import audited, cut, unpacked
 from .claim import Claim, parts_of
-from .entry import Entry, LeapList, Options, Record, Refusal
+from .entry import Entry, Kept, LeapList, Options, Record, Refusal
 from .evidence import evidence_files
 from .fault import DEVICE, Fault, fault
 from .folder import CLAIM, JOINED, Folder, is_capture
@@ -30,21 +32,31 @@ def no_earlier(_: str) -> bytes:
     return b""
 
 
-def inputs_of(folder: Folder) -> list[str]:
-    """The claim, the captures and the evidence, in the order of their names; a fault if there are none."""
+def inputs_of(folder: Folder, kept: Kept | None) -> dict[str, str]:
+    """The claim, the captures and the evidence, in the order of their names, each with the name of the file in which
+    it is: a capture that is kept is packed. A fault if there are none."""
     names = folder.names()
     if CLAIM not in names:
         raise fault(f"no {CLAIM} in the folder", DEVICE)
-    captures = list(filter(is_capture, names))
+    packed = {f"{name}.zst": name for name in (kept.sums if kept else ())}
+    captures = {packed.get(name, name): name for name in filter(is_capture, names)}
     if not captures:
         raise fault("no capture in the folder", DEVICE)
-    found = [CLAIM, *captures]
-    return found + [name for name in evidence_files(folder, names) if name not in found]
+    others = {name: name for name in evidence_files(folder, names) if name not in captures.values()}
+    return {CLAIM: CLAIM, **{name: captures[name] for name in sorted(captures)}, **others}
 
 
-def sums_of_inputs(folder: Folder) -> dict[str, str]:
-    """The SHA-256 of each input, by its name."""
-    return {name: folder.sum(name) for name in inputs_of(folder)}
+def sums_of_inputs(folder: Folder, record: Record) -> dict[str, str]:
+    """The SHA-256 of each input, by its name. Of one that is packed it is the recorded one, if the packed file is what
+    it was; but if the capture is there too, it is its own."""
+    found = {}
+    for name, file in inputs_of(folder, record.kept).items():
+        is_packed = file != name and record.kept is not None and folder.sum(file) == record.kept.sums[name]
+        if is_packed and not folder.has(name):
+            found[name] = record.inputs[name]
+        else:
+            found[name] = folder.sum(name if is_packed else file)
+    return found
 
 
 @dataclass
@@ -58,12 +70,17 @@ class Inputs:
     """The capture that is audited, by its name in the folder."""
 
 
-def take_inputs(folder: Folder) -> Inputs:
-    """Copies claim and captures into the current folder, under names of one's own, and takes all sums."""
+def take_inputs(folder: Folder, kept: Kept | None, caller: Caller) -> Inputs:
+    """Copies claim and captures into the current folder, under names of one's own, and takes all sums. What is kept is
+    unpacked."""
     taken = Inputs({}, {})
-    for name in inputs_of(folder):
+    for name, file in inputs_of(folder, kept).items():
         copy = CLAIM if name == CLAIM else f"{len(taken.copies)}.pcap" if is_capture(name) else ""
-        taken.sums[name] = folder.copy(name, copy) if copy else folder.sum(name)
+        taken.sums[name] = folder.copy(file, copy) if copy else folder.sum(file)
+        if file != name:
+            path, _ = unpacked(name, copy, caller)
+            os.rename(path, copy)
+            taken.sums[name] = sum_of_file(copy)
         if is_capture(name):
             taken.copies[name] = copy
     return taken
@@ -102,19 +119,20 @@ def read_claim(program: Program, capture: str) -> Claim:
 class Making:
     """The record that comes of a folder, verdict or refusal."""
 
-    def __init__(self, folder: Folder, program: Program, options: Options, leaps: LeapList):
-        self.folder, self.program, self.options, self.leaps = folder, program, options, leaps
+    def __init__(self, folder: Folder, program: Program, options: Options, leaps: LeapList, kept: Kept | None = None):
+        self.folder, self.program, self.options, self.leaps, self.kept = folder, program, options, leaps, kept
         self.begun, self.made, self.taken = time.monotonic(), now(), Inputs({}, {})
 
     def record(self, earlier: Earlier = no_earlier) -> Record:
         """What the program answers; a fault if there is no verdict."""
-        self.taken = take_inputs(self.folder)
+        self.taken = take_inputs(self.folder, self.kept, self.program.caller)
         backed = backing(self.folder, self.taken.sums)
         return self.of(make(self.taken, self.options, self.leaps, backed, self.program, earlier))
 
     def of(self, entries: list[Entry], refusal: Refusal | None = None) -> Record:
         return Record(VERSION, self.program.made, self.options, self.taken.sums, self.taken.capture, self.made,
-                      round(time.monotonic() - self.begun, 3), "", entries, refusal, None if refusal else self.leaps)
+                      round(time.monotonic() - self.begun, 3), "", entries, refusal, None if refusal else self.leaps,
+                      self.kept)
 
     def refused(self, found: Fault) -> Record:
         return self.of([], Refusal(found.line, found.status))

@@ -16,6 +16,7 @@ from .folder import Folder
 from .known import Known
 from .limit import Limit
 from .markup import Html, element, html, joined, lines, minus, with_code
+from .metrics import Sample, of_record, of_verdict, write_metrics
 from .placing import make_folder, write_in, write_named
 from .program import now, sum_of
 from .remedies import remedy
@@ -62,6 +63,7 @@ class Looking:
         self.known, self.signers, self.limit, self.verifier = known, signers, limit, verifier
         self.sections: list[Section] = []
         self.status, self.has_audit = 0, False
+        self.metrics: list[Sample] = []
 
     def look(self, path: str) -> None:
         """Adds the sections of a folder, whatever stands in it."""
@@ -90,6 +92,7 @@ class Looking:
         elif not self.known.has(sum_of(data)):
             why = UNKNOWN
         elif record.refusal:
+            self.metrics += of_record(path, record)
             self.refuse(path, record.refusal.line, signature)
             return
         else:
@@ -97,6 +100,7 @@ class Looking:
         if why:
             self.add_short(path, row_without_verdict(path, NOT_VERIFIED, f"{why}.", VERIFY, signature), "", signature)
             return
+        self.metrics += of_record(path, record)
         for entry in record.entries:
             name, row = f"a{len(self.sections)}", row_of(path, entry, signature)
             said = article(name, path, folder, record, entry, signature)
@@ -107,6 +111,7 @@ class Looking:
         self.add_short(path, row_without_verdict(path, REFUSED, f"{line}. {why}", what, signature), line, signature)
 
     def add_short(self, path: str, row: Row, line: str, signature: Signature) -> None:
+        self.metrics += of_verdict(path, row.verdict)
         name = f"a{len(self.sections)}"
         self.sections.append(Section(name, row, short_article(name, path, row, line, signature)))
 
@@ -130,9 +135,10 @@ def write_page(folders: list[str], given: argparse.Namespace, known: Known, limi
         write_named(given.output, data)
     else:
         sys.stdout.buffer.write(data)
+    status = write_metrics(given.metrics, looking.metrics) if given.metrics else 0
     if not looking.has_audit:
         raise fault("none of these folders has an audit")
-    return looking.status
+    return max(looking.status, status)
 
 
 def text_of(found: list[Section], given: argparse.Namespace, folders: int) -> str:

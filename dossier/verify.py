@@ -53,12 +53,12 @@ class Verifier:
         if found:
             return found
         is_other = record.program.sha256 != self.program.made.sha256
-        making = Making(folder, self.program, record.options, leaps)
+        making = Making(folder, self.program, record.options, leaps, record.kept)
         made = making.record(earlier_of(folder, record) if is_other else no_earlier)
         made = replace(made, made=record.made, seconds=record.seconds, signed=record.signed,
                        program=record.program if is_other else made.program)
         for name, sum_ in made.outputs.items():
-            if name in record.outputs and folder.sum(name) != sum_:
+            if name in record.outputs and folder.has(name) and folder.sum(name) != sum_:
                 comparison = Comparison(name)
                 folder.read(name, comparison.take)
                 return f"{name}: {comparison.end()}"

@@ -5,6 +5,7 @@ import signal
 from collections.abc import Generator
 
 from .fault import Stopped, summed
+from .metrics import Sample, write_metrics
 from .progress import Progress
 from .task import Done, Task
 from .team import Team
@@ -15,14 +16,16 @@ def stop(number: int, _: object) -> None:
 
 
 def audit_all(task: Task, jobs: int) -> int:
-    """Audits all folders and prints a line for each audit, in the order of the folders. The status is that of all."""
+    """Audits all folders and prints a line for each audit, in the order of the folders. Metrics are written at the end.
+    The status is that of all."""
     signal.signal(signal.SIGTERM, stop)
-    shown, worst = Progress(len(task.folders)), 0
+    shown, worst, metrics = Progress(len(task.folders)), 0, list[Sample]()
     jobs = min(jobs, len(task.folders))
     results = one_by_one(task, shown) if jobs < 2 else side_by_side(task, jobs, shown)
     try:
         for done in results:
             worst = summed(worst, done.status)
+            metrics += done.metrics
             shown.clear()
             print("\n".join(done.lines), flush=True)
             shown.show()
@@ -31,7 +34,7 @@ def audit_all(task: Task, jobs: int) -> int:
         shown.clear()
     if len(task.folders) > 1:
         print(shown.summed(", "))
-    return worst
+    return summed(worst, write_metrics(task.metrics, metrics)) if task.metrics else worst
 
 
 def one_by_one(task: Task, shown: Progress) -> Generator[Done, None, None]:

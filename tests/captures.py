@@ -1,6 +1,7 @@
 """Tests of what people have: captures that are packed, in pcapng, cut off, in several files, or of several days.
 
-tests/dossier calls them, each in a folder of its own. The pcapng files are written here, by the draft that describes them.
+tests/dossier calls them, each in a folder of its own. The pcapng files are written here, by the draft that describes
+them.
 """
 import gzip
 import json
@@ -40,7 +41,9 @@ def section(order):
 
 def interface(order, resolution, link=1, offset=0):
     body = struct.pack(f"{order}HHI", link, 0, 0) + option(order, 2, b"eth0") + option(order, 9, bytes([resolution]))
-    return block(order, 1, body + (option(order, 14, struct.pack(f"{order}q", offset)) if offset else b"") + option(order, 0, b""))
+    return block(order, 1,
+                 body + (option(order, 14, struct.pack(f"{order}q", offset)) if offset else b"")
+                 + option(order, 0, b""))
 
 
 def pcapng(whole, order="<", resolution=9, unit=10**9, old=False, **how):
@@ -72,33 +75,49 @@ def test_people_have(place):
     half = records_of(nano)[: len(records_of(nano)) // 2]
     rest = nano[:24] + b"".join(records_of(nano)[len(half) :])
     middle = 24 + sum(map(len, half))
-    cases = {
-        "gzip": ("vlan-ns", {"f.pcap.gz": gzip.compress(nano)}), "two gzips in one": ("vlan-ns", {"f.pcap.gz": gzip.compress(nano[:5000]) + gzip.compress(nano[5000:]) + bytes(100)}),
-        "pcapng": ("vlan-ns", {"f.pcapng": pcapng(nano)}), "pcapng, big-endian": ("vlan-ns", {"f.pcapng": pcapng(nano, ">")}), "pcapng under another name": ("vlan-ns", {"f.pcap": pcapng(nano)}),
-        "pcapng with old packets and an offset": ("vlan-ns", {"f.pcapng": pcapng(nano, ">", old=True, offset=1000)}), "pcapng in gzip": ("vlan-ns", {"f.pcapng.gz": gzip.compress(pcapng(nano))}),
-        "pcapng with microseconds": ("clients-us", {"f.pcapng": pcapng(micro, resolution=6, unit=10**6)}), "pcapng, two sections": ("vlan-ns", {"f.pcapng": pcapng(nano[:middle]) + pcapng(rest, ">")}),
-        "rotated files": ("vlan-ns", {"b.pcap": nano[:middle], "a.pcap1": rest}), "rotated files of several kinds": ("vlan-ns", {"b.pcapng": pcapng(nano[:middle]), "a.pcap1.gz": gzip.compress(rest)}),
-        "an empty file beside it": ("vlan-ns", {"f.pcap": nano, "g.pcap": b""}), "the other order": ("vlan-ns", {"f.pcap": swapped[:24], "g.pcap": nano}),
-    }
+    cases = {"gzip": ("vlan-ns", {"f.pcap.gz": gzip.compress(nano)}),
+             "two gzips in one": ("vlan-ns",
+                                  {"f.pcap.gz": gzip.compress(nano[:5000]) + gzip.compress(nano[5000:]) + bytes(100)}),
+             "pcapng": ("vlan-ns", {"f.pcapng": pcapng(nano)}),
+             "pcapng, big-endian": ("vlan-ns", {"f.pcapng": pcapng(nano, ">")}),
+             "pcapng under another name": ("vlan-ns", {"f.pcap": pcapng(nano)}),
+             "pcapng with old packets and an offset": ("vlan-ns",
+                                                       {"f.pcapng": pcapng(nano, ">", old=True, offset=1000)}),
+             "pcapng in gzip": ("vlan-ns", {"f.pcapng.gz": gzip.compress(pcapng(nano))}),
+             "pcapng with microseconds": ("clients-us", {"f.pcapng": pcapng(micro, resolution=6, unit=10**6)}),
+             "pcapng, two sections": ("vlan-ns", {"f.pcapng": pcapng(nano[:middle]) + pcapng(rest, ">")}),
+             "rotated files": ("vlan-ns", {"b.pcap": nano[:middle], "a.pcap1": rest}),
+             "rotated files of several kinds": ("vlan-ns",
+                                                {"b.pcapng": pcapng(nano[:middle]), "a.pcap1.gz": gzip.compress(rest)}),
+             "an empty file beside it": ("vlan-ns", {"f.pcap": nano, "g.pcap": b""}),
+             "the other order": ("vlan-ns", {"f.pcap": swapped[:24], "g.pcap": nano})}
     if shutil.which("zstd"):
         cases["zstd"] = "vlan-ns", {"f.pcap.zst": run(["zstd", "-qc"], nano)[1]}
     else:
         skipped("captures in zstd", "zstd isn't installed")
-    plain = {base: folder_of(place, base, DATA / f"{base}.pcap", DATA / f"{base}.claim.json") for base in ("vlan-ns", "clients-us")}
+    plain = {base: folder_of(place, base, DATA / f"{base}.pcap", DATA / f"{base}.claim.json")
+             for base in ("vlan-ns", "clients-us")}
     dossier("audit", *plain.values())
     for name, (base, files) in cases.items():
         folder = packed_folder(place, name, files, base)
         status, out, err = dossier("audit", folder)
         record = json.loads((folder / "audit.json").read_text())
         made = (folder / "joined.pcap").read_bytes()
-        check(f"captures: {name}", status=(status, 0), error=(err, b""), capture=(record["capture"], "joined.pcap"), inputs=(sorted(record["inputs"]), sorted({"claim.json", *files})),
-              same=([(folder / file).read_bytes() == (plain[base] / file).read_bytes() for file in ("report.txt", "envelope.txt", "certificate.json")], [True] * 3),
-              records=(made[24:], (DATA / f"{base}.pcap").read_bytes()[24:]), verified=(dossier("verify", folder), (0, f"{folder}: verified\n".encode(), b"")),
-              again=(b"(unchanged)" in dossier("audit", folder)[1], True), calls=("joined.pcap certificate.json" in dossier("page", folder)[1].decode(), True))
+        check(f"captures: {name}", status=(status, 0), error=(err, b""), capture=(record["capture"], "joined.pcap"),
+              inputs=(sorted(record["inputs"]), sorted({"claim.json", *files})),
+              same=([(folder / file).read_bytes() == (plain[base] / file).read_bytes()
+                     for file in ("report.txt", "envelope.txt", "certificate.json")], [True] * 3),
+              records=(made[24:], (DATA / f"{base}.pcap").read_bytes()[24:]),
+              verified=(dossier("verify", folder), (0, f"{folder}: verified\n".encode(), b"")),
+              again=(b"(unchanged)" in dossier("audit", folder)[1], True),
+              calls=("joined.pcap certificate.json" in dossier("page", folder)[1].decode(), True))
         status, out, _ = dossier("draft", *(folder / file for file in files))
-        check(f"a draft of captures: {name}", status=(status, 0), client=(json.loads(out or "{}").get("servers"), json.loads(dossier("draft", DATA / f"{base}.pcap")[1])["servers"]))
+        check(f"a draft of captures: {name}", status=(status, 0),
+              client=(json.loads(out or "{}").get("servers"),
+                      json.loads(dossier("draft", DATA / f"{base}.pcap")[1])["servers"]))
     drawn = dossier("picture", DATA / "vlan-ns.claim.json", place / "pcapng" / "f.pcapng")
-    check("a picture of pcapng", same=(drawn == dossier("picture", DATA / "vlan-ns.claim.json", DATA / "vlan-ns.pcap"), True))
+    check("a picture of pcapng",
+          same=(drawn == dossier("picture", DATA / "vlan-ns.claim.json", DATA / "vlan-ns.pcap"), True))
 
 
 def test_many_files(place):
@@ -107,15 +126,52 @@ def test_many_files(place):
     files = {f"f-{number:05}.pcap": whole[:24] + b"".join(records_of(whole)[number :: 1200]) for number in range(1200)}
     folder = packed_folder(place, "many", files, "clients-us")
     status, out, err = run(["bash", "-c", 'ulimit -Sn 256; exec "$0" audit "$1"', SCRIPT, folder], env=ENVIRONMENT)
-    check("1,200 files", run=((status, err), (0, b"")), records=((folder / "joined.pcap").read_bytes()[24:], whole[24:]))
+    check("1,200 files", run=((status, err), (0, b"")),
+          records=((folder / "joined.pcap").read_bytes()[24:], whole[24:]))
+
+
+def test_joins(place):
+    """Records of several files come in order of time, as a merge by hand has them: of those of one time the first
+    file's, whether the files follow one another or not, and in the order of each file where its times fall."""
+    from dossier.classic import Classic, join
+    from dossier.limit import Limit
+    rnd, seen = random.Random(11), {True: 0, False: 0}
+    for trial in range(400):
+        times = [rnd.randrange(40) for _ in range(rnd.randrange(12))]
+        times = sorted(times) if rnd.random() < 0.8 else times
+        cuts = sorted(rnd.randrange(len(times) + 1) for _ in range(rnd.randrange(4)))
+        files = [times[a:b] for a, b in zip([0, *cuts], [*cuts, len(times)])]
+        if rnd.random() < 0.5:
+            rnd.shuffle(files)
+        units = [rnd.choice((10**6, 10**9)) if trial % 3 == 0 else 10**9 for _ in files]
+        unit, left, wanted = min(units), [list(enumerate(own)) for own in files], []
+        while any(left):
+            _, number = min((own[0][1], number) for number, own in enumerate(left) if own)
+            position, time = left[number].pop(0)
+            wanted.append(struct.pack("<IIII", time, 7 * unit // 10, 2, 60) + bytes((number, position)))
+        captures = {}
+        for number, (own, each) in enumerate(zip(files, units)):
+            order = rnd.choice("<>")
+            data = struct.pack(f"{order}IHHIIII", {10**6: 0xA1B2C3D4, 10**9: 0xA1B23C4D}[each], 2, 4, 0, 0, 262_144, 1)
+            for position, time in enumerate(own):
+                data += struct.pack(f"{order}IIII", time, 7 * each // 10, 2, 60) + bytes((number, position))
+            (place / f"{number}").write_bytes(data)
+            captures[f"{number}"] = Classic(str(place / f"{number}"), Limit())
+        join(captures, str(place / "joined"), Limit())
+        found = (place / "joined").read_bytes()
+        seen[found[24:] == b"".join(wanted) and records_of(found) == wanted] += 1
+    check("joins", seen=(seen, {True: 400, False: 0}))
 
 
 def test_units(place):
     """No time becomes more exact than it was: of nanoseconds and microseconds together microseconds are left."""
     nano = (DATA / "vlan-ns.pcap").read_bytes()
-    cut = b"".join(struct.pack("<IIII", s, part // 1000, c, n) + record[16:] for record in records_of(nano) for s, part, c, n in [struct.unpack("<IIII", record[:16])])
+    cut = b"".join(struct.pack("<IIII", s, part // 1000, c, n) + record[16:] for record in records_of(nano)
+                   for s, part, c, n in [struct.unpack("<IIII", record[:16])])
     micro = bytes.fromhex("d4c3b2a1") + nano[4:24] + cut
-    for name, files in {"joined": {"f.pcap": nano, "g.pcap": micro[:24]}, "of two interfaces": {"f.pcapng": pcapng(nano) + section("<") + interface("<", 6)}, "in 100 ns": {"f.pcapng": pcapng(nano, resolution=7)},
+    for name, files in {"joined": {"f.pcap": nano, "g.pcap": micro[:24]},
+                        "of two interfaces": {"f.pcapng": pcapng(nano) + section("<") + interface("<", 6)},
+                        "in 100 ns": {"f.pcapng": pcapng(nano, resolution=7)},
                         "in parts of 2^20": {"f.pcapng": pcapng(nano, resolution=128 | 20)}}.items():
         folder = packed_folder(place, name, files)
         status = dossier("audit", folder)[0]
@@ -123,7 +179,8 @@ def test_units(place):
         times = [struct.unpack("<II", record[:8]) for record in records_of(made)]
         wanted = [struct.unpack("<II", record[:8]) for record in records_of(micro)]
         near = max(abs((a - c) * 10**6 + b - d) for (a, b), (c, d) in zip(times, wanted))
-        check(f"times {name}", status=(status, 0), magic=(made[:4].hex(), "d4c3b2a1"), count=(len(times), len(wanted)), near=(near, lambda near: near <= ("2^20" in name)))
+        check(f"times {name}", status=(status, 0), magic=(made[:4].hex(), "d4c3b2a1"), count=(len(times), len(wanted)),
+              near=(near, lambda near: near <= ("2^20" in name)))
 
 
 def test_torn(place):
@@ -131,39 +188,52 @@ def test_torn(place):
     nano = (DATA / "vlan-ns.pcap").read_bytes()
     whole = 24 + sum(map(len, records_of(nano)[:500]))
     ng = pcapng(nano)
-    cases = {"in its packet": ({"f.pcap": nano[: whole + 60]}, "f.pcap", whole), "in its head": ({"f.pcap": nano[: whole + 9]}, "f.pcap", whole),
-             "one of two": ({"000003.pcap": nano[: whole + 60], "000004.pcap": nano[:24]}, "000003.pcap", whole), "in gzip": ({"f.pcap.gz": gzip.compress(nano)[:20000]}, "f.pcap.gz", None),
+    cases = {"in its packet": ({"f.pcap": nano[: whole + 60]}, "f.pcap", whole),
+             "in its head": ({"f.pcap": nano[: whole + 9]}, "f.pcap", whole),
+             "one of two": ({"000003.pcap": nano[: whole + 60], "000004.pcap": nano[:24]}, "000003.pcap", whole),
+             "in gzip": ({"f.pcap.gz": gzip.compress(nano)[:20000]}, "f.pcap.gz", None),
              "in pcapng": ({"f.pcapng": ng[: len(ng) * 3 // 4]}, "f.pcapng", None)}
     for name, (files, named, at) in cases.items():
         folder = packed_folder(place, name, files)
         status, out, err = dossier("audit", folder)
-        row, warning = table(folder)[0], next(w for w in json.loads((folder / "audit.json").read_text())["entries"][0]["warnings"] if w["kind"] == "torn")
+        row, entry = table(folder)[0], json.loads((folder / "audit.json").read_text())["entries"][0]
+        warning, = (warning for warning in entry["warnings"] if warning["kind"] == "torn")
         made, text = (folder / "joined.pcap").read_bytes(), dossier("page", folder)[1].decode()
-        check(f"a torn capture: {name}", status=(status, 0), error=(err, b""), warned=(any(words.startswith(f"{named} ends inside a record") for words in row["warnings"]), True),
-              place=(warning["place"], at or warning["place"]), made=(nano.startswith(made) and len(made) > 20_000, True), page=(f"{named} ends inside a record" in text, True),
-              verified=(dossier("verify", folder)[0], 0), whole=(24 + sum(map(len, records_of(made))), len(made)))
+        check(f"a torn capture: {name}", status=(status, 0), error=(err, b""),
+              warned=(any(words.startswith(f"{named} ends inside a record") for words in row["warnings"]), True),
+              place=(warning["place"], at or warning["place"]),
+              made=(nano.startswith(made) and len(made) > 20_000, True),
+              page=(f"{named} ends inside a record" in text, True), verified=(dossier("verify", folder)[0], 0),
+              whole=(24 + sum(map(len, records_of(made))), len(made)))
     status, _, err = dossier("draft", place / "in its packet" / "f.pcap")
     check("a draft of a torn capture", status=(status, 0), told=(b"\nf.pcap ends inside a record" in b"\n" + err, True))
 
 
 def test_step(place):
-    """Where a step is seen it is said after and by when, it is drawn, and the commands that cut there leave two claims that hold."""
+    """Where a step is seen it is said after and by when, it is drawn, and the commands that cut there leave two claims
+    that hold."""
     for name, size in (("forwards", 50 * MS), ("backwards", -50 * MS)):
-        words = [f"{server}:{low}..{low + 9}@{second}" for second in range(NOON, NOON + 1200, 30) for low in [size if second > NOON + 600 else 0] for server in (1, 2)]
+        words = [f"{server}:{low}..{low + 9}@{second}" for second in range(NOON, NOON + 1200, 30)
+                 for low in [size if second > NOON + 600 else 0] for server in (1, 2)]
         folder = days_of(place, name, words, to="2001-09-09T12:19:30Z")
         dossier("audit", folder)
         row, text = table(folder)[0], dossier("page", folder)[1].decode()
-        check(f"a step {name}", verdict=(row["verdict"], "nothing fits"), said=("so it is if the clock was stepped, after 2001-09-09 12:00:00 and by 2001-09-09 12:10:30." in row["reason"], True),
-              drawn=(len(re.findall(r'class="step" d="M(\d+) 0V', text)), 1), at=(abs(int(re.search(r'class="step" d="M(\d+) 0V', text)[1]) / 10_000 * 1170 - 630) < 1, True), verified=(dossier("verify", folder)[0], 0))
+        check(f"a step {name}", verdict=(row["verdict"], "nothing fits"),
+              said=("so it is if the clock was stepped, after 2001-09-09 12:00:00 and by 2001-09-09 12:10:30."
+                    in row["reason"], True), drawn=(len(re.findall(r'class="step" d="M(\d+) 0V', text)), 1),
+              at=(abs(int(re.search(r'class="step" d="M(\d+) 0V', text)[1]) / 10_000 * 1170 - 630) < 1, True),
+              verified=(dossier("verify", folder)[0], 0))
         commands = re.findall(r"`(editcap [^`]*)`", row["to_do"])
         check(f"commands that cut at a step {name}", count=(len(commands), 2))
         if not shutil.which("editcap"):
             skipped("captures that are cut at a step", "editcap isn't installed")
             continue
-        for command, made, times in zip(commands, ("after", "before"), ({"from": "2001-09-09T12:10:31Z"}, {"to": "2001-09-09T12:10:00Z"})):
+        for command, made, times in zip(commands, ("after", "before"),
+                                        ({"from": "2001-09-09T12:10:31Z"}, {"to": "2001-09-09T12:10:00Z"})):
             status, _, err = run(["sh", "-c", command.replace("-F pcap", "-F nsecpcap")], cwd=folder)
             half = folder_of(place, f"{name} {made}", folder / f"{made}.pcap", folder / "claim.json", **times)
-            check(f"what was recorded {made} a step {name}", run=((status, err), (0, b"")), audit=(dossier("audit", half)[0], 0))
+            check(f"what was recorded {made} a step {name}", run=((status, err), (0, b"")),
+                  audit=(dossier("audit", half)[0], 0))
 
 
 DAY, NOON = 86_400, 1_000_000_000 - 1_000_000_000 % 86_400 + 43_200
@@ -172,35 +242,50 @@ MS = 4_294_967
 
 def days_of(place, name, words, days=3, **changes):
     """A folder whose claim spans some days from the noon of 2001-09-09 on."""
-    claim = {"client": "192.0.2.10", "servers": ["192.0.2.1", "192.0.2.2"], "false_max": 0, "from": "2001-09-09T12:00:00Z", "to": f"2001-09-{8 + days:02}T12:00:00Z", "bound_ns": 60_000_000, "drift_ppb": 200, "reading_ns": 0}
+    claim = {"client": "192.0.2.10", "servers": ["192.0.2.1", "192.0.2.2"], "false_max": 0,
+             "from": "2001-09-09T12:00:00Z", "to": f"2001-09-{8 + days:02}T12:00:00Z", "bound_ns": 60_000_000,
+             "drift_ppb": 200, "reading_ns": 0}
     return folder_of(place, name, capture_of(place / f"{name}.pcap", *words), **{**claim, **changes})
 
 
 def test_own_records(place):
     """A day is settled on its own records and an hour beside it: what happens on another day is that day's alone."""
     hours = [(NOON + 3600 * hour, server) for hour in range(1, 48) for server in (1, 2)]
-    words = [f"{server}:{low}..{low + 9}@{second}" for second, server in hours for low in [500 * MS if second > NOON + 20 * 3600 else 0]]
+    words = [f"{server}:{low}..{low + 9}@{second}" for second, server in hours
+             for low in [500 * MS if second > NOON + 20 * 3600 else 0]]
     stepped = days_of(place, "stepped", words)
     status, _, _ = dossier("audit", "--days", stepped)
     rows, entries = table(stepped), json.loads((stepped / "audit.json").read_text())["entries"]
-    check("a step on another day", status=(status, 1), verdicts=([(row["day"], row["verdict"]) for row in rows], [("2001-09-09", "yes"), ("2001-09-10", "nothing fits"), ("2001-09-11", "refuted")]),
+    check("a step on another day", status=(status, 1),
+          verdicts=([(row["day"], row["verdict"]) for row in rows],
+                    [("2001-09-09", "yes"), ("2001-09-10", "nothing fits"), ("2001-09-11", "refuted")]),
           verified=(dossier("verify", stepped), (0, f"{stepped}: verified\n".encode(), b"")))
     whole = (stepped / "f.pcap").read_bytes()
     for number, row in enumerate(rows):
-        first, last = (NOON + DAY * (number - 1) + 43_200 - 3600 if number else NOON - 3600), (NOON + 43_200 + DAY * number if number < 2 else NOON + 2 * DAY) + 3600
-        own = [record for record in records_of(whole) if first * 10**9 <= int.from_bytes(record[:4], "little") * 10**9 + int.from_bytes(record[4:8], "little") <= last * 10**9]
+        first, last = (NOON + DAY * (number - 1) + 43_200 - 3600 if number else NOON - 3600), (NOON + 43_200
+                                                                                               + DAY * number
+                                                                                               if number < 2 else NOON
+                                                                                               + 2 * DAY) + 3600
+        own = [record for record in records_of(whole) if first * 10**9 <= int.from_bytes(record[:4], "little") * 10**9
+               + int.from_bytes(record[4:8], "little") <= last * 10**9]
         made = (stepped / row["day"] / "joined.pcap").read_bytes()
-        check(f"the records of {row['day']}", same=(made == whole[:24] + b"".join(own), True), count=(entries[number]["counts"]["records"], len(own)),
-              settles=(run([PROGRAM, "settle", stepped / row["day"] / "claim.json", stepped / row["day"] / "joined.pcap"])[0], int(row["verdict"] != "yes")))
+        check(f"the records of {row['day']}", same=(made == whole[:24] + b"".join(own), True),
+              count=(entries[number]["counts"]["records"], len(own)),
+              settles=(run([PROGRAM, "settle", stepped / row["day"] / "claim.json",
+                            stepped / row["day"] / "joined.pcap"])[0], int(row["verdict"] != "yes")))
     text = dossier("page", stepped)[1].decode()
     check_page("a page of own records", text)
     check("the calls of a day", own=(text.count("ntpaudit settle claim.json joined.pcap"), 3))
-    single = days_of(place, "single", [f"{server}:0..9@{NOON + 60 * k}" for k in range(5) for server in (1, 2)], to="2001-09-09T12:04:00Z")
+    single = days_of(place, "single", [f"{server}:0..9@{NOON + 60 * k}" for k in range(5) for server in (1, 2)],
+                     to="2001-09-09T12:04:00Z")
     dossier("audit", "--days", single)
-    check("a capture of one day isn't copied", left=([path.name for path in single.rglob("joined.pcap")], []), row=(table(single)[0]["verdict"], "yes"), calls=("claim.json ../f.pcap" in dossier("page", single)[1].decode(), True))
+    check("a capture of one day isn't copied", left=([path.name for path in single.rglob("joined.pcap")], []),
+          row=(table(single)[0]["verdict"], "yes"),
+          calls=("claim.json ../f.pcap" in dossier("page", single)[1].decode(), True))
     gap = days_of(place, "gap", [f"{server}:0..9@{NOON + 60 * k}" for k in range(5) for server in (1, 2)])
     dossier("audit", "--days", gap)
-    check("days on which nothing was recorded", rows=([row["verdict"] for row in table(gap)[1:]], ["no evidence"] * 2), said=("Nothing was recorded" in table(gap)[2]["reason"], True))
+    check("days on which nothing was recorded", rows=([row["verdict"] for row in table(gap)[1:]], ["no evidence"] * 2),
+          said=("Nothing was recorded" in table(gap)[2]["reason"], True))
 
 
 def test_many_exchanges(place):
@@ -220,9 +305,12 @@ def test_many_exchanges(place):
                 request[-8:] = reply[-24:-16] = struct.pack(">Q", (day << 40) + (copy << 24) + number + 1)
                 blocks += [bytes(request), bytes(reply)]
     (folder / "f.pcap").write_bytes(head + b"".join(blocks))
-    check("so many exchanges at once", run=(dossier("audit", folder)[:2], (2, f"refused       {folder}: ntpaudit: exchanges over 1000000\n".encode())))
+    check("so many exchanges at once",
+          run=(dossier("audit", folder)[:2],
+               (2, f"refused       {folder}: ntpaudit: exchanges over 1000000\n".encode())))
     status, out, err = dossier("audit", "--days", folder, timeout=600)
-    check("so many exchanges by days", status=(status, lambda status: status in (0, 1)), error=(err, b""), lines=(len(out.splitlines()), 2), refused=(b"refused" in out, False))
+    check("so many exchanges by days", status=(status, lambda status: status in (0, 1)), error=(err, b""),
+          lines=(len(out.splitlines()), 2), refused=(b"refused" in out, False))
 
 
 def linux_sll(whole):
@@ -230,15 +318,19 @@ def linux_sll(whole):
     found = whole[:20] + struct.pack("<I", 113)
     for record in records_of(whole):
         seconds, part, captured, length = struct.unpack("<IIII", record[:16])
-        found += struct.pack("<IIII", seconds, part, captured + 2, length + 2) + bytes((0, 0, 0, 1, 0, 6)) + record[22:28] + bytes(2) + record[28:]
+        found += struct.pack("<IIII", seconds, part, captured + 2,
+                             length + 2) + bytes((0, 0, 0, 1, 0, 6)) + record[22:28] + bytes(2) + record[28:]
     return found
 
 
-NEEDED = {
-    "magic": (lambda whole: run(["editcap", "-F", "snoop", "-", "-"], whole)[1], "editcap"), "version": (lambda whole: whole[:6] + b"\x05\x00" + whole[8:], "editcap"), "link": (linux_sll, "editcap"),
-    "joined by cat": (lambda whole: halves(whole), "head"),
-    "too many": (lambda whole: whole + (struct.pack("<IIII", 1_795_331_030, 0, 1, 60) + b"x") * 4_000_001, "tcpdump"),
-}
+NEEDED = {"torn": (lambda whole: whole[:-20], "head"),
+          "magic": (lambda whole: run(["editcap", "-F", "snoop", "-", "-"], whole)[1], "editcap"),
+          "version": (lambda whole: whole[:6] + b"\x05\x00" + whole[8:], "editcap"),
+          "link": (lambda whole: linux_sll(whole), "editcap"), "joined by cat": (lambda whole: halves(whole), "head"),
+          "too many": (lambda whole: whole + 4_000_001 * short_record(1_795_331_030), "tcpdump"),
+          "back and forth": (lambda whole: whole
+                             + 600_000 * (short_record(1_795_331_030) + short_record(1_795_331_030 + DAY)),
+                             "reordercap")}
 """Of each remedy a capture that needs it, made of a good one, and the tool that its commands call."""
 
 
@@ -247,52 +339,91 @@ def halves(whole):
     return whole[:24] + b"".join(records[: len(records) // 2]) + whole[:24] + b"".join(records[len(records) // 2 :])
 
 
+def short_record(second):
+    return struct.pack("<IIII", second, 0, 1, 60) + b"x"
+
+
+def commands_of(words):
+    """The commands in a remedy that read a capture."""
+    return [command for command in re.findall(r"`([^`]*)`", words) if "f.pcap" in command and ".pcap"
+            in command.split("f.pcap", 1)[1]]
+
+
 def test_remedies_work(place):
-    """Each command that a remedy names, on a capture that needs it: what comes out is audited."""
+    """Each command that a remedy names for a capture, on one that needs it: what comes out is audited."""
     from dossier.remedies import REMEDIES, remedy
-    whole = (DATA / "clients-us.pcap").read_bytes()
+    whole, tried, to = (DATA / "clients-us.pcap").read_bytes(), set(), {"to": "2026-11-24T00:00:00Z"}
     for name, (spoil, tool) in NEEDED.items():
+        days = name == "back and forth"
+        folder = folder_of(place, name, **(to if days else {}))
         if not shutil.which(tool):
             skipped(f"the remedy of a capture: {name}", f"{tool} isn't installed")
             continue
-        folder = folder_of(place, name)
         (folder / "f.pcap").write_bytes(spoil(whole))
-        status, out, _ = dossier("audit", folder)
-        place_of = (re.findall(rb" at (\d+)", out) or [b"0"])[0].decode()
-        commands = [command for command in re.findall(r"`([^`]*)`", remedy(out.decode())[1]) if command.startswith((tool, "tail")) and "g.pcap" in command + "g.pcap" * command.startswith("tail")]
-        ran = [run(["sh", "-c", command.replace("PLACE", place_of)], cwd=folder)[0] for command in commands]
+        line = dossier("audit", "--days", folder)[1] if days else run([PROGRAM, "list", folder / "f.pcap"])[2]
+        commands = commands_of(remedy(line.decode())[1])
+        at = (re.findall(rb" at (\d+)", line) or [b"0"])[0].decode()
+        ran = {run(["sh", "-c", command.replace("PLACE", at)], cwd=folder)[0] for command in commands}
         (folder / "f.pcap").unlink()
-        again, said, _ = dossier("audit", folder)
-        check(f"the remedy of a capture: {name}", refused=(status, 2), commands=(bool(commands), True), ran=(set(ran), {0}), audited=(again, 0), verdict=(said.decode().split(":")[0].split()[0], "yes"))
+        status, said, _ = dossier("audit", *(["--days"] if days else []), folder)
+        check(f"the remedy of a capture: {name}", commands=(bool(commands), True), ran=(ran, {0}),
+              audited=(status, int(days)), verdict=(said.split()[0].decode(), "refuted" if days else "yes"))
+        tried.update(commands)
     named = " ".join(known.what for known in REMEDIES)
-    check("no remedy writes another format", editcap=([command for command in re.findall(r"`(editcap [^`]*)`", named) if "-F pcap" not in command], []),
-          filters=([command for command in re.findall(r"`(tcpdump -[^`]*-w[^`]*)`", named) if "vlan and udp port 123" not in command], []))
+    if all(shutil.which(tool) for _, tool in NEEDED.values()):
+        check("no command of a remedy is left out", missing=(sorted(set(commands_of(named)) - tried), []))
+    check("no remedy writes another format",
+          editcap=([command for command in re.findall(r"`(editcap [^`]*)`", named) if "-F pcap" not in command], []),
+          filters=([command for command in re.findall(r"`(tcpdump -[^`]*-w[^`]*)`", named)
+                    if "vlan and udp port 123" not in command], []))
 
 
 def test_hostile_captures(place):
-    """Packed and other captures of a stranger's: refused, with the file's own name, or settled; nothing else comes of them."""
+    """Packed and other captures of a stranger's: refused, with the file's own name, or settled, and nothing else."""
     nano = (DATA / "vlan-ns.pcap").read_bytes()
     packed, ng = gzip.compress(nano), pcapng(nano[: 24 + sum(map(len, records_of(nano)[:8]))])
-    cases = {"a gzip with another byte": ({"f.pcap.gz": packed[:3000] + bytes([packed[3000] ^ 255]) + packed[3001:]}, "f.pcap.gz can't be unpacked"), "a gzip of nothing": ({"f.pcap.gz": gzip.compress(b"")}, "capture 1 torn-header"),
-             "a gzip in gzip": ({"f.pcap.gz": gzip.compress(packed)}, "capture 2 magic"), "no zstd": ({"f.pcap.zst": bytes.fromhex("28b52ffd") + b"x" * 50}, "f.pcap.zst "),
-             "packets without times": ({"f.pcapng": section("<") + interface("<", 9) + block("<", 3, bytes(8))}, "f.pcapng has packets without a time"),
-             "milliseconds": ({"f.pcapng": pcapng(nano, resolution=3)}, "f.pcapng has times that are coarser"), "no Ethernet": ({"f.pcapng": pcapng(nano, link=113)}, "capture 4 link"),
-             "two kinds of frames": ({"f.pcapng": pcapng(nano) + pcapng(nano, link=113)}, "f.pcapng has frames of several kinds"), "other frames in the second": ({"f.pcap": nano, "g.pcapng": pcapng(nano, link=113)}, "g.pcapng has other frames than f.pcap"),
-             "no capture in the second": ({"f.pcap": nano, "g.pcap": b"x" * 100}, "g.pcap is no classic capture"), "damage in the second": ({"f.pcap": nano[:24], "g.pcap": nano[:24] + b"\xff" * 16 + nano[24:]}, "g.pcap is damaged from byte 24 on"),
-             "many interfaces": ({"f.pcapng": section("<") + interface("<", 9) * 1001}, "f.pcapng has more than 1,000 interfaces"), "a block that is too long": ({"f.pcapng": ng + struct.pack("<II", 5, 1 << 30)}, "f.pcapng is damaged at byte"),
-             "a length of 0": ({"f.pcapng": ng + bytes(40)}, "f.pcapng is damaged at byte"), "a time beyond 2106": ({"f.pcapng": pcapng(nano).replace(interface("<", 9), interface("<", 9, offset=2**33))}, "f.pcapng has a block that is damaged")}
+    cases = {"a gzip with another byte": ({"f.pcap.gz": packed[:3000] + bytes([packed[3000] ^ 255]) + packed[3001:]},
+                                          "f.pcap.gz can't be unpacked"),
+             "a gzip of nothing": ({"f.pcap.gz": gzip.compress(b"")}, "capture 1 torn-header"),
+             "a gzip in gzip": ({"f.pcap.gz": gzip.compress(packed)}, "capture 2 magic"),
+             "no zstd": ({"f.pcap.zst": bytes.fromhex("28b52ffd") + b"x" * 50}, "f.pcap.zst "),
+             "packets without times": ({"f.pcapng": section("<") + interface("<", 9) + block("<", 3, bytes(8))},
+                                       "f.pcapng has packets without a time"),
+             "milliseconds": ({"f.pcapng": pcapng(nano, resolution=3)}, "f.pcapng has times that are coarser"),
+             "no Ethernet": ({"f.pcapng": pcapng(nano, link=113)}, "capture 4 link"),
+             "two kinds of frames": ({"f.pcapng": pcapng(nano) + pcapng(nano, link=113)},
+                                     "f.pcapng has frames of several kinds"),
+             "other frames in the second": ({"f.pcap": nano, "g.pcapng": pcapng(nano, link=113)},
+                                            "g.pcapng has other frames than f.pcap"),
+             "no capture in the second": ({"f.pcap": nano, "g.pcap": b"x" * 100}, "g.pcap is no classic capture"),
+             "damage in the second": ({"f.pcap": nano[:24], "g.pcap": nano[:24] + b"\xff" * 16 + nano[24:]},
+                                      "g.pcap is damaged from byte 24 on"),
+             "many interfaces": ({"f.pcapng": section("<") + interface("<", 9) * 1001},
+                                 "f.pcapng has more than 1,000 interfaces"),
+             "a block that is too long": ({"f.pcapng": ng + struct.pack("<II", 5, 1 << 30)},
+                                          "f.pcapng is damaged at byte"),
+             "a length of 0": ({"f.pcapng": ng + bytes(40)}, "f.pcapng is damaged at byte"),
+             "a time beyond 2106": ({"f.pcapng": pcapng(nano).replace(interface("<", 9),
+                                                                      interface("<", 9, offset=2**33))},
+                                    "f.pcapng has a block that is damaged")}
     for name, (files, line) in cases.items():
         folder = packed_folder(place, name, files)
         status, out, err = dossier("audit", folder)
-        check(f"a hostile capture: {name}", status=(status, lambda status: status in (2, 70)), error=(err, b""), line=(line in out.decode(), True), lines=(out.count(b"\n"), 1), left=((folder / "joined.pcap").exists(), False))
+        check(f"a hostile capture: {name}", status=(status, lambda status: status in (2, 70)), error=(err, b""),
+              line=(line in out.decode(), True), lines=(out.count(b"\n"), 1),
+              left=((folder / "joined.pcap").exists(), False))
     rnd, folders = random.Random(7), []
     for number in range(60):
         data = bytearray(ng)
         for _ in range(rnd.choice((1, 1, 2, 5))):
             data[rnd.randrange(len(data))] = rnd.choice((0, 1, 127, 128, 255, rnd.randrange(256)))
-        folders.append(packed_folder(place, f"altered {number}", {"f.pcapng": bytes(data) if number % 2 else bytes(data[: rnd.randrange(len(data))])}))
+        folders.append(packed_folder(place, f"altered {number}",
+                                     {"f.pcapng": bytes(data) if number % 2
+                                      else bytes(data[: rnd.randrange(len(data))])}))
     status, out, err = dossier("audit", "--jobs", "2", *folders)
-    check("altered captures", error=(err, b""), lines=(len(out.splitlines()), 61), crashed=([line for line in out.decode().splitlines() if "worker" in line or "can't be worked on" in line], []))
+    check("altered captures", error=(err, b""), lines=(len(out.splitlines()), 61),
+          crashed=([line for line in out.decode().splitlines() if "worker" in line or "can't be worked on" in line],
+                   []))
     from dossier import captures
     from dossier.call import Caller
     from dossier.fault import Fault
@@ -317,8 +448,11 @@ def test_hostile_captures(place):
         seen.append(fault.words)
     finally:
         classic.MOST_RUNS = runs
-    check("times that go back and forth", said=(seen[1:], ["the times of the capture go back and forth between days too often"]), some=(kept > 3, True))
-    check("a gzip that grows", said=(seen[:1], ["bomb.pcap.gz is too big: it has more than 10,000,000 bytes"]), left=((place / "bomb.gz.unpacked").stat().st_size <= 10_000_000, True))
+    check("times that go back and forth",
+          said=(seen[1:], ["the times of the capture go back and forth between days too often"]), some=(kept > 3, True))
+    check("a gzip that grows", said=(seen[:1], ["bomb.pcap.gz is too big: it has more than 10,000,000 bytes"]),
+          left=((place / "bomb.gz.unpacked").stat().st_size <= 10_000_000, True))
 
 
-CAPTURE_TESTS = [test_people_have, test_many_files, test_units, test_torn, test_step, test_own_records, test_many_exchanges, test_remedies_work, test_hostile_captures]
+CAPTURE_TESTS = [test_people_have, test_many_files, test_joins, test_units, test_torn, test_step, test_own_records,
+                 test_many_exchanges, test_remedies_work, test_hostile_captures]

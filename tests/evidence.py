@@ -12,7 +12,8 @@ import time
 from datetime import datetime, timedelta, timezone
 from pathlib import Path
 
-from audits import ENVIRONMENT, PROGRAM, SCRIPT, capture_of, check, check_page, dossier, folder_of, parts_left, skipped, table
+from audits import (ENVIRONMENT, PROGRAM, SCRIPT, capture_of, check, check_page, dossier, folder_of, parts_left,
+                    skipped, table)
 from leaps import leap_list
 from tally import ROOT, run
 
@@ -34,36 +35,43 @@ def test_signatures(place):
     other, stranger = key_of(place, "mallory")
     signers = place / "signers"
     signers.write_text(line)
-    good, altered, unsigned, strange = folders = [folder_of(place, name) for name in ("good", "altered", "unsigned", "strange")]
+    good, altered, unsigned, strange = folders = [folder_of(place, name)
+                                                  for name in ("good", "altered", "unsigned", "strange")]
     dossier("audit", *folders)
-    check("sign", run=(dossier("sign", good, altered, "--key", key), (0, f"{good}: signed\n{altered}: signed\n".encode(), b"")),
+    check("sign",
+          run=(dossier("sign", good, altered, "--key", key), (0, f"{good}: signed\n{altered}: signed\n".encode(), b"")),
           left=(parts_left(place), []))
     check("sign by another key", status=(dossier("sign", strange, "--key", other)[0], 0))
     at = json.loads((good / "audit.json").read_text())["signed"]
     check("the time of a signature", seen=(at, re.compile(r"20\d\d-\d\d-\d\dT\d\d:\d\d:\d\dZ").fullmatch))
     status, out, _ = dossier("verify", *folders)
-    check("verify without signers", status=(status, 0), seen=(out.count(b"wasn't looked at"), 3), verified=(out.count(b": verified"), 4))
+    check("verify without signers", status=(status, 0), seen=(out.count(b"wasn't looked at"), 3),
+          verified=(out.count(b": verified"), 4))
     status, out, _ = dossier("verify", good, "--signers", signers)
     check("a good signature", status=(status, 0), verified=(f"{good}: verified\n" in out.decode(), True),
           who=(f"signed at {at} by alice@example.org, with the key ED25519 SHA256:" in out.decode(), True))
     record = (altered / "audit.json").read_text()
     (altered / "audit.json").write_text(record.replace('"version": "ntpaudit', '"version": "ntpaudi7'))
     said = {folder: dossier("verify", folder, "--signers", signers) for folder in folders}
-    check("an altered folder", status=(said[altered][0], 1), words=(b"the signature doesn't fit" in said[altered][1], True),
+    check("an altered folder", status=(said[altered][0], 1),
+          words=(b"the signature doesn't fit" in said[altered][1], True),
           unsigned=(b"nobody" in said[altered][1], False), verified=(b": verified" in said[altered][1], False))
     check("an unsigned folder", run=(said[unsigned], (1, f"{unsigned}: nobody signed it\n".encode(), b"")))
-    check("a stranger's signature", status=(said[strange][0], 1), words=(b"may not sign" in said[strange][1], True), named=(b"by mallory" in said[strange][1], False))
+    check("a stranger's signature", status=(said[strange][0], 1), words=(b"may not sign" in said[strange][1], True),
+          named=(b"by mallory" in said[strange][1], False))
     text = dossier("page", "--signers", signers, *folders)[1].decode()
     check_page("a page of signatures", text)
     day, hour = at[:10], at[11:19]
-    check("signer and time on a page", row=(f">alice@example.org <span>{day}</span> <span>{hour}</span></span></td>" in text, True),
+    check("signer and time on a page",
+          row=(f">alice@example.org <span>{day}</span> <span>{hour}</span></span></td>" in text, True),
           said=(f'<p class="signed">Signed at {at} by alice@example.org, with the key' in text, True),
           others=([text.count(f">{words}<") for words in ("nobody", "doesn\u2019t fit", "by a stranger")], [1, 1, 1]))
     rows = table(*folders, "--signers", signers)
     check("signatures as JSON", rows=([row["signature"] for row in rows], ["good", "unfit", "none", "stranger"]),
           signer=((rows[0]["signer"], rows[0]["signed_at"]), ("alice@example.org", at)))
     text = dossier("page", good, unsigned)[1].decode()
-    check("a page without signers", said=("wasn&#x27;t looked at" in text, True), row=(">not looked at<" in text, True), signer=("alice" in text, False))
+    check("a page without signers", said=("wasn&#x27;t looked at" in text, True), row=(">not looked at<" in text, True),
+          signer=("alice" in text, False))
     check("no column without a signature", seen=(">Signed<" in dossier("page", unsigned)[1].decode(), False))
 
 
@@ -82,14 +90,17 @@ def test_ended_keys(place):
         end = (at + timedelta(hours=5, seconds=ends)).strftime("%Y%m%d%H%M%S")
         (place / "signers").write_text(f'alice valid-before="{end}" {line.split(" ", 1)[1]}')
         time.sleep(max(0, (at + timedelta(seconds=ends + 1) - datetime.now(timezone.utc)).total_seconds()))
-        check(f"a key that ended just {name}", status=(dossier("verify", folder, "--signers", place / "signers", env=local)[0], wanted))
+        check(f"a key that ended just {name}",
+              status=(dossier("verify", folder, "--signers", place / "signers", env=local)[0], wanted))
     for forged, is_time in (("9999-99-99T99:99:99Z", False), ("9999-12-31T23:59:59Z", True), ("x", False)):
         (folder / "audit.json").write_text(json.dumps({**record, "signed": forged}))
-        check(f"a signature at {forged}", status=(dossier("verify", folder, "--signers", place / "signers")[0], 1 if is_time else 2))
+        check(f"a signature at {forged}",
+              status=(dossier("verify", folder, "--signers", place / "signers")[0], 1 if is_time else 2))
         (folder / "audit.json.sig").unlink()
         run(["ssh-keygen", "-q", "-Y", "sign", "-f", key, "-n", "ntpaudit-dossier", folder / "audit.json"])
         (place / "signers").write_text(line)
-        check(f"a signature by hand at {forged}", status=(dossier("verify", folder, "--signers", place / "signers")[0], 0 if is_time else 2))
+        check(f"a signature by hand at {forged}",
+              status=(dossier("verify", folder, "--signers", place / "signers")[0], 0 if is_time else 2))
 
 
 def test_allowed_signers(place):
@@ -102,21 +113,26 @@ def test_allowed_signers(place):
     folder = folder_of(place, "signed")
     dossier("audit", folder)
     dossier("sign", folder, "--key", key)
-    cases = {"two names": (f"alice,bob {kind}", 0, b"by alice, with"), "a pattern": (f"*@example.org {kind}", 0, b"by *@example.org, with"),
+    cases = {"two names": (f"alice,bob {kind}", 0, b"by alice, with"),
+             "a pattern": (f"*@example.org {kind}", 0, b"by *@example.org, with"),
              "this purpose": (f'alice namespaces="ntpaudit-dossier" {kind}', 0, b"by alice, with"),
              "another purpose": (f'alice namespaces="git" {kind}', 1, b"may not sign"),
              "a key that ended": (f'alice valid-before="20200101" {kind}', 1, b"key has expired"),
              "a key that ends later": (f'alice valid-before="20990101" {kind}', 0, b"by alice, with"),
-             "nobody": ("", 1, b"may not sign"), "no such file": ("garbage", 1, b"may not sign"), "an escape": (f"\x1b[31mred {kind}", 0, b"by \\x1b[31mred, with")}
+             "nobody": ("", 1, b"may not sign"), "no such file": ("garbage", 1, b"may not sign"),
+             "an escape": (f"\x1b[31mred {kind}", 0, b"by \\x1b[31mred, with")}
     for name, (text, wanted, words) in cases.items():
         (place / "signers").write_text(text)
         status, out, _ = dossier("verify", folder, "--signers", place / "signers")
-        check(f"allowed signers: {name}", status=(status, wanted), words=(words in out, True), escape=(b"\x1b" in out, False))
-    check("no file of signers", run=(dossier("verify", folder, "--signers", place / "missing")[::2],
-                                     (4, b"ntpaudit-dossier: the file of signers: missing can't be read (No such file or directory)\n")))
+        check(f"allowed signers: {name}", status=(status, wanted), words=(words in out, True),
+              escape=(b"\x1b" in out, False))
+    check("no file of signers",
+          run=(dossier("verify", folder, "--signers", place / "missing")[::2],
+               (4, b"ntpaudit-dossier: the file of signers: missing can't be read (No such file or directory)\n")))
     (place / "signers").write_text(line)
     purpose = ["ssh-keygen", "-q", "-Y", "sign", "-f", key, "-n", "file", folder / "audit.json"]
-    for name, forge in (("of another purpose", lambda: run(purpose)), ("of no form", lambda: (folder / "audit.json.sig").write_text("junk")),
+    for name, forge in (("of another purpose", lambda: run(purpose)),
+                        ("of no form", lambda: (folder / "audit.json.sig").write_text("junk")),
                         ("that is empty", lambda: (folder / "audit.json.sig").write_text(""))):
         (folder / "audit.json.sig").unlink()
         forge()
@@ -124,7 +140,8 @@ def test_allowed_signers(place):
         check(f"a signature {name}", status=(status, 1), words=(b"the signature doesn't fit" in out, True))
     (folder / "audit.json").write_text("{")
     status, out, _ = dossier("verify", folder, "--signers", place / "signers")
-    check("a signed folder whose record is gone", status=(status, 2), words=(b"the signature doesn't fit" in out and b"audit.json isn't one that is taken (no JSON)" in out, True))
+    check("a signed folder whose record is gone", status=(status, 2),
+          words=(b"the signature doesn't fit" in out and b"audit.json isn't one that is taken (no JSON)" in out, True))
 
 
 def test_signing_again(place):
@@ -135,36 +152,48 @@ def test_signing_again(place):
     key, line = key_of(place, "alice")
     (place / "signers").write_text(line)
     folder, signature = folder_of(place, "signed"), place / "signed" / "audit.json.sig"
-    check("nothing to sign", run=(dossier("sign", folder, "--key", key)[:2], (4, f"{folder}: ntpaudit-dossier: not audited\n".encode())))
+    check("nothing to sign",
+          run=(dossier("sign", folder, "--key", key)[:2], (4, f"{folder}: ntpaudit-dossier: not audited\n".encode())))
     dossier("audit", folder)
     before = (folder / "audit.json").read_bytes()
-    check("a key that isn't there", run=(dossier("sign", folder, "--key", place / "missing")[:2],
-                                         (4, f"{folder}: ntpaudit-dossier: ssh-keygen didn't sign it (status 255)\n".encode())),
+    check("a key that isn't there",
+          run=(dossier("sign", folder, "--key", place / "missing")[:2],
+               (4, f"{folder}: ntpaudit-dossier: ssh-keygen didn't sign it (status 255)\n".encode())),
           same=((folder / "audit.json").read_bytes() == before, True), left=(parts_left(place), []))
     dossier("sign", folder, "--key", key)
     if shutil.which("ssh-agent") and shutil.which("ssh-add"):
         held = folder_of(place, "held")
         dossier("audit", held)
-        by_agent = f'ssh-add -q "{key}" && mv "{key}" "{key}.away" && "{SCRIPT}" sign "{held}" --key "{key}.pub"; status=$?; mv "{key}.away" "{key}"; exit $status'
-        check("a key that an agent holds", run=(run(["ssh-agent", "sh", "-c", by_agent], env=ENVIRONMENT)[:2], (0, f"{held}: signed\n".encode())),
+        by_agent = (f'ssh-add -q "{key}" && mv "{key}" "{key}.away" && "{SCRIPT}" sign "{held}" --key "{key}.pub"; '
+                    f'status=$?; mv "{key}.away" "{key}"; exit $status')
+        check("a key that an agent holds",
+              run=(run(["ssh-agent", "sh", "-c", by_agent], env=ENVIRONMENT)[:2], (0, f"{held}: signed\n".encode())),
               verified=(dossier("verify", held, "--signers", place / "signers")[0], 0))
     check("signed already", status=(dossier("sign", folder, "--key", key)[0], 4))
     kept = {path.name: path.read_bytes() for path in folder.iterdir()}
-    check("a signed folder that is unchanged", run=(dossier("audit", folder)[:2], (0, f"yes           {folder}: least bound 0.619 ms, claimed 5 ms (unchanged)\n".encode())))
+    check("a signed folder that is unchanged",
+          run=(dossier("audit", folder)[:2],
+               (0, f"yes           {folder}: least bound 0.619 ms, claimed 5 ms (unchanged)\n".encode())))
     for words in (["--step", "4"], ["--days"]):
         status, out, _ = dossier("audit", *words, folder)
         check(f"a signed folder, audited with {words[0]}", status=(status, 5), told=(b"only with --again" in out, True),
               same=({path.name: path.read_bytes() for path in folder.iterdir()} == kept, True))
     status, out, _ = dossier("audit", "--again", folder)
-    check("a signed folder, audited again", status=(status, 0), told=(f"        {folder}: its signature was removed\n" in out.decode(), True),
+    check("a signed folder, audited again", status=(status, 0),
+          told=(f"        {folder}: its signature was removed\n" in out.decode(), True),
           gone=(signature.exists(), False), signed=(json.loads((folder / "audit.json").read_text())["signed"], ""))
     was = json.loads((folder / "audit.json").read_text())["entries"][0]["outputs"]["report.txt"][:16]
     (folder / "report.txt").write_text("")
     status, out, _ = dossier("sign", folder, "--key", key)
-    check("a changed folder isn't signed", run=((status, out), (1, f"{folder}: report.txt was changed since the audit (SHA-256 e3b0c44298fc1c14.., audit.json has SHA-256 {was}..)\n".encode())), gone=(signature.exists(), False))
+    check("a changed folder isn't signed",
+          run=((status, out),
+               (1,
+                f"{folder}: report.txt was changed since the audit (SHA-256 e3b0c44298fc1c14.., audit.json has "
+                f"SHA-256 {was}..)\n".encode())), gone=(signature.exists(), False))
     (folder / "claim.json").write_text("{}")
     dossier("audit", folder)
-    check("a refusal isn't signed", status=(dossier("sign", folder, "--key", key)[0], 4), gone=(signature.exists(), False))
+    check("a refusal isn't signed", status=(dossier("sign", folder, "--key", key)[0], 4),
+          gone=(signature.exists(), False))
     bare = place / "bin"
     bare.mkdir()
     for name in ("python3", "env"):
@@ -178,20 +207,27 @@ def test_signed_evidence(place):
     """evidence.json and the files that it names are signed too."""
     folder = folder_of(place, "evidence")
     dossier("audit", folder)
-    said = {"capture": "kept by Ann, see `kept.txt`.", "drift": "sheet.pdf, chrony.conf", "leap": f"{place}/beside.txt report.txt audit.json"}
+    said = {"capture": "kept by Ann, see `kept.txt`.", "drift": "sheet.pdf, chrony.conf",
+            "leap": f"{place}/beside.txt report.txt audit.json"}
     (folder / "evidence.json").write_text(json.dumps(said))
     for name in ("kept.txt", "sheet.pdf", "unnamed.txt", "../beside.txt"):
         (folder / name).write_text(name)
     status, out, _ = dossier("verify", folder)
     later = b"evidence.json is new"
-    check("evidence that came later", status=(status, 1), new=(b"evidence.json is new" in out, True), page=(later in dossier("page", folder)[1], True))
+    check("evidence that came later", status=(status, 1), new=(b"evidence.json is new" in out, True),
+          page=(later in dossier("page", folder)[1], True))
     dossier("audit", folder)
     check("evidence that was audited", page=(later in dossier("page", folder)[1], False))
     inputs = json.loads((folder / "audit.json").read_text())["inputs"]
-    check("sums of evidence", names=(sorted(inputs), ["claim.json", "evidence.json", "f.pcap", "kept.txt", "sheet.pdf"]))
+    check("sums of evidence",
+          names=(sorted(inputs), ["claim.json", "evidence.json", "f.pcap", "kept.txt", "sheet.pdf"]))
     check("verify of evidence", status=(dossier("verify", folder)[0], 0))
     (folder / "kept.txt").write_text("another")
-    check("evidence that was changed", run=(dossier("verify", folder)[:2], (1, f"{folder}: kept.txt isn't the file that was audited (SHA-256 ae448ac86c4e8e4d.., audit.json has SHA-256 {inputs['kept.txt'][:16]}..)\n".encode())))
+    check("evidence that was changed",
+          run=(dossier("verify", folder)[:2],
+               (1,
+                f"{folder}: kept.txt isn't the file that was audited (SHA-256 ae448ac86c4e8e4d.., audit.json has "
+                f"SHA-256 {inputs['kept.txt'][:16]}..)\n".encode())))
 
 
 def test_elsewhere(place):
@@ -199,7 +235,9 @@ def test_elsewhere(place):
     folder = folder_of(place, "elsewhere")
     dossier("audit", folder)
     record = json.loads((folder / "audit.json").read_text())
-    for change, where in (({"inputs": {**record["inputs"], "/dev/zero": "0"}}, "inputs /dev/zero"), ({"capture": "../elsewhere/f.pcap"}, "capture"), ({"inputs": 5}, "inputs"), ({"capture": None}, "capture")):
+    for change, where in (({"inputs": {**record["inputs"], "/dev/zero": "0"}}, "inputs /dev/zero"),
+                          ({"capture": "../elsewhere/f.pcap"}, "capture"), ({"inputs": 5}, "inputs"),
+                          ({"capture": None}, "capture")):
         (folder / "audit.json").write_text(json.dumps({**record, **change}))
         line = f"{folder}: ntpaudit-dossier: audit.json isn't one that is taken ({where})\n"
         check(f"a record with {change}", run=(dossier("verify", folder)[:2], (2, line.encode())))
@@ -211,23 +249,26 @@ def test_older_records(place):
     dossier("audit", folder)
     record = json.loads((folder / "audit.json").read_text())
     (folder / "audit.json").write_text(json.dumps({**record, "dossier": record["dossier"] - 1}))
-    check("an older record", verify=(dossier("verify", folder)[:2], (4, f"{folder}: ntpaudit-dossier: not audited\n".encode())),
-          sign=(dossier("sign", folder, "--key", "any")[0], 4), row=((table(folder)[0]["verdict"], "audit FOLDER" in table(folder)[0]["to_do"]), ("refused", True)))
+    check("an older record",
+          verify=(dossier("verify", folder)[:2], (4, f"{folder}: ntpaudit-dossier: not audited\n".encode())),
+          sign=(dossier("sign", folder, "--key", "any")[0], 4),
+          row=((table(folder)[0]["verdict"], "audit FOLDER" in table(folder)[0]["to_do"]), ("refused", True)))
     check("an older record is audited again", unchanged=(b"(unchanged)" in dossier("audit", folder)[1], False),
           form=(json.loads((folder / "audit.json").read_text())["dossier"], record["dossier"]))
 
 
 # ---- leap seconds
 
-MINUTE = {"client": "192.0.2.10", "servers": ["192.0.2.1"], "false_max": 0, "from": "2001-09-09T01:46:40Z", "to": "2001-09-09T01:47:44Z",
-          "bound_ns": 60_000_000, "drift_ppb": 100_000, "reading_ns": 0}
+MINUTE = {"client": "192.0.2.10", "servers": ["192.0.2.1"], "false_max": 0, "from": "2001-09-09T01:46:40Z",
+          "to": "2001-09-09T01:47:44Z", "bound_ns": 60_000_000, "drift_ppb": 100_000, "reading_ns": 0}
 FIRST, LAST = 1_000_000_000, 1_000_000_064
 
 
 def leap_of(folder, list_):
     status, out, _ = dossier("audit", "--leap-seconds", list_, folder)
     record = json.loads((folder / "audit.json").read_text())
-    return status, record["entries"][0]["leap"]["says"], [warning["kind"] for warning in record["entries"][0]["warnings"]], out
+    return status, record["entries"][0]["leap"]["says"], [warning["kind"]
+                                                          for warning in record["entries"][0]["warnings"]], out
 
 
 def test_leap_seconds(place):
@@ -235,30 +276,36 @@ def test_leap_seconds(place):
     within = capture_of(place / "within.pcap", f"1:-1000..1000@{FIRST + 10}", f"1:-1000..1000@{FIRST + 40}")
     folder = folder_of(place, "leap", within, **MINUTE)
     later = LAST + 10**7
-    cases = [("none", later, ()), ("expired", FIRST - 100, ()), ("expired", LAST, ()), ("none", later, ((FIRST - 1, 11),)),
-             ("within", later, ((FIRST, 11),)), ("within", FIRST - 10**6, ((FIRST + 30, 11),)), ("within", later, ((FIRST + 30, 9),)),
-             ("within", later, ((LAST + 1, 11),)), ("none", later, ((LAST + 2, 11),)), ("none", later, ((FIRST - 10**6, 11), (LAST + 10**6, 12)))]
+    cases = [("none", later, ()), ("expired", FIRST - 100, ()), ("expired", LAST, ()),
+             ("none", later, ((FIRST - 1, 11),)), ("within", later, ((FIRST, 11),)),
+             ("within", FIRST - 10**6, ((FIRST + 30, 11),)), ("within", later, ((FIRST + 30, 9),)),
+             ("within", later, ((LAST + 1, 11),)), ("none", later, ((LAST + 2, 11),)),
+             ("none", later, ((FIRST - 10**6, 11), (LAST + 10**6, 12)))]
     for number, (wanted, until, seconds) in enumerate(cases):
         list_ = leap_list(place / f"{number}.list", until, *seconds)
         status, says, kinds, out = leap_of(folder, list_)
-        check(f"leap seconds {wanted} until {until} {seconds}", status=(status, int(wanted != "none")), says=(says, wanted), warned=("leap-second" in kinds, wanted == "within"),
+        check(f"leap seconds {wanted} until {until} {seconds}", status=(status, int(wanted != "none")),
+              says=(says, wanted), warned=("leap-second" in kinds, wanted == "within"),
               again=(b"(unchanged)" in out, False), verified=(dossier("verify", "--leap-seconds", list_, folder)[0], 0))
         text = dossier("page", folder)[1].decode()
         page = "".join(check_page(f"a page with leap seconds {wanted}", text).words)
         day = datetime.fromtimestamp(until, timezone.utc).strftime("%Y-%m-%d")
         kind = "A second left out" if seconds and seconds[0][1] < 10 else "A leap second"
-        said = {"none": f"no leap second from 2001-09-09 01:46:39 to 2001-09-09 01:47:45, by the list {list_}", "expired": f"was good until {day} only",
+        said = {"none": f"no leap second from 2001-09-09 01:46:39 to 2001-09-09 01:47:45, by the list {list_}",
+                "expired": f"was good until {day} only",
                 "within": f"{kind} at the end of 2001-09-09 lies in the span or among the exchanges"}[wanted]
-        check(f"the page says {wanted} until {until} {seconds}", said=(said in page, True), until=(f"good until {day}" in page, wanted != "within"),
-              row=(table(folder)[0]["leap_seconds"], wanted))
-    around = capture_of(place / "around.pcap", f"1:-1000..1000@{FIRST - 100}", f"1:-1000..1000@{FIRST + 10}", f"1:-1000..1000@{LAST + 100}")
+        check(f"the page says {wanted} until {until} {seconds}", said=(said in page, True),
+              until=(f"good until {day}" in page, wanted != "within"), row=(table(folder)[0]["leap_seconds"], wanted))
+    around = capture_of(place / "around.pcap", f"1:-1000..1000@{FIRST - 100}", f"1:-1000..1000@{FIRST + 10}",
+                        f"1:-1000..1000@{LAST + 100}")
     wide = folder_of(place, "wide", around, **MINUTE)
     for time_, wanted in ((FIRST - 200, "none"), (FIRST - 50, "within"), (LAST + 50, "within"), (LAST + 200, "none")):
         says = leap_of(wide, leap_list(place / "wide.list", later, (time_, 11)))[1]
         check(f"a leap second at {time_} among exchanges", says=(says, wanted))
     day = folder_of(place, "days", around, **{**MINUTE, "from": "2001-09-08T01:46:40Z"})
     dossier("audit", "--days", "--leap-seconds", leap_list(place / "days.list", later, (LAST + 300, 11)), day)
-    check("leap seconds of days", says=([row["leap_seconds"] for row in table(day)], ["none", "none"]), verified=(dossier("verify", "--leap-seconds", place / "days.list", day)[0], 0))
+    check("leap seconds of days", says=([row["leap_seconds"] for row in table(day)], ["none", "none"]),
+          verified=(dossier("verify", "--leap-seconds", place / "days.list", day)[0], 0))
 
 
 def test_lists(place):
@@ -266,37 +313,60 @@ def test_lists(place):
     from dossier import leap
     from dossier.limit import Limit
     folder, good = folder_of(place, "lists"), leap_list(place / "good.list", 2_000_000_000)
-    spoilt = {"torn": good.read_text().rsplit("#h", 1)[0], "another sum": good.read_text().replace("# a day", "5 # a day").replace(" 10", " 11"), "empty": "",
+    spoilt = {"torn": good.read_text().rsplit("#h", 1)[0],
+              "another sum": good.read_text().replace("# a day", "5 # a day").replace(" 10", " 11"), "empty": "",
               "words": "#@ x\n", "bytes": "\udcff"}
     for name, text in spoilt.items():
         (place / "spoilt.list").write_text(text, errors="surrogateescape")
-        check(f"a list that is spoilt: {name}", run=(dossier("audit", "--leap-seconds", place / "spoilt.list", folder),
-                                                     (2, b"", b"ntpaudit-dossier: the list of leap seconds isn't one\n")))
-    check("a list that isn't there", run=(dossier("audit", "--leap-seconds", place / "missing", folder),
-                                          (4, b"", b"ntpaudit-dossier: the list of leap seconds: missing can't be read (No such file or directory)\n")))
+        check(f"a list that is spoilt: {name}",
+              run=(dossier("audit", "--leap-seconds", place / "spoilt.list", folder),
+                   (2, b"", b"ntpaudit-dossier: the list of leap seconds isn't one\n")))
+    check("a list that isn't there",
+          run=(dossier("audit", "--leap-seconds", place / "missing", folder),
+               (4, b"",
+                b"ntpaudit-dossier: the list of leap seconds: missing can't be read (No such file or directory)\n")))
 
     def is_unchanged(*words):
         return b"(unchanged)" in dossier("audit", *words, folder)[1]
     other = leap_list(place / "other.list", 2_100_000_000)
-    seen = [is_unchanged("--leap-seconds", good), is_unchanged("--leap-seconds", good), is_unchanged(), is_unchanged("--leap-seconds", other), is_unchanged()]
+    seen = [is_unchanged("--leap-seconds", good), is_unchanged("--leap-seconds", good), is_unchanged(),
+            is_unchanged("--leap-seconds", other), is_unchanged()]
     check("audited again for a list", seen=(seen, [False, True, True, False, True]))
     record = json.loads((folder / "audit.json").read_text())
     early = leap_list(place / "early.list", 1_700_000_000)
-    check("a list that ends earlier than the audit's", run=(dossier("verify", "--leap-seconds", early, folder)[:2], (0, f"{folder}: verified\n{folder}: (the list of leap seconds here ends before the span does)\n".encode())))
-    (folder / "audit.json").write_text(json.dumps({**record, "leap_seconds": {**record["leap_seconds"], "seconds": [[1795331020, 1]]}}))
+    check("a list that ends earlier than the audit's",
+          run=(dossier("verify", "--leap-seconds", early, folder)[:2],
+               (0,
+                f"{folder}: verified\n{folder}: (the list of leap seconds here ends before the span does)\n".encode())))
+    (folder / "audit.json").write_text(json.dumps({**record,
+                                                   "leap_seconds": {**record["leap_seconds"],
+                                                                    "seconds": [[1795331020, 1]]}}))
     status, out, _ = dossier("verify", "--leap-seconds", other, folder)
-    check("a list that was changed in a record", status=(status, 1), line=(b"audit.json: the list of leap seconds has [(1795331020, 1)] at its end" in out, True))
+    check("a list that was changed in a record", status=(status, 1),
+          line=(b"audit.json: the list of leap seconds has [(1795331020, 1)] at its end" in out, True))
     system, leap.SYSTEM = leap.SYSTEM, str(place / "missing")
     none = leap.read_list(None, Limit())
     leap.SYSTEM = system
-    check("no list", seen=((none.file, none.fault), (str(place / "missing"), "the list of leap seconds: missing can't be read (No such file or directory)")))
+    check("no list",
+          seen=((none.file, none.fault),
+                (str(place / "missing"),
+                 "the list of leap seconds: missing can't be read (No such file or directory)")))
     entry = record["entries"][0]
-    unknown = {**entry, "leap": {**entry["leap"], "says": "no list"}, "warnings": [*entry["warnings"][:-1], {"kind": "no-list"}, *entry["warnings"][-1:]]}
-    (folder / "audit.json").write_text(json.dumps({**record, "leap_seconds": {"file": none.file, "fault": none.fault}, "entries": [unknown]}))
+    unknown = {**entry, "leap": {**entry["leap"], "says": "no list"},
+               "warnings": [*entry["warnings"][:-1], {"kind": "no-list"}, *entry["warnings"][-1:]]}
+    (folder / "audit.json").write_text(json.dumps({**record, "leap_seconds": {"file": none.file, "fault": none.fault},
+                                                   "entries": [unknown]}))
     text = dossier("page", "--verify", folder)[1].decode()
-    check("no list in the table", row=([table(folder)[0]["verdict"], any(words.startswith("Nothing is known of leap seconds") for words in table(folder)[0]["warnings"])], ["yes", True]))
-    check("no list on the page", said=("nothing, since the list of leap seconds: missing can&#x27;t be read" in text, True),
-          verified=(dossier("verify", folder)[:2], (0, f"{folder}: verified\n{folder}: (nothing is known of leap seconds, since there is no list of them)\n".encode())))
+    check("no list in the table",
+          row=([table(folder)[0]["verdict"],
+                any(words.startswith("Nothing is known of leap seconds") for words in table(folder)[0]["warnings"])],
+               ["yes", True]))
+    check("no list on the page",
+          said=("nothing, since the list of leap seconds: missing can&#x27;t be read" in text, True),
+          verified=(dossier("verify", folder)[:2],
+                    (0,
+                     f"{folder}: verified\n{folder}: (nothing is known of leap seconds, since there is no list of "
+                     "them)\n".encode())))
 
 
 # ---- what is measured
@@ -306,7 +376,8 @@ def why_no_recording(*user):
     """Why tcpdump can't record here, as a user that these words call it by; nothing if it can."""
     if not shutil.which("tcpdump"):
         return "tcpdump isn't installed"
-    ran = run([*user, "tcpdump", "-i", "lo", "-c", "1", "-w", "-", "udp and port 123 and port 124"], timeout=2)  # (it gives a file that it writes to its own user)
+    # (a file that it writes it gives to its own user)
+    ran = run([*user, "tcpdump", "-i", "lo", "-c", "1", "-w", "-", "udp and port 123 and port 124"], timeout=2)
     return "" if ran[0] == "no end" else "there is no right to record"
 
 
@@ -320,14 +391,19 @@ def test_measure(place):
         found = json.loads((place / "measured.json").read_text())
         numbers = dict(line.split() for line in out.decode().splitlines()[1:6])
         order = [int(numbers[name]) for name in ("least", "median", "percent_99", "greatest")]
-        check(f"measure {words}", status=(status, 0), error=(err, b""), order=(order == sorted(order) and 0 < order[0] < 10**9, True),
-              packets=(out.startswith(b"packets 40 on lo"), True), load=((found["busy"] > 0, b"busy process" in out), (number == 1,) * 2),
-              same=([str(found[f"{name}_ns"]) for name in ("least", "median", "percent_99", "greatest", "reading")], list(numbers.values())),
-              reading=(found["reading_ns"] >= max(100_000, found["greatest_ns"]), True), unsaid=(b"Nothing was measured of what is received" in out or b"nothing was measured of what is received" in out, True),
-              left=(run(["pgrep", "-f", f"{place}"])[1], b""))
-    for words, line in ((["--interface", "nope"], b"nothing can be sent by nope"), (["--count", "5"], b"a number from 10 to 100000")):
+        check(f"measure {words}", status=(status, 0), error=(err, b""),
+              order=(order == sorted(order) and 0 < order[0] < 10**9, True),
+              packets=(out.startswith(b"packets 40 on lo"), True),
+              load=((found["busy"] > 0, b"busy process" in out), (number == 1,) * 2),
+              same=([str(found[f"{name}_ns"]) for name in ("least", "median", "percent_99", "greatest", "reading")],
+                    list(numbers.values())), reading=(found["reading_ns"] >= max(100_000, found["greatest_ns"]), True),
+              unsaid=(b"Nothing was measured of what is received" in out or b"nothing was measured of what is received"
+                      in out, True), left=(run(["pgrep", "-f", f"{place}"])[1], b""))
+    for words, line in ((["--interface", "nope"], b"nothing can be sent by nope"),
+                        (["--count", "5"], b"a number from 10 to 100000")):
         status, out, err = dossier("measure", *words)
-        check(f"measure {words}", status=(status, lambda status: status in (4, 5)), line=(line in err and err.count(b"\n") == 1, True), output=(out, b""))
+        check(f"measure {words}", status=(status, lambda status: status in (4, 5)),
+              line=(line in err and err.count(b"\n") == 1, True), output=(out, b""))
 
 
 def test_measuring(place):
@@ -345,10 +421,14 @@ def test_measuring(place):
             return False
     with load(2) as busy:
         time.sleep(0.3)
-        used = [sum(map(int, Path(f"/proc/{process}/stat").read_text().rsplit(")", 1)[1].split()[11:13])) for process in busy]
-    check("processors that are kept busy", used=(len(used) == 2 and min(used) > 0, True), left=([process for process in busy if Path(f"/proc/{process}").exists()], []))
-    check("delays", seen=(matched([100, 200], {2: 205, 1: 103, 9: 1}), [3, 5]), some=(matched([100] * 10, {k: 101 for k in range(1, 10)}), [1] * 9))
-    for name, sent, times in (("a packet that wasn't recorded", [100, 200], {1: 103}), ("a clock that was set", [100, 200], {1: 103, 2: 199})):
+        used = [sum(map(int, Path(f"/proc/{process}/stat").read_text().rsplit(")", 1)[1].split()[11:13]))
+                for process in busy]
+    check("processors that are kept busy", used=(len(used) == 2 and min(used) > 0, True),
+          left=([process for process in busy if Path(f"/proc/{process}").exists()], []))
+    check("delays", seen=(matched([100, 200], {2: 205, 1: 103, 9: 1}), [3, 5]),
+          some=(matched([100] * 10, {k: 101 for k in range(1, 10)}), [1] * 9))
+    for name, sent, times in (("a packet that wasn't recorded", [100, 200], {1: 103}),
+                              ("a clock that was set", [100, 200], {1: 103, 2: 199})):
         try:
             seen = matched(sent, times)
         except Fault as fault:
@@ -356,10 +436,12 @@ def test_measuring(place):
         check(f"delays with {name}", seen=(seen, 4))
     small = Measurement("lo", 1000, 0, 1, 2, 3, 99, 100_000, "web-1", "6.1", "2026-11-25T12:00:00Z", "reading")
     large = replace(small, greatest_ns=123_456, reading_ns=130_000, busy=1)
-    check("the reason of a reading", small=("no less than 100,000" in small.why, True), large=("no less" in large.why, False),
-          line=(large.lines()[0], "packets 1000 on lo, beside 1 busy process"))
-    check("a measurement in a file", same=(is_measurement(asdict(small)), True), other=([is_measurement(value) for value in (
-        {}, {**asdict(small), "kind": "drift"}, {**asdict(small), "least_ns": "<b>"}, {**asdict(small), "machine": 1}, {**asdict(small), "more": 1})], [False] * 5))
+    check("the reason of a reading", small=("no less than 100,000" in small.why, True),
+          large=("no less" in large.why, False), line=(large.lines()[0], "packets 1000 on lo, beside 1 busy process"))
+    check("a measurement in a file", same=(is_measurement(asdict(small)), True),
+          other=([is_measurement(value)
+                  for value in ({}, {**asdict(small), "kind": "drift"}, {**asdict(small), "least_ns": "<b>"},
+                                {**asdict(small), "machine": 1}, {**asdict(small), "more": 1})], [False] * 5))
     folder = folder_of(place, "measured")
     (folder / "evidence.json").write_text(json.dumps({"reading": "measured.json, by Ann"}))
     for found, is_more in ((replace(small, machine="<b>web"), False), (large, True)):
@@ -367,13 +449,18 @@ def test_measuring(place):
         dossier("audit", folder)
         text = dossier("page", folder)[1].decode()
         said = "".join(check_page("a page with a measurement", text).words)
-        check("a measurement on a page", said=(f"{found.greatest_ns} at the most" in said.replace(",", ""), True), machine=(f"that {found.machine} sent itself" in said, True),
-              more=("That is more than the claim grants." in said, is_more), where=("measured.json, by Ann" in said, True))
-    for name, (text, status, reading) in {"a measurement": (json.dumps(asdict(large)), 0, 130_000), "what is none": ("{}", 2, None), "nothing": ("", 2, None)}.items():
+        check("a measurement on a page", said=(f"{found.greatest_ns} at the most" in said.replace(",", ""), True),
+              machine=(f"that {found.machine} sent itself" in said, True),
+              more=("That is more than the claim grants." in said, is_more),
+              where=("measured.json, by Ann" in said, True))
+    for name, (text, status, reading) in {"a measurement": (json.dumps(asdict(large)), 0, 130_000),
+                                          "what is none": ("{}", 2, None), "nothing": ("", 2, None)}.items():
         (place / "measured.json").write_text(text)
         got, claim, err = drafted(folder / "f.pcap", "--measured", place / "measured.json")
-        check(f"a draft by {name}", status=(got, status), reading=(claim.get("reading_ns"), reading), said=(f"reading_ns is 130000: 1,000 packets that web-1" in err, not status))
-    check("a draft by a number and a measurement", status=(drafted(folder / "f.pcap", "--measured", place / "measured.json", "--reading-ns", "5")[0], 5))
+        check(f"a draft by {name}", status=(got, status), reading=(claim.get("reading_ns"), reading),
+              said=("reading_ns is 130000: 1,000 packets that web-1" in err, not status))
+    check("a draft by a number and a measurement",
+          status=(drafted(folder / "f.pcap", "--measured", place / "measured.json", "--reading-ns", "5")[0], 5))
     (folder / "measured.json").write_text(json.dumps({**asdict(small), "greatest_ns": 1}))
     check("a measurement that was changed", shown=(b"Measured:" in dossier("page", folder)[1], False))
 
@@ -389,19 +476,23 @@ def test_measure_broken_off(place):
     """Ctrl-C in `measure` prints one line, whatever it keeps busy."""
     (place / "tcpdump").write_text(STILL)
     (place / "tcpdump").chmod(0o755)
-    call = subprocess.Popen([SCRIPT, "measure", "--load", "--count", "100000"], env={**ENVIRONMENT, "PATH": f"{place}:{os.environ['PATH']}"},
-                            stdout=subprocess.PIPE, stderr=subprocess.PIPE, start_new_session=True)
+    call = subprocess.Popen([SCRIPT, "measure", "--load", "--count", "100000"],
+                            env={**ENVIRONMENT, "PATH": f"{place}:{os.environ['PATH']}"}, stdout=subprocess.PIPE,
+                            stderr=subprocess.PIPE, start_new_session=True)
     time.sleep(1.5)
     os.killpg(call.pid, signal.SIGINT)
     out, err = call.communicate(timeout=60)
-    check("Ctrl-C in measure", status=(call.returncode, 130), said=((out, err), (b"", b"ntpaudit-dossier: broken off; what is done isn't done again by the next call\n")))
+    check("Ctrl-C in measure", status=(call.returncode, 130),
+          said=((out, err), (b"", b"ntpaudit-dossier: broken off; what is done isn't done again by the next call\n")))
 
 
 def test_no_route(place):
     """Where nothing can be sent, or nothing leaves, the line says why."""
     from dossier.fault import Fault
     from dossier.measuring import matched
-    for interface, said in (("eth7", "0 of 9 packets were recorded, so nothing is measured: no route to 192.0.2.1 leads over eth7, or nobody answers for its gateway"),
+    for interface, said in (("eth7",
+                             "0 of 9 packets were recorded, so nothing is measured: no route to 192.0.2.1 leads over "
+                             "eth7, or nobody answers for its gateway"),
                             ("lo", "0 of 9 packets were recorded, so nothing is measured")):
         try:
             seen = matched([1] * 9, {}, interface)
@@ -411,9 +502,12 @@ def test_no_route(place):
     if run(["unshare", "-n", "true"])[0] or not shutil.which("ip") or why_no_recording():
         skipped("measure without a route", "there are no namespaces, no ip, or no right to record")
         return
-    make = "ip link add one type veth peer name two && ip link set one up && ip link set two up && ip addr add 10.1.1.1/24 dev one"
-    status, out, err = run(["unshare", "-n", "sh", "-c", f'{make} && exec "$0" measure --interface one --count 10', SCRIPT], env=ENVIRONMENT)
-    check("measure without a route", run=((status, out, err.count(b"\n")), (4, b"", 1)), said=(b"no route to 192.0.2.1 leads over" in err, True))
+    make = ("ip link add one type veth peer name two && ip link set one up && ip link set two up && ip addr add "
+            "10.1.1.1/24 dev one")
+    status, out, err = run(["unshare", "-n", "sh", "-c", f'{make} && exec "$0" measure --interface one --count 10',
+                            SCRIPT], env=ENVIRONMENT)
+    check("measure without a route", run=((status, out, err.count(b"\n")), (4, b"", 1)),
+          said=(b"no route to 192.0.2.1 leads over" in err, True))
 
 
 def test_no_right(place):
@@ -423,16 +517,22 @@ def test_no_right(place):
         skipped("measure without the right to record", "tcpdump or setpriv isn't installed")
         return
     if run([*nobody, "cat", SCRIPT])[0] or run([*nobody, PROGRAM, "--version"])[0] or not why_no_recording(*nobody):
-        skipped("measure without the right to record", "there is no user without that right who may read the repository")
+        skipped("measure without the right to record",
+                "there is no user without that right who may read the repository")
         return
-    check("measure without the right", run=(run([*nobody, SCRIPT, "measure", "--count", "10"], env=ENVIRONMENT), (4, b"", (
-        b"ntpaudit-dossier: there is no right to record on lo: it takes root, or the capability CAP_NET_RAW for tcpdump\n"))))
+    check("measure without the right",
+          run=(run([*nobody, SCRIPT, "measure", "--count", "10"], env=ENVIRONMENT),
+               (4, b"",
+                (b"ntpaudit-dossier: there is no right to record on lo: it takes root, or the capability "
+                 b"CAP_NET_RAW for tcpdump\n"))))
     bare = place / "bin"
     bare.mkdir()
     for name in ("python3", "env"):
         (bare / name).symlink_to(shutil.which(name))
     status, out, err = dossier("measure", "--count", "10", env={**ENVIRONMENT, "PATH": str(bare)})
-    check("measure without tcpdump", run=((status, out, err), (70, b"", b"ntpaudit-dossier: tcpdump isn't installed, which records the packets\n")))
+    check("measure without tcpdump",
+          run=((status, out, err),
+               (70, b"", b"ntpaudit-dossier: tcpdump isn't installed, which records the packets\n")))
 
 
 # ---- what a client's configuration says
@@ -455,74 +555,106 @@ def test_client(place):
     chrony, tracking = ("--chrony", CLIENT / "chrony.conf"), ("--tracking", CLIENT / "tracking.log")
     status, claim, err = drafted(capture, *chrony, *tracking, "--evidence", place / "drift.json")
     check("a draft by chrony.conf", status=(status, 0), drift=(claim["drift_ppb"], 600_000),
-          said=("chrony.conf: maxslewrate 500, so chronyd slews by 500,000 parts in 10^9 at the most; makestep 0.1 3; leapsecmode slew; no hwtimestamp." in err, True),
-          step=("in the first 3 updates after its start if it is off by more than 0.1 s" in err, True), no_step=("; no step." in err, True))
-    rates = [float(line.split()[4]) for line in (CLIENT / "tracking.log").read_text().splitlines() if "127.0.0.1" in line]
+          said=("chrony.conf: maxslewrate 500, so chronyd slews by 500,000 parts in 10^9 at the most; makestep 0.1 3; "
+                "leapsecmode slew; no hwtimestamp." in err, True),
+          step=("in the first 3 updates after its start if it is off by more than 0.1 s" in err, True),
+          no_step=("; no step." in err, True))
+    rates = [float(line.split()[4]) for line in (CLIENT / "tracking.log").read_text().splitlines() if "127.0.0.1"
+             in line]
     change = max(abs(b - a) for a, b in zip(rates, rates[1:]))
-    log = (f"tracking.log, as chronyd wrote it: {len(rates)} updates from 2026-11-25 13:02:51 to 2026-11-25 13:02:59, its frequency from {min(rates):.3f} to "
-           f"{max(rates):.3f} ppm, with {change:.3f} ppm at the most")
+    log = (f"tracking.log, as chronyd wrote it: {len(rates)} updates from 2026-11-25 13:02:51 to 2026-11-25 13:02:59, "
+           f"its frequency from {min(rates):.3f} to " f"{max(rates):.3f} ppm, with {change:.3f} ppm at the most")
     check("what tracking.log says", said=(log in err, True))
-    (place / "falling.log").write_text("".join(f"2026-11-25 13:02:{50 + k} 127.0.0.1  2  {rate}  1.946 -6.850e-07 N  1\n" for k, rate in enumerate(("1.500", "2.000", "-1.750"))))
-    check("a frequency that falls", said=("from -1.750 to 2.000 ppm, with 3.750 ppm at the most" in drafted(capture, *chrony, "--tracking", place / "falling.log")[2], True))
-    configurations = {
-        "": (83_433_334, "maxslewrate isn't set, so chronyd slews by 83,333,334 parts"), "MaxSlewRate 100.0001": (200_001, "maxslewrate 100.0001"),
-        "maxslewrate 500\n! maxslewrate 5\n  # maxslewrate 6\n; x\n% y\nmaxslewrate 1000": (1_100_000, "maxslewrate 1000"),
-        "makestep 1 -1": (83_433_334, "chronyd steps the clock at any time if it is off by more than 1 s"),
-        "hwtimestamp eth0\nhwtimestamp eth1": (83_433_334, "hwtimestamp eth0 eth1"), "confdir /etc/chrony/conf.d": (83_433_334, "takes in /etc/chrony/conf.d besides, which wasn't read"),
-        "maxslewrate": (None, "maxslewrate has no number"), "maxslewrate x": (None, "maxslewrate has no number"), "makestep 1": (None, "makestep has no number"),
-        "maxslewrate 500000": (None, "more than a claim can grant")}
+    (place / "falling.log").write_text("".join(f"2026-11-25 13:02:{50 + k} 127.0.0.1  2  {rate}  1.946 -6.850e-07 N  "
+                                               "1\n" for k, rate in enumerate(("1.500", "2.000", "-1.750"))))
+    check("a frequency that falls",
+          said=("from -1.750 to 2.000 ppm, with 3.750 ppm at the most"
+                in drafted(capture, *chrony, "--tracking", place / "falling.log")[2], True))
+    configurations = {"": (83_433_334, "maxslewrate isn't set, so chronyd slews by 83,333,334 parts"),
+                      "MaxSlewRate 100.0001": (200_001, "maxslewrate 100.0001"),
+                      "maxslewrate 500\n! maxslewrate 5\n  # maxslewrate 6\n; x\n% y\nmaxslewrate 1000":
+                          (1_100_000, "maxslewrate 1000"),
+                      "makestep 1 -1": (83_433_334,
+                                        "chronyd steps the clock at any time if it is off by more than 1 s"),
+                      "hwtimestamp eth0\nhwtimestamp eth1": (83_433_334, "hwtimestamp eth0 eth1"),
+                      "confdir /etc/chrony/conf.d": (83_433_334,
+                                                     "takes in /etc/chrony/conf.d besides, which wasn't read"),
+                      "maxslewrate": (None, "maxslewrate has no number"),
+                      "maxslewrate x": (None, "maxslewrate has no number"),
+                      "makestep 1": (None, "makestep has no number"),
+                      "maxslewrate 500000": (None, "more than a claim can grant")}
     for text, (drift, words) in configurations.items():
         (place / "chrony.conf").write_text(text)
         status, claim, err = drafted(capture, "--chrony", place / "chrony.conf")
-        check(f"chrony.conf: {text!r}", status=(status, 2 if drift is None else 0), drift=(claim.get("drift_ppb"), drift), said=(words in err, True))
-    for text, words in (("", "steps from 0.128 s on"), ("tinker panic 0 step 0.5 # x", "steps from 0.5 s on"), ("tinker step 0", "no steps (tinker step 0)"), ("# tinker step 0", "0.128 s")):
+        check(f"chrony.conf: {text!r}", status=(status, 2 if drift is None else 0),
+              drift=(claim.get("drift_ppb"), drift), said=(words in err, True))
+    for text, words in (("", "steps from 0.128 s on"), ("tinker panic 0 step 0.5 # x", "steps from 0.5 s on"),
+                        ("tinker step 0", "no steps (tinker step 0)"), ("# tinker step 0", "0.128 s")):
         (place / "ntp.conf").write_text(text)
         status, claim, err = drafted(capture, "--ntpd", place / "ntp.conf", "--oscillator-ppb", "50000")
         check(f"ntp.conf: {text!r}", status=(status, 0), drift=(claim["drift_ppb"], 550_000), said=(words in err, True))
-    check("a drift of one's own", drift=(drafted(capture, *chrony, "--drift-ppb", "7")[1]["drift_ppb"], 7), plain=(drafted(capture)[1]["drift_ppb"], 100_000))
+    check("a drift of one's own", drift=(drafted(capture, *chrony, "--drift-ppb", "7")[1]["drift_ppb"], 7),
+          plain=(drafted(capture)[1]["drift_ppb"], 100_000))
     for words in (tracking, ("--evidence", place / "x"), ("--ntpd", "a", *tracking), (*chrony, "--ntpd", "a")):
         check(f"a draft with {words[0]} alone", status=(drafted(capture, *words)[0], 5))
-    check("no configuration", status=(drafted(capture, "--chrony", place / "missing")[0], 4), log=(drafted(capture, *chrony, "--tracking", CLIENT / "chrony.conf")[0], 2))
+    check("no configuration", status=(drafted(capture, "--chrony", place / "missing")[0], 4),
+          log=(drafted(capture, *chrony, "--tracking", CLIENT / "chrony.conf")[0], 2))
 
 
 def test_steps(place):
     """Steps of a log: those inside the span are warned of, in a draft and on the page."""
     stepping, chrony = CLIENT / "stepping.log", CLIENT / "chrony.conf"
-    steps = [line.split()[1] for line in stepping.read_text().splitlines() if line[:1] == "2" and abs(float(line.split()[6])) > 0.1]
+    steps = [line.split()[1] for line in stepping.read_text().splitlines() if line[:1] == "2"
+             and abs(float(line.split()[6])) > 0.1]
     check("steps in the log", some=(len(steps) > 3, True))
     messages = place / "messages.log"
-    messages.write_text("2026-11-25T13:04:40Z Selected source 127.0.0.1\n2026-11-25T15:04:41.5+02:00 vm chronyd[9]: System clock was stepped by -0.250000 seconds\n")
+    messages.write_text("2026-11-25T13:04:40Z Selected source 127.0.0.1\n2026-11-25T15:04:41.5+02:00 vm chronyd[9]: "
+                        "System clock was stepped by -0.250000 seconds\n")
     falls = place / "falls.log"
-    falls.write_text("".join(f"2026-11-25 13:{minute}:00 127.0.0.1        2     -1.556      1.946 -6.850e-07 N  1\n" for minute in ("04", "03", "05")))
+    falls.write_text("".join(f"2026-11-25 13:{minute}:00 127.0.0.1        2     -1.556      1.946 -6.850e-07 N  1\n"
+                             for minute in ("04", "03", "05")))
     spans = {"around": ("13:04:30", "13:04:50"), "after": ("13:08:00", "13:08:10")}
     for name, (first, last) in spans.items():
         capture = capture_of(place / f"{name}.pcap", f"1:-1000..1000@{unix(first)}", f"1:-1000..1000@{unix(last)}")
-        for log, words, count in ((stepping, f"(an offset beyond makestep's threshold) is inside the span", len(steps)), (falls, "A step at 2026-11-25 13:03:00 (the times of the log fall back)", 0),
-                                  (messages, "A step of -0.250000 s at 2026-11-25 13:04:41 (it says so) is inside the span", 1)):
+        for log, words, count in ((stepping, "(an offset beyond makestep's threshold) is inside the span", len(steps)),
+                                  (falls, "A step at 2026-11-25 13:03:00 (the times of the log fall back)", 0),
+                                  (messages,
+                                   "A step of -0.250000 s at 2026-11-25 13:04:41 (it says so) is inside the span", 1)):
             status, _, err = drafted(capture, "--chrony", chrony, "--tracking", log, "--evidence", place / "drift.json")
-            check(f"steps of {log.name}, {name}", status=(status, 0), count=(err.count(words), count if name == "around" else 0),
-                  all=(f"{len(steps) if log == stepping else 1} step" in err, True), cover=("doesn't cover the whole span" in err, log != falls or name == "after"))
+            check(f"steps of {log.name}, {name}", status=(status, 0),
+                  count=(err.count(words), count if name == "around" else 0),
+                  all=(f"{len(steps) if log == stepping else 1} step" in err, True),
+                  cover=("doesn't cover the whole span" in err, log != falls or name == "after"))
     from dossier.tracking import cautions, read_tracking
     log = read_tracking([str(stepping)], None)
     first, last = unix("13:04:41"), unix("13:04:44")
-    check("what a log covers", seen=([bool(cautions(log, first + a, last + b)) for a, b in ((0, 0), (-1, 0), (0, 2), (1, -1))], [False, True, True, False]))
+    check("what a log covers",
+          seen=([bool(cautions(log, first + a, last + b)) for a, b in ((0, 0), (-1, 0), (0, 2), (1, -1))],
+                [False, True, True, False]))
     quiet = place / "quiet.conf"
     quiet.write_text("maxslewrate 500")
-    check("no makestep, no steps", said=("; no step." in drafted(capture, "--chrony", quiet, "--tracking", stepping)[2], True))
-    folder = folder_of(place, "client", place / "around.pcap", **{**MINUTE, "from": "2026-11-25T13:04:41Z", "to": "2026-11-25T13:04:49Z"})
+    check("no makestep, no steps",
+          said=("; no step." in drafted(capture, "--chrony", quiet, "--tracking", stepping)[2], True))
+    folder = folder_of(place, "client", place / "around.pcap",
+                       **{**MINUTE, "from": "2026-11-25T13:04:41Z", "to": "2026-11-25T13:04:49Z"})
     drafted(place / "around.pcap", "--chrony", chrony, "--tracking", messages, "--evidence", folder / "drift.json")
     (folder / "evidence.json").write_text(json.dumps({"drift": "drift.json"}))
     dossier("audit", folder)
     said = "".join(check_page("a page of a client", dossier("page", folder)[1].decode()).words)
-    check("a client on a page", read=("Read:chrony.conf: maxslewrate 500" in said.replace("Read: ", "Read:"), True), step=("A step of \u22120.250000 s at 2026-11-25 13:04:41 (it says so) is inside the span." in said, True),
-          more=("That is more than the claim grants." in said, True), log=("messages.log, as chronyd wrote it" in said, True))
+    check("a client on a page", read=("Read:chrony.conf: maxslewrate 500" in said.replace("Read: ", "Read:"), True),
+          step=("A step of \u22120.250000 s at 2026-11-25 13:04:41 (it says so) is inside the span." in said, True),
+          more=("That is more than the claim grants." in said, True),
+          log=("messages.log, as chronyd wrote it" in said, True))
     kept = json.loads((folder / "drift.json").read_text())
-    for name, value in (("tracking", {"files": 1}), ("configuration", {}), ("configuration", {**kept["configuration"], "slew_ppb": "x"}), ("drift_ppb", 1), ("kind", "reading"),
-                        ("tracking", {**kept["tracking"], "steps": [[1, 2]]}), ("oscillator_ppb", None)):
+    for name, value in (("tracking", {"files": 1}), ("configuration", {}),
+                        ("configuration", {**kept["configuration"], "slew_ppb": "x"}), ("drift_ppb", 1),
+                        ("kind", "reading"), ("tracking", {**kept["tracking"], "steps": [[1, 2]]}),
+                        ("oscillator_ppb", None)):
         (folder / "drift.json").write_text(json.dumps({**kept, name: value}))
         dossier("audit", folder)
         status, out, _ = dossier("page", folder)
-        check(f"evidence of another form: {name} {value}", status=(status, 0), shown=(b"<b>Read:" in out, False), page=(b'class="verdict refused"' in out, False))
+        check(f"evidence of another form: {name} {value}", status=(status, 0), shown=(b"<b>Read:" in out, False),
+              page=(b'class="verdict refused"' in out, False))
 
 
 # ---- copies
@@ -534,14 +666,22 @@ def test_copies(place):
     bare = {name: value for name, value in ENVIRONMENT.items() if name != "NTPAUDIT"} | {"PATH": "/usr/bin:/bin"}
     folder = folder_of(place, "host")
     called = [place / "ntpaudit-dossier", "audit", folder]
-    check("a script alone", run=(run(called, env=bare), (70, b"", (f"ntpaudit-dossier: {place}/dossier is missing: copy that folder of the repository beside this "
-                                                                 "script, and set NTPAUDIT to the path of the program ntpaudit\n").encode())))
+    check("a script alone",
+          run=(run(called, env=bare),
+               (70, b"",
+                (f"ntpaudit-dossier: {place}/dossier is missing: copy that folder of the repository " "beside this "
+                 "script, and set NTPAUDIT to the path of the program ntpaudit\n").encode())))
     shutil.copytree(ROOT / "dossier", place / "dossier", ignore=shutil.ignore_patterns("__pycache__"))
     if not shutil.which("ntpaudit", path=bare["PATH"]):
-        check("a script without the program", run=(run(called, env=bare), (70, b"", (
-            b"ntpaudit: the program is not there (neither beside ntpaudit-dossier nor on the PATH): set NTPAUDIT to its path\n"))))
+        check("a script without the program",
+              run=(run(called, env=bare),
+                   (70, b"",
+                    (b"ntpaudit: the program is not there (neither beside ntpaudit-dossier nor on the PATH): set "
+                     b"NTPAUDIT to its path\n"))))
     missing = run(called, env={**bare, "NTPAUDIT": str(place / "missing")})
-    check("a program that isn't there", run=(missing, (70, b"", f"ntpaudit: the program is not there ({place}/missing): set NTPAUDIT to its path\n".encode())))
+    check("a program that isn't there",
+          run=(missing,
+               (70, b"", f"ntpaudit: the program is not there ({place}/missing): set NTPAUDIT to its path\n".encode())))
     check("a script with NTPAUDIT", status=(run(called, env={**bare, "NTPAUDIT": PROGRAM})[0], 0))
     shutil.copy(PROGRAM, place / "ntpaudit")
     check("a script beside the program", status=(run([*called, "--again"], env=bare)[0], 0))
@@ -554,8 +694,11 @@ def test_auditing(place):
     text = dossier("page", folder)[1].decode()
     named = re.findall(r"docs/AUDITING\.md, \u201c([^\u201d]*)\u201d", text)
     headings = re.findall(r"^## (.*)$", (ROOT / "docs" / "AUDITING.md").read_text("utf-8"), flags=re.M)
-    check("the sections of AUDITING.md that a page names", there=([name for name in named if name not in headings], []), count=(len(set(named)) > 2, True))
+    check("the sections of AUDITING.md that a page names", there=([name for name in named if name not in headings], []),
+          count=(len(set(named)) > 2, True))
 
 
-EVIDENCE_TESTS = [test_signatures, test_ended_keys, test_allowed_signers, test_signing_again, test_signed_evidence, test_older_records, test_elsewhere, test_leap_seconds, test_lists, test_measure, test_measuring, test_no_right, test_measure_broken_off, test_no_route,
-                  test_client, test_steps, test_copies, test_auditing]
+EVIDENCE_TESTS = [test_signatures, test_ended_keys, test_allowed_signers, test_signing_again, test_signed_evidence,
+                  test_older_records, test_elsewhere, test_leap_seconds, test_lists, test_measure, test_measuring,
+                  test_no_right, test_measure_broken_off, test_no_route, test_client, test_steps, test_copies,
+                  test_auditing]

@@ -1,14 +1,17 @@
 """Tests of folders that somebody made who would like a yes: what lies in them is refused, or seen through.
 
-tests/dossier calls them, each in a folder of its own. A victim is a file outside of a folder, which has to stay as it is.
+tests/dossier calls them, each in a folder of its own. A victim is a file outside of a folder, which has to stay as it
+is.
 """
 import errno
+import fcntl
 import hashlib
 import http.server
 import json
 import os
 import re
 import shutil
+import signal
 import socket
 import stat
 import subprocess
@@ -22,12 +25,13 @@ from tally import DATA, SECONDS, run
 
 KILOBYTES = 3_000_000
 """Of memory that a call may have here, so that one that takes all of it fails by itself."""
-QUICK = 60
+QUICK = SECONDS
 
 
 def limited(*words, **how):
     """A call of the dossier with a limit of memory and of time."""
-    return run(["sh", "-c", f'ulimit -v {KILOBYTES}; exec "$0" "$@"', SCRIPT, *words], **{"env": ENVIRONMENT, "timeout": QUICK, **how})
+    return run(["sh", "-c", f'ulimit -v {KILOBYTES}; exec "$0" "$@"', SCRIPT, *words],
+               **{"env": ENVIRONMENT, "timeout": QUICK, **how})
 
 
 def elsewhere(place):
@@ -62,24 +66,34 @@ def test_forged_audit(place):
     rows = table(folder)
     text = dossier("page", folder)[1].decode()
     csv = dossier("page", "--csv", folder)[1].decode()
-    check("a forged yes on a page", json=([row["verdict"] for row in rows], ["not verified"]), csv=((",not verified," in csv, ",yes," in csv), (True, False)),
-          badge=('class="verdict not-verified"' in text, True), yes=('class="verdict yes"' in text, False), colour=(re.search(r"\.not-verified{[^}]*good", text), None))
+    check("a forged yes on a page", json=([row["verdict"] for row in rows], ["not verified"]),
+          csv=((",not verified," in csv, ",yes," in csv), (True, False)),
+          badge=('class="verdict not-verified"' in text, True), yes=('class="verdict yes"' in text, False),
+          colour=(re.search(r"\.not-verified{[^}]*good", text), None))
     status, out, _ = dossier("verify", folder)
-    check("a forged yes by verify", status=(status, 1), line=(f"verdict is `yes`, and by the inputs `{made['verdict']}`" in out.decode(), True))
+    check("a forged yes by verify", status=(status, 1),
+          line=(f"verdict is `yes`, and by the inputs `{made['verdict']}`" in out.decode(), True))
     status, out, _ = dossier("audit", folder)
-    check("a forged yes, audited", status=(status, 1), line=(out.startswith(b"refuted ") and b"unchanged" not in out, True))
-    check("and then it is known", row=(table(folder)[0]["verdict"], "refuted"), again=(b"(unchanged)" in dossier("audit", folder)[1], True))
+    check("a forged yes, audited", status=(status, 1),
+          line=(out.startswith(b"refuted ") and b"unchanged" not in out, True))
+    check("and then it is known", row=(table(folder)[0]["verdict"], "refuted"),
+          again=(b"(unchanged)" in dossier("audit", folder)[1], True))
     stranger = folder_of(place, "true")
     dossier("audit", stranger, env=elsewhere(place))
-    check("an audit of somebody else's that is true", row=(table(stranger)[0]["verdict"], "not verified"), signed=(dossier("sign", stranger, "--key", "any")[0], 5),
-          at_once=(json.loads(dossier("page", "--json", "--verify", stranger, env={**ENVIRONMENT, "XDG_STATE_HOME": str(place / "third")})[1])[0]["verdict"], "yes"),
-          verified=(dossier("verify", stranger)[0], 0), known=(table(stranger)[0]["verdict"], "yes"))
+    check("an audit of somebody else's that is true", row=(table(stranger)[0]["verdict"], "not verified"),
+          signed=(dossier("sign", stranger, "--key", "any")[0], 5),
+          at_once=(json.loads(dossier("page", "--json", "--verify", stranger,
+                                      env={**ENVIRONMENT, "XDG_STATE_HOME": str(place / "third")})[1])[0]["verdict"],
+                   "yes"), verified=(dossier("verify", stranger)[0], 0), known=(table(stranger)[0]["verdict"], "yes"))
     state = Path(ENVIRONMENT["XDG_STATE_HOME"]) / "ntpaudit" / "audits"
-    check("the record of audits", mode=(stat.S_IMODE(state.stat().st_mode), 0o600), line=(f"{hashlib.sha256((stranger / 'audit.json').read_bytes()).hexdigest()}\n" in state.read_text(), True))
+    check("the record of audits", mode=(stat.S_IMODE(state.stat().st_mode), 0o600),
+          line=(f"{hashlib.sha256((stranger / 'audit.json').read_bytes()).hexdigest()}\n" in state.read_text(), True))
     by_state = ("--state", place / "own state")
-    check("a record of one's own", before=(b"unchanged" in dossier("audit", *by_state, stranger)[1], False), after=(b"unchanged" in dossier("audit", *by_state, stranger)[1], True))
+    check("a record of one's own", before=(b"unchanged" in dossier("audit", *by_state, stranger)[1], False),
+          after=(b"unchanged" in dossier("audit", *by_state, stranger)[1], True))
     shutil.copy(stranger / "audit.json", folder / "audit.json")
-    check("a known audit.json beside other files", row=(table(folder)[0]["verdict"], "not verified"), audit=(b"unchanged" in dossier("audit", folder)[1], False))
+    check("a known audit.json beside other files", row=(table(folder)[0]["verdict"], "not verified"),
+          audit=(b"unchanged" in dossier("audit", folder)[1], False))
 
 
 def test_hidden_capture(place):
@@ -94,7 +108,8 @@ def test_hidden_capture(place):
     (joined / "f.pcap").rename(joined / "joined.pcap")
     for name in ("a.pcap", "b.pcap"):
         (joined / name).write_bytes((joined / "joined.pcap").read_bytes()[:24])
-    for folder, capture, names in ((hidden, "hidden.dat", ("claim.json", "f.pcap", "evidence.json", "hidden.dat")), (joined, "joined.pcap", ("claim.json", "a.pcap", "b.pcap"))):
+    for folder, capture, names in ((hidden, "hidden.dat", ("claim.json", "f.pcap", "evidence.json", "hidden.dat")),
+                                   (joined, "joined.pcap", ("claim.json", "a.pcap", "b.pcap"))):
         for name in set(os.listdir(good)) - set(os.listdir(folder)) - {"f.pcap"}:
             shutil.copy(good / name, folder)
 
@@ -103,7 +118,8 @@ def test_hidden_capture(place):
             entry["outputs"].update(sums_of(folder, "joined.pcap") if capture == "joined.pcap" else {})
         forge(folder, hide)
         status, out, _ = dossier("verify", folder)
-        check(f"a verdict about {capture}", verified=(b": verified" in out, False), status=(status in (1, 2, 4, 70), True))
+        check(f"a verdict about {capture}", verified=(b": verified" in out, False),
+              status=(status in (1, 2, 4, 70), True))
     check("a wrong join", line=(b"joined.pcap: from byte 24 on (line 1) it is" in dossier("verify", joined)[1], True))
 
 
@@ -124,11 +140,13 @@ def test_swapped_record(place):
     (place / "forged.json").write_text(json.dumps(forged))
     os.mkfifo(record)
     for command in ("page", "verify"):
-        turns = subprocess.Popen(["sh", "-c", 'cat "$1" > "$3"; while :; do cat "$2" > "$3"; done', "sh", place / "forged.json", signed, record])
+        turns = subprocess.Popen(["sh", "-c", 'cat "$1" > "$3"; while :; do cat "$2" > "$3"; done', "sh",
+                                  place / "forged.json", signed, record])
         status, out, _ = limited(command, folder, "--signers", place / "signers", timeout=10)
         turns.kill()
         turns.wait()
-        check(f"a record that is swapped, by {command}", status=(status, 2), good=(b"alice@example.org" in out, False), said=(b"audit.json is a FIFO" in out, True))
+        check(f"a record that is swapped, by {command}", status=(status, 2), good=(b"alice@example.org" in out, False),
+              said=(b"audit.json is a FIFO" in out, True))
     from dossier.fault import Fault
     from dossier.folder import Folder
     from dossier.limit import Limit
@@ -141,7 +159,8 @@ def test_swapped_record(place):
             second = held.copy("audit.json", str(place / "copy"))
         except Fault as fault:
             second = fault.line
-        check("a file that changes between two readings", first=(first, b"one"), kept=(held.data("audit.json"), b"one"), sum=(held.sum("audit.json"), hashlib.sha256(b"one").hexdigest()),
+        check("a file that changes between two readings", first=(first, b"one"), kept=(held.data("audit.json"), b"one"),
+              sum=(held.sum("audit.json"), hashlib.sha256(b"one").hexdigest()),
               second=(second, "ntpaudit-dossier: audit.json has changed meanwhile"))
 
 
@@ -161,15 +180,15 @@ def make_large(path, place):
         large.truncate((1 << 30) + 1)
 
 
-KINDS = {
-    "a FIFO": make_fifo, "a link within": lambda path, place: path.symlink_to("kept"), "a link out": lambda path, place: path.symlink_to(place / "victim"),
-    "a link to zeros": lambda path, place: path.symlink_to("/dev/zero"), "a broken link": lambda path, place: path.symlink_to("nowhere"),
-    "a folder": lambda path, place: path.mkdir(), "a file that is too big": make_large,
-}
+KINDS = {"a FIFO": make_fifo, "a link within": lambda path, place: path.symlink_to("kept"), "a link out": lambda path,
+         place: path.symlink_to(place / "victim"), "a link to zeros": lambda path, place: path.symlink_to("/dev/zero"),
+         "a broken link": lambda path, place: path.symlink_to("nowhere"), "a folder": lambda path, place: path.mkdir(),
+         "a file that is too big": make_large}
 if hasattr(os, "geteuid") and not os.geteuid():
     KINDS["a device"] = make_device
-NAMES = ["claim.json", "f.pcap", "evidence.json", "sheet.pdf", "audit.json", "audit.json.sig", "report.txt", "envelope.txt", "certificate.json", "refutation.json", "bound-0.claim.json",
-         "more-drift.claim.json", "joined.pcap"]
+NAMES = ["claim.json", "f.pcap", "evidence.json", "sheet.pdf", "audit.json", "audit.json.sig", "report.txt",
+         "envelope.txt", "certificate.json", "refutation.json", "bound-0.claim.json", "more-drift.claim.json",
+         "joined.pcap"]
 INPUTS = NAMES[:4]
 
 
@@ -198,21 +217,31 @@ def test_no_files(place):
         good, folders = spoilt_folders(place, kind)
         status, out, err = limited("verify", *folders, good)
         lines = out.decode().splitlines()
-        check(f"verify of {kind}", ended=(isinstance(status, int) and status > 0, True), trace=(b"Traceback" in err, False), verified=([line for line in lines if line.endswith("verified")], [f"{good}: verified"]),
+        check(f"verify of {kind}", ended=(isinstance(status, int) and status > 0, True),
+              trace=(b"Traceback" in err, False),
+              verified=([line for line in lines if line.endswith("verified")], [f"{good}: verified"]),
               lines=(len(lines), len(folders) + 1))
         status, out, err = limited("page", "--json", *folders, good)
         verdicts = [row["verdict"] for row in json.loads(out or "[]")]
-        check(f"page of {kind}", status=(status in (0, 2), True), trace=(b"Traceback" in err, False), verdicts=((set(verdicts[:-1]) <= {"refused", "not verified"}, verdicts[-1:]), (True, ["yes"])))
+        check(f"page of {kind}", status=(status in (0, 2), True), trace=(b"Traceback" in err, False),
+              verdicts=((set(verdicts[:-1]) <= {"refused", "not verified"}, verdicts[-1:]), (True, ["yes"])))
         status, out, err = limited("sign", *folders, "--key", place / "no key")
-        check(f"sign of {kind}", ended=(isinstance(status, int) and status > 0, True), trace=(b"Traceback" in err, False), signed=(b": signed\n" in out, False), lines=(out.count(b"\n"), len(folders)))
+        check(f"sign of {kind}", ended=(isinstance(status, int) and status > 0, True),
+              trace=(b"Traceback" in err, False), signed=(b": signed\n" in out, False),
+              lines=(out.count(b"\n"), len(folders)))
         status, out, err = limited("audit", "--jobs", "2", *folders, good)
         lines = out.decode().splitlines()
-        check(f"audit of {kind}", ended=(isinstance(status, int) and status > 0, True), trace=(b"Traceback" in err, False), lines=(len(lines), len(folders) + 2),
+        check(f"audit of {kind}", ended=(isinstance(status, int) and status > 0, True),
+              trace=(b"Traceback" in err, False), lines=(len(lines), len(folders) + 2),
               good=(lines[-2:-1], [f"yes           {good}: least bound 0.619 ms, claimed 5 ms (unchanged)"]))
         for folder, line in zip(folders, lines):
-            if folder.name in INPUTS and (kind, folder.name) not in (("a file that is too big", "f.pcap"), ("a folder", "sheet.pdf")):
-                what = {"a file that is too big": "too big", "a device": "a device"}.get(kind, kind if kind in ("a FIFO", "a folder") else "a link")
-                check(f"audit of {folder.name} that is {kind}", line=(line.startswith(f"refused       {folder}: ntpaudit-dossier: {folder.name} is {what}"), True))
+            if folder.name in INPUTS and (kind, folder.name) not in (("a file that is too big", "f.pcap"),
+                                                                     ("a folder", "sheet.pdf")):
+                as_is = kind if kind in ("a FIFO", "a folder", "a device") else "a link"
+                what = "too big" if kind == "a file that is too big" else as_is
+                check(f"audit of {folder.name} that is {kind}",
+                      line=(line.startswith(f"refused       {folder}: ntpaudit-dossier: {folder.name} is {what}"),
+                            True))
         check(f"the victim of {kind}", same=((place / "victim").read_text(), "victim"), left=(parts_left(place), []))
         shutil.rmtree(place / kind)
 
@@ -223,16 +252,21 @@ def test_socket_and_rights(place):
     (place / "link").symlink_to(real)
     for command in ("audit", "verify", "page"):
         out = b"".join(dossier(command, place / "link")[1:])
-        check(f"a folder that is a link, by {command}", line=(b"the folder is a link" in out, True), left=(sorted(os.listdir(real)), ["claim.json", "f.pcap"]))
-    check("a file for a folder", run=(dossier("audit", real / "f.pcap")[:2], (4, f"refused       {real}/f.pcap: ntpaudit-dossier: no such folder\n".encode())))
+        check(f"a folder that is a link, by {command}", line=(b"the folder is a link" in out, True),
+              left=(sorted(os.listdir(real)), ["claim.json", "f.pcap"]))
+    check("a file for a folder",
+          run=(dossier("audit", real / "f.pcap")[:2],
+               (4, f"refused       {real}/f.pcap: ntpaudit-dossier: no such folder\n".encode())))
     folder = folder_of(place, "s")
     (folder / "f.pcap").unlink()
     with socket.socket(socket.AF_UNIX) as made:
         made.bind(os.path.relpath(folder / "f.pcap"))
     status, out, _ = limited("audit", folder)
-    check("a socket", run=((status, out), (2, f"refused       {folder}: ntpaudit-dossier: f.pcap is a socket\n".encode())))
+    check("a socket",
+          run=((status, out), (2, f"refused       {folder}: ntpaudit-dossier: f.pcap is a socket\n".encode())))
     nobody = [] if os.geteuid() else ["setpriv", "--reuid=65534", "--regid=65534", "--clear-groups"]
-    if nobody and (not shutil.which("setpriv") or run([*nobody, "cat", SCRIPT])[0] or run([*nobody, PROGRAM, "--version"])[0]):
+    if nobody and (not shutil.which("setpriv") or run([*nobody, "cat", SCRIPT])[0]
+                   or run([*nobody, PROGRAM, "--version"])[0]):
         skipped("a file that may not be read", "there is no other user who may read the repository")
         return
     folder = folder_of(place, "unreadable")
@@ -242,7 +276,10 @@ def test_socket_and_rights(place):
     folder.chmod(0o777)
     (folder / "f.pcap").chmod(0)
     status, out, err = run([*nobody, SCRIPT, "audit", "--state", folder / "state", folder], env=ENVIRONMENT)
-    check("a file that may not be read", run=((status, out, err), (4, f"refused       {folder}: ntpaudit-dossier: f.pcap can't be read (Permission denied)\n".encode(), b"")))
+    check("a file that may not be read",
+          run=((status, out, err),
+               (4, f"refused       {folder}: ntpaudit-dossier: f.pcap can't be read (Permission denied)\n".encode(),
+                b"")))
 
 
 # ---- what is written, and where
@@ -253,9 +290,11 @@ def test_links_of_parts(place):
     victim = place / "victim"
     victim.write_text("victim")
     folder = folder_of(place, "parts")
-    script = 'for name in report.txt audit.json certificate.json envelope.txt; do ln -s "$2" "$1/.$name.$$.part"; ln -s "$2" "$1/$name"; done; exec "$0" audit "$1"'
+    script = ('for name in report.txt audit.json certificate.json envelope.txt; do ln -s "$2" "$1/.$name.$$.part"; ln '
+              '-s "$2" "$1/$name"; done; exec "$0" audit "$1"')
     status, _, _ = run(["sh", "-c", script, SCRIPT, folder, victim], env=ENVIRONMENT)
-    check("links with the names of parts", status=(status, 0), victim=(victim.read_text(), "victim"), report=((folder / "report.txt").is_symlink(), False))
+    check("links with the names of parts", status=(status, 0), victim=(victim.read_text(), "victim"),
+          report=((folder / "report.txt").is_symlink(), False))
     (folder / ".x.99999999.part").write_text("kept")
     other = place / "other"
     other.mkdir()
@@ -266,9 +305,33 @@ def test_links_of_parts(place):
         entry["outputs"]["2026-11-22/claim.json"] = hashlib.sha256(b"kept").hexdigest()
     forge(folder, name_it)
     dossier("audit", folder)
-    check("a day that is a link", there=((other / "claim.json").exists(), True), part=((folder / ".x.99999999.part").exists(), True))
+    check("a day that is a link", there=((other / "claim.json").exists(), True),
+          part=((folder / ".x.99999999.part").exists(), True))
     status, out, _ = dossier("audit", "--days", folder)
-    check("a day that is a link isn't written into", status=(status, 2), line=(b"2026-11-22 is a link" in out, True), there=(os.listdir(other), ["claim.json"]))
+    check("a day that is a link isn't written into", status=(status, 2), line=(b"2026-11-22 is a link" in out, True),
+          there=(os.listdir(other), ["claim.json"]))
+
+
+def test_names_of_outputs(place):
+    """An audit.json whose outputs have names that no audit leaves: it isn't taken, even if it were known here, and
+    nothing of these names is taken away."""
+    folder, state = folder_of(place, "host"), place / "state"
+    (place / "victim").write_text("victim")
+    dossier("audit", "--state", state, folder)
+    record = json.loads((folder / "audit.json").read_text())
+    for name in ("../victim", "/etc/hostname", "claim.json", "f.pcap", "2026-11-22/../../victim", "2026-11-22/f.pcap",
+                 "x/report.txt", "../report.txt", "audit.json", ""):
+        outputs = {**record["entries"][0]["outputs"], name: hashlib.sha256(b"victim").hexdigest()}
+        text = json.dumps({**record, "entries": [{**record["entries"][0], "outputs": outputs}]}).encode()
+        (folder / "audit.json").write_bytes(text)
+        with open(state / "audits", "a") as opened:
+            opened.write(f"{hashlib.sha256(text).hexdigest()}\n")
+        status, out, _ = dossier("verify", "--state", state, folder)
+        check(f"an output {name}", verify=((status, b"audit.json isn't one that is taken" in out), (2, True)),
+              page=(json.loads(dossier("page", "--json", "--state", state, folder)[1])[0]["verdict"], "refused"),
+              keep=(dossier("keep", "--years", "1", "--state", state, folder)[0], 2),
+              audit=(dossier("audit", "--again", "--state", state, folder)[0], 0),
+              victim=((place / "victim").read_text(), "victim"), inputs=((folder / "f.pcap").exists(), True))
 
 
 def test_named_outputs(place):
@@ -277,28 +340,35 @@ def test_named_outputs(place):
     dossier("audit", folder)
     target.write_text("old")
     link.symlink_to(target)
-    check("-o to a link", status=(dossier("page", "-o", link, folder)[0], 0), link=(link.is_symlink(), True), whole=(target.read_bytes().endswith(b"</html>\n"), True), left=(parts_left(place), []))
+    check("-o to a link", status=(dossier("page", "-o", link, folder)[0], 0), link=(link.is_symlink(), True),
+          whole=(target.read_bytes().endswith(b"</html>\n"), True), left=(parts_left(place), []))
     fifo = place / "fifo"
     os.mkfifo(fifo)
     reader = subprocess.Popen(["timeout", "20", "cat", fifo], stdout=subprocess.PIPE)
     status = dossier("page", "-o", fifo, folder, timeout=20)[0]
     out = reader.communicate()[0]
-    check("-o to a FIFO", status=(status, 0), whole=(out.endswith(b"</html>\n"), True), there=(stat.S_ISFIFO(fifo.lstat().st_mode), True))
-    check("-o to standard output", whole=(dossier("page", "-o", "/proc/self/fd/1", folder)[1].endswith(b"</html>\n"), True))
+    check("-o to a FIFO", status=(status, 0), whole=(out.endswith(b"</html>\n"), True),
+          there=(stat.S_ISFIFO(fifo.lstat().st_mode), True))
+    check("-o to standard output",
+          whole=(dossier("page", "-o", "/proc/self/fd/1", folder)[1].endswith(b"</html>\n"), True))
     if not why_no_recording():
-        check("measure -o to a link", status=(dossier("measure", "--count", "10", "-o", link)[0], 0), link=(link.is_symlink(), True), target=(json.loads(target.read_text())["kind"], "reading"))
+        check("measure -o to a link", status=(dossier("measure", "--count", "10", "-o", link)[0], 0),
+              link=(link.is_symlink(), True), target=(json.loads(target.read_text())["kind"], "reading"))
     if os.geteuid():
         skipped("-o to a device", "it takes root to make one")
         return
     null = place / "null"
     os.mknod(null, stat.S_IFCHR | 0o666, os.makedev(1, 3))
-    check("-o to a device", status=(dossier("page", "-o", null, folder)[0], 0), there=(stat.S_ISCHR(null.lstat().st_mode), True))
+    check("-o to a device", status=(dossier("page", "-o", null, folder)[0], 0),
+          there=(stat.S_ISCHR(null.lstat().st_mode), True))
     client = Path(__file__).parent / "client" / "chrony.conf"
-    check("--evidence to a device", status=(dossier("draft", "--chrony", client, "--evidence", null, folder / "f.pcap")[0], 0), there=(stat.S_ISCHR(null.lstat().st_mode), True))
+    check("--evidence to a device",
+          status=(dossier("draft", "--chrony", client, "--evidence", null, folder / "f.pcap")[0], 0),
+          there=(stat.S_ISCHR(null.lstat().st_mode), True))
 
 
 def test_every_write(place):
-    """A full disk and Ctrl-C at every write: a folder is as it was, or has all that was made; and nothing else is left."""
+    """A full disk and Ctrl-C at every write: a folder is as it was, or has all that was made, and nothing else."""
     from dossier import folder as files
     from dossier import placing
     from dossier.fault import Fault
@@ -307,7 +377,9 @@ def test_every_write(place):
     made = place / "made"
     made.mkdir()
     names = ("report.txt", "envelope.txt")
-    old, new = {"audit.json": b"old", "report.txt": b"old", "certificate.json": b"old"}, {"audit.json": b"new", "report.txt": b"new", "envelope.txt": b"new"}
+    old, new = {"audit.json": b"old", "report.txt": b"old", "certificate.json": b"old"}, {"audit.json": b"new",
+                                                                                          "report.txt": b"new",
+                                                                                          "envelope.txt": b"new"}
     write, seen = os.write, []
     os.chdir(made)
     for name in names:
@@ -327,7 +399,8 @@ def test_every_write(place):
             files.os.write = failing
             try:
                 with Folder(str(folder), Limit()) as held:
-                    placing.place(held, {name: placing.blocks_of(name) for name in names} | {"audit.json": [b"new"]}, ["certificate.json"])
+                    placing.place(held, {name: placing.blocks_of(name) for name in names} | {"audit.json": [b"new"]},
+                                  ["certificate.json"])
             except (Fault, KeyboardInterrupt) as found:
                 seen.append(type(found))
             finally:
@@ -335,24 +408,53 @@ def test_every_write(place):
             kept = {path.name: path.read_bytes() for path in folder.iterdir()}
             check(f"{type(error).__name__} at write {last}", kept=(kept in (old, new), True))
     check("both came", seen=(set(seen), {Fault, KeyboardInterrupt}), both=(len(seen), 10))
+    folder, mkdir, handler = place / "new", os.mkdir, signal.signal(signal.SIGINT, signal.default_int_handler)
+    folder.mkdir()
+
+    def stopped(*words, **how):
+        mkdir(*words, **how)
+        os.kill(os.getpid(), signal.SIGINT)
+    placing.os.mkdir = stopped
+    try:
+        with Folder(str(folder), Limit()) as held:
+            placing.place(held, {name: placing.blocks_of(name) for name in names})
+    except KeyboardInterrupt:
+        seen.append(KeyboardInterrupt)
+    finally:
+        placing.os.mkdir = mkdir
+        signal.signal(signal.SIGINT, handler)
+    check("Ctrl-C where a folder is made", seen=(len(seen), 11), left=(sorted(os.listdir(folder)), sorted(names)))
 
 
 def test_at_once(place):
     """Several audits of one folder at once."""
     folder = folder_of(place, "host")
-    calls = [subprocess.Popen([SCRIPT, "audit", "--again", *words, folder], env=ENVIRONMENT, stdout=subprocess.PIPE, stderr=subprocess.PIPE) for words in ((), (), ("--step", "4"), ())]
+    calls = [subprocess.Popen([SCRIPT, "audit", "--again", *words, folder], env=ENVIRONMENT, stdout=subprocess.PIPE,
+                              stderr=subprocess.PIPE) for words in ((), (), ("--step", "4"), ())]
     ended = [(call.communicate(timeout=SECONDS)[1], call.returncode) for call in calls]
-    check("audits at once", ended=(ended, [(b"", 0)] * 4), verified=(dossier("verify", folder)[0], 0), left=(parts_left(place), []))
+    check("audits at once", ended=(ended, [(b"", 0)] * 4), verified=(dossier("verify", folder)[0], 0),
+          left=(parts_left(place), []))
+    held = os.open(folder, os.O_RDONLY)
+    fcntl.flock(held, fcntl.LOCK_EX)
+    (folder / "audit.json").unlink()
+    call = subprocess.Popen([SCRIPT, "audit", folder], env=ENVIRONMENT, stdout=subprocess.DEVNULL)
+    time.sleep(1.5)
+    check("an audit while another writes", waits=((call.poll(), (folder / "audit.json").exists()), (None, False)))
+    os.close(held)
+    check("an audit after another wrote", status=(call.wait(SECONDS), 0), made=((folder / "audit.json").exists(), True))
     from dossier.known import Known
     state = place / "state"
     known = [Known(str(state), True) for _ in range(4)]
     sums = [[hashlib.sha256(f"{one} {k}".encode()).hexdigest() for k in range(200)] for one in range(4)]
-    threads = [threading.Thread(target=lambda own=own, one=one: [own.add(sum_) for sum_ in sums[one]]) for one, own in enumerate(known)]
+    threads = [threading.Thread(target=lambda own=own, one=one: [own.add(sum_) for sum_ in sums[one]])
+               for one, own in enumerate(known)]
     for thread in threads:
         thread.start()
     for thread in threads:
         thread.join()
-    check("a record that several write", lines=(sorted((state / "audits").read_text().split()), sorted(sum_ for own in sums for sum_ in own)), again=(Known(str(state), False).has(sums[3][199]), True))
+    check("a record that several write",
+          lines=(sorted((state / "audits").read_text().split()), sorted(sum_ for own in sums for sum_ in own)),
+          again=(Known(str(state), False).has(sums[3][199]), True))
 
 
 # ---- what is called
@@ -369,29 +471,38 @@ def test_programs(place):
     for cwd, named in ((place, "host"), (folder, ".")):
         status, _, _ = dossier("audit", "--again", named, cwd=cwd, env=path)
         dossier("verify", named, cwd=cwd, env=path)
-        check(f"programs of the folder, called in {cwd.name}", owned=((place / "owned").exists(), False), status=(status, 1))
+        check(f"programs of the folder, called in {cwd.name}", owned=((place / "owned").exists(), False),
+              status=(status, 1))
     slow = place / "slow"
-    slow.write_text(f'#!/bin/sh\n[ "$1" = --version ] && exec "{PROGRAM}" "$1"\nsleep 314 & echo $! >> "{place}/sleeping"\nwait\n')
+    slow.write_text(f'#!/bin/sh\n[ "$1" = --version ] && exec "{PROGRAM}" "$1"\nsleep 314 & echo $! >> '
+                    f'"{place}/sleeping"\nwait\n')
     slow.chmod(0o755)
     single, begun = folder_of(place, "single"), time.monotonic()
     status, out, _ = dossier("audit", "--limit", "1", single, env={**ENVIRONMENT, "NTPAUDIT": str(slow)})
     time.sleep(0.2)
-    sleeping = [number for number in (place / "sleeping").read_text().split() if Path(f"/proc/{number}").exists() and "Z" not in Path(f"/proc/{number}/stat").read_text().split()[2]]
-    check("a program that doesn't end", status=(status, 2), line=(b"not done within 1 s (--limit)" in out, True), quick=(time.monotonic() - begun < 30, True), left=(sleeping, []))
+    sleeping = [number for number in (place / "sleeping").read_text().split() if Path(f"/proc/{number}").exists()
+                and "Z" not in Path(f"/proc/{number}/stat").read_text().split()[2]]
+    check("a program that doesn't end", status=(status, 2), line=(b"not done within 1 s (--limit)" in out, True),
+          quick=(time.monotonic() - begun < 30, True), left=(sleeping, []))
     said = place / "environment"
     keeps = place / "keeps"
     keeps.write_text(f'#!/bin/sh\nenv > "{said}"\nexec "{PROGRAM}" "$@"\n')
     keeps.chmod(0o755)
-    dossier("audit", "--again", single, env={**ENVIRONMENT, "NTPAUDIT": str(keeps), "SECRET": "secret", "PATH": f".:{os.environ['PATH']}"})
+    dossier("audit", "--again", single,
+            env={**ENVIRONMENT, "NTPAUDIT": str(keeps), "SECRET": "secret", "PATH": f".:{os.environ['PATH']}"})
     names = {line.split("=")[0] for line in said.read_text().splitlines()}
-    check("the environment of programs", names=(names - {"PATH", "LC_ALL", "TZ", "PWD", "OLDPWD", "SHLVL", "_"}, set()), path=("PATH=." in said.read_text(), False))
+    check("the environment of programs", names=(names - {"PATH", "LC_ALL", "TZ", "PWD", "OLDPWD", "SHLVL", "_"}, set()),
+          path=("PATH=." in said.read_text(), False))
 
 
 # ---- what is said
 
 DEEP = "[" * 10_000 + "]" * 10_000
-HOSTILE = {"HTML": '"<img src=http://192.0.2.1/x onerror=alert(1)>"', "a shell's words": '"1; touch owned $(touch owned) `touch owned`"', "an escape": '"\\u001b[31m"', "10^400": "1" + "0" * 400, "1e400": "1e400",
-           "NaN": "NaN", "nesting": DEEP, "a surrogate": '"\\ud800"', "null": "null", "a list": "[[]]", "an object": '{"<b>": 1}', "false": "false", "below": "-1", "a fraction": "0.5"}
+HOSTILE = {"HTML": '"<img src=http://192.0.2.1/x onerror=alert(1)>"',
+           "a shell's words": '"1; touch owned $(touch owned) `touch owned`"', "an escape": '"\\u001b[31m"',
+           "10^400": "1" + "0" * 400, "1e400": "1e400", "NaN": "NaN", "nesting": DEEP, "a surrogate": '"\\ud800"',
+           "null": "null", "a list": "[[]]", "an object": '{"<b>": 1}', "false": "false", "below": "-1",
+           "a fraction": "0.5"}
 TEXTS = {("program", "version"), ("leap_seconds", "file"), ("leap_seconds", "fault")}
 """The fields of audit.json that may be any text."""
 
@@ -411,8 +522,11 @@ def with_value(value, path, text):
     if not path:
         return text
     if isinstance(value, dict):
-        return "{" + ", ".join(f"{json.dumps(name)}: {with_value(item, path[1:], text) if name == path[0] else json.dumps(item)}" for name, item in value.items()) + "}"
-    return "[" + ", ".join(with_value(item, path[1:], text) if at == path[0] else json.dumps(item) for at, item in enumerate(value)) + "]"
+        return "{" + ", ".join(f"{json.dumps(name)}: "
+                               f"{with_value(item, path[1:], text) if name == path[0] else json.dumps(item)}"
+                               for name, item in value.items()) + "}"
+    return "[" + ", ".join(with_value(item, path[1:], text) if at == path[0] else json.dumps(item)
+                           for at, item in enumerate(value)) + "]"
 
 
 def is_taken(read, text):
@@ -431,12 +545,14 @@ def test_fields(place):
     from dossier.entry import read_record
     from dossier.evidence import PREMISES
     from dossier.typed import Text, read_typed
-    folders = [folder_of(place, "yes"), folder_of(place, "refuted", DATA / "chrony-ns.pcap", DATA / "chrony-ns.tight.claim.json")]
+    folders = [folder_of(place, "yes"),
+               folder_of(place, "refuted", DATA / "chrony-ns.pcap", DATA / "chrony-ns.tight.claim.json")]
     dossier("audit", *folders)
     claim = json.loads((folders[0] / "claim.json").read_text())
     evidence = {"drift": "a text"}
     cases = [("audit.json", read_record, json.loads((folder / "audit.json").read_text())) for folder in folders]
-    cases += [("claim.json", lambda data: read_typed("claim.json", Claim, data), claim), ("evidence.json", lambda data: read_typed("evidence.json", dict[PREMISES, Text], data), evidence)]
+    cases += [("claim.json", lambda data: read_typed("claim.json", Claim, data), claim),
+              ("evidence.json", lambda data: read_typed("evidence.json", dict[PREMISES, Text], data), evidence)]
     for name, read, whole in cases:
         check(f"{name} as it is", taken=(is_taken(read, json.dumps(whole)), True))
         wrong, number = [], 0
@@ -446,20 +562,26 @@ def test_fields(place):
                 taken, own = is_taken(read, with_value(whole, path, text)), whole
                 for step in path:
                     own = own[step]
-                may_be = path in TEXTS or (name == "evidence.json" and path) if text[0] == '"' and kind != "a surrogate" else is_number_of(own, path, json, kind)
+                is_text = text[0] == '"' and kind != "a surrogate"
+                may_be_text = path in TEXTS or (name == "evidence.json" and path)
+                may_be = may_be_text if is_text else is_number_of(own, path, kind)
                 if taken is not bool(taken) or (taken and not may_be):
                     wrong.append((path, kind, taken))
         check(f"{number} values in {name}", wrong=(wrong, []))
         twice = json.dumps(whole)[:-1] + f", {json.dumps(next(iter(whole)))}: 1}}"
-        check(f"{name} of another form", twice=(is_taken(read, twice), False), more=(is_taken(read, json.dumps({**whole, "more": 1})), False), nothing=(is_taken(read, ""), False), bytes=(is_taken(lambda data: read(b"\xff" + data), "{}"), False),
+        check(f"{name} of another form", twice=(is_taken(read, twice), False),
+              more=(is_taken(read, json.dumps({**whole, "more": 1})), False), nothing=(is_taken(read, ""), False),
+              bytes=(is_taken(lambda data: read(b"\xff" + data), "{}"), False),
               utf_16=(is_taken(lambda data: read(data.decode().encode("utf-16")), json.dumps(whole)), False))
 
 
-def is_number_of(own, path, _, kind):
+def is_number_of(own, path, kind):
     """Whether a number or nothing may stand in a field: no smaller type than that of the field's own value."""
     if kind == "below":
-        return type(own) is int and path[-1] in ("error", "from", "to", "good_until", "before", "after", "distance", "tick", "reading", 0)
-    return bool(path) and (kind == "null" and path[-1] in ("least_ns", "reason", "refutation", "step")) or (kind == "a fraction" and path == ("seconds",))
+        return type(own) is int and path[-1] in ("error", "from", "to", "good_until", "before", "after", "distance",
+                                                 "tick", "reading", 0)
+    may_be_left_out = bool(path) and path[-1] in ("least_ns", "reason", "refutation", "step")
+    return (kind == "null" and may_be_left_out) or (kind == "a fraction" and path == ("seconds",))
 
 
 def test_hostile_records(place):
@@ -469,7 +591,8 @@ def test_hostile_records(place):
     dossier("audit", good)
     whole = json.loads((good / "audit.json").read_text())
     folders = []
-    paths = {"false_max": ("entries", 0, "claim", "false_max"), "step": ("entries", 0, "envelope_step"), "verdict": ("entries", 0, "verdict"), "version": ("program", "version"), "seconds": ("seconds",),
+    paths = {"false_max": ("entries", 0, "claim", "false_max"), "step": ("entries", 0, "envelope_step"),
+             "verdict": ("entries", 0, "verdict"), "version": ("program", "version"), "seconds": ("seconds",),
              "samples": ("entries", 0, "counts", "samples"), "part": ("entries", 0, "part"), "all": ()}
     for name, path in paths.items():
         for kind in ("HTML", "a shell's words", "an escape", "nesting", "NaN", "10^400", "a surrogate"):
@@ -479,19 +602,24 @@ def test_hostile_records(place):
             folders.append(folder)
     status, out, err = limited("page", *folders, good)
     page = check_page("a page of hostile fields", out.decode())
-    check("hostile fields on a page", status=(status, 2), error=(err, b""), tags=(page.tags & {"img", "u"}, set()), badges=(out.count(b'class="verdict yes"'), 3), step=(b"--step 1; touch" in out, False),
+    check("hostile fields on a page", status=(status, 2), error=(err, b""), tags=(page.tags & {"img", "u"}, set()),
+          badges=(out.count(b'class="verdict yes"'), 3), step=(b"--step 1; touch" in out, False),
           said=("<u>Ann's</u> \\x1b[31m" in "".join(page.words), True))
     for command in ("verify", "sign"):
         status, out, err = limited(command, *folders, *(("--key", "any") if command == "sign" else ()))
         lines = out.decode().splitlines()
-        check(f"hostile fields by {command}", error=(err, b""), lines=(len(lines) >= len(folders), True), good=([line for line in lines if line.endswith((": verified", ": signed"))], []), escape=(b"\x1b" in out, False))
+        check(f"hostile fields by {command}", error=(err, b""), lines=(len(lines) >= len(folders), True),
+              good=([line for line in lines if line.endswith((": verified", ": signed"))], []),
+              escape=(b"\x1b" in out, False))
     status, out, err = limited("audit", "--jobs", "2", *folders, good)
-    check("hostile fields, audited", status=(status, 0), error=(err, b""), last=(out.splitlines()[-1], f"{len(folders) + 1} yes".encode()), owned=(list(place.rglob("owned")), []))
+    check("hostile fields, audited", status=(status, 0), error=(err, b""),
+          last=(out.splitlines()[-1], f"{len(folders) + 1} yes".encode()), owned=(list(place.rglob("owned")), []))
 
 
 def test_hostile_inputs(place):
     """claim.json and evidence.json of a stranger's, by `audit`; and files that are named on the command line."""
-    for name, whole in (("claim.json", json.loads((DATA / "clients-us.claim.json").read_text())), ("evidence.json", {"drift": "x"})):
+    for name, whole in (("claim.json", json.loads((DATA / "clients-us.claim.json").read_text())),
+                        ("evidence.json", {"drift": "x"})):
         folders = []
         for kind, text in HOSTILE.items():
             for path in (next(iter(whole)),), ():
@@ -500,14 +628,17 @@ def test_hostile_inputs(place):
         status, out, err = limited("audit", "--jobs", "2", *folders)
         refused = [line for line in out.decode().splitlines() if line.startswith("refused ")]
         texts = 3 if name == "evidence.json" else 0
-        check(f"a hostile {name}", status=(status, 2), error=(err, b""), refused=(len(refused), len(folders) - texts), named=([line for line in refused if name not in line and "ntpaudit: claim" not in line], []))
+        check(f"a hostile {name}", status=(status, 2), error=(err, b""), refused=(len(refused), len(folders) - texts),
+              named=([line for line in refused if name not in line and "ntpaudit: claim" not in line], []))
     fifo = place / "fifo"
     os.mkfifo(fifo)
     capture, claim = DATA / "clients-us.pcap", DATA / "clients-us.claim.json"
-    for words in (["draft", fifo], ["draft", "--chrony", fifo, capture], ["draft", "--measured", fifo, capture], ["picture", claim, fifo], ["picture", fifo, capture], ["verify", place, "--signers", fifo], ["audit", "--leap-seconds", fifo, place],
-                  ["draft", "/dev/zero"], ["picture", "/dev/zero", capture]):
+    for words in (["draft", fifo], ["draft", "--chrony", fifo, capture], ["draft", "--measured", fifo, capture],
+                  ["picture", claim, fifo], ["picture", fifo, capture], ["verify", place, "--signers", fifo],
+                  ["audit", "--leap-seconds", fifo, place], ["draft", "/dev/zero"], ["picture", "/dev/zero", capture]):
         status, out, err = limited(*words, timeout=20)
-        check(f"a file that is none: {words[0]} {[str(word) for word in words[1:]]}", status=(status, 2), line=(b" is a " in err and err.count(b"\n") == 1, True), output=(out, b""))
+        check(f"a file that is none: {words[0]} {[str(word) for word in words[1:]]}", status=(status, 2),
+              line=(b" is a " in err and err.count(b"\n") == 1, True), output=(out, b""))
 
 
 def test_own_faults(place):
@@ -523,31 +654,47 @@ def test_own_faults(place):
     from dossier.task import Task
     folders = [folder_of(place, name) for name in ("one", "two")]
     wanted = Wanted(Options(), False, LeapList("none", fault="none"), False, Known(str(place / "state"), True))
-    task, make = Task([str(folder) for folder in folders], wanted, Program(PROGRAM, Made("ntpaudit", "0" * 64), Caller(Limit()))), making.make
-    for error, status, line in ((MemoryError(), 3, "out of memory"), (OSError(errno.ENOSPC, "No space left on device"), 4, "it can't be worked on (No space left on device)")):
+    task, make = Task([str(folder) for folder in folders], wanted,
+                      Program(PROGRAM, Made("ntpaudit", "0" * 64), Caller(Limit()))), making.make
+    for error, status, line in ((MemoryError(), 3, "out of memory"),
+                                (OSError(errno.ENOSPC, "No space left on device"), 4,
+                                 "it can't be worked on (No space left on device)")):
         def failing(*given, error=error):
             raise error
         making.make = failing
         first = task.audit(0)
         making.make = make
-        check(f"a folder with {type(error).__name__}", first=((first.status, first.verdicts), (status, ["refused"])), line=(first.lines, [f"refused       {folders[0]}: ntpaudit-dossier: {line}"]), other=(task.audit(1).status, 0))
+        check(f"a folder with {type(error).__name__}", first=((first.status, first.verdicts), (status, ["refused"])),
+              line=(first.lines, [f"refused       {folders[0]}: ntpaudit-dossier: {line}"]),
+              other=(task.audit(1).status, 0))
     limit = Limit()
     limit.room = 100
     check("room", over=(is_taken(lambda data: limit.take(101), ""), False))
-    lines = ["f.pcap is a FIFO", "f.pcap is too big: it has more than 1 bytes", "audit.json isn't one that is taken (inputs)", "not done within 600 s (--limit)", "f.pcap has changed meanwhile", "the folder is a link: name the folder itself",
-             "out of memory", "it can't be worked on (x)", "its copies and answers take more than 1 bytes", "no folder for private copies can be made (x): TMPDIR names another place", "report.txt can't be written (x)", "f.pcap can't be read (x)",
-             "f.pcap is damaged from byte 24 on, so it can't be joined with the others", "f.pcap.zst is packed by zstd, which isn't installed to unpack it", "f.pcap.gz can't be unpacked: its gzip is damaged", "f.pcapng has frames of several kinds",
-             "f.pcapng has packets without a time", "f.pcapng has times that are coarser than microseconds", "f.pcapng is damaged at byte 9", "f.pcapng has more than 1,000 interfaces, so it is damaged", "the times of the capture go back and forth between days too often", "f.pcapng has a block that is damaged", "f.pcapng has a packet that is damaged"]
+    lines = ["f.pcap is a FIFO", "f.pcap is too big: it has more than 1 bytes",
+             "audit.json isn't one that is taken (inputs)", "not done within 600 s (--limit)",
+             "f.pcap has changed meanwhile", "the folder is a link: name the folder itself", "out of memory",
+             "it can't be worked on (x)", "its copies and answers take more than 1 bytes",
+             "no folder for private copies can be made (x): TMPDIR names another place",
+             "report.txt can't be written (x)", "f.pcap can't be read (x)",
+             "f.pcap is damaged from byte 24 on, so it can't be joined with the others",
+             "f.pcap.zst is packed by zstd, which isn't installed to unpack it",
+             "f.pcap.gz can't be unpacked: its gzip is damaged", "f.pcapng has frames of several kinds",
+             "f.pcapng has packets without a time", "f.pcapng has times that are coarser than microseconds",
+             "f.pcapng is damaged at byte 9", "f.pcapng has more than 1,000 interfaces, so it is damaged",
+             "the times of the capture go back and forth between days too often",
+             "f.pcapng has a block that is damaged", "f.pcapng has a packet that is damaged"]
     check("remedies of these", missing=([line for line in lines if not remedy(f"ntpaudit-dossier: {line}")[0]], []))
     pidfd_open = os.pidfd_open
 
     def missing(_):
         raise OSError(errno.ENOSYS, "Function not implemented")
     os.pidfd_open = missing
-    said = [Caller(Limit()).run(["/bin/sh", "-c", "echo x; exit 7"]), is_taken(lambda data: Caller(Limit(1)).run(["/bin/sleep", "30"]), "")]
+    said = [Caller(Limit()).run(["/bin/sh", "-c", "echo x; exit 7"]),
+            is_taken(lambda data: Caller(Limit(1)).run(["/bin/sleep", "30"]), "")]
     os.pidfd_open = pidfd_open
     check("a call on an older kernel", said=(said, [(7, b"x\n", b""), False]))
-    script = f'import sys; sys.path.insert(0, {str(Path(SCRIPT).parent)!r}); from dossier import command_line as c; c.run = lambda given: 1 / 0; sys.exit(c.main(["page", "x"]))'
+    script = (f'import sys; sys.path.insert(0, {str(Path(SCRIPT).parent)!r}); from dossier import command_line as c; '
+              'c.run = lambda given: 1 / 0; sys.exit(c.main(["page", "x"]))')
     check("an error of one's own", status=(run(["python3", "-c", script], env=ENVIRONMENT)[0], 70))
 
 
@@ -560,10 +707,17 @@ def test_no_evidence(place):
     row, entry = table(folder)[0], json.loads((folder / "audit.json").read_text())["entries"][0]
     text = dossier("page", folder)[1].decode()
     words = "".join(check_page("a page of no evidence", text).words)
-    check("no evidence", status=(status, 1), line=(out.decode(), f"no evidence   {folder}: no bound is carried, claimed 5 ms\n"), row=((row["verdict"], row["least_bound_ns"]), ("no evidence", None)),
-          report=((folder / "report.txt").read_text().startswith("no evidence groups 0 of "), True), refutation=((folder / "refutation.json").exists() or "refutation" in entry, False),
-          badge=('class="verdict no-evidence"' in text, True), said=("the capture says nothing about this clock. 203.0.113.9 asks nobody in this capture: 192.0.2.10 does." in words, True), to_do=("names the right client" in row["to_do"] and "names the right client" in words, True),
-          csv=(",no evidence," in dossier("page", "--csv", folder)[1].decode(), True), verified=(dossier("verify", folder), (0, f"{folder}: verified\n".encode(), b"")))
+    check("no evidence", status=(status, 1),
+          line=(out.decode(), f"no evidence   {folder}: no bound is carried, claimed 5 ms\n"),
+          row=((row["verdict"], row["least_bound_ns"]), ("no evidence", None)),
+          report=((folder / "report.txt").read_text().startswith("no evidence groups 0 of "), True),
+          refutation=((folder / "refutation.json").exists() or "refutation" in entry, False),
+          badge=('class="verdict no-evidence"' in text, True),
+          said=("the capture says nothing about this clock. 203.0.113.9 asks nobody in this capture: 192.0.2.10 does."
+                in words, True),
+          to_do=("names the right client" in row["to_do"] and "names the right client" in words, True),
+          csv=(",no evidence," in dossier("page", "--csv", folder)[1].decode(), True),
+          verified=(dossier("verify", folder), (0, f"{folder}: verified\n".encode(), b"")))
 
 
 def test_browser(place):
@@ -584,20 +738,27 @@ def test_browser(place):
     with http.server.ThreadingHTTPServer(("127.0.0.1", 0), Listening) as server:
         threading.Thread(target=server.serve_forever, daemon=True).start()
         at = f"http://127.0.0.1:{server.server_address[1]}"
-        strings = [f"<img src={at}/a>", f"</title><script>document.title='owned';fetch('{at}/b')</script>", f"\"'><svg onload=fetch('{at}/c')>", f"</style><link rel=stylesheet href={at}/d>"]
+        strings = [f"<img src={at}/a>", f"</title><script>document.title='owned';fetch('{at}/b')</script>",
+                   f"\"'><svg onload=fetch('{at}/c')>", f"</style><link rel=stylesheet href={at}/d>"]
         folders = []
         for number, text in enumerate(strings):
             folders.append(folder_of(place, text.replace("/", "\u2215")))
-            (folders[-1] / "evidence.json").write_text(json.dumps({"drift": text, "capture": f"{text} javascript:alert(1)"}))
+            (folders[-1] / "evidence.json").write_text(json.dumps({"drift": text,
+                                                                   "capture": f"{text} javascript:alert(1)"}))
         dossier("audit", *folders)
         title = strings[1]
         (place / "page.html").write_bytes(dossier("page", "--title", title, *folders)[1])
-        shown = run([browser, "--headless", "--no-sandbox", "--disable-gpu", f"--user-data-dir={place}/browser", "--disable-component-update", "--virtual-time-budget=3000", "--dump-dom", f"file://{place}/page.html"])[1].decode()
+        shown = run([browser, "--headless", "--no-sandbox", "--disable-gpu", f"--user-data-dir={place}/browser",
+                     "--disable-component-update", "--virtual-time-budget=3000", "--dump-dom",
+                     f"file://{place}/page.html"])[1].decode()
         server.shutdown()
     found = re.search(r"<title>(.*?)</title>", shown)
-    check("a page in a browser", asked=(asked, []), title=(found and found[1], title.replace("<", "&lt;").replace(">", "&gt;")), owned=("<title>owned" in shown, False), scripts=("<script" in shown, False))
+    check("a page in a browser", asked=(asked, []),
+          title=(found and found[1], title.replace("<", "&lt;").replace(">", "&gt;")),
+          owned=("<title>owned" in shown, False), scripts=("<script" in shown, False))
 
 
 ALONE = [test_every_write, test_own_faults]
-STRANGER_TESTS = [test_no_files, test_forged_audit, test_hidden_capture, test_swapped_record, test_socket_and_rights, test_links_of_parts, test_named_outputs, test_at_once, test_programs, test_fields,
-                  test_hostile_records, test_hostile_inputs, test_no_evidence, test_browser]
+STRANGER_TESTS = [test_no_files, test_forged_audit, test_hidden_capture, test_swapped_record, test_socket_and_rights,
+                  test_links_of_parts, test_names_of_outputs, test_named_outputs, test_at_once, test_programs,
+                  test_fields, test_hostile_records, test_hostile_inputs, test_no_evidence, test_browser]
