@@ -16,7 +16,7 @@ use Rattle.audit.specs.Question.{AskedData, Finding, no_finding}
 use Rattle.audit.specs.Report.{after_capture, after_claim, after_second}
 use Rattle.audit.specs.Run.{AnswersFor, ShowsAt}
 use Rattle.audit.specs.Second.{SecondData, second_read}
-use Rattle.judgement.specs.Holding.{Feeds, feeds}
+use Rattle.judgement.specs.Holding.{Feeds}
 use Rattle.judgement.specs.Judgement.{HaveNotFailed, IsAnsweredFor, NoShows, YesShows, in_memory}
 use Rattle.judgement.specs.Question.{asked_of}
 use Rattle.judgement.specs.declared.judgement.Judgement.{Judgement}

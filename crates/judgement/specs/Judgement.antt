@@ -2,7 +2,6 @@
 -- known beforehand.
 use Rattle.std.specs.Prelude.{◌≡◌, ◌⊎◌, ◌≤◌, ℕ, Bool, false, List, Some, Err}
 use Rattle.std.specs.Io.KnownBytes.{Keeps}
-use Rattle.byte_stream.specs.Bytes.{IsBytes}
 use Rattle.byte_stream.specs.State.{FeedState, SinkState}
 use Rattle.line_writer.specs.declared.field.Style.{Style}
 use Rattle.report.specs.ExitStatus.{status_of}

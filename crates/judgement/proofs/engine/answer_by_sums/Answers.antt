@@ -3,17 +3,19 @@ use Rattle.judgement.proofs.engine.answer_by_sums.Goals as goal
 
 pub returns-in-Err : goal.returns-in-Err
 returns-in-Err g c =
+    let refused = c.tell.ensures.fault in
+    let counts = c.in-Err.ensures.counts_faults in
     record {
       either = inr (record {
         fault = c.in-Err.fault;
-        fault_is = search rules;
-        unwritten = search rules;
-        closed = search rules;
-        tells = search rules;
-        status_is = search rules;
-        counts_faults = search rules;
+        fault_is = rw c.second.ensures at c.in-Err.ensures.fault;
+        unwritten = c.finish.ensures.known;
+        closed = c.finish.ensures.closes;
+        tells = c.tell.ensures.tells;
+        status_is = c.tell.ensures.status;
+        counts_faults = record { claim = counts.claim; second = counts.second; capture = counts.capture };
       });
-      judged = search rules;
+      judged = λ few. absurd (omega arith);
       closed = search rules;
-      at_most = search rules;
+      at_most = rw c.second.ensures at c.in-Err.ensures.at_most;
     }
