@@ -468,6 +468,7 @@ def test_measuring(place):
 STILL = """#!/bin/sh
 # stands in for tcpdump: listens, and never records
 echo "listening on lo" >&2
+: >"$0.listens"
 exec sleep 60
 """
 
@@ -479,7 +480,10 @@ def test_measure_broken_off(place):
     call = subprocess.Popen([SCRIPT, "measure", "--load", "--count", "100000"],
                             env={**ENVIRONMENT, "PATH": f"{place}:{os.environ['PATH']}"}, stdout=subprocess.PIPE,
                             stderr=subprocess.PIPE, start_new_session=True)
-    time.sleep(1.5)
+    listens, end = place / "tcpdump.listens", time.monotonic() + 60
+    while not listens.exists() and time.monotonic() < end:
+        time.sleep(0.1)
+    time.sleep(0.5)
     os.killpg(call.pid, signal.SIGINT)
     out, err = call.communicate(timeout=60)
     check("Ctrl-C in measure", status=(call.returncode, 130),
