@@ -60,11 +60,11 @@ def keep(folder: Folder, years: int | None, known: Known, caller: Caller) -> str
     if record.refusal:
         raise fault("the audit was refused, so there is nothing to keep", DEVICE)
     is_over = years is not None and max(entry.claim.last for entry in record.entries) < time.time() - years * YEAR
+    if changed := change_of(folder, record):
+        raise fault(changed)
     if record.kept and not is_over:
         take_rest(folder, record)
         return "kept"
-    if changed := change_of(folder, record):
-        raise fault(changed)
     if is_over:
         take_all(folder, record)
         return GONE
@@ -115,6 +115,6 @@ def take_rest(folder: Folder, record: Record) -> None:
 
 def take_all(folder: Folder, record: Record) -> None:
     """Takes away what the record names, which is unchanged, itself last."""
-    for name in (*record.outputs, *record.inputs, *(f"{name}.zst" for name in record.inputs), files.SIGNATURE,
-                 files.AUDIT):
+    packed_files = (f"{name}.zst" for name in (record.kept.sums if record.kept else ()))
+    for name in (*record.outputs, *record.inputs, *packed_files, files.SIGNATURE, files.AUDIT):
         take_away(folder.place, name)

@@ -58,7 +58,8 @@ class Verifier:
         made = replace(made, made=record.made, seconds=record.seconds, signed=record.signed,
                        program=record.program if is_other else made.program)
         for name, sum_ in made.outputs.items():
-            if name in record.outputs and folder.has(name) and folder.sum(name) != sum_:
+            is_left_out = record.is_left_out(name) and not folder.has(name)
+            if name in record.outputs and not is_left_out and folder.sum(name) != sum_:
                 comparison = Comparison(name)
                 folder.read(name, comparison.take)
                 return f"{name}: {comparison.end()}"

@@ -384,6 +384,12 @@ def test_keep(place):
     check("a capture that is kept is the one that was recorded", same=((one / "f.pcap").read_bytes() == whole, True),
           verified=(dossier("verify", one)[0], 0), check=(run([PROGRAM, "check", one / "claim.json", one / "f.pcap",
                                                                one / "certificate.json"])[0], 0))
+    packed_file = one / "f.pcap.zst"
+    right = packed_file.read_bytes()
+    packed_file.write_bytes(right[:-1])
+    check("a capture whose packed file was spoilt stays", run=(dossier("keep", one)[0] > 0, True),
+          files=("f.pcap" in listed(one), True))
+    packed_file.write_bytes(right)
     dossier("keep", one)
     check("a keeping that was broken off is ended", files=("f.pcap" in listed(one), False))
     key = key_of(place, "key")[0] if shutil.which("ssh-keygen") else None
@@ -487,11 +493,12 @@ def test_years(place):
         dossier("keep", kept)
         check("years that aren't over", run=(dossier("keep", "--years", "90", kept)[0], 0), there=(kept.exists(), True))
     (changed / "report.txt").write_text("mine")
-    (more / "notes.txt").write_text("mine")
+    for name in ("notes.txt", "claim.json.zst"):
+        (more / name).write_text("mine")
     status, out, _ = dossier("keep", "--years", "20", old, kept, changed, more)
     check("years", status=(status, 2),
           gone=([path.exists() for path in (old, kept, changed, more)], [False, False, True, True]),
-          left=(listed(more), ["notes.txt"]), changed=("f.pcap" in listed(changed), True),
+          left=(listed(more), ["claim.json.zst", "notes.txt"]), changed=("f.pcap" in listed(changed), True),
           said=(out.decode().splitlines()[0], f"{old}: taken away"))
     dossier("keep", "--years", "1", lately)
     check("what ended lately", there=("claim.json" in listed(lately), True))
