@@ -8,7 +8,7 @@ _ntpaudit_dossier() {
         return
     fi
     case $command in
-    draft) options='--help --client --day --drift-ppb --chrony --ntpd --tracking --oscillator-ppb --evidence --reading-ns --measured' ;;
+    draft) options='--help --client --day --bound-ns --drift-ppb --chrony --ntpd --tracking --oscillator-ppb --evidence --reading-ns --measured' ;;
     audit) options='--help --step --days --jobs --again --leap-seconds --metrics --state --limit' ;;
     page) options='--help --json --csv --split --verify --title --output --signers --leap-seconds --metrics --state --limit' ;;
     verify) options='--help --signers --leap-seconds --state --limit' ;;

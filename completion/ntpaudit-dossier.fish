@@ -15,6 +15,7 @@ complete -c ntpaudit-dossier -n "not __fish_seen_subcommand_from $commands" -f -
 complete -c ntpaudit-dossier -n "not __fish_seen_subcommand_from $commands" -f -a help -d 'Print help'
 complete -c ntpaudit-dossier -n "__fish_seen_subcommand_from draft" -x -l client
 complete -c ntpaudit-dossier -n "__fish_seen_subcommand_from draft" -l day
+complete -c ntpaudit-dossier -n "__fish_seen_subcommand_from draft" -x -l bound-ns
 complete -c ntpaudit-dossier -n "__fish_seen_subcommand_from draft" -x -l drift-ppb
 complete -c ntpaudit-dossier -n "__fish_seen_subcommand_from draft" -r -l chrony
 complete -c ntpaudit-dossier -n "__fish_seen_subcommand_from draft" -r -l ntpd

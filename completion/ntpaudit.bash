@@ -10,9 +10,9 @@ _ntpaudit() {
     case $command in
     find) options='--step --refutation --human --help' ;;
     envelope) options='--step --servers --least --human --help' ;;
-    check) options='--sums --human --help' ;;
+    check | settle) options='--sums --human --help' ;;
     refute) options='--drift --sums --human --help' ;;
-    samples | at | settle) options='--human --help' ;;
+    list | samples | at) options='--human --help' ;;
     help) options='list samples at envelope settle find check refute' ;;
     *) options='--help' ;;
     esac

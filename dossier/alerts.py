@@ -4,11 +4,10 @@ from __future__ import annotations
 from collections.abc import Callable
 
 from .entry import Alert
-from .recording import SECOND
 from .support import named
 from .text import capital, count, is_or_are, plain
 from .text import reference as letters
-from .units import between, civil, ns_ms, shown_time, span_of_seconds
+from .units import SECOND, between, civil, ns_ms, shown_time, span_of_seconds
 
 ON_DRIFT = "There it rests on the drift that the claim grants, and on nothing recorded."
 

@@ -16,12 +16,11 @@ from .folder import ENVELOPE, REPORT, Folder
 from .markup import Html, element, joined, lines, minus, with_code
 from .premises import premises
 from .ranges import ranges_of
-from .recording import SECOND
 from .signature import GOOD, NONE, UNSEEN, Signature, in_words
 from .support import support
 from .table import Row
 from .text import capital, count
-from .units import range_ms
+from .units import SECOND, range_ms
 from .words import fit, sentence, span, to_do
 
 SYMBOLS = {YES: "\u2713", UNSUPPORTED: "\u2260", REFUTED: "\u2717", NOTHING_FITS: "\u2205", NO_EVIDENCE: "\u2026",

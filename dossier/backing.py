@@ -15,8 +15,8 @@ from .fault import Fault
 from .folder import EVIDENCE, Folder
 from .leap import EXPIRED, NO_LIST, WITHIN
 from .measurement import Measurement
-from .recording import SECOND
 from .typed import read_typed
+from .units import SECOND
 
 Kind = TypeVar("Kind", Measurement, Correction)
 

@@ -26,12 +26,13 @@ MARGIN = 3600
 
 
 class Audited(NamedTuple):
-    """The capture that is audited; whether it was made, of captures that the program doesn't take as they are; and a
-    warning if any of them was cut off."""
+    """The capture that is audited; whether it was made, of captures that the program doesn't take as they are; a
+    warning if any of them was cut off; and its extent, if it is known."""
 
     path: str
     is_made: bool
     torn: list[Alert]
+    extent: Extent | None
 
 
 def audited(copies: dict[str, str], caller: Caller) -> Audited:
@@ -39,20 +40,22 @@ def audited(copies: dict[str, str], caller: Caller) -> Audited:
     opened = {name: open_capture(name, copy, caller) for name, copy in copies.items()}
     torn = [(name, place) for name, (_, place, _) in opened.items() if place is not None]
     alerts = [Alert("torn", len(torn), file=torn[0][0], place=torn[0][1])] if torn else []
-    (name, (path, place, _)), *others = opened.items()
+    (name, (path, place, own)), *others = opened.items()
+    extent: Extent | None = own
     if others:
         most = resource.getrlimit(resource.RLIMIT_NOFILE)[1]
         resource.setrlimit(resource.RLIMIT_NOFILE, (most, most))  # (each capture is held by a descriptor)
-        whole = {name: Classic(path, caller.limit, extent) for name, (path, _, extent) in opened.items()
+        whole = {name: Classic(path, caller.limit, known) for name, (path, _, known) in opened.items()
                  if os.stat(path).st_size}
         join(whole, JOINED, caller.limit)
+        extent = None
     elif path != copies[name] or place is not None:
         os.rename(path, JOINED)
     else:
-        return Audited(path, False, alerts)
+        return Audited(path, False, alerts, extent)
     if os.stat(JOINED).st_size > MOST_OF_A_CAPTURE:
         raise too_big(JOINED, MOST_OF_A_CAPTURE)
-    return Audited(JOINED, True, alerts)
+    return Audited(JOINED, True, alerts, extent)
 
 
 def open_capture(name: str, copy: str, caller: Caller) -> tuple[str, int | None, Extent]:

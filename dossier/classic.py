@@ -7,6 +7,7 @@ from __future__ import annotations
 
 import mmap
 import os
+from array import array
 from bisect import bisect_left, bisect_right
 from collections.abc import Iterable, Iterator
 from heapq import merge
@@ -18,6 +19,7 @@ from typing import NamedTuple
 from .fault import fault
 from .folder import BLOCK, Copy
 from .limit import Limit
+from .units import SECOND
 
 MAGICS = {bytes.fromhex(magic): form for magic, form in (
     ("d4c3b2a1", ("<", 10**6)), ("a1b2c3d4", (">", 10**6)), ("4d3cb2a1", ("<", 10**9)), ("a1b23c4d", (">", 10**9)))}
@@ -30,6 +32,11 @@ MOST_RUNS = 1 << 20
 """Of records that follow one another in time there are some for each day, however long a capture is."""
 OFTEN = 1 << 16
 """Records between two looks at the time."""
+TIME = 8
+"""Bytes of a record's time, which is followed by its length, of 4."""
+AT_ONCE, ONE_BY_ONE, LONG = 4096, 64, 512
+"""Records of one length that are looked at together at most; those that aren't after another length; and the bytes of a
+record from which on it is long."""
 NEW_HEADER, NEW_HEAD = Struct("<IHHIIII"), Struct("<IIII")
 NEW_MAGIC = {10**6: 0xA1B2C3D4, 10**9: 0xA1B23C4D}
 
@@ -40,11 +47,11 @@ Runs = list[list[int]]
 
 
 class Extent(NamedTuple):
-    """Where the whole records of a capture end, of which no more are looked for than the program takes; and the first
-    and the greatest of their times, if each of them is one."""
+    """Where the whole records of a capture end, of which no more are looked for than the program takes; and the time of
+    each, its seconds in the upper 32 bits and its units in the lower, but none at all if one of them isn't one."""
 
     end: int
-    times: tuple[int, int] | None
+    stamps: array[int]
 
 
 class Classic:
@@ -87,25 +94,44 @@ class Classic:
         return self.found
 
     def look(self) -> Extent:
-        head, last, at, unit = Struct(f"{self.order}III").unpack_from, self.size - HEAD, HEADER, self.unit
-        first, greatest, most = None, -1, -1
-        for number in range(MOST_RECORDS):
-            if number % OFTEN == 0:
-                self.limit.left()
-            if at > last:
+        """Goes from record to record. Records of NTP are mostly of one length, so more and more of them are tried at
+        once; long ones, and some after one of another length, are taken one by one."""
+        data, captured, heads, at, number = self.data, Struct(f"{self.order}I").unpack_from, bytearray(), HEADER, 1
+        while at + HEAD <= self.size and len(heads) < MOST_RECORDS * TIME:
+            length = HEAD + captured(data, at + TIME)[0]
+            if length > HEAD + MOST_CAPTURED or length > self.size - at:
                 break
-            seconds, part, captured = head(self.data, at)
-            if captured > MOST_CAPTURED or captured > last - at:
-                break
-            at += HEAD + captured
-            time = seconds * unit + part
-            if first is None:
-                first = time
-            if time > greatest:
-                greatest = time
-            if part > most:
-                most = part
-        return Extent(at, None if first is None or most >= unit else (first, greatest))
+            if number < 2 or length > LONG:
+                heads += data[at : at + TIME]
+                at, number = at + length, min(number + 1, 2)
+                continue
+            self.limit.left()
+            count = min(number, (self.size - at) // length, MOST_RECORDS - len(heads) // TIME)
+            block = data[at : at + count * length]
+            if any(block[k::length].count(block[k]) < count for k in range(TIME, TIME + 4)):
+                number = -ONE_BY_ONE
+                continue
+            own = bytearray(TIME * count)
+            for k in range(TIME):
+                own[k::TIME] = block[k::length]
+            heads += own
+            at, number = at + len(block), min(2 * number, AT_ONCE)
+        return Extent(at, self.stamps_of(heads))
+
+    def stamps_of(self, heads: bytearray) -> array[int]:
+        """The times of an extent, each of which is two numbers in a record's head."""
+        numbers = array("I", bytes(heads))
+        if self.order == ">":
+            numbers.byteswap()
+        if max(numbers[1::2], default=0) >= self.unit:
+            return array("Q")
+        numbers[::2], numbers[1::2] = numbers[1::2], numbers[::2]
+        return array("Q", numbers.tobytes())
+
+    def nanoseconds(self, stamps: Iterable[int]) -> list[int]:
+        """Times since 1970."""
+        scale = SECOND // self.unit
+        return [(stamp >> 32) * SECOND + (stamp & 0xFFFF_FFFF) * scale for stamp in stamps]
 
     def is_torn(self, end: int) -> bool:
         """Whether it ends inside the record that begins there."""
@@ -119,7 +145,6 @@ class Classic:
             return self.data[begin:end]
         seconds, part, captured, length = Struct(f"{self.order}IIII").unpack_from(self.data, begin)
         return NEW_HEAD.pack(seconds, part * unit // self.unit, captured, length) + self.data[begin + HEAD : end]
-
 
     def all_renewed(self, unit: int) -> Iterator[bytes]:
         """All of its records, some at once, if each is whole."""
@@ -159,7 +184,7 @@ def join(captures: dict[str, Classic], path: str, limit: Limit) -> None:
     unit = min(capture.unit for capture in captures.values())
 
     def records(number: int, name: str, capture: Classic) -> Iterator[tuple[int, int, bytes]]:
-        of, end = 10**9 // capture.unit, HEADER
+        of, end = SECOND // capture.unit, HEADER
         for time, begin, end in capture.rows():
             yield time * of, number, capture.renewed(begin, end, unit)
         if end != capture.size:
@@ -177,11 +202,12 @@ def one_after_another(captures: list[Classic]) -> list[Classic]:
     """Captures in order of time, if none begins before the one before it has ended, and all are whole; else nothing."""
     spans = []
     for number, capture in enumerate(captures):
-        end, times = capture.extent
-        if end != capture.size or (times is None and end > HEADER):
+        end, stamps = capture.extent
+        if end != capture.size or (not stamps and end > HEADER):
             return []
-        low, high = (time * (10**9 // capture.unit) for time in times or (0, 0))
-        spans += [(low, number, high, capture)] if times else []
+        if stamps:
+            first, greatest = capture.nanoseconds([stamps[0], max(stamps)])
+            spans.append((first, number, greatest, capture))
     spans.sort(key=itemgetter(0, 1))
     is_so = all((high, number) < (low, after) for (_, number, high, _), (low, after, _, _) in pairwise(spans))
     return [capture for _, _, _, capture in spans] if is_so else []

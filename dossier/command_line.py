@@ -8,7 +8,7 @@ from collections.abc import Callable
 from typing import TYPE_CHECKING, NoReturn
 
 from . import VERSION
-from .claim import GREATEST_DRIFT, OSCILLATOR
+from .claim import GREATEST_BOUND, GREATEST_DRIFT, OSCILLATOR
 from .fault import DEVICE, MEMORY, MISSING, USAGE, Fault, Stopped, fault
 from .known import Known, state_of
 from .limit import SECONDS, Limit
@@ -95,7 +95,9 @@ def add_draft(draft: argparse.ArgumentParser) -> None:
     draft.add_argument("captures", nargs="+", metavar="CAPTURE", help="captures of one client")
     draft.add_argument("--client", metavar="ADDRESS", help="the client; the one that asks most if it is left out")
     draft.add_argument("--day", action="store_true", help="claim whole days (UTC)")
-    draft.add_argument("--drift-ppb", type=int, metavar="N",
+    draft.add_argument("--bound-ns", type=in_range(0, GREATEST_BOUND), metavar="N",
+                       help="the bound that is to be shown, in nanoseconds; the least one if it is left out")
+    draft.add_argument("--drift-ppb", type=in_range(0, GREATEST_DRIFT), metavar="N",
                        help="oscillator and client together, in parts of 10^9; else by the client's configuration; "
                             "else the oscillator alone")
     client = draft.add_mutually_exclusive_group()
@@ -108,7 +110,7 @@ def add_draft(draft: argparse.ArgumentParser) -> None:
     draft.add_argument("--evidence", metavar="FILE",
                        help="write what was read from the client's files to FILE, for evidence.json")
     reading = draft.add_mutually_exclusive_group()
-    reading.add_argument("--reading-ns", type=int, default=LEAST_READING, metavar="N",
+    reading.add_argument("--reading-ns", type=in_range(0, 10**9), default=LEAST_READING, metavar="N",
                          help="how far records' times may be from the clock, in nanoseconds; "
                               f"{LEAST_READING} if it is left out")
     reading.add_argument("--measured", metavar="FILE", help="what `measure -o` left, which has that number")
@@ -279,7 +281,7 @@ def run_draft(given: argparse.Namespace, program: Program) -> int:
     proposed = found.drift_ppb if found else given.oscillator_ppb
     drift_ppb = proposed if given.drift_ppb is None else given.drift_ppb
     wanted = Wanted(given.client, given.day, drift_ppb, found is None and given.drift_ppb is None,
-                    measured.reading_ns if measured else given.reading_ns, bool(measured))
+                    measured.reading_ns if measured else given.reading_ns, bool(measured), given.bound_ns)
     claim, remarks = draft(program, given.captures, wanted)
     if claim and measured:
         remarks.append(f"reading_ns is {claim.reading_ns}: {measured.sentence()}")

@@ -15,13 +15,13 @@ from .entry import Alert
 from .folder import CLAIM, Copy, copy_named
 from .limit import Limit
 from .program import Program
-from .recording import SECOND, Recording, read_recording
+from .recording import Recording, read_recording
 from .scratch import scratch
 from .text import count, plain
 from .text import reference as letters
 from .traffic import Traffic, number_of, read_traffic
 from .typed import said
-from .units import DAY, civil, ns_up_ms
+from .units import DAY, SECOND, civil, ns_ms, ns_up_ms
 
 MOST_SERVERS = 32
 LONGEST = "86400"
@@ -47,6 +47,8 @@ class Wanted:
     """Whether that is the oscillator's part alone, since nothing is known of the client."""
     reading_ns: int
     is_measured: bool
+    bound_ns: int | None
+    """The bound that is to be shown; the least one if none is named."""
 
 
 def upstream(stratum: int, reference: str) -> str | None:
@@ -111,7 +113,7 @@ class Draft:
             self.remark(f"A claim names at most {MOST_SERVERS} servers: those that answered least are left out.")
         claim = Claim(client, servers, 0, civil(0), civil(0), 0, wanted.drift_ppb, wanted.reading_ns)
         keep(claim, self.program.limit)
-        recording = read_recording(self.program, CLAIM, self.capture, wants_request=True)
+        recording = read_recording(self.program, CLAIM, self.capture)
         if recording.first_request is None:
             self.remark(f"None of {client}'s servers gave a sample: {counted(recording.counts)}.")
             return None
@@ -119,7 +121,7 @@ class Draft:
         first, last = span_of(recording.first_request, recording.times[-1], wanted.whole_days)
         claim = replace(claim, from_=civil(first), to=civil(last))
         keep(claim, self.program.limit)
-        claim = replace(claim, bound_ns=self.bound())
+        claim = replace(claim, bound_ns=self.bound(wanted.bound_ns))
         self.leave_to_a_person(claim, wanted)
         return claim
 
@@ -167,18 +169,19 @@ class Draft:
                 self.remark(f"{names} name one kind of reference clock ({letters(reference)}):",
                             "if it is one and the same clock, put them into one group.")
 
-    def bound(self) -> int:
-        """The least bound that a certificate carries, rounded up to two digits."""
+    def bound(self, wanted: int | None) -> int:
+        """The bound that is wanted, or the least one that a certificate carries, rounded up to two digits."""
+        asked = f"{ns_ms(wanted)} ms stands there, as asked for." if wanted is not None else ""
         envelope = read_hulls(self.program.run("envelope", CLAIM, self.capture, "--least", "--step", LONGEST).text)
         if envelope.least_ns is None:
             begin, hull = envelope.begins[envelope.worst], envelope.hulls[envelope.worst]
             is_word = isinstance(hull, str)
             why = f"the piece from {civil(begin)} is {hull}" if is_word else "it is more than a claim can say"
-            self.remark(f"bound_ns: no bound is carried, since {why};", FOR_NOW)
-            return NO_BOUND
+            self.remark(f"bound_ns: no bound is carried, since {why};", asked or FOR_NOW)
+            return NO_BOUND if wanted is None else wanted
         least = ns_up_ms(envelope.least_ns)
-        self.remark(f"bound_ns: the least bound that a certificate carries is {least} ms; rounded up.")
-        return round_up(envelope.least_ns)
+        self.remark(f"bound_ns: the least bound that a certificate carries is {least} ms;", asked or "rounded up.")
+        return round_up(envelope.least_ns) if wanted is None else wanted
 
     def leave_to_a_person(self, claim: Claim, wanted: Wanted) -> None:
         """What only a person can answer for."""

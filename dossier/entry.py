@@ -180,10 +180,12 @@ class Entry:
 
 @dataclass(frozen=True)
 class Refusal:
-    """Why there is no verdict."""
+    """Why there is no verdict: the fault's line and status, and the program's words about it."""
 
     line: Text
     status: Annotated[int, within(2, 70)]
+    why: Text = ""
+    what: Text = ""
 
 
 @dataclass(frozen=True)

@@ -11,11 +11,12 @@ OWN = "ntpaudit-dossier: "
 
 
 class Fault(Exception):
-    """A call or a folder that gave no answer: its line, and its status."""
+    """A call or a folder that gave no answer: its line, its status, and in the program's words what is wrong and what
+    to do, if it said so."""
 
     def __init__(self, line: str, status: int):
         super().__init__(line)
-        self.line, self.status = line, status
+        self.line, self.status, self.why, self.what = line, status, "", ""
 
     @property
     def words(self) -> str:

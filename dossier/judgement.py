@@ -16,9 +16,9 @@ from .entry import (AGAINST, FEW, NO_EVIDENCE, NOTHING_FITS, OPEN, REFUTED, UNSU
                     LeapList, Piece, Reason, Server, Verdict)
 from .leap import look_up
 from .ranges import ranges_of
-from .recording import SECOND, Recording
+from .recording import Recording
 from .traffic import Traffic, number_of
-from .units import bound_ticks
+from .units import SECOND, bound_ticks
 
 FAR = 10
 """A piece is far from the samples if the nearest is farther than this part of the span."""
@@ -204,11 +204,10 @@ def warnings(claim: Claim, recording: Recording, envelope: Envelope, advice: dic
 
 def silences(claim: Claim, recording: Recording) -> Iterator[Alert]:
     """The longest of the times within the span in which no server was heard for longer than usual, and their number."""
-    gaps = sorted(map(sub, recording.times[1:], recording.times))
-    usual = gaps[len(gaps) // 2] if gaps else 0
-    limit = max(SILENCE, UNUSUAL * usual)
-    if not gaps or gaps[-1] <= limit:
+    gaps = list(map(sub, recording.times[1:], recording.times))
+    if max(gaps, default=0) <= SILENCE:
         return
+    limit = max(SILENCE, UNUSUAL * sorted(gaps)[len(gaps) // 2])
     found = [(after - before, before, after) for before, after in pairwise(recording.times)
              if after - before > limit and before < claim.last * SECOND and claim.first * SECOND < after]
     if found:

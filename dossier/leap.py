@@ -14,9 +14,9 @@ from .entry import Leap, LeapList
 from .fault import Fault, fault
 from .folder import AUDIT, data_named
 from .limit import Limit
-from .recording import SECOND, Recording
+from .recording import Recording
 from .typed import is_text
-from .units import civil
+from .units import SECOND, civil
 
 SYSTEM = os.environ.get("NTPAUDIT_LEAP_SECONDS") or "/usr/share/zoneinfo/leap-seconds.list"
 """The system's list, or the one that the environment names."""

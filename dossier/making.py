@@ -22,6 +22,7 @@ from .folder import CLAIM, JOINED, Folder, is_capture
 from .judgement import Beside
 from .program import Program, now, sum_of_file
 from .settling import Settling
+from .text import plain
 from .typed import read_typed
 
 Earlier = Callable[[str], bytes]
@@ -69,6 +70,11 @@ class Inputs:
     capture: str = ""
     """The capture that is audited, by its name in the folder."""
 
+    def named(self, words: str) -> str:
+        """Words about a copy, which begin with its name, as words about the file in the folder."""
+        copy, colon, said = words.partition(": ")
+        return plain({copy: name for name, copy in self.copies.items()}.get(copy, copy)) + colon + said
+
 
 def take_inputs(folder: Folder, kept: Kept | None, caller: Caller) -> Inputs:
     """Copies claim and captures into the current folder, under names of one's own, and takes all sums. What is kept is
@@ -99,7 +105,7 @@ def make(taken: Inputs, options: Options, leaps: LeapList, backed: Backing, prog
     cuts = cut(whole.path, parts, program.limit) if options.days else [None]
     entries = []
     for part, cut_to in zip(parts, cuts):
-        settling = Settling(part, whole.path, program, options.step, sums, earlier(part.name))
+        settling = Settling(part, whole, program, options.step, sums, earlier(part.name))
         settling.left |= made
         entries.append(settling.settle(beside, cut_to))
     return entries
@@ -127,7 +133,11 @@ class Making:
         """What the program answers; a fault if there is no verdict."""
         self.taken = take_inputs(self.folder, self.kept, self.program.caller)
         backed = backing(self.folder, self.taken.sums)
-        return self.of(make(self.taken, self.options, self.leaps, backed, self.program, earlier))
+        try:
+            return self.of(make(self.taken, self.options, self.leaps, backed, self.program, earlier))
+        except Fault as found:
+            found.why = self.taken.named(found.why)
+            raise
 
     def of(self, entries: list[Entry], refusal: Refusal | None = None) -> Record:
         return Record(VERSION, self.program.made, self.options, self.taken.sums, self.taken.capture, self.made,
@@ -135,4 +145,4 @@ class Making:
                       self.kept)
 
     def refused(self, found: Fault) -> Record:
-        return self.of([], Refusal(found.line, found.status))
+        return self.of([], Refusal(found.line, found.status, found.why, found.what))

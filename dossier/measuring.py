@@ -19,7 +19,6 @@ from .fault import DEVICE, Fault, fault
 from .measurement import LEAST_READING, Measurement, measurement_text
 from .placing import undisturbed, write_named
 from .program import Program, now
-from .recording import nanoseconds
 from .scratch import scratch
 from .text import plain
 
@@ -172,9 +171,9 @@ def recorded(program: Program, capture: str) -> dict[int, int]:
     found: dict[int, int] = {}
 
     def take(block: bytes) -> None:
-        lines = [line.split() for line in block.splitlines() if not line.startswith(b"records ")]
-        times = nanoseconds([words[1] for words in lines])
-        found.update(zip((int(words[15], 16) for words in lines), times))
+        for words in (line.split() for line in block.splitlines() if not line.startswith(b"records ")):
+            seconds, _, part = words[1].partition(b".")
+            found[int(words[15], 16)] = int(seconds + part.ljust(9, b"0"))
     program.blocks(take, "list", capture)
     return found
 

@@ -7,9 +7,8 @@ from collections.abc import Iterable, Iterator
 from .entry import ANSWERED, NOT_VERIFIED, REFUSED, Entry, Record
 from .fault import Fault
 from .placing import write_named
-from .recording import SECOND
 from .text import plain
-from .units import seconds_of
+from .units import SECOND, seconds_of
 
 Sample = tuple[str, str, int]
 """A metric's name without its prefix, its labels, and its value: nanoseconds, if the name ends in `_seconds`."""

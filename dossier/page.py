@@ -10,7 +10,7 @@ from .article import article, badge, short_article
 from .audit import change_of
 from .call import Caller
 from .entry import (NO_EVIDENCE, NOT_VERIFIED, NOTHING_FITS, OPEN, REFUSED, REFUTED, UNSUPPORTED, YES, Made,
-                    read_record)
+                    Refusal, read_record)
 from .fault import REFUSED as INPUT_REFUSED, Fault, fault
 from .folder import Folder
 from .known import Known
@@ -23,7 +23,7 @@ from .remedies import remedy
 from .signature import GOOD, NONE, STRANGER, UNFIT, UNSEEN, Signature, Signers
 from .style import PAGE
 from .table import Row, as_csv, badness_of, as_json, row_of, row_without_verdict
-from .text import count
+from .text import capital, count
 from .units import ns_ms, ns_up_ms
 from .verify import Verifier, audit_json
 
@@ -75,7 +75,7 @@ class Looking:
                 self.look_in(path, folder, signature)
         except Fault as found:
             self.status = max(self.status, INPUT_REFUSED if found.status == INPUT_REFUSED else 0)
-            self.refuse(path, found.line, signature)
+            self.refuse(path, found, signature)
 
     def part(self, given: argparse.Namespace, file: str) -> None:
         """Writes the sections of the last folder as a page of their own, and leaves their lines."""
@@ -93,7 +93,7 @@ class Looking:
             why = UNKNOWN
         elif record.refusal:
             self.metrics += of_record(path, record)
-            self.refuse(path, record.refusal.line, signature)
+            self.refuse(path, record.refusal, signature)
             return
         else:
             why = change_of(folder, record)
@@ -106,9 +106,10 @@ class Looking:
             said = article(name, path, folder, record, entry, signature)
             self.sections.append(Section(name, row, said, record.program))
 
-    def refuse(self, path: str, line: str, signature: Signature) -> None:
-        why, what = remedy(line)
-        self.add_short(path, row_without_verdict(path, REFUSED, f"{line}. {why}", what, signature), line, signature)
+    def refuse(self, path: str, found: Fault | Refusal, signature: Signature) -> None:
+        why, what = (f"{found.why}.", capital(found.what)) if found.why else remedy(found.line)
+        row = row_without_verdict(path, REFUSED, f"{found.line}. {why}", what, signature)
+        self.add_short(path, row, found.line, signature)
 
     def add_short(self, path: str, row: Row, line: str, signature: Signature) -> None:
         self.metrics += of_verdict(path, row.verdict)

@@ -6,6 +6,7 @@ import os
 import shutil
 import time
 from collections.abc import Callable
+from contextlib import suppress
 from typing import NamedTuple
 
 from .call import ENVIRONMENT, SUMS, Caller
@@ -13,8 +14,11 @@ from .entry import Made
 from .fault import MEMORY, MISSING, Fault
 from .folder import BLOCK
 from .limit import Limit
+from .text import plain
 
 ROOT = os.path.dirname(os.path.dirname(os.path.realpath(__file__)))
+MOST_OF_WORDS = 1000
+"""Characters of a line of the program's words that are kept."""
 
 
 class Ran(NamedTuple):
@@ -42,12 +46,8 @@ class Program(NamedTuple):
             text_of_sums = "".join(f"{sum_}  {name}\n" for name, sum_ in sums.items()).encode()
         status, text, error = self.caller.run(called, sums=text_of_sums)
         if status not in (0, 1):
-            raise fault_of(status, error)
+            raise self.in_words(fault_of(status, error), called, text_of_sums)
         return Ran(status, text)
-
-    def block(self, take: Callable[[bytes], object], *words: str) -> None:
-        """Calls the program, and hands on its text in one piece."""
-        take(self.run(*words).text)
 
     def blocks(self, take: Callable[[bytes], object], *words: str) -> None:
         """Calls the program, and hands on the lines of its text as they come, many at a time."""
@@ -62,15 +62,30 @@ class Program(NamedTuple):
                 take(block[:end] if rest else block)
         status, error = self.caller.stream([self.path, *words], take_block)
         if status not in (0, 1):
-            raise fault_of(status, error)
+            raise self.in_words(fault_of(status, error), [self.path, *words])
+
+    def in_words(self, found: Fault, called: list[str], sums: bytes = b"") -> Fault:
+        """The fault of a call with what the program says about it, if it says the same again. What took all memory
+        isn't called again."""
+        if found.status != MEMORY:
+            with suppress(Fault):
+                _, error = self.caller.stream([*called, "--human"], lambda _: None, sums=sums)
+                line, *words = lines_of(error) or [""]
+                if line == found.line and len(words) == 2 and all(said.startswith("  ") for said in words):
+                    found.why, found.what = (plain(said.strip()[:MOST_OF_WORDS]) for said in words)
+        return found
 
 
 def fault_of(status: int, error: bytes) -> Fault:
     """The fault of a call, by its line on standard error."""
-    lines = [line for line in error.decode("utf-8", "replace").splitlines() if line]
+    lines = lines_of(error)
     if status < 0:
         return Fault(f"ntpaudit: ended by signal {-status}", MEMORY)
     return Fault(lines[0] if lines else f"ntpaudit: status {status}, and no line", status)
+
+
+def lines_of(error: bytes) -> list[str]:
+    return [line for line in error.decode("utf-8", "replace").split("\n") if line]
 
 
 def find_program(limit: Limit) -> Program:

@@ -3,10 +3,12 @@ from __future__ import annotations
 
 import os
 from collections.abc import Callable
+from contextlib import suppress
 from dataclasses import replace
 
 from . import folder as files
 from .answers import read_settled
+from .captures import Audited
 from .claim import GREATEST_BOUND, Part
 from .entry import NO_EVIDENCE, NOTHING_FITS, REFUTED, YES, Entry
 from .fault import MISSING, Fault, fault
@@ -25,9 +27,10 @@ class Settling:
     were left so far. The envelope has pieces of the step that is asked for, if one is. A refutation that was found
     earlier is taken in place of another one, if the program accepts it."""
 
-    def __init__(self, part: Part, capture: str, program: Program, step: int | None, sums: dict[str, str],
+    def __init__(self, part: Part, whole: Audited, program: Program, step: int | None, sums: dict[str, str],
                  earlier: bytes = b""):
-        self.part, self.capture, self.program, self.earlier = part, capture, program, earlier
+        self.part, self.capture, self.program, self.earlier = part, whole.path, program, earlier
+        self.extent = whole.extent
         self.claim = part.within(files.CLAIM)
         self.step = step or envelope_step_of(part)
         self.sums = dict(sums)
@@ -40,9 +43,9 @@ class Settling:
             self.keep(files.CLAIM, self.part.claim.text)
         own = self.part.within(files.JOINED)
         if cut_to and cut_to(own):
-            self.capture, self.sums[own] = own, sum_of_file(own)
+            self.capture, self.extent, self.sums[own] = own, None, sum_of_file(own)
             self.left[own] = self.sums[own]
-        recording = read_recording(self.program, self.claim, self.capture, wants_request=True)
+        recording = read_recording(self.program, self.claim, self.capture, self.extent)
         texts = self.decide()
         if read_settled(texts.settled).answer == NO_EVIDENCE or do_many_miss(recording, len(self.part.claim.servers)):
             texts = texts._replace(traffic=read_traffic(self.program, self.capture))
@@ -83,10 +86,11 @@ class Settling:
             said = self.confirmed(b"\nverdict yes\n", *words)
             other = self.settled(files.CLAIM_OF_0, bound_ns=0)
             if read_settled(other).answer == REFUTED:
-                other, _ = self.contest(files.CLAIM_OF_0, other)
+                other = self.contest(files.CLAIM_OF_0, other)
             return Texts(text, self.keep(files.REPORT, said), other)
         if answer == REFUTED:
-            text, said = self.contest(files.CLAIM, text)
+            text = self.contest(files.CLAIM, text)
+            said = self.confirmed(b"refuted yes\n", *self.contested(files.CLAIM))
             return Texts(text, self.keep(files.REPORT, said))
         texts = Texts(text, self.keep(files.REPORT, text))
         if answer == NOTHING_FITS:
@@ -100,21 +104,19 @@ class Settling:
         self.keep(name, replace(self.part.claim, **changes).text)
         return self.call("settle", self.part.within(name), self.capture)
 
-    def contest(self, name: str, text: bytes) -> tuple[bytes, bytes]:
-        """Leaves a refutation of the claim of this name: it, and what `refute` says about it."""
-        words = ("refute", self.part.within(name), self.capture, self.part.within(files.REFUTATION), "--drift")
-        if self.earlier and self.is_accepted(*words):
-            text = self.earlier
-        self.keep(files.REFUTATION, text)
-        return text, self.confirmed(b"refuted yes\n", *words)
+    def contested(self, name: str) -> tuple[str, ...]:
+        """The call by which a refutation of the claim of this name is judged."""
+        return "refute", self.part.within(name), self.capture, self.part.within(files.REFUTATION), "--drift"
 
-    def is_accepted(self, *words: str) -> bool:
-        """Whether the program accepts the earlier refutation."""
-        self.keep(files.REFUTATION, self.earlier)
-        try:
-            return self.judged(*words).endswith(b"refuted yes\n")
-        except Fault:
-            return False
+    def contest(self, name: str, text: bytes) -> bytes:
+        """Leaves a refutation of the claim of this name: an earlier one, if it is another and the program accepts
+        it."""
+        if self.earlier not in (b"", text):
+            self.keep(files.REFUTATION, self.earlier)
+            with suppress(Fault):
+                if self.judged(*self.contested(name)).endswith(b"refuted yes\n"):
+                    return self.earlier
+        return self.keep(files.REFUTATION, text)
 
 
 def do_many_miss(recording: Recording, servers: int) -> bool:

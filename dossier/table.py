@@ -54,7 +54,7 @@ def signed_row(folder: str, day: str, found: Signature) -> Row:
 def row_without_verdict(folder: str, verdict: str, why: str, what: str, signature: Signature) -> Row:
     """A folder that has no figures: nobody audited it, or nobody verified that here."""
     row = signed_row(folder, "", signature)
-    row.verdict, row.reason, row.to_do = verdict, plain(why), what
+    row.verdict, row.reason, row.to_do = verdict, plain(why), plain(what)
     return row
 
 

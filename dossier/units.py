@@ -13,6 +13,8 @@ TICKS = 2**32
 EPOCH = datetime(1970, 1, 1)
 FORM = "%Y-%m-%dT%H:%M:%SZ"
 DAY = 86_400
+SECOND = 10**9
+"""Nanoseconds in a second: times of records are held in nanoseconds."""
 
 
 def ceil_div(a: int, b: int) -> int:

@@ -166,8 +166,8 @@ def fit(entry: Entry) -> str:
         return ""
     if not entry.refutation:
         return "The yes isn't empty: the program says it only if a course of events fits the capture."
-    return (f"The yes isn't empty: a course of events fits the capture, {course_of(entry)} ({REFUTATION}, checked by "
-            "`refute --drift` with the bound 0).")
+    return (f"The yes isn't empty: a course of events fits the capture, {course_of(entry)} ({REFUTATION}, by `settle` "
+            "with the bound 0; `refute --drift` checks it).")
 
 
 def course_of(entry: Entry) -> str:

@@ -5,13 +5,14 @@ them.
 """
 import gzip
 import json
+import lzma
 import random
 import re
 import shutil
 import struct
 
 from audits import ENVIRONMENT, PROGRAM, SCRIPT, capture_of, check, check_page, dossier, folder_of, skipped, table
-from tally import DATA, run
+from tally import DATA, ROOT, run
 
 HEADER = 24
 
@@ -313,30 +314,24 @@ def test_many_exchanges(place):
           lines=(len(out.splitlines()), 2), refused=(b"refused" in out, False))
 
 
-def linux_sll(whole):
-    """The same capture as `-i any` records it."""
-    found = whole[:20] + struct.pack("<I", 113)
-    for record in records_of(whole):
-        seconds, part, captured, length = struct.unpack("<IIII", record[:16])
-        found += struct.pack("<IIII", seconds, part, captured + 2,
-                             length + 2) + bytes((0, 0, 0, 1, 0, 6)) + record[22:28] + bytes(2) + record[28:]
-    return found
+def modified(whole):
+    """The same capture with longer heads of records."""
+    return struct.pack("<I", 0xA1B2CD34) + whole[4:24] + b"".join(record[:16] + bytes(8) + record[16:]
+                                                                  for record in records_of(whole))
 
 
 NEEDED = {"torn": (lambda whole: whole[:-20], "head"),
           "magic": (lambda whole: run(["editcap", "-F", "snoop", "-", "-"], whole)[1], "editcap"),
           "version": (lambda whole: whole[:6] + b"\x05\x00" + whole[8:], "editcap"),
-          "link": (lambda whole: linux_sll(whole), "editcap"), "joined by cat": (lambda whole: halves(whole), "head"),
-          "too many": (lambda whole: whole + 4_000_001 * short_record(1_795_331_030), "tcpdump"),
+          "pcapng": (lambda whole: run(["editcap", "-F", "pcapng", "-", "-"], whole)[1], "editcap"),
+          "modified": (lambda whole: modified(whole), "editcap"),
+          "gzip": (gzip.compress, "gunzip"), "zstd": (lambda whole: run(["zstd", "-c"], whole)[1], "unzstd"),
+          "xz": (lzma.compress, "unxz"),
+          "too many": (lambda whole: whole + 4_000_001 * short_record(1_795_331_030), "editcap"),
           "back and forth": (lambda whole: whole
                              + 600_000 * (short_record(1_795_331_030) + short_record(1_795_331_030 + DAY)),
                              "reordercap")}
 """Of each remedy a capture that needs it, made of a good one, and the tool that its commands call."""
-
-
-def halves(whole):
-    records = records_of(whole)
-    return whole[:24] + b"".join(records[: len(records) // 2]) + whole[:24] + b"".join(records[len(records) // 2 :])
 
 
 def short_record(second):
@@ -344,13 +339,14 @@ def short_record(second):
 
 
 def commands_of(words):
-    """The commands in a remedy that read a capture."""
-    return [command for command in re.findall(r"`([^`]*)`", words) if "f.pcap" in command and ".pcap"
-            in command.split("f.pcap", 1)[1]]
+    """The commands in a remedy that make another capture of one, with its name for IN, and another for OUT."""
+    named = re.sub(r"\bOUT\b", "g.pcap", re.sub(r"\bIN\b", "f.pcap", words))
+    return re.findall(r"(?:: |`)([^:`\"]*f\.pcap[^:`\"]* g\.pcap)", named)
 
 
 def test_remedies_work(place):
-    """Each command that a remedy names for a capture, on one that needs it: what comes out is audited."""
+    """Each command that a remedy, the program's or the dossier's, names for a capture, on one that needs it: what comes
+    out is audited, or the first part of it."""
     from dossier.remedies import REMEDIES, remedy
     whole, tried, to = (DATA / "clients-us.pcap").read_bytes(), set(), {"to": "2026-11-24T00:00:00Z"}
     for name, (spoil, tool) in NEEDED.items():
@@ -360,22 +356,23 @@ def test_remedies_work(place):
             skipped(f"the remedy of a capture: {name}", f"{tool} isn't installed")
             continue
         (folder / "f.pcap").write_bytes(spoil(whole))
-        line = dossier("audit", "--days", folder)[1] if days else run([PROGRAM, "list", folder / "f.pcap"])[2]
-        commands = commands_of(remedy(line.decode())[1])
-        at = (re.findall(rb" at (\d+)", line) or [b"0"])[0].decode()
+        said = dossier("audit", "--days", folder)[1] if days else run([PROGRAM, "list", "-H", folder / "f.pcap"])[2]
+        commands = commands_of(remedy(said.decode())[1] if days else said.decode().splitlines()[2])
+        at = (re.findall(rb" at (\d+)", said) or [b"0"])[0].decode()
         ran = {run(["sh", "-c", command.replace("PLACE", at)], cwd=folder)[0] for command in commands}
-        (folder / "f.pcap").unlink()
+        for spent in [folder / "f.pcap", *sorted(folder.glob("g_*"))[1:]]:
+            spent.unlink()
         status, said, _ = dossier("audit", *(["--days"] if days else []), folder)
         check(f"the remedy of a capture: {name}", commands=(bool(commands), True), ran=(ran, {0}),
               audited=(status, int(days)), verdict=(said.split()[0].decode(), "refuted" if days else "yes"))
         tried.update(commands)
-    named = " ".join(known.what for known in REMEDIES)
+    sources = [ROOT / "crates/fault_words/src" / f"{name}.rt" for name in ("sentence", "kind")]
+    named = " ".join([*(known.what for known in REMEDIES), *(source.read_text("utf-8") for source in sources)])
     if all(shutil.which(tool) for _, tool in NEEDED.values()):
         check("no command of a remedy is left out", missing=(sorted(set(commands_of(named)) - tried), []))
     check("no remedy writes another format",
-          editcap=([command for command in re.findall(r"`(editcap [^`]*)`", named) if "-F pcap" not in command], []),
-          filters=([command for command in re.findall(r"`(tcpdump -[^`]*-w[^`]*)`", named)
-                    if "vlan and udp port 123" not in command], []))
+          editcap=([command for command in commands_of(named) if "editcap" in command
+                    and not re.match("editcap -F (nsec)?pcap ", command)], []))
 
 
 def test_hostile_captures(place):

@@ -2,14 +2,16 @@
 reply. tests/prefixes, tests/devices, tests/refused-memory and tests/human try each of them, and tests/hostile looks
 that it does.
 """
-from collections.abc import Callable
+import re
+from collections.abc import Callable, Sequence
 from pathlib import Path
 from typing import NamedTuple
 
 import shown
 import transcript
+from claims import read_claim
 from columns import SAMPLE, counted, written
-from tally import DATA
+from tally import DATA, Ran
 
 CLAIM, CAPTURE = DATA / "two-packets.claim.json", DATA / "two-packets.pcap"
 CERTIFICATE, REFUTATION = DATA / "two-packets.certificate.json", DATA / "two-packets.refutation.json"
@@ -43,6 +45,22 @@ class Command(NamedTuple):
         """What it answers to the whole capture."""
         status, lines = self.answer(2)
         return status, "".join(f"{line}\n" for line in lines).encode()
+
+
+def fault_alone(ran: Ran, options: Sequence[str], may_lack_words: bool = False) -> Ran:
+    """The same run without the words of `--human` on standard error, which begin with two blanks: two lines behind a
+    fault line, and nothing else; with an answer lines about numbers that look like a slip of the pen (tests/slips.py).
+    Without the option there is nothing to leave out."""
+    status, output, error = ran
+    if "--human" not in options or not error:
+        return ran
+    line, *words = error.splitlines(keepends=True)
+    are_words = [bool(re.fullmatch(rb"  \S.*\n", word)) for word in words]
+    if status in (0, 1):
+        return (status, output, b"") if all(are_words) and line.startswith(b"  ") else ran
+    if line.startswith(b"ntpaudit: ") and (are_words == [True, True] or may_lack_words and not words):
+        return status, output, line
+    return status, output, b"not the words of a fault: " + error
 
 
 def lines_of(case: str) -> list[str]:
@@ -103,11 +121,12 @@ def least(records: int) -> Answer:
     return status, [*lines, "least_ns 10001001 piece 0" if records == 2 else "least_ns none"]
 
 
-def for_a_person(name: str, answer: Callable[[int], Answer]) -> Callable[[int], Answer]:
+def for_a_person(name: str, answer: Callable[[int], Answer], *others: Path | str) -> Callable[[int], Answer]:
     """The same lines as tests/shown.py reads them."""
     def shown_of(records: int) -> Answer:
         status, lines = answer(records)
-        return status, shown.of([name], "\n".join(lines).encode()).decode().splitlines()
+        words = [name, str(CLAIM), str(CAPTURE), *map(str, others)]
+        return status, shown.of(words, "\n".join(lines).encode()).decode().splitlines()
     return shown_of
 
 
@@ -121,6 +140,13 @@ def settled(records: int) -> Answer:
     return found(records) if records == 2 else (1, ["no evidence groups 0 of 1 false_max 0"])
 
 
+def told(records: int) -> Answer:
+    """What `settle` tells a person: the least bound is the claimed one."""
+    status, lines = settled(records)
+    heard = {"192.0.2.1"} if records == 2 else set[str]()
+    return status, shown.settle(lines, read_claim(CLAIM), {}, "least_ns 10001001", heard)
+
+
 def refuted(records: int) -> Answer:
     return (1, ["refuted no"]) if records == 2 else (0, ["refuted yes"])
 
@@ -129,12 +155,16 @@ COMMANDS = (
     Command("check", report, (CERTIFICATE,)),
     Command("refute", refuted, (REFUTATION,)),
     Command("refute", refuted, (REFUTATION,), ("--drift",)),
+    Command("refute", for_a_person("refute", refuted, REFUTATION), (REFUTATION,), ("--human",)),
     Command("samples", samples),
     Command("samples", for_a_person("samples", samples), (), ("--human",)),
     Command("at", at, (TIME,)),
     Command("find", found),
+    Command("find", for_a_person("find", found), (), ("--human",)),
     Command("find", sought, (), ("--refutation",)),
+    Command("find", for_a_person("find", sought), (), ("--refutation", "--human")),
     Command("settle", settled),
+    Command("settle", told, (), ("--human",)),
     Command("envelope", envelope),
     Command("envelope", with_servers, (), ("--servers",)),
     Command("envelope", least, (), ("--least",)),

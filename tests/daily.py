@@ -508,6 +508,7 @@ def test_years(place):
 
 
 UNITS = ROOT / "systemd"
+RECORDER = "ntpaudit-record@.service"
 
 
 def started_by(unit):
@@ -519,7 +520,7 @@ def test_systemd_units(place):
     if not shutil.which("systemd-analyze"):
         skipped("systemd's units", "systemd isn't installed")
         return
-    names = ("ntpaudit-record@.service", "ntpaudit-daily.service", "ntpaudit-daily.timer")
+    names = (RECORDER, "ntpaudit-daily.service", "ntpaudit-daily.timer")
     for name in names:
         text = (UNITS / name).read_text().replace("=ntpaudit-dossier ", f"={SCRIPT} ")
         (place / name.replace("@.", "@lo.")).write_text(text.replace("=tcpdump ", f"={shutil.which('true')} "))
@@ -532,9 +533,10 @@ def test_systemd_units(place):
 
 def test_recorder(place):
     """The recorder's command, called by hand: the names of its files are read by `day`."""
-    command, = started_by("ntpaudit-record@.service")
+    command, = started_by(RECORDER)
     check("the recorder keeps tagged frames", filter=("'udp port 123 or (vlan and udp port 123)'" in command, True),
-          own=(all(word in command for word in (" -U ", " -G 3600 ", "--time-stamp-precision=nano")), True))
+          own=(all(word in command for word in (" -U ", " -G 3600 ", "--time-stamp-precision=nano")), True),
+          claim=("ntpaudit/days\n" in re.findall(r"StateDirectory=.*\n", (UNITS / RECORDER).read_text())[0], True))
     if why := why_no_recording():
         skipped("the recorder's command", why)
         return

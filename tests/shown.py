@@ -2,11 +2,18 @@
 tests/columns.py says how the fields of a table are shown, and this file all else:
 
 - nanoseconds are milliseconds, parts of 10^9 are parts of 10^6
-- a reference identifier is its four letters, or else an address
+- a reference identifier is its one to four letters, before zero bytes alone, or else an address
 - a record's time and the ends of a tick have nanoseconds, unless it is a whole second
+- a certificate or a refutation is told of, with what the claim says
 
 Nothing here is shared with the program.
 """
+import json
+import re
+from collections.abc import Sequence
+from pathlib import Path
+
+from claims import Claim, Refutation, read_claim
 from columns import (HULL, MOMENT, PIECE, PIECE_OF_SERVER, PIECES_WITH_SERVERS, SAMPLE, TICKS, cells, milliseconds,
                      read, table, time)
 
@@ -16,8 +23,8 @@ def millionths(ppb: str) -> str:
 
 
 def reference(digits: str) -> str:
-    named = bytes.fromhex(digits)
-    return named.decode() if all(0x21 <= byte <= 0x7E for byte in named) else ".".join(map(str, named))
+    named = re.fullmatch(rb"([!-~]+)\0*", bytes.fromhex(digits))
+    return named[1].decode() if named else ".".join(map(str, bytes.fromhex(digits)))
 
 
 # ---- each command's lines
@@ -50,9 +57,42 @@ def bound(row: str) -> str:
     return " ".join([name.removesuffix("_ns"), *shown, *rest])
 
 
-def find(lines: list[str]) -> list[str]:
-    """A piece that fails is shown, and what is found stays as it is."""
-    return [bounded(row) if row.startswith("nothing piece ") else row for row in lines]
+def pieces_of(row: str) -> int:
+    return len(json.loads(row)["pieces"])
+
+
+def find(lines: list[str], claim: Claim, step: str) -> list[str]:
+    """A piece that fails is shown, and of what is found its size."""
+    row, = lines
+    if row.startswith("nothing piece "):
+        return [bounded(row)]
+    if row == "nothing refutation":
+        return ["no refutation found"]
+    if row.startswith('{"error"'):
+        return ["refutation found", *refutation(json.loads(row), claim)]
+    return ["certificate found", bound_of(claim), f"pieces {pieces_of(row)}", f"step {step} s"]
+
+
+def bound_of(claim: Claim) -> str:
+    return f"bound {milliseconds(claim['bound_ns'])} ms"
+
+
+def refutation(said: Refutation, claim: Claim) -> list[str]:
+    """What a refutation says: its error and time, how that stands to the bound, and who would be wrong. The error is
+    rounded away from zero: in ticks it is beyond the bound, or it isn't."""
+    error, bound_ns, servers = said["error"], claim["bound_ns"], claim["servers"]
+    size = -(-abs(error) * 10**9 // TICKS)
+    at = said["reading"] * 10**9 // TICKS
+    when = moment(at) if at < 2**32 * 10**9 else str(said["reading"])
+    is_beyond = abs(error) > bound_ns * TICKS // 10**9
+    wrong = [f"wrong {servers[k]}" if k < len(servers) else f"wrong server {k} not in the claim" for k in said["false"]]
+    return [f"error {milliseconds(-size if error < 0 else size)} ms at {when}", bound_of(claim),
+            f"beyond the bound by {milliseconds(size - bound_ns)} ms" if is_beyond else "not beyond the bound",
+            *(wrong or ["wrong none"])]
+
+
+def refute(lines: list[str], claim: Claim, said: Refutation) -> list[str]:
+    return [*lines, *refutation(said, claim)]
 
 
 def bounded(row: str) -> str:
@@ -67,21 +107,37 @@ def moment(nanoseconds: int) -> str:
     return time(second).replace("Z", f".{part:09}Z" if part else "Z")
 
 
-def settle(lines: list[str], times: dict[int, int]) -> list[str]:
-    """Conflicts and what stays open are shown, with the times of the records by their numbers in Unix nanoseconds, and
-    what is found stays as it is."""
-    shown = []
-    for row in lines:
-        f = row.split(" ")
-        if f[0] == "conflict":
-            ends = zip(("request", "reply"), f[1::2], f[2::2])
-            row = " ".join(["conflict", *(f"{server} {what} {record} at {moment(times[int(record)])}"
-                                          for what, server, record in ends)])
-        elif f[0] == "open":
-            begin, end = int(f[1]) * 10**9 // TICKS, -(-int(f[2]) * 10**9 // TICKS)
-            row = bounded(" ".join(["open", moment(begin), moment(end), *f[3:]]))
-        shown.append(row)
-    return shown
+def settle(lines: list[str], claim: Claim, times: dict[int, int], least: str, heard: set[str]) -> list[str]:
+    """Conflicts are shown with the times of the records by their numbers in Unix nanoseconds, and all else is told,
+    with the line of the least bound and the servers that have a sample."""
+    shown = [conflict(row, times) if row.startswith("conflict ") else row for row in lines]
+    first = lines[0]
+    if first.startswith('{"pieces"'):
+        return ["shown", bound_of(claim), f"pieces {pieces_of(first)}", bound(least)]
+    if first.startswith('{"error"'):
+        return ["refuted", *refutation(json.loads(first), claim)]
+    if first.startswith("no evidence "):
+        return [first, *(f"no sample {server}" for server in claim["servers"] if server not in heard)]
+    return [opened(first), bound_of(claim), bound(least), *wider(least, claim)] if first.startswith("open ") else shown
+
+
+def conflict(row: str, times: dict[int, int]) -> str:
+    f = row.split(" ")
+    ends = zip(("request", "reply"), f[1::2], f[2::2])
+    return " ".join(["conflict", *(f"{server} {what} {record} at {moment(times[int(record)])}"
+                                   for what, server, record in ends)])
+
+
+def opened(row: str) -> str:
+    f = row.split(" ")
+    begin, end = int(f[1]) * 10**9 // TICKS, -(-int(f[2]) * 10**9 // TICKS)
+    return bounded(" ".join(["open", moment(begin), moment(end), *f[3:]]))
+
+
+def wider(least: str, claim: Claim) -> list[str]:
+    """By how much the least bound is above the claimed one, if there is one."""
+    amount = least.split(" ")[1]
+    return [] if amount == "none" else [f"wider by {milliseconds(int(amount) - claim['bound_ns'])} ms"]
 
 
 def check(lines: list[str]) -> list[str]:
@@ -98,15 +154,17 @@ def check(lines: list[str]) -> list[str]:
     return shown
 
 
-def of(words: list[str], text: bytes) -> bytes:
+def of(words: Sequence[str], text: bytes) -> bytes:
     """What a command prints with `--human`, of its words and what it prints without."""
     command, lines = words[0], text.decode().splitlines()
     if command in ("samples", "at") and lines:
         lines = {"samples": samples, "at": at}[command](lines)
     elif command == "envelope" and lines:
         lines = envelope(lines, "--servers" in words)
-    elif command == "find":
-        lines = find(lines)
+    elif command == "find" and lines:
+        lines = find(lines, read_claim(words[1]), words[words.index("--step") + 1] if "--step" in words else "64")
+    elif command == "refute" and lines:
+        lines = refute(lines, read_claim(words[1]), json.loads(Path(words[3]).read_text()))
     elif command == "check":
         lines = check(lines)
     return "".join(f"{row}\n" for row in lines).encode()

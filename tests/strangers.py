@@ -630,6 +630,8 @@ def test_hostile_inputs(place):
         texts = 3 if name == "evidence.json" else 0
         check(f"a hostile {name}", status=(status, 2), error=(err, b""), refused=(len(refused), len(folders) - texts),
               named=([line for line in refused if name not in line and "ntpaudit: claim" not in line], []))
+        if name == "claim.json":
+            check_words(place, folders)
     fifo = place / "fifo"
     os.mkfifo(fifo)
     capture, claim = DATA / "clients-us.pcap", DATA / "clients-us.claim.json"
@@ -639,6 +641,34 @@ def test_hostile_inputs(place):
         status, out, err = limited(*words, timeout=20)
         check(f"a file that is none: {words[0]} {[str(word) for word in words[1:]]}", status=(status, 2),
               line=(b" is a " in err and err.count(b"\n") == 1, True), output=(out, b""))
+
+
+def check_words(place, folders):
+    """The program's words about claims and a capture of a stranger's, and those of a stranger's program, on a page."""
+    odd = folder_of(place, "odd")
+    (odd / "f.pcap").unlink()
+    (odd / "<u>\x1b[31m\udcff: `touch owned`.pcap").write_bytes(bytes(60))
+    made, fake = folder_of(place, "made"), place / "fake"
+    fake.write_text(f"""#!/bin/sh
+[ "$1" = --version ] && exec "{PROGRAM}" "$1"
+echo 'ntpaudit: capture 2 magic' >&2
+for last; do true; done
+[ "$last" = --human ] && head -c 100000 /dev/zero | tr '\\0' '\\033' | sed 's/^/  <u>: /; s/$/\\n  <u>`\\x1b<i>/' >&2
+exit 2
+""")
+    fake.chmod(0o755)
+    limited("audit", odd)
+    limited("audit", made, env={**ENVIRONMENT, "NTPAUDIT": str(fake)})
+    rows, text = table(odd, made), dossier("page", *folders, odd, made)[1].decode()
+    page = check_page("a page of hostile words", text)
+    words = "".join(page.words)
+    kept = [json.loads((folder / "audit.json").read_text())["refusal"] for folder in (odd, made)]
+    check("hostile words", kept=([(told["why"] + told["what"]).isprintable() for told in kept], [True, True]),
+          tags=(page.tags & {"u", "i", "b", "img"}, set()), escape=("\x1b" in text, False),
+          claim=('"client" has to be an IPv4 address; it is "<img src=http' in words, True),
+          named=("magic. <u>\\x1b[31m\\xff: `touch owned`.pcap: isn't a classic pcap file." in rows[0]["reason"], True),
+          cut=(rows[1]["reason"], "ntpaudit: capture 2 magic. <u>: " + 995 * "\\x1b" + "."),
+          what=(rows[1]["to_do"], "<u>`\\x1b<i>"))
 
 
 def test_own_faults(place):

@@ -16,9 +16,11 @@ from tally import DATA, Ran, check, run
 
 
 def calls_of_data() -> Iterator[Call]:
-    """Each claim of data/ with each certificate and refutation that is there for its capture."""
+    """Each claim of data/, alone and with each certificate and refutation that is there for its capture."""
     for claim in sorted(DATA.glob("*.claim.json")):
         name = claim.name.split(".")[0]
+        for option in [(), ("--human",)]:
+            yield Call(DATA, "settle", claim.name, f"{name}.pcap", options=option)
         for second in sorted([*DATA.glob(f"{name}.*json"), *DATA.glob(f"{name}.*settle.txt")]):
             text = second.read_bytes()
             for start, command, options in ((b'{"pieces"', "check", [(), ("--human",)]),
@@ -55,7 +57,7 @@ def try_data(call: Call) -> list[tuple[str, Ran, Ran]]:
 def test_data(folder: Path) -> None:
     calls = list(calls_of_data())
     check("calls on data/", count=(len(calls), lambda count: count > 60),
-          commands=({call.command for call in calls}, {"check", "refute"}), kinds=(
+          commands=({call.command for call in calls}, {"check", "refute", "settle"}), kinds=(
               {call.plain()[:2] == (0, b"refuted yes\n") for call in calls if call.command == "refute"}, {True, False}))
     with ThreadPoolExecutor() as pool:
         for tried in pool.map(try_data, calls):
@@ -74,8 +76,12 @@ def test_each_file(folder: Path) -> None:
 
 def test_changes(folder: Path) -> None:
     """Each byte of a claim and of a certificate changed, some of a capture, bytes put on and cut off."""
-    call = inputs_in(folder, "two-packets", "two-packets.certificate.json")
-    sums = call.sums()
+    for command in ("check", "settle"):
+        try_changes(inputs_in(folder, "two-packets", "two-packets.certificate.json", command))
+
+
+def try_changes(call: Call) -> None:
+    folder, sums = call.folder, call.sums()
     for kind, file in call.inputs.items():
         whole = call.data(kind)
         places: Iterable[int] = range(len(whole))
@@ -85,7 +91,7 @@ def test_changes(folder: Path) -> None:
         changed |= {"a byte more": whole + b" ", "a byte less": whole[:-1], "nothing": b"", "twice": whole * 2}
         for name, data in changed.items():
             (folder / file).write_bytes(data)
-            call.says(f"{name} of the {kind}", sums, f"sums differ {kind}")
+            call.says(f"{call.command}: {name} of the {kind}", sums, f"sums differ {kind}")
         (folder / file).write_bytes(whole)
     lines = sums.splitlines(keepends=True)
     for number, kind in enumerate(call.inputs):
@@ -93,8 +99,8 @@ def test_changes(folder: Path) -> None:
             digits = bytearray(lines[number])
             digits[at] = ord("0" if digits[at : at + 1] != b"0" else "f")
             other = b"".join([*lines[:number], bytes(digits), *lines[number + 1 :]])
-            call.says(f"digit {at} of the sum of the {kind}", other, f"sums differ {kind}")
-    call.says("unchanged", sums, call.plain())
+            call.says(f"{call.command}: digit {at} of the sum of the {kind}", other, f"sums differ {kind}")
+    call.says(f"{call.command}: unchanged", sums, call.plain())
 
 
 # ---- SHA-256

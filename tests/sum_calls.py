@@ -1,4 +1,4 @@
-"""What the tests of `--sums` share: calls of `check` and `refute` on copies of inputs of data/, with sums and
+"""What the tests of `--sums` share: calls of `check`, `refute` and `settle` on copies of inputs of data/, with sums and
 without."""
 import hashlib
 import random
@@ -6,7 +6,7 @@ import shutil
 from pathlib import Path
 from typing import Any, NamedTuple
 
-from commands import SECOND
+from commands import SECOND, fault_alone
 from tally import DATA, Ran, check, program, run
 
 PROGRAM = program()
@@ -31,17 +31,18 @@ class Call(NamedTuple):
     command: str
     claim: str
     capture: str
-    second: str
+    second: str = ""
     options: tuple[str, ...] = ()
 
     @property
     def words(self) -> list[str]:
-        return [PROGRAM, self.command, self.claim, self.capture, self.second, *self.options]
+        return [PROGRAM, self.command, self.claim, self.capture, *filter(None, [self.second]), *self.options]
 
     @property
     def inputs(self) -> dict[str, str]:
         """The operands in the order in which they are read, each with what it is."""
-        return {"claim": self.claim, SECOND[self.command]: self.second, "capture": self.capture}
+        given = {"claim": self.claim, SECOND.get(self.command, ""): self.second, "capture": self.capture}
+        return {kind: file for kind, file in given.items() if kind}
 
     def of(self, **operands: str) -> "Call":
         """The same call of other operands."""
@@ -49,11 +50,11 @@ class Call(NamedTuple):
 
     def plain(self) -> Ran:
         """What it says without the option."""
-        return run(self.words, cwd=self.folder)
+        return fault_alone(run(self.words, cwd=self.folder), self.options)
 
     def by(self, sums: bytes, **how: Any) -> Ran:
         """What it says with a file of sums, which comes by standard input."""
-        return run([*self.words, "--sums", "/dev/stdin"], sums, cwd=self.folder, **how)
+        return fault_alone(run([*self.words, "--sums", "/dev/stdin"], sums, cwd=self.folder, **how), self.options)
 
     def says(self, name: str, sums: bytes, wanted: Ran | str) -> None:
         """A case: what it says with a file of sums, or the fault line."""
@@ -71,8 +72,10 @@ class Call(NamedTuple):
 
 def inputs_in(folder: Path, name: str = "clients-us", second: str = "clients-us.8.certificate.json",
               command: str = "check") -> Call:
-    """A call on copies of a claim of data/, its capture, and a certificate or a refutation."""
+    """A call on copies of a claim of data/, its capture, and a certificate or a refutation, if it takes one."""
     shutil.copy(DATA / f"{name.split('.')[0]}.pcap", folder / "f.pcap")
     shutil.copy(DATA / f"{name}.claim.json", folder / "claim.json")
+    if command not in SECOND:
+        return Call(folder, command, "claim.json", "f.pcap")
     shutil.copy(DATA / second, folder / "second.json")
     return Call(folder, command, "claim.json", "f.pcap", "second.json")

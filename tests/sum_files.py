@@ -65,8 +65,8 @@ def test_pipes(folder: Path) -> None:
     """Each input by a FIFO, alone and together, whole and in pieces. What comes by a FIFO can be read once only: so
     what is summed is what is judged."""
     for name, second, command in (("clients-us", "clients-us.8.certificate.json", "check"),
-                                  ("era1-ns", "era1-ns.refutation.json", "refute")):
-        own = folder / name
+                                  ("era1-ns", "era1-ns.refutation.json", "refute"), ("clients-us", "", "settle")):
+        own = folder / command
         own.mkdir()
         call = inputs_in(own, name, second, command)
         sums, plain = call.sums(), call.plain()
@@ -84,8 +84,8 @@ def test_pipes(folder: Path) -> None:
             check(f"{command} with a {kind} that ends early",
                   run=(by_fifo(call, [kind], sums, {kind: [whole[:-1]]}), fault(f"sums differ {kind}")))
         check(f"{command} with sums that grow",
-              run=(by_fifo(call, ["sums"], sums, {"sums": [sums, pause, b"\n"]}), fault("sums form line 4")))
-        line = 'exec "$0" "$@" --sums <(sha256sum "$2" "$3" "$4")'
+              run=(by_fifo(call, ["sums"], sums, {"sums": [sums, pause, b"\n"]}), fault(f"sums form line {len(kinds)}")))
+        line = 'exec "$0" "$@" --sums <(sha256sum "${@:2}")'
         check(f"{command} with a process in place of a file",
               run=(run(["bash", "-c", line, *call.words], cwd=own), plain))
 

@@ -13,7 +13,8 @@ from tally import Ran, check, run
 
 def test_forms(folder: Path) -> None:
     """Files of sums that say the same in other words."""
-    for command, second in (("check", "clients-us.8.certificate.json"), ("refute", "clients-us.zero.refutation.json")):
+    for command, second in (("check", "clients-us.8.certificate.json"), ("refute", "clients-us.zero.refutation.json"),
+                            ("settle", "")):
         own = folder / command
         own.mkdir()
         call = inputs_in(own, second=second, command=command)
@@ -55,7 +56,7 @@ def test_forms(folder: Path) -> None:
         check(f"a command line with {words}", status=(status, 5), output=(out, b""), error=(err, bool))
     both = ["claim.json", "f.pcap"]
     for command, operands in (("list", both[1:]), ("samples", both), ("at", [*both, "2026-11-22T07:03:40Z"]),
-                              ("settle", both), ("find", both), ("envelope", both)):
+                              ("find", both), ("envelope", both)):
         check(f"{command} with --sums",
               status=(run([PROGRAM, command, *operands, "--sums", "SUMS"], cwd=own)[:2], (5, b"")))
 
@@ -75,9 +76,9 @@ def test_names(folder: Path) -> None:
         for name in NAMES:
             os.link(folder / getattr(call, field), folder / name)
             named = call.of(**{field: name})
-            if name.startswith("-") and name != "-":  # (it would be an option)
+            if name.startswith("-"):  # (it would be an option, or standard input)
                 named = call.of(**{field: f"./{name}"})
-            sums = named.sums() if name != "-" else call.of(**{field: "./-"}).sums().replace(b"./", b"")
+            sums = named.sums()
             label = f"the {kind} {name!r}"
             check(f"{label}", run=(named.by(sums), plain), read=(sum_file.read(sums)[1], 0))
             own = b"".join(line for line in sums.splitlines(keepends=True)

@@ -33,13 +33,15 @@ def with_other(at: int, other: Callable[[bytes], bytes]) -> Callable[[list[bytes
 
 def refusals(command: str) -> Iterator[Refusal]:
     """All refusals but those of a command line, in the order in which they come."""
-    kinds = "claim", SECOND[command], "capture"
+    second = SECOND.get(command)
+    kinds = [kind for kind in ("claim", second, "capture") if kind]
     for kind in (*kinds, "sums"):
         yield Refusal(kind, f"device {kind}", 4, {kind: None})
     yield Refusal("sums", "too-big sums", 2, {"sums": b"\n" * (MOST + 1)})
     yield Refusal("sums", "device sums", 4, {"sums": FOLDER})
     yield Refusal("form", "sums form line 3", lines=lambda lines: [*lines[:2], b"# a comment", *lines[2:]])
-    yield Refusal("form", "sums form line 4", lines=lambda lines: [*lines, digest(b"yet another") + lines[2][64:]])
+    yield Refusal("form", f"sums form line {len(kinds) + 1}",
+                  lines=lambda lines: [*lines, digest(b"yet another") + lines[-1][64:]])
     for at, kind in enumerate(kinds):
         yield Refusal(f"line {at}", f"sums missing {kind}", lines=with_other(at, lambda _: NOTHING + b"  other"))
     for at, kind in enumerate(kinds):
@@ -48,10 +50,11 @@ def refusals(command: str) -> Iterator[Refusal]:
         yield Refusal(kind, f"device {kind}", 4, {kind: FOLDER})
         yield Refusal(f"line {at}", f"sums differ {kind}",
                       lines=with_other(at, lambda line: digest(b"another") + line[64:]))
-    for kind, data, line in (("claim", b"[", "claim 1 json"), ("claim", b"{}", "claim 2 field field 1"),
-                             (kinds[1], b"[", f"{kinds[1]} 1 json"), ("capture", b"", "capture 1 torn-header"),
-                             ("capture", bytes(24), "capture 2 magic")):
-        yield Refusal(kind, line, files={kind: data})
+    for which, data, line in (("claim", b"[", "claim 1 json"), ("claim", b"{}", "claim 2 field field 1"),
+                              (second, b"[", f"{second} 1 json"), ("capture", b"", "capture 1 torn-header"),
+                              ("capture", bytes(24), "capture 2 magic")):
+        if which:
+            yield Refusal(which, line, files={which: data})
 
 
 def staged(call: Call, *spoils: Refusal) -> Ran:
@@ -81,14 +84,15 @@ def staged(call: Call, *spoils: Refusal) -> Ran:
 def test_order(folder: Path) -> None:
     """Each refusal alone, and each two that don't spoil the same thing: the first of the order is answered."""
     for name, second, command in (("two-packets", "two-packets.certificate.json", "check"),
-                                  ("two-packets", "two-packets.refutation.json", "refute")):
+                                  ("two-packets", "two-packets.refutation.json", "refute"),
+                                  ("two-packets", "", "settle")):
         own = folder / command
         own.mkdir()
         call = inputs_in(own, name, second, command)
         listed = list(refusals(command))
         pairs = [pair for pair in itertools.combinations(listed, 2) if pair[0].spoils != pair[1].spoils]
         check(f"{command}: nothing is spoiled", run=(staged(call), call.plain()),
-              pairs=(len(pairs), lambda count: count > 200))
+              pairs=(len(pairs), lambda count: count > 100))
         scenes = [(one,) for one in listed] + pairs
         with ThreadPoolExecutor() as pool:
             for scene, seen in zip(scenes, pool.map(lambda scene: staged(call, *scene), scenes)):

@@ -4,6 +4,7 @@ pub mod SampleLines
 pub mod Capture
 pub mod LeastShowing
 pub mod SettlementShowing
+pub mod SettlementText
 pub mod EnvelopeShowing
 pub mod RunSteps
 pub mod Status

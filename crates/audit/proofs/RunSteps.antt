@@ -1,5 +1,5 @@
 -- A run, once its text is made.
-use Rattle.std.proofs.Common.{◌≡◌, ◌∙◌, ◌⊎◌, ◌++◌, ℕ, List, [], ◌∷◌, Option, Some, None, Result, Ok, Err, refl, sym, ap, subst, inl, inr, append-nil}
+use Rattle.std.proofs.Common.{◌≡◌, ◌∙◌, ◌⊎◌, ◌++◌, ℕ, List, [], ◌∷◌, Option, Some, None, Result, Ok, Err, refl, sym, ap, subst, inl, inr, append-nil, false}
 use Rattle.std.specs.List.{concat}
 use Rattle.std.specs.Prelude.{IfSome, IfErr, IsOk, MatchResult}
 use Rattle.std.specs.Io.KnownBytes.{Appends, Keeps}
@@ -22,7 +22,7 @@ use Rattle.report.specs.ClaimInput.{IsOfClaim, claim_read, max_claim}
 use Rattle.report.specs.Input.{most_read}
 use Rattle.report.specs.RefutationInput.{max_refutation}
 use Rattle.report.specs.Publication.{IsAnswerFor, IsMadeFor, IsUnwritten, Publishes, Ready}
-use Rattle.report.specs.Reports.{Report, Reports, GetsText, is_claim, is_second, is_capture, is_device, refused}
+use Rattle.report.specs.Reports.{Report, Reports, GetsText, is_claim, is_second, is_capture, is_sums, is_device, refused}
 use Rattle.report.specs.Reading.{IsFromOutside, Reads}
 use Rattle.report.specs.Run.{RunState}
 use Rattle.report.specs.Runs.{HasClaim, HasLawfulHeader, IsBeforeCapture, IsBeforeSecond, IsUnwrittenAt, Runs}
@@ -71,6 +71,13 @@ given_up faults.Memory before after h = inr h
 given_up (faults.Write sent) before after h = inl tt
 given_up (faults.Device input) before after h = inr (no_lines before after h.0 h.1 h.2 h.3)
 given_up fault before after h = inr (keeps before after h.1)
+
+-- no file of sums was read
+unsummed : (made : Result Ready RunFault) → IsUnwritten made → is_device is_sums made ≡ false
+unsummed (Ok m) h = refl
+unsummed (Err (faults.Device inputs.Sums)) h = absurd h
+unsummed (Err (faults.Device input)) h = refl
+unsummed (Err fault) h = refl
 
 refusal_for : (fault : RunFault) → IsUnwritten (Err fault) → IsMadeFor (refused fault) (Err fault)
 refusal_for (faults.Write sent) h = absurd h
@@ -179,6 +186,7 @@ module _ {T F : Type 0} (asked : AskedData) (finding : Finding) (before after : 
     claim = rw (p.device is_claim) h.claim_faults;
     second = rw (p.device is_second) h.second_faults;
     capture = rw (p.device is_capture) h.capture_faults;
+    sums = p.device is_sums ∙ unsummed made h.unwritten;
   }
 
   -- what was made is published, and the promise is kept
@@ -219,14 +227,17 @@ any_outside (Some r) fault h = made_outside r fault h
 
 of_capture_isnt_written : (fault : RunFault) → IsOfCapture fault → IsUnwritten (Err fault)
 of_capture_isnt_written (faults.Write sent) h = absurd h
+of_capture_isnt_written (faults.Device inputs.Sums) h = absurd h
 of_capture_isnt_written fault h = tt
 
 of_second_isnt_written : (fault : RunFault) → IsOfSecond fault → IsUnwritten (Err fault)
 of_second_isnt_written (faults.Write sent) h = absurd h
+of_second_isnt_written (faults.Device inputs.Sums) h = absurd h
 of_second_isnt_written fault h = tt
 
 of_claim_isnt_written : (fault : RunFault) → IsOfClaim fault → IsUnwritten (Err fault)
 of_claim_isnt_written (faults.Write sent) h = absurd h
+of_claim_isnt_written (faults.Device inputs.Sums) h = absurd h
 of_claim_isnt_written fault h = tt
 
 -- the refusal is what reading gave

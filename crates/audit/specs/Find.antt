@@ -1,9 +1,10 @@
 -- The report of `find`: a certificate, or the first piece for which none can be accepted; and what
 -- its outcome says.
-use Rattle.std.specs.Prelude.{◌≡◌, ◌≢◌, ℕ, List, ◌++◌, codes, Result, Ok, Err}
+use Rattle.std.specs.Prelude.{◌≡◌, ◌≢◌, ℕ, List, length, ◌++◌, codes, Result, Ok, Err}
 use Rattle.byte_stream.specs.State.{FeedState}
 use Rattle.certificate.specs.Certificate.{CertificateData}
 use Rattle.certificate.specs.Writing.{certificate_text}
+use Rattle.claim_file.specs.Claim.{ClaimData}
 use Rattle.checker.specs.Traceability.{HoldsError, IsContradicted}
 use Rattle.checker.specs.declared.verdict.Verdict.TheVariants as verdicts
 use Rattle.intersection.specs.declared.kinds.Hull.{Hull}
@@ -19,16 +20,23 @@ use Rattle.report.specs.declared.fault.RunFault.{RunFault}
 use Rattle.report.specs.declared.fault.RunFault.TheVariants.{Pieces, Memory}
 use Rattle.report.specs.Reports.{Report, refused, whole_text}
 use Rattle.line_writer.specs.declared.field.Style.{Style}
+use Rattle.line_writer.specs.declared.field.Style.TheVariants.{Plain}
+use Rattle.audit_text.specs.Answer.{found_answer}
 use Rattle.audit_text.specs.Nothing.{nothing_text}
 use Rattle.audit.specs.Check.{verdict_on}
 use Rattle.audit.specs.Evidence.{EvidenceData, GiveEvidence, OfClaimAndCapture, samples_in}
 use Rattle.audit.specs.Question.{QuestionData}
 
--- what is found, in words: the certificate's compact text and a line feed, in any style, or the
--- number of the piece that fails and its hull
-unfoldable pub found_text : Style → FoundData → List ℕ
-found_text style (certificate c) = certificate_text c ++ codes "\n"
-found_text style (nothing piece hull) = nothing_text style piece hull
+-- a certificate of pieces of this many seconds: for a program its compact text and a line feed, and
+-- for a person that it is found
+abbrev pub certificate_for : Style → ℕ → ClaimData → CertificateData → List ℕ
+certificate_for Plain step claim c = certificate_text c ++ codes "\n"
+certificate_for style step claim c = found_answer claim step (length c.pieces)
+
+-- what is found, in words: a certificate, or the number of the piece that fails and its hull
+unfoldable pub found_text : Style → ℕ → ClaimData → FoundData → List ℕ
+found_text style step claim (certificate c) = certificate_for style step claim c
+found_text style step claim (nothing piece hull) = nothing_text style piece hull
 
 -- the outcome: yes if there is a certificate
 abbrev pub found_outcome : FoundData → Outcome
@@ -41,9 +49,10 @@ find_run_fault_of finds.TooManyPieces = Pieces
 find_run_fault_of finds.Memory = Memory
 
 -- the report on what is found
-abbrev pub found_report : Style → Result FoundData FindFault → Report
-found_report style (Ok found) = whole_text (found_text style found) (found_outcome found)
-found_report style (Err fault) = refused (find_run_fault_of fault)
+abbrev pub found_report : Style → ℕ → ClaimData → Result FoundData FindFault → Report
+found_report style step claim (Ok found) =
+    whole_text (found_text style step claim found) (found_outcome found)
+found_report style step claim (Err fault) = refused (find_run_fault_of fault)
 
 -- what is found in the samples of a capture, for pieces of this many seconds
 abbrev pub found_in : ℕ → EvidenceData → Result FoundData FindFault
@@ -51,7 +60,7 @@ found_in step e = found_of (samples_in e) e.claim step
 
 -- the report of `find` on a claim and the exchanges of a capture
 abbrev pub find_report : Style → ℕ → EvidenceData → Report
-find_report style step e = found_report style (found_in step e)
+find_report style step e = found_report style step e.claim (found_in step e)
 
 -- a certificate is found of this evidence, and it is accepted
 pub record IsFoundOf (step : ℕ) (e : EvidenceData) : Type 0 where

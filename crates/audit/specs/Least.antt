@@ -21,6 +21,11 @@ line_of claim step None = NoneHolds
 line_of claim step (Some least) =
     Holds least.bound_ns (piece_holding claim step (pos least.tick))
 
+-- the bound that was found, in nanoseconds
+abbrev pub nanoseconds_of : Option LeastCarried → Option ℕ
+nanoseconds_of None = None
+nanoseconds_of (Some least) = Some least.bound_ns
+
 -- the line, if it is asked for; there is none if it is, and no bound was looked for
 abbrev pub least_line_of : ClaimData → ℕ → Bool → Option (Option LeastCarried) → Option LeastLine
 least_line_of claim step false found = Some NotAsked

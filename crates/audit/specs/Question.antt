@@ -27,8 +27,8 @@ abbrev pub no_finding : Finding
 no_finding = record { settled = Err Memory; least = None }
 
 pub record QuestionData : Type 1 where
-  -- the report on what the second input says and on evidence, in a style. Certificates, refutations
-  -- and the line of a refutation are for programs in any. `settle` and `envelope` report what was
+  -- the report on what the second input says and on evidence, in a style: a person is told of a
+  -- certificate or a refutation, and a program gets it. `settle` and `envelope` report what was
   -- found.
   pub report : Style → Finding → SecondData → EvidenceData → Report
   -- what the outcome of a run shows whose claim, second input and capture begin so

@@ -1,8 +1,9 @@
 -- The report of `refute`, and what its outcome says.
-use Rattle.std.specs.Prelude.{◌≡◌, ℕ, List, Bool, true, false, Option, IfSome, Ok}
+use Rattle.std.specs.Prelude.{◌≡◌, ℕ, List, codes, Bool, true, false, Option, IfSome, Ok}
 use Rattle.byte_stream.specs.State.{FeedState}
 use Rattle.certificate.specs.Certificate.{CertificateData}
 use Rattle.certificate.specs.Refutation.{RefutationData}
+use Rattle.claim_file.specs.Claim.{ClaimData}
 use Rattle.checker.specs.Course.{Course}
 use Rattle.checker.specs.Refutation.{HasCourse, IsAgainst, IsRefuted}
 use Rattle.checker.specs.RefutationTest.{is_refuted}
@@ -14,6 +15,9 @@ use Rattle.report.specs.declared.fault.Outcome.{Outcome}
 use Rattle.report.specs.declared.fault.Outcome.TheVariants.{Yes, No}
 use Rattle.report.specs.declared.fault.RunFault.TheVariants.{Memory}
 use Rattle.report.specs.Reports.{Report, refused, whole_text}
+use Rattle.line_writer.specs.declared.field.Style.{Style}
+use Rattle.line_writer.specs.declared.field.Style.TheVariants.{Plain}
+use Rattle.audit_text.specs.Answer.{refutation_answer}
 use Rattle.audit_text.specs.Refutation.{refuted_text}
 use Rattle.audit.specs.Check.{verdict_on}
 use Rattle.audit.specs.Contested.{ShowsContested}
@@ -32,10 +36,21 @@ abbrev pub stands_on : Bool → RefutationData → EvidenceData → Bool
 stands_on true refutation e = is_refuted_with_drift e.claim e.collection.exchanges refutation
 stands_on false refutation e = is_refuted e.claim e.collection.exchanges refutation
 
+-- the word of the answer
+abbrev pub refuted_word : Bool → List ℕ
+refuted_word true = codes "refuted yes"
+refuted_word false = codes "refuted no"
+
+-- the answer to a refutation: for a person also what it says
+unfoldable pub judged_text : Style → ClaimData → RefutationData → Bool → List ℕ
+judged_text Plain claim refutation stands = refuted_text stands
+judged_text style claim refutation stands =
+    refutation_answer (refuted_word stands) claim refutation
+
 -- the report of `refute` on a refutation, a claim and the exchanges of a capture
-abbrev pub refute_report : Bool → RefutationData → EvidenceData → Report
-refute_report drift refutation e =
-    whole_text (refuted_text (stands_on drift refutation e))
+abbrev pub refute_report : Style → Bool → RefutationData → EvidenceData → Report
+refute_report style drift refutation e =
+    whole_text (judged_text style e.claim refutation (stands_on drift refutation e))
     (refuted_outcome (stands_on drift refutation e))
 
 -- the refutation is accepted
@@ -98,13 +113,13 @@ ShowsRefutation drift claim second capture Yes = IsContested drift claim second 
 ShowsRefutation drift claim second capture No = IsUncontested drift claim second capture
 
 -- the report on a refutation; nothing else is judged
-abbrev pub report_on : Bool → SecondData → EvidenceData → Report
-report_on drift (refutation_said refutation) e = refute_report drift refutation e
-report_on drift said e = refused Memory
+abbrev pub report_on : Style → Bool → SecondData → EvidenceData → Report
+report_on style drift (refutation_said refutation) e = refute_report style drift refutation e
+report_on style drift said e = refused Memory
 
 -- does a refutation stand against the claim, and may the clock's error drift?
 abbrev pub refute : Bool → QuestionData
 refute drift = record {
-  report = λ style finding said e. report_on drift said e;
+  report = λ style finding said e. report_on style drift said e;
   Shows = ShowsRefutation drift;
 }

@@ -4,20 +4,30 @@ use Rattle.std.specs.Prelude.{◌≡◌, ℕ, false, List, ◌++◌, codes, Opti
 use Rattle.byte_stream.specs.State.{FeedState}
 use Rattle.certificate.specs.Refutation.{RefutationData}
 use Rattle.certificate.specs.RefutationWriting.{refutation_text}
+use Rattle.claim_file.specs.Claim.{ClaimData}
 use Rattle.finder.specs.Sought.{IsSought, NoneIsRefuted, sought_of}
 use Rattle.report.specs.declared.fault.Outcome.{Outcome}
 use Rattle.report.specs.declared.fault.Outcome.TheVariants.{Yes, No}
 use Rattle.report.specs.Reports.{Report, whole_text}
+use Rattle.line_writer.specs.declared.field.Style.{Style}
+use Rattle.line_writer.specs.declared.field.Style.TheVariants.{Plain}
+use Rattle.audit_text.specs.Answer.{refutation_answer}
 use Rattle.audit_text.specs.Refutation.{no_refutation_text}
 use Rattle.audit.specs.Contested.{ShowsContested}
 use Rattle.audit.specs.Evidence.{EvidenceData, GiveEvidence, OfClaimAndCapture}
 use Rattle.audit.specs.Refute.{IsContestedOf}
 use Rattle.audit.specs.Question.{QuestionData}
 
--- what is found, in words: the refutation's compact text and a line feed, or that there is none
-unfoldable pub sought_text : Option RefutationData → List ℕ
-sought_text (Some refutation) = refutation_text refutation ++ codes "\n"
-sought_text None = no_refutation_text
+-- a refutation: for a program its compact text and a line feed, and for a person what it says
+abbrev pub refutation_for : Style → ClaimData → RefutationData → List ℕ
+refutation_for Plain claim refutation = refutation_text refutation ++ codes "\n"
+refutation_for style claim refutation =
+    refutation_answer (codes "refutation found") claim refutation
+
+-- what is found, in words: a refutation, or that there is none
+unfoldable pub sought_text : Style → ClaimData → Option RefutationData → List ℕ
+sought_text style claim (Some refutation) = refutation_for style claim refutation
+sought_text style claim None = no_refutation_text style
 
 -- the outcome: yes if there is a refutation
 abbrev pub sought_outcome : Option RefutationData → Outcome
@@ -29,8 +39,9 @@ abbrev pub sought_in : EvidenceData → Option RefutationData
 sought_in e = sought_of e.claim e.collection.exchanges
 
 -- the report of `find --refutation` on a claim and the exchanges of a capture
-abbrev pub seek_report : EvidenceData → Report
-seek_report e = whole_text (sought_text (sought_in e)) (sought_outcome (sought_in e))
+abbrev pub seek_report : Style → EvidenceData → Report
+seek_report style e =
+    whole_text (sought_text style e.claim (sought_in e)) (sought_outcome (sought_in e))
 
 -- A refutation is found of this evidence, with the error nearest above the bound, or else nearest
 -- below it on the other side; and it stands.
@@ -67,6 +78,6 @@ ShowsSought claim capture No = IsIrrefutable claim capture
 -- is there a refutation of the claim?
 abbrev pub seek : QuestionData
 seek = record {
-  report = λ style finding said e. seek_report e;
+  report = λ style finding said e. seek_report style e;
   Shows = λ claim second capture outcome. ShowsSought claim capture outcome;
 }

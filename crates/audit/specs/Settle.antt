@@ -1,7 +1,7 @@
 -- The report of `settle`, and what it shows: that the claim is shown, refuted, fitted by no course
--- or without evidence, or that it stays open. Which refutation is found has no definition of its
--- own, so the report is one on what was found.
-use Rattle.std.specs.Prelude.{◌≡◌, ℕ, true, List, AllPairs, ◌++◌, codes, Result, Ok, Err}
+-- or without evidence, or that it stays open. Which refutation and which least bound are found has
+-- no definition of its own, so the report is one on what was found.
+use Rattle.std.specs.Prelude.{◌≡◌, ℕ, Bool, true, false, List, length, AllPairs, ◌++◌, codes, Option, Some, None, IfSome, Result, Ok, Err}
 use Rattle.byte_stream.specs.Bytes.{IsBytes}
 use Rattle.byte_stream.specs.State.{FeedState}
 use Rattle.certificate.specs.Certificate.{CertificateData}
@@ -10,12 +10,16 @@ use Rattle.certificate.specs.Refutation.{RefutationData}
 use Rattle.certificate.specs.Writing.{certificate_text}
 use Rattle.finder.specs.Settlement.{SettledData, shown, refuted, fitted_by_none, no_evidence, left_open}
 use Rattle.finder.specs.Settlement.{IsFittedByNone, IsLeftOpen, IsShownBy, IsUnheard}
+use Rattle.finder.specs.declared.carried.LeastCarried.{LeastCarried}
 use Rattle.finder.specs.declared.fault.FindFault.{FindFault}
+use Rattle.finder.specs.declared.fault.FindFault.TheVariants.{Memory}
 use Rattle.pairing.specs.Exchange.{SameRequest}
 use Rattle.report.specs.declared.fault.Outcome.{Outcome}
 use Rattle.report.specs.declared.fault.Outcome.TheVariants.{Yes, No}
 use Rattle.report.specs.Reports.{Report, refused, whole_text}
 use Rattle.line_writer.specs.declared.field.Style.{Style}
+use Rattle.line_writer.specs.declared.field.Style.TheVariants.{Plain, Human}
+use Rattle.audit_text.specs.Answer.{evidence_answer, open_answer, refutation_answer, shown_answer}
 use Rattle.audit_text.specs.Settlement.{conflicts_text, evidence_text, open_text}
 use Rattle.audit.specs.Check.{ArePiecesTraced, HasVerdictYes, IsTracedTo}
 use Rattle.audit.specs.Contested.{ShowsContested}
@@ -23,27 +27,79 @@ use Rattle.audit.specs.Evidence.{EvidenceData, GiveEvidence, OfClaimAndCapture}
 use Rattle.audit.specs.Find.{find_run_fault_of}
 use Rattle.audit.specs.Headline.{IsShown}
 use Rattle.audit.specs.Refute.{IsContestedOf}
-use Rattle.audit.specs.Question.{QuestionData}
+use Rattle.audit.specs.Least.{IsLeastBoundOf, nanoseconds_of}
+use Rattle.audit.specs.Question.{Finding, QuestionData}
 
--- in words: a certificate's or a refutation's compact text and a line feed, in any style, or lines
-unfoldable pub settled_text : Style → EvidenceData → SettledData → List ℕ
-settled_text style e (shown certificate) = certificate_text certificate ++ codes "\n"
-settled_text style e (refuted refutation) = refutation_text refutation ++ codes "\n"
-settled_text style e (fitted_by_none conflicts) =
-    conflicts_text style e.claim e.collection.exchanges conflicts
-settled_text style e (no_evidence groups) = evidence_text style e.claim groups
-settled_text style e (left_open begin end hull) = open_text style begin end hull
+-- for a program: a certificate's or a refutation's compact text and a line feed, or lines
+unfoldable pub settled_text : EvidenceData → SettledData → List ℕ
+settled_text e (shown certificate) = certificate_text certificate ++ codes "\n"
+settled_text e (refuted refutation) = refutation_text refutation ++ codes "\n"
+settled_text e (fitted_by_none conflicts) =
+    conflicts_text Plain e.claim e.collection.exchanges conflicts
+settled_text e (no_evidence groups) = evidence_text Plain e.claim groups
+settled_text e (left_open begin end hull) = open_text Plain begin end hull
+
+-- for a person: what was found, on the least bound in nanoseconds that a certificate carries
+unfoldable pub settled_answer : EvidenceData → Option ℕ → SettledData → List ℕ
+settled_answer e least (shown certificate) =
+    shown_answer e.claim (length certificate.pieces) least
+settled_answer e least (refuted refutation) =
+    refutation_answer (codes "refuted") e.claim refutation
+settled_answer e least (fitted_by_none conflicts) =
+    conflicts_text Human e.claim e.collection.exchanges conflicts
+settled_answer e least (no_evidence groups) =
+    evidence_answer e.claim e.collection.exchanges groups
+settled_answer e least (left_open begin end hull) =
+    open_answer e.claim begin end hull least
+
+-- the answer is on the least bound
+abbrev pub names_least : SettledData → Bool
+names_least (shown certificate) = true
+names_least (left_open begin end hull) = true
+names_least settled = false
+
+-- an answer for a person that names the least bound, or that needs none; there is none if it needs
+-- one and none was looked for
+abbrev pub answer_on : EvidenceData → SettledData → Bool → Option (Option LeastCarried)
+    → Option (List ℕ)
+answer_on e settled false found = Some (settled_answer e None settled)
+answer_on e settled true None = None
+answer_on e settled true (Some found) = Some (settled_answer e (nanoseconds_of found) settled)
+
+-- the whole text, if it is known
+abbrev pub text_for : Style → EvidenceData → Option (Option LeastCarried) → SettledData
+    → Option (List ℕ)
+text_for Plain e found settled = Some (settled_text e settled)
+text_for style e found settled = answer_on e settled (names_least settled) found
+
+-- This is an answer on some bound that was found, if it needs one, which shows what it says.
+pub record IsAnswerOf (e : EvidenceData) (settled : SettledData) (text : List ℕ) : Type 0 where
+  pub found : Option (Option LeastCarried)
+  pub shows : IfSome found (IsLeastBoundOf e)
+  pub text_is : answer_on e settled (names_least settled) found ≡ Some text
+
+-- This is the text on some bound that was found, if it needs one.
+pub record IsTextFor (style : Style) (e : EvidenceData) (settled : SettledData)
+    (text : List ℕ) : Type 0 where
+  pub found : Option (Option LeastCarried)
+  pub shows : IfSome found (IsLeastBoundOf e)
+  pub text_is : text_for style e found settled ≡ Some text
 
 -- the outcome: yes if the claim is shown
 abbrev pub settled_outcome : SettledData → Outcome
 settled_outcome (shown certificate) = Yes
 settled_outcome settled = No
 
+-- the report on a text, and on none
+abbrev pub report_of : SettledData → Option (List ℕ) → Report
+report_of settled (Some text) = whole_text text (settled_outcome settled)
+report_of settled None = refused (find_run_fault_of Memory)
+
 -- the report of `settle` on what settles the claim, or why it isn't known
-abbrev pub settle_report : Style → Result SettledData FindFault → EvidenceData → Report
-settle_report style (Ok settled) e =
-    whole_text (settled_text style e settled) (settled_outcome settled)
-settle_report style (Err fault) e = refused (find_run_fault_of fault)
+abbrev pub settle_report : Style → Finding → EvidenceData → Result SettledData FindFault → Report
+settle_report style finding e (Ok settled) =
+    report_of settled (text_for style e finding.least settled)
+settle_report style finding e (Err fault) = refused (find_run_fault_of fault)
 
 -- ---- what a finding shows of evidence
 
@@ -104,6 +160,6 @@ IsSettled outcome claim capture = OfClaimAndCapture claim capture (IsSettledBy o
 -- is the claim shown, refuted, fitted by no course, without evidence, or does it stay open?
 abbrev pub settle : QuestionData
 settle = record {
-  report = λ style finding said e. settle_report style finding.settled e;
+  report = λ style finding said e. settle_report style finding e finding.settled;
   Shows = λ claim second capture outcome. IsSettled outcome claim capture;
 }

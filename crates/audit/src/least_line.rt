@@ -33,6 +33,16 @@ pub(crate) fn least_carried(
     least_bound(alloc, samples_of(evidence), claim, covers.as_slice())
 }
 
+/// The bound that was found, in nanoseconds.
+pub(crate) fn nanoseconds_of(found: Option<LeastCarried>) -> Option<u64>
+    ensures { result ≡ spec.nanoseconds_of found }
+{
+    match found {
+        Some(least) => Some(least.bound_ns),
+        None => None,
+    }
+}
+
 /// The line for it, with the number of the piece that holds its tick. There are at most 100,000
 /// pieces of this length.
 pub(crate) fn line_of(step: Step, evidence: &Evidence, found: Option<LeastCarried>) -> LeastLine

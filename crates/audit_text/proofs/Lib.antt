@@ -3,3 +3,5 @@ pub mod Sample
 pub mod Shown
 pub mod PieceLines
 pub mod Lines
+pub mod Beyond
+pub mod Sources

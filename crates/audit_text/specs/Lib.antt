@@ -13,3 +13,8 @@ pub mod Nothing
 pub mod Envelope
 pub mod Refutation
 pub mod Settlement
+pub mod Excess
+pub mod BoundLines
+pub mod RefutationLines
+pub mod SilentLines
+pub mod Answer

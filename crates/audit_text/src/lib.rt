@@ -7,6 +7,9 @@
 //! makes a whole text, of lines that end with a line feed, or is out of memory; what the lines say
 //! was calculated before. The line of each notion stands in `specs/` under its name.
 //!
+//! [`shown_answer`] and its like tell a person what `settle`, `find` and `refute` came to, in place
+//! of the file for programs.
+//!
 //! [`write_sample_line`] and [`write_counts_line`] write the lines of `samples` for a program one
 //! by one, in one place and with no memory.
 //!
@@ -20,21 +23,28 @@
 
 #![tactic(auto)]
 
+mod answer;
+mod bound_lines;
 mod check_report;
 mod counts_line;
 mod envelope;
+mod excess;
 mod heading;
 mod hull_line;
 mod interval_line;
+pub mod laws;
 mod least_line;
 mod nothing;
 mod parts;
 mod refutation;
+mod refutation_lines;
 mod sample_line;
 mod samples;
 mod second;
 mod settlement;
+mod silent_lines;
 
+pub use answer::{evidence_answer, found_answer, open_answer, refutation_answer, shown_answer};
 pub use check_report::{Findings, check_text};
 pub use counts_line::write_counts_line;
 pub use envelope::envelope_text;

@@ -3,6 +3,7 @@
 ghost use Rattle.std.specs.Prelude.{◌≡◌, IfOk};
 ghost use Rattle.audit_text.specs.Refutation as spec;
 
+use line_writer::Style;
 use std::alloc::{AllocError, Global};
 
 /// The text of `refute`: whether the refutation is accepted.
@@ -18,8 +19,12 @@ pub fn refuted_text(alloc: Global, refuted: bool) -> Result<Vec<u8>, AllocError>
 }
 
 /// The text of `find --refutation` if no refutation is found.
-pub fn no_refutation_text(alloc: Global) -> Result<Vec<u8>, AllocError>
-    ensures { IfOk result (λ text. text.items ≡ spec.no_refutation_text) }
+pub fn no_refutation_text(alloc: Global, style: Style) -> Result<Vec<u8>, AllocError>
+    ensures { IfOk result (λ text. text.items ≡ spec.no_refutation_text style) }
 {
-    "nothing refutation\n".as_bytes().to_vec(alloc)
+    let text = match style {
+        Style::Plain => "nothing refutation\n",
+        _ => "no refutation found\n",
+    };
+    text.as_bytes().to_vec(alloc)
 }

@@ -6,7 +6,6 @@ pub mod EntriesRead
 pub mod CommaList
 pub mod Limits
 pub mod LineFeed
-pub mod Outline
 pub mod PairRead
 pub mod PartsRead
 pub mod PiecesRead

@@ -2,7 +2,7 @@
 use Rattle.std.proofs.Common.{◌≡◌, ℕ, zero, suc, ◌+◌, ◌<◌, ◌≤◌, ◌^◌, List, [], ◌∷◌, length, map, true, nat_le, Some, None, Ok, refl, ap, ◌∙◌, arith, get_or, if◌then◌else◌}
 use Rattle.std.proofs.lemmas.Bool.Decides.{Decides-ltb, nat_tests}
 use Rattle.std.specs.Prelude.{All}
-use Rattle.serde_json.specs.Data.{Data, depth, items_depth}
+use Rattle.serde_json.specs.Data.{Data, depth}
 use Rattle.serde_json.specs.Events.{items_len}
 use Rattle.serde_json.specs.View.{items_of}
 use Rattle.std.specs.Str.{is_utf8}
@@ -10,6 +10,7 @@ use Rattle.json_text.specs.Step.{given}
 use Rattle.certificate.specs.declared.fault.CertificateFault.TheVariants.{Json}
 use Rattle.serde_json.specs.Read.{read}
 use Rattle.certificate.specs.declared.certificate.Piece.{Piece}
+use Rattle.json_text.proofs.Outline.{items_depth-map}
 use Rattle.certificate.specs.Certificate.{PieceData, CertificateData, NamesSamples, IsReadable, IsHeld, piece_data, max_pieces}
 use Rattle.certificate.specs.Reading.{sample_of, entry_of, entries_of, piece_of, pieces_from, certificate_from, certificate_of}
 use Rattle.certificate.specs.Writing.{number_value, entry_value, piece_value, certificate_value}
@@ -68,14 +69,6 @@ certificate_from-value certificate few readable =
     ) refl
 
 -- it nests five deep
-pub items_depth-map : {X : Type 0} (value : X → Data) (n : ℕ) → ((x : X) → depth (value x) ≤ n) → (xs : List X) →
-    items_depth (items_of (map value xs)) ≤ n
-items_depth-map value n below [] = omega arith
-items_depth-map value n below (x ∷ xs) =
-    let here = below x in
-    let rest = items_depth-map value n below xs in
-    omega arith
-
 piece-depth : (piece : PieceData) → depth (piece_value piece) ≤ 3
 piece-depth piece = let entries = items_depth-map entry_value 1 (λ e. omega arith) piece.entries in omega arith
 

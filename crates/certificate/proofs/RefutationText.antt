@@ -30,8 +30,8 @@ use Rattle.certificate.specs.RefutationReading.{server_of, servers_of, refutatio
 use Rattle.certificate.specs.RefutationWriting.{refutation_text, refutation_value}
 use Rattle.certificate.specs.Writing.{comma, number_value}
 use Rattle.certificate.proofs.Ascii.{ascii_joined, ascii_literal}
-use Rattle.certificate.proofs.Outline.{IsOutlined, outlined_number, outlined_items, outlined_array, read_tokens}
-use Rattle.certificate.proofs.ReadBack.{at_most, items_len-map, items_depth-map}
+use Rattle.json_text.proofs.Outline.{IsOutlined, items_depth-map, outlined_number, outlined_items, outlined_array, read_tokens}
+use Rattle.certificate.proofs.ReadBack.{at_most, items_len-map}
 use Rattle.certificate.proofs.Texts.{items_text-map}
 
 -- ---- what the value says

@@ -14,7 +14,7 @@ use Rattle.serde_json.specs.View.{items_of}
 use Rattle.serde_json.specs.Written.{outline}
 use Rattle.certificate.specs.Certificate.{PieceData, CertificateData, IsHeld, NamesSamples}
 use Rattle.certificate.specs.Writing.{entry_value, piece_value, certificate_value, certificate_text}
-use Rattle.certificate.proofs.Outline.{IsOutlined, outlined_number, outlined_items, outlined_array, read_tokens}
+use Rattle.json_text.proofs.Outline.{IsOutlined, outlined_number, outlined_items, outlined_array, read_tokens}
 use Rattle.certificate.proofs.LineFeed.{line_feed, tokens-line_feed}
 use Rattle.certificate.proofs.ReadBack.{certificate-depth}
 use Rattle.certificate.proofs.Texts.{certificate_text-value}

@@ -2,11 +2,11 @@
 //! its contract is the law, for every text, every certificate and every refutation.
 
 ghost use Rattle.std.specs.Prelude.{◌≡◌, ℕ, ◌≤◌, List, Ok, All, length};
-ghost use Rattle.certificate.specs.Certificate.{CertificateData, IsReadable, max_pieces};
+ghost use Rattle.certificate.specs.Certificate.{CertificateData, IsHeld, IsReadable, max_pieces};
 ghost use Rattle.certificate.specs.Refutation.{RefutationData, IsHeldRefutation};
 ghost use Rattle.certificate.specs.RefutationReading.{refutation_of};
 ghost use Rattle.certificate.specs.RefutationWriting.{refutation_text};
-ghost use Rattle.certificate.specs.Reading.{certificate_from, certificate_of};
+ghost use Rattle.certificate.specs.Reading.{certificate_of};
 ghost use Rattle.certificate.specs.Writing.{certificate_text, certificate_value};
 ghost use Rattle.serde_json.specs.Written.{compact_text};
 
@@ -19,14 +19,14 @@ pub fn certificates_are_readable()
         certificate_of bytes ≡ Ok certificate → All IsReadable certificate.pieces }
 {}
 
-/// The text of such a certificate is the compact text of a JSON value, which says the same
-/// certificate.
+/// The text of a certificate says that certificate: each one within these limits whose pieces end
+/// at numbers below 2^64 is read. The text is the compact text of a JSON value.
 pub fn certificates_are_written_as_they_are_read()
+    ensures read { (certificate : CertificateData) → length certificate.pieces ≤ max_pieces →
+        All IsHeld certificate.pieces →
+        certificate_of (certificate_text certificate) ≡ Ok certificate }
     ensures text { (certificate : CertificateData) →
         certificate_text certificate ≡ compact_text (certificate_value certificate) }
-    ensures value { (certificate : CertificateData) → length certificate.pieces ≤ max_pieces →
-        All IsReadable certificate.pieces →
-        certificate_from (certificate_value certificate) ≡ Ok certificate }
 {}
 
 /// The text of a refutation says that refutation, and it is no longer than a refutation that is

@@ -9,3 +9,4 @@ pub mod Times
 pub mod Made
 pub mod Scalars
 pub mod WorkedClaim
+pub mod Spelled

@@ -4,5 +4,6 @@ pub mod Fault
 pub mod Fields
 pub mod Group
 pub mod Reading
+pub mod Spelling
 pub mod Time
 pub mod Worked

@@ -11,7 +11,9 @@ ghost use Rattle.claim_file.specs.Claim.{ClaimData, IsLawful, IsWithoutGap, grou
 ghost use Rattle.era_unfold.specs.Nanoseconds.{ticks_down, ticks_up};
 ghost use Rattle.claim_file.specs.Worked.{worked_text, worked_claim};
 ghost use Rattle.claim_file.specs.Group.{groups_of, times_listed, IsInGroup};
-ghost use Rattle.claim_file.specs.Reading.{claim_of};
+ghost use Rattle.claim_file.specs.Fields.{FieldsData};
+ghost use Rattle.claim_file.specs.Reading.{NamedData, claim_of, claim_with};
+ghost use Rattle.claim_file.specs.Spelling.{IsWithinLimits, Names, claim_text};
 ghost use Rattle.claim_file.specs.Time.{IsTime, exists, spelling, time_of};
 
 /// What the bytes of a claim say keeps every limit that a calculation asks for, and none of its
@@ -84,4 +86,12 @@ pub fn groups_hold_each_server_once()
         slice_index groups server ≡ group }
     ensures count { (n : ℕ) (listed : List (List ℕ)) (groups : List ℕ) →
         groups_of n (Some listed) ≡ Some groups → group_count groups ≡ length listed }
+{}
+
+/// Each claim within its limits is read, with groups and without: its plain spelling, in which
+/// texts write its addresses and times, says the claim.
+pub fn claims_within_limits_are_read()
+    ensures { (f : FieldsData) (named : NamedData) → Names f named → IsWithinLimits f named →
+        (groups : List ℕ) × (groups_of (length named.servers) f.groups ≡ Some groups)
+        × (claim_of (claim_text f) ≡ Ok (claim_with f named groups)) }
 {}

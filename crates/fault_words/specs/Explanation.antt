@@ -1,19 +1,25 @@
 -- The words about a fault: two lines that begin with two blanks.
-use Rattle.std.specs.Prelude.{List, ℕ, ◌++◌, codes, Bool, nat_eq, if◌then◌else◌, string_bytes}
+use Rattle.std.specs.Prelude.{List, ℕ, ◌++◌, codes, Bool, true, false, nat_eq, if◌then◌else◌}
+use Rattle.std.specs.Prelude.{Option, Some, string_bytes}
 use Rattle.claim_file.specs.declared.fault.ClaimFault.{ClaimFault}
 use Rattle.claim_file.specs.declared.fault.ClaimFault.TheVariants as claims
+use Rattle.report.specs.declared.fault.Input.{Input}
+use Rattle.report.specs.declared.fault.Input.TheVariants as inputs
 use Rattle.report.specs.declared.fault.RunFault.{RunFault}
 use Rattle.report.specs.declared.fault.RunFault.TheVariants as faults
 use Rattle.fault_words.specs.ClaimField.{field_name, field_range, field_remedy}
 use Rattle.fault_words.specs.Sentence.{SentenceData, says, sentence_of}
 use Rattle.fault_words.specs.declared.found.Found.{Found}
+use Rattle.fault_words.specs.declared.kind.Kind.{Kind}
+use Rattle.fault_words.specs.Kind.{kind_remedy}
 use Rattle.fault_words.specs.Subject.{NamesData, input_of, subject}
 
 -- what was seen of a fault when its input was looked at again: the field of a claim, or 0, whether
--- it isn't there, and what is said behind the sentence
+-- it isn't there, what the file is instead, and what is said behind the sentence
 pub record FoundData : Type 0 where
   pub field : ℕ
   pub is_missing : Bool
+  pub kind : Kind
   pub seen : List ℕ
 
 -- the same of a value of the program
@@ -21,8 +27,13 @@ abbrev pub found_data : Found → FoundData
 found_data found = record {
   field = found.field;
   is_missing = found.is_missing;
+  kind = found.kind;
   seen = string_bytes found.seen;
 }
+
+-- a file of that kind, in which nothing was seen but this
+abbrev pub nothing_found : Kind → List ℕ → FoundData
+nothing_found kind seen = record { field = 0; is_missing = false; kind = kind; seen = seen }
 
 -- the field of the claim that a claim's fault is of, or 0
 abbrev pub claim_field_of : ClaimFault → ℕ → ℕ
@@ -44,10 +55,20 @@ field_sentence field is_missing = says
     (if is_missing then codes "is missing" else field_range field))
     (field_remedy field)
 
+-- whether a fault is of a capture
+abbrev pub is_of_capture : Option Input → Bool
+is_of_capture (Some inputs.Capture) = true
+is_of_capture _ = false
+
+-- the sentence of a fault of a file of that kind
+abbrev pub file_sentence : RunFault → Kind → SentenceData
+file_sentence fault kind = says (sentence_of fault).wrong
+    (kind_remedy kind (is_of_capture (input_of fault)) (sentence_of fault).remedy)
+
 -- the sentence of a fault: that of the field, if it is of one
 abbrev pub fault_sentence : RunFault → FoundData → SentenceData
 fault_sentence fault found =
-    if nat_eq (field_of fault found.field) 0 then sentence_of fault
+    if nat_eq (field_of fault found.field) 0 then file_sentence fault found.kind
     else field_sentence (field_of fault found.field) found.is_missing
 
 -- a sentence behind its subject, what was seen, and the line of what to do

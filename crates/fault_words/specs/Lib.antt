@@ -1,4 +1,7 @@
 pub mod Subject
 pub mod ClaimField
+pub mod Kind
 pub mod Sentence
 pub mod Explanation
+pub mod Slip
+pub mod Quote

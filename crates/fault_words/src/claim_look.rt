@@ -73,19 +73,12 @@ fn is_known(name: &str) -> bool {
 /// What stands in the field of this code.
 fn at_field(alloc: Global, value: &Value, field: u8) -> Result<Found, AllocError> {
     let Some(member) = value.get(field_name(field)) else {
-        return Ok(Found {
-            field,
-            is_missing: true,
-            seen: String::new(alloc),
-        });
+        return Ok(Found::of_field(field, true, String::new(alloc)));
     };
     let text = member.to_string(alloc)?;
     let text = quoted(alloc, text.as_str())?;
-    Ok(Found {
-        field,
-        is_missing: false,
-        seen: format!(in alloc; "; it is {}", text.as_str())?,
-    })
+    let seen = format!(in alloc; "; it is {}", text.as_str())?;
+    Ok(Found::of_field(field, false, seen))
 }
 
 /// Whether a text is an IPv4 address.
@@ -106,11 +99,8 @@ fn at_address(alloc: Global, value: &Value) -> Result<Found, AllocError> {
         let text = server.as_str().unwrap_or("");
         if !is_address(text) {
             let text = quoted(alloc, text)?;
-            return Ok(Found {
-                field: 2,
-                is_missing: false,
-                seen: format!(in alloc; "; \"{}\" is none", text.as_str())?,
-            });
+            let seen = format!(in alloc; "; \"{}\" is none", text.as_str())?;
+            return Ok(Found::of_field(2, false, seen));
         }
     }
     Ok(Found::nothing(alloc))
@@ -150,11 +140,8 @@ fn server_count(value: &Value) -> usize {
 fn at_range(alloc: Global, value: &Value) -> Result<Found, AllocError> {
     let count = server_count(value);
     if count == 0 || 32 < count {
-        return Ok(Found {
-            field: 2,
-            is_missing: false,
-            seen: format!(in alloc; "; it has {count}")?,
-        });
+        let seen = format!(in alloc; "; it has {count}")?;
+        return Ok(Found::of_field(2, false, seen));
     }
     if 31 < number_at(value, 3) {
         return at_field(alloc, value, 3);

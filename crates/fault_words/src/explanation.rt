@@ -8,8 +8,9 @@ ghost use Rattle.fault_words.specs.Subject.{names_data, subject};
 
 use crate::claim_field::{field_name, field_range, field_remedy};
 use crate::found::Found;
+use crate::kind::Kind;
 use crate::quote::quoted;
-use crate::sentence::sentence_of;
+use crate::sentence::{Sentence, sentence_of};
 use crate::subject::{Names, input_of};
 use claim_file::ClaimFault;
 use report::{Input, RunFault};
@@ -24,6 +25,22 @@ fn field_of(fault: &RunFault, seen: u8) -> u8
         RunFault::Claim(ClaimFault::Address | ClaimFault::Time | ClaimFault::Range) => seen,
         _ => 0,
     }
+}
+
+/// Whether a fault is of a capture.
+fn is_of_capture(input: Option<Input>) -> bool
+    ensures { result ≡ spec.is_of_capture input }
+{
+    matches!(input, Some(Input::Capture))
+}
+
+/// The sentence of a fault of a file of this kind.
+fn file_sentence(fault: &RunFault, kind: Kind) -> Sentence
+    ensures { sentence_data result ≡ spec.file_sentence fault.now kind }
+{
+    let Sentence { wrong, remedy } = sentence_of(fault);
+    let remedy = kind.remedy(is_of_capture(input_of(fault)), remedy);
+    Sentence { wrong, remedy }
 }
 
 /// Adds the name of an input, if there is one.
@@ -60,7 +77,7 @@ fn add_sentence(text: &mut String, fault: &RunFault, found: &Found) -> Result<()
         (found_data found.now).seen) }
 {
     let field = field_of(fault, found.field);
-    let sentence = sentence_of(fault);
+    let sentence = file_sentence(fault, found.kind);
     if field == 0 {
         text.push_str(sentence.wrong)?;
     } else {

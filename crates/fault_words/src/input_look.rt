@@ -2,7 +2,7 @@
 
 use crate::claim_look::look_at_claim;
 use crate::found::Found;
-use crate::kind::{is_object, kind_of};
+use crate::kind::{Kind, is_object, kind_of};
 use certificate::{CertificateFault, RefutationFault};
 use claim_file::ClaimFault;
 use json_text::parse;
@@ -27,28 +27,20 @@ pub fn look(
         RunFault::Certificate(CertificateFault::Top)
         | RunFault::Refutation(RefutationFault::Shape) => another_json(alloc, bytes, is_whole),
         RunFault::Capture(CaptureFault::TornHeader) if bytes.is_empty() => {
-            looks_like(alloc, "empty")
+            Found::of_kind(alloc, Kind::Empty)
         }
+        RunFault::TooBig(_) => Found::of_kind(alloc, kind_of(bytes)),
         RunFault::Capture(CaptureFault::Magic) => no_capture(alloc, bytes),
         RunFault::Capture(CaptureFault::Link) => look_at_link(alloc, bytes),
-        RunFault::TooBig(_) => looks_like(alloc, kind_of(bytes)),
         _ => Ok(Found::nothing(alloc)),
     }
-}
-
-/// What a file looks like.
-fn looks_like(alloc: Global, kind: &str) -> Result<Found, AllocError> {
-    if kind.is_empty() {
-        return Ok(Found::nothing(alloc));
-    }
-    Ok(Found::seen(format!(in alloc; "; it is {kind}")?))
 }
 
 /// What a file looks like that isn't JSON, or else where its fault is, if there is memory for that.
 fn no_json(alloc: Global, bytes: &[u8], is_whole: bool) -> Result<Found, AllocError> {
     let kind = kind_of(bytes);
-    if !kind.is_empty() || !is_whole {
-        return looks_like(alloc, kind);
+    if !kind.word().is_empty() || !is_whole {
+        return Found::of_kind(alloc, kind);
     }
     match Value::from_slice(alloc, bytes) {
         Err(error) if error.is_memory() => Ok(Found::nothing(alloc)),
@@ -69,13 +61,13 @@ fn another_json(alloc: Global, bytes: &[u8], is_whole: bool) -> Result<Found, Al
         return Ok(Found::nothing(alloc));
     };
     if value.get("client").is_some() {
-        return looks_like(alloc, "a claim");
+        return Found::of_kind(alloc, Kind::Claim);
     }
     if value.get("pieces").is_some() {
-        return looks_like(alloc, "a certificate, for check");
+        return Found::of_kind(alloc, Kind::Certificate);
     }
     if value.get("reading").is_some() {
-        return looks_like(alloc, "a refutation, for refute");
+        return Found::of_kind(alloc, Kind::Refutation);
     }
     Ok(Found::nothing(alloc))
 }
@@ -83,9 +75,9 @@ fn another_json(alloc: Global, bytes: &[u8], is_whole: bool) -> Result<Found, Al
 /// What a file looks like that isn't a capture.
 fn no_capture(alloc: Global, bytes: &[u8]) -> Result<Found, AllocError> {
     if is_object(bytes) {
-        return looks_like(alloc, "JSON, and the claim comes before the capture");
+        return Found::of_kind(alloc, Kind::Object);
     }
-    looks_like(alloc, kind_of(bytes))
+    Found::of_kind(alloc, kind_of(bytes))
 }
 
 /// The number in the capture's field of the link type.

@@ -3,29 +3,54 @@
 ghost use Rattle.std.specs.Prelude.{◌≡◌};
 
 use byte_stream::{Sink, SinkFault};
-use std::alloc::Global;
 
-/// A sink, and what it was given, as far as there was memory.
+/// How many bytes are kept: more than any fault line has.
+const ROOM: usize = 256;
+
+/// Bytes, if they aren't more than a fault line has.
+#[derive(Debug, Drop)]
+struct Kept {
+    bytes: [u8; ROOM],
+    /// How many were given.
+    count: usize,
+}
+
+impl Kept {
+    /// Keeps these bytes behind the others.
+    fn keep(&mut self, bytes: &[u8]) {
+        for byte in bytes {
+            if self.count < ROOM {
+                self.bytes[self.count] = *byte;
+            }
+            self.count = self.count.saturating_add(1);
+        }
+    }
+}
+
+/// A sink, and what it was given, if that isn't more than a fault line has. It takes no memory, so
+/// that a run that is out of memory is told as any other.
 #[derive(Debug, Drop)]
 pub struct KeptSink<E> {
     sink: E,
-    kept: Vec<u8>,
+    kept: Kept,
 }
 
 impl<E: Sink> KeptSink<E> {
     /// A sink of which nothing is kept yet.
-    pub fn new(alloc: Global, sink: E) -> KeptSink<E>
+    pub fn new(sink: E) -> KeptSink<E>
         ensures { ⟦<KeptSink<E> as Sink>⟧.state result ≡ E.state sink }
     {
-        KeptSink {
-            sink,
-            kept: Vec::new(alloc),
-        }
+        let bytes = [0; ROOM];
+        let kept = Kept { bytes, count: 0 };
+        KeptSink { sink, kept }
     }
 
-    /// What was kept.
+    /// What was kept: nothing of what is longer than a fault line.
     pub fn kept(&self) -> &[u8] {
-        self.kept.as_slice()
+        match self.kept.bytes.get(..self.kept.count) {
+            Some(kept) => kept,
+            None => &[],
+        }
     }
 }
 
@@ -34,7 +59,7 @@ impl<E: Sink> Sink for KeptSink<E> {
 
     fn push(&mut self, bytes: &[u8]) -> Result<usize, SinkFault> {
         let count = self.sink.push(bytes)?;
-        let _ = self.kept.extend_from_slice(&bytes[..count]);
+        self.kept.keep(&bytes[..count]);
         Ok(count)
     }
 

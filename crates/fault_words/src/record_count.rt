@@ -1,8 +1,9 @@
 //! How many records of a capture stand before its fault.
 
-ghost use Rattle.std.specs.Prelude.{◌^◌, ◌-◌, ◌<◌};
+ghost use Rattle.std.specs.Prelude.{◌≡◌, ◌^◌, ◌-◌, ◌<◌, IfOk, string_bytes};
 ghost use Rattle.byte_stream.specs.State.{IsReadable};
-ghost use Rattle.pcap_reader.specs.Source.{IsFresh};
+ghost use Rattle.fault_words.specs.Explanation.{found_data, nothing_found};
+ghost use Rattle.fault_words.specs.declared.kind.Kind.TheVariants.{Unknown};
 
 use crate::found::Found;
 use byte_stream::Feed;
@@ -26,13 +27,16 @@ fn whole_records<S: RecordSource>(source: &mut S, fault: &CaptureFault) -> Optio
     None
 }
 
-/// How many whole records stand before a record's fault, in the words of a person.
+/// How many whole records stand before a record's fault, in the words of a person. It changes no
+/// sentence.
 pub fn look_at_records<F: Feed + Drop>(
     alloc: Global,
     feed: F,
     fault: &CaptureFault,
 ) -> Result<Found, AllocError>
     requires { IsReadable (F.state feed) }
+    ensures { IfOk result (λ found.
+        found_data found ≡ nothing_found Unknown (string_bytes found.seen)) }
 {
     let Ok(mut source) = Capture::begin(alloc, feed) else {
         return Ok(Found::nothing(alloc));

@@ -58,7 +58,8 @@ module _ (samples : List Sample) (claim : ClaimData) where
     pub shown : shows p q ≡ true
     pub no_longer : (r : ℤ) → q <ℤ r → r ≤ℤ claim.last → shows p r ≡ false
 
-  -- the next tick from p isn't shown: the hull up to there, which is this one, isn't inside the bound
+  -- the next tick from p isn't shown: the hull up to there, which is this one, isn't inside the
+  -- bound
   pub record FailsAt (p : ℤ) (hull : Hull) : Type 0 where
     pub its_hull : hull ≡ hull_over p (next_tick p)
     pub fails : is_inside claim.bound hull ≡ false

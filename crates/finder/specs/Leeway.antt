@@ -33,8 +33,8 @@ turned Below ticks = neg_ℤ ticks
 abbrev pub mark_at : ℤ → ℤ → Mark
 mark_at reading error = record { place = reading; error = error }
 
--- the mark of an exchange above which the error can't lie on a side: the high one, or the low one of
--- a clock whose readings and errors are the negatives
+-- the mark of an exchange above which the error can't lie on a side: the high one, or the low one
+-- of a clock whose readings and errors are the negatives
 abbrev pub limit_of : Side → ℤ → Exchange → Mark
 limit_of Above allowance x = high_mark allowance x
 limit_of Below allowance x =

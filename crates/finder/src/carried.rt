@@ -68,8 +68,8 @@ pub fn least_bound<S: SampleSource>(
     Ok(found)
 }
 
-/// The least bound, by the tables of the servers, looked for where it likely is, and from there on
-/// in steps that double or halve: at most a hundred.
+/// The least bound, by the tables of the servers, looked for at `start`, if that isn't enough where
+/// it likely is, and from there on in steps that double or halve: at most a hundred.
 fn least_bound_by(
     alloc: Global,
     tables: &[BestTable],
@@ -94,7 +94,7 @@ fn least_bound_by(
     if widest.is_some() {
         return Ok(None);
     }
-    let near = likely_least(alloc, tables, claim, start)?;
+    let mut near = start;
     let mut least = 0;
     let mut bound_ns = MOST_BOUND_NS;
     let mut tick = claim.first as u64;
@@ -105,6 +105,9 @@ fn least_bound_by(
             Some(stop) => {
                 least = tried_ns + 1;
                 tick = stop;
+                if tried_ns == start {
+                    near = likely_least(alloc, tables, claim, start)?;
+                }
             }
         }
     }

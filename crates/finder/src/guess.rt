@@ -1,9 +1,10 @@
 //! Which bound is likely the least one.
 //!
-//! Nothing rests on a guess but the time: every bound is tried before it is believed. The less the
-//! bound, the more pieces it takes, and mostly as many more for each nanosecond. So the bound that
-//! takes a thousand pieces is looked for first, since a thousand are soon counted, and from there on
-//! the one that takes ten thousand, and then as many as a certificate may have.
+//! Nothing rests on a guess but the time: every bound is tried before it is believed. The less a
+//! bound has beyond what ticks need the more pieces it takes, nearly as the inverse of that. So the
+//! bound that takes a thousand pieces is looked for first, since a thousand are soon counted, and
+//! from there on the one that takes ten thousand, and then as many as a certificate may have. Where
+//! one piece is as long as the next, many are counted at once.
 
 ghost use Rattle.std.specs.Prelude.{◌≤◌};
 ghost use Rattle.claim_file.specs.Claim.{IsLawful, data_of as claim_data, max_bound_ns};
@@ -11,7 +12,7 @@ ghost use Rattle.finder.specs.Reach.{IsTabled};
 
 use crate::carried::{MOST_BOUND_NS, claim_with};
 use crate::least::reach_of;
-use crate::longest::{Pace, longest_piece};
+use crate::longest::{Pace, is_as_long, longest_piece};
 use crate::neediest::in_nanoseconds;
 use certificate::MAX_PIECES;
 use claim_file::Claim;
@@ -28,6 +29,12 @@ const LEVELS: [u64; 3] = [MOST_PIECES / 100, MOST_PIECES / 10, MOST_PIECES];
 
 /// At most so many bounds are tried for each of these: as many as halving takes.
 const TRIES: u32 = 50;
+
+/// One, of which inverses are taken.
+const ONE: u128 = 1 << 80;
+
+/// With fewer pieces between two bounds, nothing says where between them others lie.
+const FEW_PIECES: u64 = 32;
 
 /// What a bound takes.
 #[derive(Clone, Copy)]
@@ -73,7 +80,6 @@ impl Bracket {
             bound_ns: self.low,
             pieces,
         });
-        self.above = None;
         self.low = self.floor;
         self.counted = None;
         self.was_enough = true;
@@ -118,34 +124,42 @@ impl Bracket {
     /// The bound that likely takes a few more pieces than are looked for, if the last one took no
     /// more, else a few less; twice as many with each try that shows the same.
     fn likely(self, most: u64) -> Option<u64> {
-        let margin = 1u64.checked_shl(self.run.min(40))?;
-        let aim = if self.was_enough && self.counted.is_none() {
-            most.saturating_add(margin).saturating_add(most / 32)
-        } else if self.was_enough {
+        let few = if self.counted.is_none() { most / 32 } else { 8 };
+        let margin = few.checked_shl(self.run.min(40))?;
+        let aim = if self.was_enough {
             most.saturating_add(margin)
         } else {
             most.saturating_sub(margin)
         };
-        let (nanoseconds, pieces) = self.growth()?;
+        let (rise, pieces) = self.growth()?;
         let more = u128::from(aim.saturating_sub(self.high.pieces));
-        let fall = more.saturating_mul(u128::from(nanoseconds)) / u128::from(pieces.max(1));
-        let likely = u128::from(self.high.bound_ns).checked_sub(fall.max(1))?;
-        u64::try_from(likely).ok()
+        let risen = more.saturating_mul(rise) / u128::from(pieces.max(1));
+        let inverse = self
+            .inverse(self.high.bound_ns)
+            .saturating_add(risen.max(1));
+        u64::try_from(u128::from(self.floor).saturating_add(ONE / inverse)).ok()
     }
 
-    /// With how many nanoseconds less there are how many pieces more, if that is known and they are
-    /// enough to tell.
-    fn growth(self) -> Option<(u64, u64)> {
+    /// The inverse of a bound's distance from the floor. It grows nearly as the pieces do: what a
+    /// bound has beyond what each tick needs is what a piece may drift.
+    fn inverse(self, bound_ns: u64) -> u128 {
+        ONE / u128::from(bound_ns.saturating_sub(self.floor).max(1))
+    }
+
+    /// With how much more of the inverse there are how many pieces more, if that is known and they
+    /// are enough to tell.
+    fn growth(self) -> Option<(u128, u64)> {
+        let high = self.inverse(self.high.bound_ns);
         match (self.counted, self.above) {
             (Some(counted), _) => {
                 let pieces = counted.checked_sub(self.high.pieces)?;
-                if pieces < 8 {
+                if pieces < FEW_PIECES {
                     return None;
                 }
-                Some((self.high.bound_ns.checked_sub(self.low)?, pieces))
+                Some((self.inverse(self.low).checked_sub(high)?, pieces))
             }
             (None, Some(above)) => Some((
-                above.bound_ns.checked_sub(self.high.bound_ns)?,
+                high.checked_sub(self.inverse(above.bound_ns))?,
                 self.high.pieces.checked_sub(above.pieces)?,
             )),
             (None, None) => None,
@@ -186,7 +200,8 @@ impl Bracket {
     }
 }
 
-/// The bound in nanoseconds that is likely the least one. `start` is tried first.
+/// The bound in nanoseconds that is likely the least one, if `start` isn't enough and the greatest
+/// bound is.
 pub(crate) fn likely_least(
     alloc: Global,
     tables: &[BestTable],
@@ -197,9 +212,6 @@ pub(crate) fn likely_least(
     requires tables { IsTabled (claim_data claim.now) tables.now }
     requires in_range { start ≤ max_bound_ns }
 {
-    if let Count::Pieces(_) = count_with(alloc, tables, claim, start, MOST_PIECES)? {
-        return Ok(start);
-    }
     let Count::Pieces(pieces) = count_with(alloc, tables, claim, MOST_BOUND_NS, MOST_PIECES)? else {
         return Ok(MOST_BOUND_NS);
     };
@@ -222,7 +234,7 @@ pub(crate) fn likely_least(
                 break;
             }
             let bound_ns = bracket.bound_at(turn, most).min(MOST_BOUND_NS);
-            let count = count_with(alloc, tables, claim, bound_ns, most.saturating_mul(2))?;
+            let count = count_with(alloc, tables, claim, bound_ns, most + most / 4)?;
             bracket.see(bound_ns, count, most);
         }
     }
@@ -246,7 +258,9 @@ fn count_with(
     Ok(count_of(tables, &claim, most))
 }
 
-/// How many pieces the claim's bound takes, if they are no more than `most`.
+/// How many pieces the claim's bound takes, if they are no more than `most`. After two of one
+/// length, as many as have been skipped before and as many again are taken to have it too, if the
+/// piece behind them has.
 fn count_of(tables: &[BestTable], claim: &Claim, most: u64) -> Count
     requires claim { IsLawful (claim_data claim.now) }
     requires tables { IsTabled (claim_data claim.now) tables.now }
@@ -254,13 +268,26 @@ fn count_of(tables: &[BestTable], claim: &Claim, most: u64) -> Count
     let last = claim.last as u64;
     let mut begin = claim.first as u64;
     let mut pace = Pace::of_first(last);
-    for number in 0..most {
+    let mut pieces = 0u64;
+    let mut leap = 1u64;
+    while pieces < most {
         match longest_piece(tables, &mut pace, claim, begin) {
             Err(hull) => return Count::Needs(need_of(hull)),
             Ok(end) => begin = end,
         }
+        pieces += 1;
         if begin == last {
-            return Count::Pieces(number + 1);
+            return Count::Pieces(pieces);
+        }
+        if let Some(length) = pace.steady() {
+            let ahead = begin.saturating_add(length.saturating_mul(leap));
+            if is_as_long(tables, &mut pace, claim, ahead, length) {
+                begin = ahead;
+                pieces = pieces.saturating_add(leap);
+                leap = leap.saturating_mul(2);
+            } else {
+                leap = (leap / 2).max(1);
+            }
         }
     }
     Count::More

@@ -39,6 +39,7 @@ mod hull;
 pub mod laws;
 mod least;
 mod leeway;
+mod likely;
 mod longest;
 mod neediest;
 mod piece;

@@ -1,7 +1,7 @@
 //! The longest piece from a reading.
 
 ghost use Rattle.std.specs.Prelude.{◌≡◌, ◌≤◌, pos, ◌+ℤ◌, ◌≤ℤ◌, true, List, length, IfOk};
-ghost use Rattle.std.specs.Prelude.{MatchResult};
+ghost use Rattle.std.specs.Prelude.{IsTrue, MatchResult};
 ghost use Rattle.std.specs.Int.{int_min};
 ghost use Rattle.claim_file.specs.Claim.{IsLawful, data_of};
 ghost use Rattle.pairing.specs.Exchange.{most_exchanges};
@@ -14,6 +14,7 @@ ghost use Rattle.finder.specs.Samples.{AreSamplesOf};
 use crate::laws::{
     best_entries_show_as_much, best_hulls_hold_the_error, pieces_within_have_no_wider_hulls,
 };
+use crate::likely::likely_length;
 use crate::trial::trial;
 use checker::laws::pieces_give_the_verdict;
 use claim_file::Claim;
@@ -112,12 +113,21 @@ impl Pace {
         self.change = self.length.abs_diff(length);
         self.length = length;
     }
+
+    /// How long the last piece was, if the one before was as long.
+    pub(crate) fn steady(self) -> Option<u64> {
+        if self.change == 0 {
+            Some(self.length)
+        } else {
+            None
+        }
+    }
 }
 
 /// Where the longest piece from `begin` ends; or, if the piece of one tick from there doesn't show
-/// that the error is within the bound, the hull over it. The end is looked for at the length of the
-/// piece before, then as far from there as the lengths last changed; and each look-up goes on from
-/// where the last one ended.
+/// that the error is within the bound, the hull over it. If the last two pieces were of one length,
+/// to a tick, the end is looked for at that length, else where the servers' ends likely leave the
+/// bound; and each look-up goes on from where the last one ended.
 pub(crate) fn longest_piece(
     tables: &[BestTable],
     pace: &mut Pace,
@@ -136,11 +146,35 @@ pub(crate) fn longest_piece(
     if !is_inside(claim.bound, hull) {
         return Err(hull);
     }
-    let near = begin.saturating_add(pace.length);
-    let step = pace.change;
+    let (length, step) = if pace.change <= 1 {
+        (pace.length, pace.change)
+    } else {
+        (likely_length(tables, &mut pace.places, claim, begin), 0)
+    };
+    let near = begin.saturating_add(length).min(claim.last as u64);
     let end = longest_end(tables, &mut pace.places, claim, begin, next, near, step);
     pace.see(end.saturating_sub(begin));
     Ok(end)
+}
+
+/// Whether the longest piece from `begin` likely has so many ticks, and ends before the span.
+pub(crate) fn is_as_long(
+    tables: &[BestTable],
+    pace: &mut Pace,
+    claim: &Claim,
+    begin: u64,
+    length: u64,
+) -> bool
+    requires claim { IsLawful (data_of claim.now) }
+    requires tables { IsTabled (data_of claim.now) tables.now }
+    ensures { IsTrue result → pos begin ≤ℤ claim.now.last }
+{
+    let end = begin.saturating_add(length);
+    if claim.last as u64 <= end {
+        return false;
+    }
+    is_shown(tables, &mut pace.places, claim, begin, end)
+        && !is_shown(tables, &mut pace.places, claim, begin, end + 1)
 }
 
 /// Where the longest piece from `begin` ends, if the piece from there to `next`, the next tick,

@@ -1,9 +1,10 @@
 //! The tick that needs the widest bound where some groups have no say.
 //!
 //! If the groups of a cover are left out, what is left has no conflict: no hull is empty, and its
-//! ends change no faster than the clock may drift. So the span is cut at once into stretches that
-//! are hardly longer than from sample to sample, and looking into the one first that needs most
-//! soon finds the neediest tick. Nothing rests on it but where other searches begin.
+//! ends change no faster than the clock may drift. So looking into the stretch first that needs
+//! most soon finds the neediest tick. Where many ticks need nearly as much, the span is cut at once
+//! into stretches that are hardly longer than from sample to sample. Nothing rests on it but where
+//! other searches begin.
 
 ghost use Rattle.std.specs.Prelude.{◌<◌, ◌≤◌, IfOk, length, All};
 ghost use Rattle.claim_file.specs.Claim.{IsLawful, data_of as claim_data, max_bound_ns};
@@ -68,7 +69,10 @@ pub(crate) fn in_nanoseconds(ticks: u128) -> u64
     nanoseconds_of(ticks).min(u128::from(MOST_BOUND_NS)) as u64
 }
 
-/// How many stretches are looked at for one cover.
+/// How many stretches are halved before the span is cut.
+const HALVED_FIRST: usize = 1000;
+
+/// How many stretches are looked at for one cover, if those that are halved first aren't enough.
 #[derive(Clone, Copy)]
 pub(crate) struct Effort {
     /// Into how many the span is cut at first.
@@ -104,28 +108,53 @@ pub(crate) fn neediest_tick(
     let mut places = Places::new();
     let mut left = BinaryHeap::new(alloc);
     let last = claim.last as u64;
-    let mut begin = claim.first as u64;
-    let length = (last.saturating_sub(begin) / effort.parts.max(1)).saturating_add(1);
+    let first = claim.first as u64;
+    let all = last.saturating_sub(first);
+    add_stretch(&mut left, tables, &mut places, claim, cover, first, all)?;
+    if halve(&mut left, tables, &mut places, claim, cover, HALVED_FIRST)? {
+        return Ok(left.pop());
+    }
+    let mut left = BinaryHeap::new(alloc);
+    let mut begin = first;
+    let length = (all / effort.parts.max(1)).saturating_add(1);
     for _ in 0..effort.parts {
         let reach = length.min(last.saturating_sub(begin));
         add_stretch(&mut left, tables, &mut places, claim, cover, begin, reach)?;
         begin = begin.saturating_add(reach);
     }
-    for _ in 0..effort.halved {
+    halve(&mut left, tables, &mut places, claim, cover, effort.halved)?;
+    Ok(left.pop())
+}
+
+/// Halves the stretch that needs most, so many times at most: whether the one that needs most then
+/// is a tick, or none is left.
+fn halve(
+    left: &mut BinaryHeap<StretchNeed>,
+    tables: &[BestTable],
+    places: &mut Places,
+    claim: &Claim,
+    cover: Groups,
+    times: usize,
+) -> Result<bool, AllocError>
+    requires claim { IsLawful (claim_data claim.now) }
+    requires tables { IsTabled (claim_data claim.now) tables.now }
+{
+    for _ in 0..times {
         let Some(widest) = left.pop() else {
-            return Ok(None);
+            return Ok(true);
         };
         if widest.reach <= 1 {
-            return Ok(Some(widest));
+            left.push(widest)?;
+            return Ok(true);
         }
         let half = widest.reach / 2;
         let begin = widest.begin.0;
         let middle = begin.saturating_add(half);
         let rest = widest.reach - half;
-        add_stretch(&mut left, tables, &mut places, claim, cover, begin, half)?;
-        add_stretch(&mut left, tables, &mut places, claim, cover, middle, rest)?;
+        add_stretch(left, tables, places, claim, cover, begin, half)?;
+        add_stretch(left, tables, places, claim, cover, middle, rest)?;
     }
-    Ok(left.pop())
+    Ok(false)
 }
 
 /// Adds a stretch to those that are left, if its hull has ends.

@@ -3,3 +3,5 @@ pub mod Names
 pub mod NextToken
 pub mod NextTokens
 pub mod Texts
+pub mod Outline
+pub mod Utf8

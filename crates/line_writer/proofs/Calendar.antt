@@ -1,5 +1,5 @@
 -- The date of a day, by years that begin in March.
-use Rattle.std.proofs.Common.{◌≡◌, ℕ, suc, pos, ◌+ℤ◌, ◌+◌, ◌-◌, ◌^◌, ◌<◌, ◌≤◌, nat_lt, true, false, inl, inr, arith}
+use Rattle.std.proofs.Common.{◌≡◌, ◌*◌, ℕ, suc, pos, ◌+ℤ◌, ◌+◌, ◌-◌, ◌^◌, ◌<◌, ◌≤◌, nat_lt, true, false, inl, inr, arith}
 use Rattle.std.proofs.lemmas.Bool.{cases_lt}
 use Rattle.std.proofs.lemmas.Bool.Decides.{nat_tests}
 use Rattle.jiff_core.specs.March.{march_days}
@@ -7,7 +7,7 @@ use Rattle.jiff_core.specs.Calendar.{IsCivilDate, day_count, days_from_civil}
 use Rattle.jiff_core.proofs.SignedLemmas.{signed_arith}
 use Rattle.jiff_core.proofs.CalendarLemmas.{days_from_civil-day_count}
 use Rattle.jiff_core.proofs.MarchLemmas.{leap_day, leap_day-shift, march_days-suc, day_count-early, day_count-late, day_in_month, day_in_early_month, month_and_day}
-use Rattle.line_writer.specs.Date.{IsDateOf, IsTimeOf, day_number, march_day, march_year, days_passed, march_month, day_of}
+use Rattle.line_writer.specs.Date.{day_number, march_day, march_year, days_passed, march_month, year_of, month_of, day_of, hour_of, minute_of, second_of}
 
 -- the year that began in March is the day's
 years_whole : (day : ℕ) → day < 49711 → march_days (march_year day) + days_passed day ≡ march_day day
@@ -61,6 +61,21 @@ early day h late =
       (omega (arith, signed_arith), (omega arith, omega arith), (omega arith, in_month)),
       omega (arith, rw month at count, month_and_day n (passed_bound day), years_whole day h),
     )
+
+-- the date of a day is one of the calendar, and the day's
+pub record IsDateOf (day : ℕ) : Type 0 where
+  pub civil : IsCivilDate (pos (year_of day)) (month_of day) (day_of day)
+  pub counted : days_from_civil (pos (year_of day)) (month_of day) (day_of day) ≡ pos day
+
+-- the time of day of a second is its own
+pub record IsTimeOf (second : ℕ) : Type 0 where
+  pub date : IsDateOf (day_number second)
+  pub hour : hour_of second < 24
+  pub minute : minute_of second < 60
+  pub second_below : second_of second < 60
+  pub counted :
+      86400 * day_number second + 3600 * hour_of second + 60 * minute_of second + second_of second
+      ≡ second
 
 pub dates : (day : ℕ) → day < 49711 → IsDateOf day
 dates day h = elim (cases_lt 12 (march_month day)) [

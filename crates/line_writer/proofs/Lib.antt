@@ -7,4 +7,5 @@ pub mod Parts
 pub mod Columns
 pub mod Ends
 pub mod Calendar
+pub mod Readback
 pub mod Moments

@@ -1,5 +1,5 @@
 -- Ticks of the Unix epoch as moments, at whole nanoseconds.
-use Rattle.std.proofs.Common.{◌≡◌, ℕ, pos, true, ◌+◌, ◌*◌, ◌^◌, ◌<◌, nat_lt, arith, refl}
+use Rattle.std.proofs.Common.{◌≡◌, ℕ, pos, true, ◌+◌, ◌*◌, ◌^◌, ◌<◌, nat_lt, arith}
 use Rattle.std.proofs.lemmas.Bool.Decides.{nat_tests}
 use Rattle.era_unfold.specs.Ratio.{IsFloor, IsCeiling, floor_of, ceiling_of}
 use Rattle.era_unfold.specs.Window.{per_second, window_low}
@@ -7,27 +7,23 @@ use Rattle.era_unfold.specs.declared.unit.Unit.{Unit as SubsecondUnit}
 use Rattle.era_unfold.specs.declared.unit.Unit.TheVariants.{Micro, Nano}
 use Rattle.era_unfold.proofs.Rounding.{IsFloor-floor_of, IsCeiling-ceiling_of}
 use Rattle.line_writer.specs.Millisecond.{shorter, longer}
-use Rattle.line_writer.specs.Moment.{IsMomentOf, moment_above, moment_below, moment_text, second_of}
-use Rattle.line_writer.proofs.Calendar.{times}
+use Rattle.line_writer.specs.Moment.{moment_above, moment_below, part_of, second_of}
+use Rattle.line_writer.specs.Reading.{SaysMoment}
+use Rattle.line_writer.proofs.Readback.{moment_back}
 
 pub below : (tick : ℕ) → second_of (shorter tick) < 2 ^ 32 →
-    (moment_below (pos tick) ≡ moment_text (shorter tick)) × IsFloor (tick * 1000000000) (2 ^ 32) (shorter tick)
+    SaysMoment (moment_below (pos tick)) (second_of (shorter tick)) (part_of (shorter tick))
+    × IsFloor (tick * 1000000000) (2 ^ 32) (shorter tick)
 below tick h =
     let test : nat_lt (second_of (shorter tick)) (2 ^ 32) ≡ true = grind (arith, nat_tests) in
-    (rw test refl, IsFloor-floor_of (tick * 1000000000) (2 ^ 32) (omega arith))
+    (rw test (moment_back (shorter tick) h), IsFloor-floor_of (tick * 1000000000) (2 ^ 32) (omega arith))
 
 pub above : (tick : ℕ) → second_of (longer tick) < 2 ^ 32 →
-    (moment_above (pos tick) ≡ moment_text (longer tick)) × IsCeiling (tick * 1000000000) (2 ^ 32) (longer tick)
+    SaysMoment (moment_above (pos tick)) (second_of (longer tick)) (part_of (longer tick))
+    × IsCeiling (tick * 1000000000) (2 ^ 32) (longer tick)
 above tick h =
     let test : nat_lt (second_of (longer tick)) (2 ^ 32) ≡ true = grind (arith, nat_tests) in
-    (rw test refl, IsCeiling-ceiling_of (tick * 1000000000) (2 ^ 32) (omega arith))
-
-pub own : (n : ℕ) → second_of n < 2 ^ 32 → IsMomentOf n
-own n h = record {
-  time = times (second_of n) h;
-  part_below = omega arith;
-  counted = omega arith;
-}
+    (rw test (moment_back (longer tick) h), IsCeiling-ceiling_of (tick * 1000000000) (2 ^ 32) (omega arith))
 
 -- the time of a record in units, back from the first tick of its window
 pub record_time : (unit : SubsecondUnit) (sec sub : ℕ) →

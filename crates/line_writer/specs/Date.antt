@@ -2,9 +2,8 @@
 --
 -- The calendar is that of Gregory. A year is taken to begin in March here, so that the day of a
 -- leap year is its last, and days are counted from the first of March of the year -10000. A law
--- says that the date is the day's.
-use Rattle.std.specs.Prelude.{◌≡◌, ℕ, ◌+◌, ◌-◌, ◌*◌, ◌/◌, ◌%◌, ◌<◌, nat_lt, if◌then◌else◌, pos, List, [], ◌∷◌, ◌++◌, codes}
-use Rattle.jiff_core.specs.Calendar.{IsCivilDate, days_from_civil}
+-- says that the text reads back as the second.
+use Rattle.std.specs.Prelude.{ℕ, ◌+◌, ◌-◌, ◌*◌, ◌/◌, ◌%◌, nat_lt, if◌then◌else◌, List, [], ◌∷◌, ◌++◌, codes}
 
 -- the days from that first of March to a day that is counted from 1970 on
 abbrev pub march_day : ℕ → ℕ
@@ -73,18 +72,3 @@ clock_text second =
 -- the whole
 abbrev pub time_text : ℕ → List ℕ
 time_text second = clock_text second ++ codes "Z"
-
--- The date that is shown of a day is one of the calendar, and the day's.
-pub record IsDateOf (day : ℕ) : Type 0 where
-  pub civil : IsCivilDate (pos (year_of day)) (month_of day) (day_of day)
-  pub counted : days_from_civil (pos (year_of day)) (month_of day) (day_of day) ≡ pos day
-
--- The time of day that is shown of a second is its own, on a day whose date is shown.
-pub record IsTimeOf (second : ℕ) : Type 0 where
-  pub date : IsDateOf (day_number second)
-  pub hour : hour_of second < 24
-  pub minute : minute_of second < 60
-  pub second_below : second_of second < 60
-  pub counted :
-      86400 * day_number second + 3600 * hour_of second + 60 * minute_of second + second_of second
-      ≡ second

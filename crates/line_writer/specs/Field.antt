@@ -2,7 +2,7 @@
 use Rattle.std.specs.Prelude.{ℕ, ℤ, ◌+◌, ◌-◌, List, [], ◌∷◌, ◌++◌, codes, length, flat_map, max, replicate, nat_le, Bool, true, false, if◌then◌else◌}
 use Rattle.std.specs.Fmt.{decimal, signed_decimal}
 use Rattle.hex.specs.Hex.{encode_lower}
-use Rattle.line_writer.specs.Text.{address, are_printable, millionths}
+use Rattle.line_writer.specs.Text.{address, is_named, millionths, name_of}
 use Rattle.line_writer.specs.Date.{time_text}
 use Rattle.line_writer.specs.Millisecond.{milliseconds, nanosecond_above, nanosecond_below, signed_milliseconds}
 use Rattle.line_writer.specs.Moment.{moment_above, moment_below}
@@ -75,9 +75,9 @@ plain_text (Address bytes) = address bytes
 plain_text (Reference bytes) = encode_lower bytes
 plain_text Nothing = []
 
--- a reference identifier that four letters name, or the address of a server
+-- a reference identifier by its name, or else the address of a server
 abbrev pub reference_text : List ℕ → List ℕ
-reference_text bytes = if are_printable bytes then bytes else address bytes
+reference_text bytes = if is_named bytes then name_of bytes else address bytes
 
 -- the text of a field for a person: times as dates, ends of ranges in milliseconds, lengths of time
 -- and parts of 10^6 with their unit

@@ -3,3 +3,4 @@ pub mod Date
 pub mod Millisecond
 pub mod Moment
 pub mod Field
+pub mod Reading

@@ -1,10 +1,10 @@
 -- A tick of 2^-32 s of the Unix epoch as a date and a time of day in UTC, at a whole nanosecond: the
 -- last that isn't after the tick, or the first that isn't before it.
-use Rattle.std.specs.Prelude.{◌≡◌, ℕ, zero, suc, ◌+◌, ◌*◌, ◌/◌, ◌%◌, ◌^◌, ◌<◌, nat_lt, if◌then◌else◌}
+use Rattle.std.specs.Prelude.{ℕ, zero, suc, ◌/◌, ◌%◌, ◌^◌, nat_lt, if◌then◌else◌}
 use Rattle.std.specs.Prelude.{ℤ, pos, negsuc, List, [], ◌++◌, codes}
 use Rattle.std.specs.Fmt.{signed_decimal}
 use Rattle.era_unfold.specs.Nanoseconds.{nanoseconds_per_second}
-use Rattle.line_writer.specs.Date.{IsTimeOf, clock_text}
+use Rattle.line_writer.specs.Date.{clock_text}
 use Rattle.line_writer.specs.Millisecond.{shorter, longer}
 use Rattle.line_writer.specs.Text.{zero_padded}
 
@@ -38,9 +38,3 @@ moment_below (negsuc n) = signed_decimal (negsuc n)
 abbrev pub moment_above : ℤ → List ℕ
 moment_above (pos tick) = moment_or_tick tick (longer tick)
 moment_above (negsuc n) = signed_decimal (negsuc n)
-
--- The moment that is shown of a nanosecond is its own: the time of its second, and the rest.
-pub record IsMomentOf (n : ℕ) : Type 0 where
-  pub time : IsTimeOf (second_of n)
-  pub part_below : part_of n < nanoseconds_per_second
-  pub counted : second_of n * nanoseconds_per_second + part_of n ≡ n

@@ -1,8 +1,8 @@
 //! A line as a list of fields, in the order in which they are read.
 
 ghost use Rattle.std.specs.Prelude.{◌≡◌, ◌+◌, ◌-◌, ◌≤◌, ◌++◌, IfOk, length, map, replicate};
-ghost use Rattle.std.specs.List.{list_all};
-ghost use Rattle.line_writer.specs.Text.{are_printable, is_printable, millionths};
+ghost use Rattle.std.specs.List.{list_all, prefix_len};
+ghost use Rattle.line_writer.specs.Text.{are_zero, is_named, is_printable, millionths};
 ghost use Rattle.line_writer.specs.Field.{field_data, fields_text, human_text, in_column, is_absent, is_short, line_of};
 ghost use Rattle.line_writer.specs.Field.{most_of, next_text, plain_text, reference_text, rest_text, room_of, text_of, width_of};
 
@@ -92,24 +92,37 @@ fn is_printable(byte: u8) -> bool
     32 < byte && byte < 127
 }
 
-/// Whether each of four bytes is a letter, a digit or a sign.
-fn are_printable(bytes: &[u8; 4]) -> bool
-    ensures { result ≡ are_printable bytes.now }
+/// How many letters, digits and signs a reference identifier begins with.
+fn letters_of(bytes: &[u8; 4]) -> usize
+    ensures exact { result ≡ prefix_len is_printable bytes.now }
+    ensures at_most { result ≤ 4 }
 {
-    bytes.iter().all(|byte| is_printable(*byte))
+    bytes.iter().take_while(|byte| is_printable(**byte)).count()
 }
 
-/// Writes a reference identifier by its four letters, or as an address.
+/// Whether zero bytes alone stand here.
+fn are_zero(bytes: &[u8]) -> bool
+    ensures { result ≡ are_zero bytes.now }
+{
+    bytes.iter().all(|byte| *byte == 0)
+}
+
+/// Whether they are its name: zero bytes alone stand behind them.
+fn is_named(bytes: &[u8; 4]) -> bool
+    ensures { result ≡ is_named bytes.now }
+{
+    let letters = letters_of(bytes);
+    letters > 0 && are_zero(&bytes[letters..])
+}
+
+/// Writes a reference identifier by its name, or as an address.
 fn put_reference(line: &mut Line, bytes: &[u8; 4])
     requires { length line.old + 15 ≤ CAPACITY }
     ensures text { line.new ≡ reference_text bytes.now ++ line.old }
     ensures at_most { length line.new ≤ length line.old + 15 }
 {
-    if are_printable(bytes) {
-        line.put_byte(bytes[3]);
-        line.put_byte(bytes[2]);
-        line.put_byte(bytes[1]);
-        line.put_byte(bytes[0]);
+    if is_named(bytes) {
+        line.put_bytes(&bytes[..letters_of(bytes)]);
     } else {
         line.put_address(bytes);
     }

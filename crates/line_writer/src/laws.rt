@@ -1,13 +1,19 @@
 //! What holds of the definitions that the contracts cite. A law is a function that does nothing:
 //! its contract is the law.
 
-ghost use Rattle.std.specs.Prelude.{◌≡◌, ℕ, ◌+◌, ◌*◌, ◌<◌, ◌^◌, ℤ, pos, ◌*ℤ◌};
+ghost use Rattle.std.specs.Prelude.{◌≡◌, ℕ, ◌+◌, ◌-◌, ◌*◌, ◌<◌, ◌≤◌, ◌^◌, ℤ, pos, ◌*ℤ◌, unsigned_abs, Some, true};
+ghost use Rattle.std.specs.Prelude.{List, [], ◌∷◌, ◌++◌, codes, length, replicate};
+ghost use Rattle.std.specs.List.{list_all};
+ghost use Rattle.std.specs.Net.Grammar.{IsDotted};
 ghost use Rattle.era_unfold.specs.Ratio.{IsCeiling, IsFloor, IsSignedCeiling, IsSignedFloor};
 ghost use Rattle.era_unfold.specs.Window.{per_second, window_low};
 ghost use Rattle.era_unfold.specs.declared.unit.Unit.{Unit as SubsecondUnit};
-ghost use Rattle.line_writer.specs.Date.{IsDateOf, IsTimeOf};
+ghost use Rattle.line_writer.specs.Field.{Address, Billionths, High, Low, Nanoseconds, Number, Reference};
+ghost use Rattle.line_writer.specs.Field.{Second, TimeAbove, TimeBelow, human_text};
 ghost use Rattle.line_writer.specs.Millisecond.{longer, nanosecond_above, nanosecond_below, shorter};
-ghost use Rattle.line_writer.specs.Moment.{IsMomentOf, moment_above, moment_below, moment_text, second_of};
+ghost use Rattle.line_writer.specs.Moment.{part_of, second_of};
+ghost use Rattle.line_writer.specs.Reading.{SaysIn, SaysMoment, read_signed, read_whole};
+ghost use Rattle.line_writer.specs.Text.{is_printable};
 
 /// A range that is shown holds the range in ticks, and as little more as can be: its low end is the
 /// greatest number of whole nanoseconds that isn't above the low end in ticks, and its high end the
@@ -19,18 +25,6 @@ pub fn shown_ranges_hold_the_range()
         IsSignedCeiling (nanosecond_above tick) (tick *ℤ pos 1000000000) (2 ^ 32) }
 {}
 
-/// A tick from 1970 on is shown as a moment, which is its own: that of the greatest number of whole
-/// nanoseconds that isn't above the tick, or of the least that isn't below it.
-pub fn shown_moments_are_the_nanosecond()
-    ensures below { (tick : ℕ) → second_of (shorter tick) < 2 ^ 32 →
-        (moment_below (pos tick) ≡ moment_text (shorter tick))
-        × IsFloor (tick * 1000000000) (2 ^ 32) (shorter tick) }
-    ensures above { (tick : ℕ) → second_of (longer tick) < 2 ^ 32 →
-        (moment_above (pos tick) ≡ moment_text (longer tick))
-        × IsCeiling (tick * 1000000000) (2 ^ 32) (longer tick) }
-    ensures own { (n : ℕ) → second_of n < 2 ^ 32 → IsMomentOf n }
-{}
-
 /// The first tick of the window of a capture's record, rounded up to a whole nanosecond, is the
 /// record's time, exactly.
 pub fn first_ticks_of_windows_give_the_record_time()
@@ -39,13 +33,42 @@ pub fn first_ticks_of_windows_give_the_record_time()
         ≡ (sec * per_second unit + sub) * 1000000000 }
 {}
 
-/// The date that is shown of a day is the day's, for each day of the 2^32 seconds from 1970 on.
-pub fn shown_dates_are_the_day()
-    ensures { (day : ℕ) → day < 49711 → IsDateOf day }
+/// What is shown of a number reads back as the number: its sign, its digits and its point stand
+/// where a reader looks for them who knows nothing of the writer.
+pub fn shown_numbers_read_back()
+    ensures whole { (n : ℕ) → n < 2 ^ 128 → read_whole (human_text (Number n)) ≡ Some n }
+    ensures length { (n : ℕ) → n < 2 ^ 128 →
+        SaysIn (codes " ms") 6 (human_text (Nanoseconds n)) n }
+    ensures share { (n : ℕ) → n < 2 ^ 128 →
+        SaysIn (codes " ppm") 3 (human_text (Billionths n)) n }
+    ensures low { (tick : ℤ) → unsigned_abs tick < 2 ^ 128 →
+        read_signed 6 (human_text (Low tick)) ≡ Some (nanosecond_below tick) }
+    ensures high { (tick : ℤ) → unsigned_abs tick < 2 ^ 128 →
+        read_signed 6 (human_text (High tick)) ≡ Some (nanosecond_above tick) }
 {}
 
-/// The time that is shown of a Unix second is the second's, for each of the 2^32 seconds from 1970
-/// on: its day, and the hour, the minute and the second of that day.
-pub fn shown_times_are_the_second()
-    ensures { (second : ℕ) → second < 2 ^ 32 → IsTimeOf second }
+/// What is shown of a time reads back as it: a date of the calendar and a time of that day, whose
+/// second is the second. Of a tick from 1970 on it is that of the greatest number of whole
+/// nanoseconds that isn't above the tick, or of the least that isn't below it.
+pub fn shown_times_read_back()
+    ensures second { (second : ℕ) → second < 2 ^ 32 →
+        SaysMoment (human_text (Second second)) second 0 }
+    ensures below { (tick : ℕ) → second_of (shorter tick) < 2 ^ 32 →
+        SaysMoment (human_text (TimeBelow (pos tick)))
+        (second_of (shorter tick)) (part_of (shorter tick))
+        × IsFloor (tick * 1000000000) (2 ^ 32) (shorter tick) }
+    ensures above { (tick : ℕ) → second_of (longer tick) < 2 ^ 32 →
+        SaysMoment (human_text (TimeAbove (pos tick)))
+        (second_of (longer tick)) (part_of (longer tick))
+        × IsCeiling (tick * 1000000000) (2 ^ 32) (longer tick) }
+{}
+
+/// What is shown of an address reads back as it. A reference identifier that is a name of one to
+/// four printable characters, filled up with zero bytes, is shown by this name.
+pub fn shown_bytes_read_back()
+    ensures address { (a b c d : ℕ) → a < 256 → b < 256 → c < 256 → d < 256 →
+        IsDotted (human_text (Address (a ∷ b ∷ c ∷ d ∷ []))) (a ∷ b ∷ c ∷ d ∷ []) }
+    ensures name { (name : List ℕ) → 1 ≤ length name → length name ≤ 4 →
+        list_all is_printable name ≡ true →
+        human_text (Reference (name ++ replicate (4 - length name) 0)) ≡ name }
 {}

@@ -91,6 +91,18 @@ impl Line {
         self.start = start;
     }
 
+    /// Writes the bytes of a text.
+    #[inline]
+    pub(crate) fn put_bytes(&mut self, text: &[u8])
+        requires { length self.old + length text.now ≤ CAPACITY }
+        ensures text { self.new ≡ text.now ++ self.old }
+        ensures grows { length self.new ≡ length self.old + length text.now }
+    {
+        let start = self.start - text.len();
+        self.scratch[start..self.start].copy_from_slice(text);
+        self.start = start;
+    }
+
     /// Writes a text.
     #[inline]
     pub fn put_text(&mut self, text: &str)
@@ -98,9 +110,7 @@ impl Line {
         ensures text { self.new ≡ text.now ++ self.old }
         ensures grows { length self.new ≡ length self.old + length text.now }
     {
-        let start = self.start - text.len();
-        self.scratch[start..self.start].copy_from_slice(text.as_bytes());
-        self.start = start;
+        self.put_bytes(text.as_bytes());
     }
 
     /// Writes the last `count` of four bytes. The others are written too, where the next text goes.

@@ -4,7 +4,7 @@ use Rattle.byte_stream.specs.Fault.{CountsFault}
 use Rattle.report.specs.declared.fault.Input.{Input}
 use Rattle.report.specs.declared.fault.Outcome.{Outcome}
 use Rattle.report.specs.declared.fault.RunFault.{RunFault}
-use Rattle.report.specs.Reports.{is_device, is_claim, is_second, is_capture}
+use Rattle.report.specs.Reports.{is_device, is_claim, is_second, is_capture, is_sums}
 use Rattle.listing.specs.Progress.{CountsCapture}
 
 -- ending a run asks no input's device
@@ -15,4 +15,5 @@ closed_counts {before = before} {after = after} same counts = record {
   claim = same is_claim ∙ counts.claim;
   second = same is_second ∙ counts.second;
   capture = subst (λ (b : Bool). CountsFault b before after) (sym (same is_capture)) counts.capture;
+  sums = same is_sums ∙ counts.sums;
 }

@@ -64,7 +64,7 @@ module _ {start : SourceState} {sink : SinkState} where
         text = text;
         can_close = puts.is_open;
         stops = omega (arith, puts.faults, u.sink_faults);
-        device = record { claim = refl; second = refl; capture = same ∙ u.same_faults };
+        device = record { claim = refl; second = refl; capture = same ∙ u.same_faults; sums = refl };
         takes = TakesFrom-trans start.supply s.supply s'.supply u.takes takes;
         in_memory = λ wrong. cc;
       })
@@ -90,7 +90,7 @@ module _ {start : SourceState} {sink : SinkState} where
             (λ c. IsNext c (Ok None) s'.remaining s'.lent) u.passed step.next_is whole_text;
         can_close = ready_after u.ready puts (omega (arith, u.short, u.few));
         stops = omega (arith, puts.faults, u.sink_faults);
-        device = record { claim = refl; second = refl; capture = step.counts_fault ∙ u.same_faults };
+        device = record { claim = refl; second = refl; capture = step.counts_fault ∙ u.same_faults; sums = refl };
         takes = TakesFrom-trans start.supply s.supply s'.supply u.takes step.takes;
         in_memory = λ wrong. cc;
       }
@@ -112,7 +112,7 @@ module _ {start : SourceState} {sink : SinkState} where
             (λ c. c ≡ broken_end fault) u.passed next broken_text;
         can_close = u.ready;
         stops = omega (arith, u.sink_faults);
-        device = record { claim = refl; second = refl; capture = same ∙ u.same_faults };
+        device = record { claim = refl; second = refl; capture = same ∙ u.same_faults; sums = refl };
         takes = TakesFrom-trans start.supply s.supply s'.supply u.takes takes;
         in_memory = λ wrong. cc;
       }
@@ -126,7 +126,7 @@ module _ {start : SourceState} {sink : SinkState} where
         (λ whole rest given. (u.done, lines_of rest.records, first_lines given, u.put));
     can_close = u.ready;
     stops = omega (arith, u.sink_faults);
-    device = record { claim = refl; second = refl; capture = step.counts_fault ∙ ap (λ n. n + 1) u.same_faults };
+    device = record { claim = refl; second = refl; capture = step.counts_fault ∙ ap (λ n. n + 1) u.same_faults; sums = refl };
     takes = TakesFrom-trans start.supply s.supply s'.supply u.takes step.takes;
     in_memory = λ wrong. cc;
   }
@@ -191,6 +191,7 @@ module _ {start end : SourceState} {sink after : SinkState} {o : OutputState}
           claim = rw device.claim refl;
           second = rw device.second refl;
           capture = device.capture;
+          sums = rw device.sums refl;
         };
         takes = listed.takes;
         in_memory = not_memory closes listed.in_memory;

@@ -56,8 +56,8 @@ made_refused (Some bytes) fault refusal = absurd refusal.0
 -- the run counts a refusal's device as the capture does
 pub counts_refused : (fault : CaptureFault) (before after : ℕ) → CountsFault (is_read fault) before after →
     CountsCapture (Err (run_fault_of fault)) before after
-counts_refused captures.Read before after counts = record { claim = refl; second = refl; capture = counts }
-counts_refused fault before after counts = record { claim = refl; second = refl; capture = counts }
+counts_refused captures.Read before after counts = record { claim = refl; second = refl; capture = counts; sums = refl }
+counts_refused fault before after counts = record { claim = refl; second = refl; capture = counts; sums = refl }
 
 module _ {before after : SinkState} {answer : Result Outcome RunFault} (fault : RunFault) where
   -- a refusal is published
@@ -80,6 +80,7 @@ module _ {before after : SinkState} {answer : Result Outcome RunFault} (fault : 
         claim = rw (same, counts.claim) refl;
         second = rw (same, counts.second) refl;
         capture = rw same counts.capture;
+        sums = rw (same, counts.sums) refl;
       }
 
 -- What was listed of a source is what the bytes' report calls for.
@@ -106,6 +107,7 @@ module _ (answer : Result Outcome RunFault) where
     claim = listed.claim;
     second = listed.second;
     capture = rw (sym first, last) listed.capture;
+    sums = listed.sums;
   }
 
 nothing_made : (report : Option Report) → IfSome report (λ r. IsMadeFor r (Err faults.Memory))
@@ -117,7 +119,7 @@ pub reports_refused_memory : {feed : FeedState} {before after : SinkState} {answ
     (report : Option Report) → Publishes before after (Err faults.Memory) answer →
     Reports report (capture_state feed before) (capture_state feed after) answer
 reports_refused_memory report p = reports_published faults.Memory report (nothing_made report) p
-    (record { claim = refl; second = refl; capture = refl })
+    (record { claim = refl; second = refl; capture = refl; sums = refl })
 
 -- ---- what a refusal leaves of the feed
 

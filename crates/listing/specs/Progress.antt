@@ -11,7 +11,7 @@ use Rattle.report.specs.declared.fault.RunFault.{RunFault}
 use Rattle.report.specs.declared.fault.RunFault.TheVariants.{Memory}
 use Rattle.report.specs.Closing.{HasRun, CanClose, stops_of}
 use Rattle.report.specs.Output.{OutputState, HasPut, IsReady, Puts, put_count}
-use Rattle.report.specs.Reports.{Reports, is_device, is_claim, is_second, is_capture}
+use Rattle.report.specs.Reports.{Reports, is_device, is_claim, is_second, is_capture, is_sums}
 use Rattle.report.specs.Run.{capture_state}
 use Rattle.listing.specs.Listing.{lines_of, listing}
 
@@ -86,6 +86,7 @@ pub record CountsCapture (ran : Result Outcome RunFault) (before after : ℕ) : 
   pub claim : is_device is_claim ran ≡ false
   pub second : is_device is_second ran ≡ false
   pub capture : CountsFault (is_device is_capture ran) before after
+  pub sums : is_device is_sums ran ≡ false
 
 -- A listing that came to this answer and is still to be closed.
 pub record HasListed (start : SourceState) (sink : SinkState) (now : Progress)

@@ -1,18 +1,22 @@
 -- What the words of a command line call for.
 use Rattle.std.specs.Prelude.{◌≡◌, ◌⊎◌, ◌||◌, ℕ, Bool, true, false, List, [], Option, Some, None}
-use Rattle.std.specs.Prelude.{option_map, unwrap_or, codes, string_bytes}
+use Rattle.std.specs.Prelude.{String, IfSome, is_some, option_map, unwrap_or, codes, string_bytes}
 use Rattle.std.specs.Str.{bytes_eq}
 use Rattle.std.specs.Str.Parse.{digits_value, without_leading_plus}
+use Rattle.std.specs.declared.alloc.Global.{Global}
 use Rattle.claim_file.specs.Time.{time_of}
 use Rattle.clap.specs.Words.{Row, Text, first_of, one_of}
 use Rattle.line_writer.specs.declared.field.Style.{Style}
 use Rattle.line_writer.specs.declared.field.Style.TheVariants.{Human, Plain}
+use Rattle.report.specs.declared.fault.Input.{Input}
+use Rattle.report.specs.declared.fault.Input.TheVariants.{Certificate, Refutation}
 use Rattle.audit.specs.declared.step.Step.{Step}
-use Rattle.judgement.specs.declared.judgement.Judgement.{Judgement}
-use Rattle.judgement.specs.declared.judgement.Judgement.TheVariants as judgements
 use Rattle.ntpaudit.specs.declared.invocation.Invocation.{Invocation}
 use Rattle.ntpaudit.specs.declared.invocation.Invocation.TheVariants as calls
 use Rattle.ntpaudit.specs.declared.invocation.JudgedPaths.{JudgedPaths}
+use Rattle.ntpaudit.specs.declared.invocation.Judgement.{Judgement}
+use Rattle.ntpaudit.specs.declared.invocation.Judgement.TheVariants as judgements
+use Rattle.ntpaudit.specs.declared.invocation.Listed.{Listed}
 use Rattle.ntpaudit.specs.declared.invocation.Paths.{Paths}
 use Rattle.ntpaudit.specs.declared.invocation.Request.{Request}
 use Rattle.ntpaudit.specs.declared.invocation.Request.TheVariants as requests
@@ -44,18 +48,29 @@ step_given rows =
 abbrev pub HasStep : List Row → Step → Type 0
 HasStep rows step = step_given rows ≡ Some step.seconds
 
--- The claim, the capture and the style are those of the words.
+-- The capture and the style are those of the words.
+pub record IsListed (rows : List Row) (listed : Listed) : Type 0 where
+  pub human : IsFlag (codes "human") rows (is_human listed.style)
+  pub style_is : listed.style ≡ style_of (is_human listed.style)
+  pub path : option_map string_bytes listed.path ≡ first_of (codes "CAPTURE") rows
+
+-- A person is told of the operand TIME.
+pub record IsToldTime (rows : List Row) (told : Option (String Global)) : Type 0 where
+  pub human : IsFlag (codes "human") rows (is_some told)
+  pub time : IfSome told (λ text. string_bytes text ≡ operand (codes "TIME") rows)
+
+-- The claim, the capture, the file of sums and the style are those of the words.
 pub record AreNamed (rows : List Row) (paths : Paths) : Type 0 where
   pub human : IsFlag (codes "human") rows (is_human paths.style)
   pub style_is : paths.style ≡ style_of (is_human paths.style)
   pub claim : string_bytes paths.claim ≡ operand (codes "CLAIM") rows
   pub capture : string_bytes paths.capture ≡ operand (codes "CAPTURE") rows
+  pub sums : option_map string_bytes paths.sums ≡ first_of (codes "sums") rows
 
--- The same of a command with a second input, an operand of this name, and with sums.
+-- The same of a command with a second input, an operand of this name.
 pub record AreJudgedNamed (second : Text) (rows : List Row) (paths : JudgedPaths) : Type 0 where
   pub evidence : AreNamed rows paths.evidence
   pub second_is : string_bytes paths.second ≡ operand second rows
-  pub sums : option_map string_bytes paths.sums ≡ first_of (codes "sums") rows
 
 -- the Unix second of the operand TIME, if it is written as a claim's times are
 abbrev pub time_given : List Row → Option ℕ
@@ -94,22 +109,25 @@ IsAsking request rows invocation = ⊥
 -- what a command with a second input judges, and which of its operands that input is
 abbrev pub IsJudgement : Text → List Row → Judgement → Type 0
 IsJudgement name rows judgements.Check = name ≡ codes "check"
-IsJudgement name rows (judgements.Refute drift) =
-    (name ≡ codes "refute") × IsFlag (codes "drift") rows drift
+IsJudgement name rows (judgements.Refute refute) =
+    (name ≡ codes "refute") × IsFlag (codes "drift") rows refute.drift
 
 abbrev pub second_operand : Judgement → Text
 second_operand judgements.Check = codes "CERTIFICATE"
-second_operand (judgements.Refute drift) = codes "REFUTATION"
+second_operand (judgements.Refute refute) = codes "REFUTATION"
+
+abbrev pub second_of : Judgement → Input
+second_of judgements.Check = Certificate
+second_of (judgements.Refute refute) = Refutation
 
 -- what a command with these rows calls for
 abbrev pub IsCalled : Text → List Row → Invocation → Type 0
-IsCalled name rows (calls.List path) =
-    (name ≡ codes "list") × (option_map string_bytes path ≡ first_of (codes "CAPTURE") rows)
+IsCalled name rows (calls.List listed) = (name ≡ codes "list") × IsListed rows listed
 IsCalled name rows (calls.Ask request paths) = IsRequest name rows request × AreNamed rows paths
 IsCalled name rows (calls.Judge judgement paths) = IsJudgement name rows judgement
     × AreJudgedNamed (second_operand judgement) rows paths
-IsCalled name rows calls.RefuseTime =
-    (name ≡ codes "at") × (time_given rows ≡ None)
+IsCalled name rows (calls.RefuseTime told) =
+    (name ≡ codes "at") × (time_given rows ≡ None) × IsToldTime rows told
 IsCalled name rows (calls.Refuse text) = IsRefusable name
 IsCalled name rows (calls.Show text) = ⊥
 

@@ -1,2 +1,4 @@
+pub mod Asked
 pub mod Invocation
+pub mod Reading
 pub mod Response

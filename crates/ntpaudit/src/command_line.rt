@@ -1,7 +1,9 @@
 //! The process's command line, read.
 
+use crate::advice::{advised, counted};
 use crate::commands::program;
 use crate::invocation::Invocation;
+use crate::standard_input::read_once;
 use crate::words::invocation_of;
 use clap::{Error, error};
 use std::alloc::{AllocError, Global};
@@ -9,15 +11,24 @@ use std::env;
 use std::io::ErrorKind;
 
 /// What a refusal of the command line, or a call for help, asks for.
-fn told(alloc: Global, error: &Error) -> Result<Invocation, AllocError> {
+fn told(alloc: Global, words: &[String], error: &Error) -> Result<Invocation, AllocError> {
     if error.kind() == error::ErrorKind::OutOfMemory {
         return Err(AllocError);
     }
     let text = error.to_string(alloc)?;
     if error.use_stderr() {
-        Ok(Invocation::Refuse(text))
+        Ok(Invocation::Refuse(advised(alloc, words, text.as_str())?))
     } else {
         Ok(Invocation::Show(text))
+    }
+}
+
+/// Reads the words of a command line. The only error is that it is out of memory.
+fn read_words(alloc: Global, words: &[String]) -> Result<Invocation, AllocError> {
+    let words = &words[..counted(words)];
+    match program(alloc)?.try_get_matches_from(words) {
+        Ok(matches) => read_once(alloc, invocation_of(alloc, &matches)?),
+        Err(error) => told(alloc, words, &error),
     }
 }
 
@@ -36,8 +47,5 @@ pub(crate) fn read_command_line(rt: &HostRuntime) -> Result<Invocation, AllocErr
     for word in arguments {
         words.push(word)?;
     }
-    match program(alloc)?.try_get_matches_from(words.as_slice()) {
-        Ok(matches) => invocation_of(alloc, &matches),
-        Err(error) => told(alloc, &error),
-    }
+    read_words(alloc, words.as_slice())
 }

@@ -50,8 +50,8 @@ Prints:   one of five answers. A certificate, which `check` accepts: the claim i
           refutation, which `refute --drift` accepts. Lines `conflict SERVER REQUEST SERVER REPLY`,
           and then `nothing fits`: what the claim grants isn't true in this capture. `no evidence
           groups K of G false_max F`: no more groups of servers have a sample than may be wrong. Or
-          `open P Q hull LO HI`: neither is found, and no certificate is accepted. With --human the
-          lines of conflicts and of what is open have milliseconds and times as 2026-11-22T06:46:09Z
+          `open P Q hull LO HI`: neither is found, and no certificate is accepted. With --human what
+          is found is told in short lines: milliseconds, times as 2026-11-22T06:46:09Z, servers
 Status:   0 shown; 1 any other answer; 2 an input is refused, or over 100000 pieces are needed
           and no refutation is found; 3 out of memory; 4 a file or the output failed; 5 the command
           line is refused
@@ -61,14 +61,15 @@ More:     man ntpaudit, which says what each answer means";
 const FIND_HELP: &str = "\
 Prints:   a certificate, or `nothing piece K` and the hull of the first piece that shows too little.
           `check` judges a certificate. With --refutation: a refutation, or `nothing refutation`.
-          With --human the hull is in milliseconds
+          With --human what is found is told in short lines, with milliseconds
 Status:   0 something is found; 1 nothing; 2 an input is refused, or there are over 100000 pieces;
           3 out of memory; 4 a file or the output failed; 5 the command line is refused
 Example:  ntpaudit find claim.json recording.pcap --step 8 > certificate.json
 More:     man ntpaudit";
 
 const REFUTE_HELP: &str = "\
-Prints:   `refuted yes` or `refuted no`
+Prints:   `refuted yes` or `refuted no`. With --human also what the refutation says: its error in
+          milliseconds, when, how far beyond the bound, and which servers would be wrong
 Status:   0 yes; 1 no; 2 an input is refused; 3 out of memory; 4 a file or the output failed; 5 the
           command line is refused
 Example:  ntpaudit refute claim.json recording.pcap refutation.json
@@ -100,7 +101,12 @@ fn capture_operand<'a>(alloc: Global) -> Arg<'a> {
 
 /// The option `--human`.
 fn human_option<'a>(alloc: Global) -> Arg<'a> {
-    flag(alloc, "human", "Show milliseconds and times of the day").short('H')
+    flag(
+        alloc,
+        "human",
+        "Milliseconds, times of the day, and faults in words",
+    )
+    .short('H')
 }
 
 /// A command that reads a claim and a capture, with these words about it.
@@ -126,7 +132,8 @@ fn list_command<'a>(alloc: Global) -> Result<Command<'a>, AllocError> {
     Command::new(alloc, "list")
         .about("Print one line for each NTP packet of a capture")
         .after_help(LIST_HELP)
-        .arg(capture)
+        .arg(capture)?
+        .arg(flag(alloc, "human", "Say more about a fault").short('H'))
 }
 
 /// The command `samples`.
@@ -147,13 +154,13 @@ fn at_command<'a>(alloc: Global) -> Result<Command<'a>, AllocError> {
 /// The command `settle`.
 fn settle_command<'a>(alloc: Global) -> Result<Command<'a>, AllocError> {
     let about = "Settle a claim by a capture: show it, or refute it";
-    evidence_command(alloc, "settle", about, SETTLE_HELP)
+    evidence_command(alloc, "settle", about, SETTLE_HELP)?.arg(sums_option(alloc))
 }
 
 /// The command `check`.
 fn check_command<'a>(alloc: Global) -> Result<Command<'a>, AllocError> {
     let certificate = Arg::new(alloc, "CERTIFICATE").help("The certificate, a JSON file");
-    let about = "Settle a claim by a capture and a certificate";
+    let about = "Check a certificate for a claim against a capture";
     evidence_command(alloc, "check", about, CHECK_HELP)?
         .arg(certificate.required(true))?
         .arg(sums_option(alloc))
@@ -163,7 +170,7 @@ fn check_command<'a>(alloc: Global) -> Result<Command<'a>, AllocError> {
 fn refute_command<'a>(alloc: Global) -> Result<Command<'a>, AllocError> {
     let refutation = Arg::new(alloc, "REFUTATION").help("The refutation, a JSON file");
     let drift = "Let the clock's error drift as the claim grants, not stay the same";
-    let about = "Settle whether a refutation stands against a claim";
+    let about = "Check a refutation of a claim against a capture";
     evidence_command(alloc, "refute", about, REFUTE_HELP)?
         .arg(refutation.required(true))?
         .arg(flag(alloc, "drift", drift))?

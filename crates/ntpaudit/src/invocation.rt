@@ -1,7 +1,35 @@
 //! What the words of a command line call for.
 
-use audit::{At, Envelope, Find, Style};
-use judgement::Judgement;
+ghost use Rattle.std.specs.Prelude.{◌≡◌};
+ghost use Rattle.ntpaudit.specs.Asked.{listed_name};
+ghost use Rattle.ntpaudit.specs.Invocation.{second_of};
+
+use audit::{At, Envelope, Find, Refute, Style};
+use report::Input;
+
+/// The operand that is standard input.
+pub(crate) const STDIN: &str = "-";
+
+/// The capture that is listed, and for whom its faults are told.
+#[derive(Drop)]
+pub(crate) struct Listed {
+    /// The style of a fault.
+    pub(crate) style: Style,
+    /// The capture's path, and none for standard input.
+    pub(crate) path: Option<String>,
+}
+
+impl Listed {
+    /// The operand that names the capture.
+    pub(crate) fn operand(&self) -> &str
+        ensures { result.now ≡ listed_name self.now }
+    {
+        match &self.path {
+            Some(path) => path.as_str(),
+            None => STDIN,
+        }
+    }
+}
 
 /// The paths of the files that a question is asked of, and for whom the answer is written.
 #[derive(Drop)]
@@ -12,6 +40,8 @@ pub(crate) struct Paths {
     pub(crate) claim: String,
     /// The capture's.
     pub(crate) capture: String,
+    /// That of the file of sums, if they are held to one.
+    pub(crate) sums: Option<String>,
 }
 
 /// The same of a question with a second input.
@@ -21,8 +51,6 @@ pub(crate) struct JudgedPaths {
     pub(crate) evidence: Paths,
     /// That of the certificate or refutation.
     pub(crate) second: String,
-    /// That of the file of sums, if they are held to one.
-    pub(crate) sums: Option<String>,
 }
 
 /// A question without a second input.
@@ -42,11 +70,32 @@ pub(crate) enum Request {
     Envelope(Envelope),
 }
 
+/// A question with a second input.
+#[derive(Clone, Copy, Debug)]
+pub(crate) enum Judgement {
+    /// Check a certificate.
+    Check,
+    /// Check a refutation.
+    Refute(Refute),
+}
+
+impl Judgement {
+    /// The second input.
+    pub(crate) fn second(self) -> Input
+        ensures { result ≡ second_of self }
+    {
+        match self {
+            Judgement::Check => Input::Certificate,
+            Judgement::Refute(_) => Input::Refutation,
+        }
+    }
+}
+
 /// What the words of a command line call for.
 #[derive(Drop)]
 pub(crate) enum Invocation {
-    /// List a capture: the file of this path, or standard input.
-    List(Option<String>),
+    /// List a capture.
+    List(Listed),
     /// Answer a question.
     Ask(Request, Paths),
     /// Judge a certificate or a refutation.
@@ -55,6 +104,7 @@ pub(crate) enum Invocation {
     Show(String),
     /// The command line is refused, for the reason in this text.
     Refuse(String),
-    /// The command line is refused, since its TIME isn't written as a claim's times are.
-    RefuseTime,
+    /// The command line is refused, since its TIME, which is here for a person, isn't written as a
+    /// claim's times are.
+    RefuseTime(Option<String>),
 }

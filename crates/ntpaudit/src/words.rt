@@ -3,14 +3,14 @@
 ghost use Rattle.std.specs.Prelude.{◌≡◌, IfOk, IfSome, Some, codes, option_map, string_bytes};
 ghost use Rattle.clap.specs.Words.{first_of, found_of, rows_of, subcommand_rows_of};
 ghost use Rattle.ntpaudit.specs.Invocation as spec;
-ghost use Rattle.ntpaudit.specs.Invocation.{AreJudgedNamed, AreNamed, HasStep, IsCalled, IsAsking};
-ghost use Rattle.ntpaudit.specs.Invocation.{IsCalledBy, IsFlag, IsRefusal, step_given};
+ghost use Rattle.ntpaudit.specs.Invocation.{AreJudgedNamed, AreNamed, HasStep, IsAsking, IsCalled};
+ghost use Rattle.ntpaudit.specs.Invocation.{IsCalledBy, IsFlag, IsListed, IsRefusal, IsToldTime};
+ghost use Rattle.ntpaudit.specs.Invocation.{is_human, step_given};
 
-use crate::invocation::{Invocation, JudgedPaths, Paths, Request};
-use audit::{At, Envelope, Find, Step, Style};
+use crate::invocation::{Invocation, JudgedPaths, Judgement, Listed, Paths, Request};
+use audit::{At, Envelope, Find, Refute, Step, Style};
 use claim_file::read_time;
 use clap::ArgMatches;
-use judgement::Judgement;
 use std::alloc::{AllocError, Global};
 
 /// The first value of an operand or option, as text.
@@ -50,30 +50,47 @@ fn flag(matches: &ArgMatches, name: &str) -> bool
     matches.get_flag(name)
 }
 
-/// The claim and the capture that are named, and for whom the answer is written.
-fn paths(alloc: Global, matches: &ArgMatches) -> Result<Paths, AllocError>
-    ensures { IfOk result (AreNamed (rows_of (found_of matches.now))) }
+/// For whom the answer is written.
+fn style(matches: &ArgMatches) -> Style
+    ensures human { IsFlag (codes "human") (rows_of (found_of matches.now)) (is_human result) }
+    ensures is { result ≡ spec.style_of (is_human result) }
 {
-    let style = if flag(matches, "human") {
+    if flag(matches, "human") {
         Style::Human
     } else {
         Style::Plain
-    };
-    Ok(Paths {
-        style,
-        claim: operand(alloc, matches, "CLAIM")?,
-        capture: operand(alloc, matches, "CAPTURE")?,
+    }
+}
+
+/// The capture that is listed, and for whom.
+fn listed(alloc: Global, matches: &ArgMatches) -> Result<Listed, AllocError>
+    ensures { IfOk result (IsListed (rows_of (found_of matches.now))) }
+{
+    Ok(Listed {
+        style: style(matches),
+        path: text_of(alloc, matches, "CAPTURE")?,
     })
 }
 
-/// The same, with the second input that the operand of this name names, and the file of sums.
+/// The claim, the capture and the file of sums that are named, and for whom the answer is written.
+fn paths(alloc: Global, matches: &ArgMatches) -> Result<Paths, AllocError>
+    ensures { IfOk result (AreNamed (rows_of (found_of matches.now))) }
+{
+    Ok(Paths {
+        style: style(matches),
+        claim: operand(alloc, matches, "CLAIM")?,
+        capture: operand(alloc, matches, "CAPTURE")?,
+        sums: text_of(alloc, matches, "sums")?,
+    })
+}
+
+/// The same, with the second input that the operand of this name names.
 fn judged(alloc: Global, matches: &ArgMatches, name: &str) -> Result<JudgedPaths, AllocError>
     ensures { IfOk result (AreJudgedNamed name.now (rows_of (found_of matches.now))) }
 {
     Ok(JudgedPaths {
         evidence: paths(alloc, matches)?,
         second: operand(alloc, matches, name)?,
-        sums: text_of(alloc, matches, "sums")?,
     })
 }
 
@@ -94,13 +111,24 @@ fn time_of(matches: &ArgMatches) -> Option<u32>
     }
 }
 
+/// The TIME that is refused, if a person is told of it.
+fn told_time(alloc: Global, matches: &ArgMatches) -> Result<Option<String>, AllocError>
+    ensures { IfOk result (IsToldTime (rows_of (found_of matches.now))) }
+{
+    if flag(matches, "human") {
+        Ok(Some(operand(alloc, matches, "TIME")?))
+    } else {
+        Ok(None)
+    }
+}
+
 /// What `at` calls for: its TIME is read before anything else is done.
 fn at(alloc: Global, matches: &ArgMatches) -> Result<Invocation, AllocError>
     ensures { IfOk result (IsCalled (codes "at") (rows_of (found_of matches.now))) }
 {
     match time_of(matches) {
         Some(second) => ask(alloc, Request::At(At { second }), matches),
-        None => Ok(Invocation::RefuseTime),
+        None => Ok(Invocation::RefuseTime(told_time(alloc, matches)?)),
     }
 }
 
@@ -169,9 +197,11 @@ fn check(alloc: Global, matches: &ArgMatches) -> Result<Invocation, AllocError>
 fn refute(alloc: Global, matches: &ArgMatches) -> Result<Invocation, AllocError>
     ensures { IfOk result (IsCalled (codes "refute") (rows_of (found_of matches.now))) }
 {
-    let drift = flag(matches, "drift");
+    let refute = Refute {
+        drift: flag(matches, "drift"),
+    };
     let paths = judged(alloc, matches, "REFUTATION")?;
-    Ok(Invocation::Judge(Judgement::Refute { drift }, paths))
+    Ok(Invocation::Judge(Judgement::Refute(refute), paths))
 }
 
 /// What the words of this command call for.
@@ -179,7 +209,7 @@ fn called(alloc: Global, name: &str, words: &ArgMatches) -> Result<Invocation, A
     ensures { IfOk result (IsCalled name.now (rows_of (found_of words.now))) }
 {
     match name {
-        "list" => Ok(Invocation::List(text_of(alloc, words, "CAPTURE")?)),
+        "list" => Ok(Invocation::List(listed(alloc, words)?)),
         "samples" => ask(alloc, Request::Samples, words),
         "at" => at(alloc, words),
         "settle" => ask(alloc, Request::Settle, words),

@@ -3,6 +3,7 @@ use Rattle.std.specs.Prelude.{◌≡◌, ◌⊎◌, ◌+◌, ℕ, List, [], Bool
 use Rattle.std.specs.List.{concat}
 use Rattle.byte_stream.specs.State.{SinkState}
 use Rattle.report.specs.declared.fault.Input.{Input}
+use Rattle.report.specs.declared.fault.Input.TheVariants as inputs
 use Rattle.report.specs.declared.fault.Outcome.{Outcome}
 use Rattle.report.specs.declared.fault.RunFault.{RunFault}
 use Rattle.report.specs.declared.fault.RunFault.TheVariants.{Device, Write, Memory}
@@ -25,9 +26,10 @@ IsMadeFor report (Err (Device input)) = Unit {0}
 IsMadeFor report (Err (Write sent)) = ⊥
 IsMadeFor report (Err fault) = (text_of report ≡ []) × (report.answer ≡ Err fault)
 
--- Nothing was written before.
+-- Nothing was written before, and no file of sums was read.
 abbrev pub IsUnwritten : Result Ready RunFault → Type 0
 IsUnwritten (Err (Write sent)) = ⊥
+IsUnwritten (Err (Device inputs.Sums)) = ⊥
 IsUnwritten made = Unit {0}
 
 -- The answer is what was made of the run: its outcome, unless the sink failed, and its fault, even

@@ -75,14 +75,18 @@ abbrev pub is_capture : Input → Bool
 is_capture inputs.Capture = true
 is_capture _ = false
 
+abbrev pub is_sums : Input → Bool
+is_sums inputs.Sums = true
+is_sums _ = false
+
 -- whether the answer is that the device of such an input failed
 abbrev pub is_device : {A : Type 0} → (Input → Bool) → Result A RunFault → Bool
 is_device which (Err (Device input)) = which input
 is_device which answer = false
 
 -- What an engine promises of its answer and of its devices, for the report that its inputs' bytes
--- call for, if they are known. The sink is closed in the end: after the last byte it was finished,
--- unless a push failed.
+-- call for, if they are known. No engine reads a file of sums, so none says that its device failed.
+-- The sink is closed in the end: after the last byte it was finished, unless a push failed.
 pub record Reports (report : Option Report) (before after : RunState)
     (answer : Result Outcome RunFault) : Type 0 where
   pub text : IfSome report (λ r. GetsText r before.sink.contents after.sink.contents answer)
@@ -91,3 +95,4 @@ pub record Reports (report : Option Report) (before after : RunState)
   pub claim : CountsFault (is_device is_claim answer) before.claim.faults after.claim.faults
   pub second : CountsFault (is_device is_second answer) before.second.faults after.second.faults
   pub capture : CountsFault (is_device is_capture answer) before.capture.faults after.capture.faults
+  pub sums : is_device is_sums answer ≡ false

@@ -41,6 +41,7 @@
 
 mod choice;
 mod crest;
+mod duration;
 mod extreme;
 mod passage;
 mod peak;
@@ -53,6 +54,7 @@ mod table;
 mod tick;
 mod top;
 
+pub use duration::{Duration, durations_near};
 pub use extreme::servers_of;
 pub use pieces::best_of_pieces;
 pub use places::Places;

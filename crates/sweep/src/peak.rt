@@ -82,7 +82,7 @@ fn bracket(peaks: &[Peak], place: u128, near: usize) -> (usize, usize)
 
 /// How many of the peaks come no later than a place. It's looked for from `near` on, and in at most
 /// twice the steps of a search among all.
-fn count_upto(peaks: &[Peak], place: u128, near: usize) -> usize
+pub fn count_upto(peaks: &[Peak], place: u128, near: usize) -> usize
     ensures { IsBracket peaks.now place result result }
 {
     let (mut low, mut high) = bracket(peaks, place, near);

@@ -3,16 +3,16 @@
 /// More than any list of peaks has.
 const NOWHERE: usize = usize::MAX;
 
-/// The second that begins two before zero, counted from the origin: most levels lie close to zero.
-const BEFORE_ZERO: u64 = (1 << 43) - 2;
+/// Zero, counted from the origin: most levels lie close to it.
+const ZERO: u128 = 1 << 75;
 
 /// Where the last look-ups ended in the peaks of one kind of end.
 #[derive(Clone, Copy)]
 pub struct Near {
     pub early: usize,
     pub late: usize,
-    /// The whole second, counted from the origin, before that of the level that was found.
-    pub second: u64,
+    /// The level that was found, counted from the origin.
+    pub level: u128,
 }
 
 /// Where the last look-ups ended in a table.
@@ -35,7 +35,7 @@ impl Places {
         let near = Near {
             early: NOWHERE,
             late: NOWHERE,
-            second: BEFORE_ZERO,
+            level: ZERO,
         };
         let table = NearTable {
             lows: near,

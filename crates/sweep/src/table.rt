@@ -29,17 +29,17 @@ use std::alloc::{AllocError, Global};
 
 /// The peaks of extremes, and of the same with time running backwards.
 #[derive(Drop)]
-struct Peaks {
-    early: Vec<Peak>,
-    late: Vec<Peak>,
+pub struct Peaks {
+    pub early: Vec<Peak>,
+    pub late: Vec<Peak>,
 }
 
 /// A server's samples, laid out so that its interval over any piece is found by a search.
 #[derive(Drop)]
 pub struct BestTable {
-    server: u8,
-    lows: Peaks,
-    highs: Peaks,
+    pub(crate) server: u8,
+    pub(crate) lows: Peaks,
+    pub(crate) highs: Peaks,
 }
 
 /// A table for each of the first `count` servers that has a sample, in their order. Its one error
@@ -129,12 +129,12 @@ fn level_over(peaks: &Peaks, near: &mut Near, stretch: Stretch, drift_ppb: u32) 
         end: mirrored_tick(stretch.begin),
     };
     let late = early_rise(peaks.late.as_slice(), &mut near.late, mirrored, drift_ppb);
-    let level = level_of(early.max(late), begin_of(near.second), drift_ppb);
-    near.second = second_before(level);
+    let level = level_of(early.max(late), second_before(near.level), drift_ppb);
+    near.level = level;
     level
 }
 
-/// The level that an extreme reaches which stands so far above what it falls. If it is some two
+/// The level that an extreme reaches which stands so far above what it falls. If it is some four
 /// seconds above `from` at most, 64 bits are divided, which takes a fifth of the time.
 fn level_of(rise: u128, from: u128, drift_ppb: u32) -> u128
     requires rate { IsRate drift_ppb }
@@ -150,17 +150,11 @@ fn level_of(rise: u128, from: u128, drift_ppb: u32) -> u128
     rise / parts
 }
 
-/// The tick at which a second begins.
-fn begin_of(second: u64) -> u128
+/// A second before a level.
+fn second_before(level: u128) -> u128
     ensures { result ≤ 2 ^ 96 }
 {
-    u128::from(second) * TICKS_PER_SECOND
-}
-
-/// The whole second before that in which a level lies.
-fn second_before(level: u128) -> u64 {
-    let second = u64::try_from(level / TICKS_PER_SECOND).unwrap_or(1);
-    second.saturating_sub(1)
+    level.saturating_sub(TICKS_PER_SECOND).min(1 << 96)
 }
 
 /// What a server says over a piece.

@@ -3,6 +3,7 @@
 ghost use Rattle.std.specs.Prelude.{◌≡◌, ◌++◌, IfOk, IfErr, codes};
 ghost use Rattle.certificate.specs.Certificate.{data_of as certificate_data};
 ghost use Rattle.certificate.specs.Writing.{certificate_text};
+ghost use Rattle.claim_file.specs.Claim.{data_of};
 ghost use Rattle.finder.specs.Found.{data_of as found_data};
 ghost use Rattle.report.specs.Publication.{IsMadeFor};
 ghost use Rattle.audit.specs.Evidence.{IsLawfulEvidence, evidence_data};
@@ -15,8 +16,9 @@ use crate::finished::{Making, whole};
 use crate::question::Question;
 use crate::sample_list::samples_of;
 use crate::step::Step;
-use audit_text::nothing_text;
+use audit_text::{found_answer, nothing_text};
 use certificate::{Certificate, write_certificate};
+use claim_file::Claim;
 use finder::{FindFault, Found, find_over};
 use line_writer::Style;
 use report::{Made, Outcome, RunFault};
@@ -64,11 +66,21 @@ pub(crate) fn certificate_line(
 
 /// The whole text.
 #[tactic(auto, unfolding(crate::specs::Find::found_text))]
-fn found_text(alloc: Global, style: Style, found: &Found) -> Result<Vec<u8>, AllocError>
-    ensures { IfOk result (λ text. text.items ≡ spec.found_text style (found_data found.now)) }
+fn found_text(
+    alloc: Global,
+    style: Style,
+    step: Step,
+    claim: &Claim,
+    found: &Found,
+) -> Result<Vec<u8>, AllocError>
+    ensures { IfOk result (λ text. text.items
+        ≡ spec.found_text style step.seconds (data_of claim.now) (found_data found.now)) }
 {
     match found {
-        Found::Certificate(certificate) => certificate_line(alloc, certificate),
+        Found::Certificate(certificate) => match style {
+            Style::Plain => certificate_line(alloc, certificate),
+            _ => found_answer(alloc, claim, step.seconds, certificate.pieces.len() as u64),
+        },
         Found::Nothing { piece, hull } => nothing_text(alloc, style, *piece, *hull),
     }
 }
@@ -85,7 +97,7 @@ fn make_find(alloc: Global, style: Style, step: Step, evidence: &Evidence) -> Re
     let claim = &evidence.claim;
     let samples = samples_of(evidence);
     match find_over(alloc, samples, claim, step.seconds) {
-        Ok(found) => match found_text(alloc, style, &found) {
+        Ok(found) => match found_text(alloc, style, step, claim, &found) {
             Ok(text) => Ok(Made {
                 text,
                 outcome: outcome_of(&found),

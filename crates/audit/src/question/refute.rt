@@ -2,6 +2,7 @@
 
 ghost use Rattle.std.specs.Prelude.{◌≡◌, true, false, IfOk};
 ghost use Rattle.certificate.specs.Refutation.{data_of as refutation_data};
+ghost use Rattle.claim_file.specs.Claim.{data_of};
 ghost use Rattle.checker.specs.Settlement.{Settles};
 ghost use Rattle.audit.specs.Evidence.{IsLawfulEvidence, evidence_data};
 ghost use Rattle.audit.specs.Refute as spec;
@@ -11,9 +12,10 @@ use crate::evidence::Evidence;
 use crate::finished::{Making, told};
 use crate::laws::course_beyond_the_bound_contests_the_claim;
 use crate::question::Question;
-use audit_text::refuted_text;
+use audit_text::{refutation_answer, refuted_text};
 use certificate::Refutation;
 use checker::check_refutation;
+use claim_file::Claim;
 use courses::check_refutation_with_drift;
 use line_writer::Style;
 use report::{Outcome, RunFault};
@@ -53,15 +55,43 @@ fn does_stand(
     }
 }
 
+/// The word of the answer.
+fn refuted_word(stands: bool) -> &'static str
+    ensures { result.now ≡ spec.refuted_word stands }
+{
+    if stands { "refuted yes" } else { "refuted no" }
+}
+
+/// The whole text.
+#[tactic(auto, unfolding(crate::specs::Refute::judged_text))]
+fn judged_text(
+    alloc: Global,
+    style: Style,
+    claim: &Claim,
+    refutation: &Refutation,
+    stands: bool,
+) -> Result<Vec<u8>, AllocError>
+    ensures { IfOk result (λ text. text.items
+        ≡ spec.judged_text style (data_of claim.now) (refutation_data refutation.now) stands) }
+{
+    match style {
+        Style::Plain => refuted_text(alloc, stands),
+        _ => refutation_answer(alloc, refuted_word(stands), claim, refutation),
+    }
+}
+
 impl Question for Refute {
     type Second = Refutation;
 
     ghost asks = { λ asked. refute asked.drift };
 
-    fn make(self, alloc: Global, _style: Style, second: &Refutation, evidence: Evidence) -> Making {
+    fn make(self, alloc: Global, style: Style, second: &Refutation, evidence: Evidence) -> Making {
         course_beyond_the_bound_contests_the_claim();
         match does_stand(alloc, self.drift, second, &evidence) {
-            Ok(stands) => told(refuted_text(alloc, stands), refuted_outcome(stands)),
+            Ok(stands) => {
+                let text = judged_text(alloc, style, &evidence.claim, second, stands);
+                told(text, refuted_outcome(stands))
+            }
             Err(AllocError) => Err(RunFault::Memory),
         }
     }

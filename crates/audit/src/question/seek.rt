@@ -3,6 +3,7 @@
 ghost use Rattle.std.specs.Prelude.{◌≡◌, ◌++◌, IfOk, codes, option_map};
 ghost use Rattle.certificate.specs.Refutation.{data_of as refutation_data};
 ghost use Rattle.certificate.specs.RefutationWriting.{refutation_text};
+ghost use Rattle.claim_file.specs.Claim.{data_of};
 ghost use Rattle.audit.specs.Seek as spec;
 ghost use Rattle.audit.specs.Seek.{seek, sought_outcome};
 
@@ -10,9 +11,10 @@ use crate::evidence::Evidence;
 use crate::finished::{Making, told};
 use crate::laws::course_beyond_the_bound_contests_the_claim;
 use crate::question::Question;
-use audit_text::no_refutation_text;
+use audit_text::{no_refutation_text, refutation_answer};
 use certificate::{Refutation, write_refutation};
 use checker::laws::{accepted_refutations_have_a_course, yes_and_refutation_never_meet};
+use claim_file::Claim;
 use finder::find_refutation;
 use line_writer::Style;
 use report::Outcome;
@@ -44,13 +46,21 @@ pub(crate) fn refutation_line(alloc: Global, refutation: &Refutation) -> Result<
 
 /// The whole text.
 #[tactic(auto, unfolding(crate::specs::Seek::sought_text))]
-fn sought_text(alloc: Global, found: &Option<Refutation>) -> Result<Vec<u8>, AllocError>
-    ensures { IfOk result (λ text.
-        text.items ≡ spec.sought_text (option_map refutation_data found.now)) }
+fn sought_text(
+    alloc: Global,
+    style: Style,
+    claim: &Claim,
+    found: &Option<Refutation>,
+) -> Result<Vec<u8>, AllocError>
+    ensures { IfOk result (λ text. text.items
+        ≡ spec.sought_text style (data_of claim.now) (option_map refutation_data found.now)) }
 {
     match found {
-        Some(refutation) => refutation_line(alloc, refutation),
-        None => no_refutation_text(alloc),
+        Some(refutation) => match style {
+            Style::Plain => refutation_line(alloc, refutation),
+            _ => refutation_answer(alloc, "refutation found", claim, refutation),
+        },
+        None => no_refutation_text(alloc, style),
     }
 }
 
@@ -59,11 +69,12 @@ impl Question for Seek {
 
     ghost asks = { λ _. seek };
 
-    fn make(self, alloc: Global, _style: Style, _second: &(), evidence: Evidence) -> Making {
+    fn make(self, alloc: Global, style: Style, _second: &(), evidence: Evidence) -> Making {
         course_beyond_the_bound_contests_the_claim();
         accepted_refutations_have_a_course();
         yes_and_refutation_never_meet();
         let found = find_refutation(&evidence.held.exchanges, &evidence.claim);
-        told(sought_text(alloc, &found), outcome_of(&found))
+        let text = sought_text(alloc, style, &evidence.claim, &found);
+        told(text, outcome_of(&found))
     }
 }

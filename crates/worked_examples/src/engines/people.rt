@@ -75,18 +75,24 @@ fn checked(rt: HostRuntime) {
             reading 0.000000 ms\n",
         COUNTS,
         "advice sources 1\n",
-        "advice reference 71.80.83.0\n",
+        "advice reference GPS\n",
         "pieces 1\n",
         "verdict yes\n",
     ];
     shows(&rt, rt.alloc(), Command::Check, &SAME, Outcome::Yes, &lines);
 }
 
-/// A certificate is for programs, and the line of a piece that shows too little for a person.
+/// A person is told of a certificate, and gets the line of a piece that shows too little.
 #[test]
 fn found(rt: HostRuntime) {
     let command = Command::Find(64);
-    shows(&rt, rt.alloc(), command, &SAME, Outcome::Yes, &[K1, "\n"]);
+    let told = [
+        "certificate found\n",
+        "bound 10.001001 ms\n",
+        "pieces 1\n",
+        "step 64 s\n",
+    ];
+    shows(&rt, rt.alloc(), command, &SAME, Outcome::Yes, &told);
     let nothing = ["nothing piece 0 hull -10.000001 10.001001\n"];
     shows(&rt, rt.alloc(), command, &TIGHT, Outcome::No, &nothing);
 }

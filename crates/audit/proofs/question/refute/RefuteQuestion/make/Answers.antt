@@ -9,8 +9,8 @@ use Rattle.audit.proofs.question.refute.RefuteQuestion.make.Goals as goal
 
 pub returns-in-Ok-clause-made : goal.returns-in-Ok-clause-made
 returns-in-Ok-clause-made c = unfound (rw c.in-Ok.ensures.tested at rw c.refuted_outcome.ensures at
-    (told_made c.refuted_text.result (λ t. t.items) c.refuted_outcome.result c.told.result _
-    c.told.ensures.made c.refuted_text.ensures))
+    (told_made c.judged_text-text.result (λ t. t.items) c.refuted_outcome.result c.told.result _
+    c.told.ensures.made c.judged_text-text.ensures))
 
 pub returns-in-Ok-clause-shows : goal.returns-in-Ok-clause-shows
 returns-in-Ok-clause-shows c =

@@ -9,8 +9,8 @@ use Rattle.audit.proofs.question.seek.SeekQuestion.make.Goals as goal
 pub returns-clause-made : goal.returns-clause-made
 returns-clause-made c =
     unfound (rw (rw c.deref.ensures.value at c.find_refutation-found.ensures.exact) at rw c.outcome_of.ensures at
-    (told_made c.sought_text.result (λ t. t.items) c.outcome_of.result c.told.result _
-    c.told.ensures.made c.sought_text.ensures))
+    (told_made c.sought_text-text.result (λ t. t.items) c.outcome_of.result c.told.result _
+    c.told.ensures.made c.sought_text-text.ensures))
 
 pub returns-clause-shows : goal.returns-clause-shows
 returns-clause-shows c =

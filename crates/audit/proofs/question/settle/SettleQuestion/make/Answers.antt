@@ -1,11 +1,12 @@
-use Rattle.std.proofs.Common.{Ok, Err, None}
+use Rattle.std.proofs.Common.{Err, None}
 use Rattle.finder.specs.Settlement.{settled_data}
 use Rattle.audit.specs.Evidence.{evidence_data, samples_in}
 use Rattle.audit.specs.Question.{ShowsOf}
 use Rattle.audit.specs.Second.{no_second, nothing_said}
 use Rattle.audit.specs.Settle.{IsSettledBy, settle}
 use Rattle.audit.proofs.SettlementShowing.{fault_found, refused_made, settled_of}
-use Rattle.audit.proofs.Showing.{BytesLaws, of_inputs, settled_from, told_made, told_shows}
+use Rattle.audit.proofs.Showing.{BytesLaws, of_inputs, settled_from, told_shows}
+use Rattle.audit.proofs.SettlementText.{text_made}
 use Rattle.audit.proofs.question.settle.SettleQuestion.make.Goals as goal
 
 pub returns-in-Ok-clause-made : goal.returns-in-Ok-clause-made
@@ -16,13 +17,8 @@ returns-in-Ok-clause-made c =
     (λ certificate. c.verdicts_are_traceable.ensures e.claim (samples_in e) certificate c.requires.evidence.claim
     (c.samples_of_exchanges_keep_limits.ensures.listed e.claim e.collection.exchanges
     c.requires.evidence.exchanges.each)) (settled_data c.in-Ok.settled) settles.settled in
-    record {
-      finding = record { settled = Ok (settled_data c.in-Ok.settled); least = None };
-      found = record { settled = holds; least = tt };
-      is_made = rw c.outcome_of.ensures at
-          (told_made c.settled_text.result (λ t. t.items) c.outcome_of.result c.told.result _
-          c.told.ensures.made c.settled_text.ensures);
-    }
+    text_made e (settled_data c.in-Ok.settled) holds c.args.style c.text_for.result (λ t. t.items)
+    c.outcome_of.result c.told.result c.outcome_of.ensures c.told.ensures.made c.text_for.ensures
 
 pub returns-in-Ok-clause-shows : goal.returns-in-Ok-clause-shows
 returns-in-Ok-clause-shows c =

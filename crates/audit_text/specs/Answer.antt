@@ -1,0 +1,44 @@
+-- What `settle`, `find` and `refute` say to a person: one line a fact.
+use Rattle.std.specs.Prelude.{ℕ, ℤ, Option, List, [], ◌∷◌, ◌++◌, codes}
+use Rattle.line_writer.specs.Field.{line_of, Word, Named}
+use Rattle.line_writer.specs.declared.field.Style.TheVariants.{Human}
+use Rattle.certificate.specs.Refutation.{RefutationData}
+use Rattle.claim_file.specs.Claim.{ClaimData}
+use Rattle.intersection.specs.declared.kinds.Hull.{Hull}
+use Rattle.pairing.specs.declared.exchange.Exchange.{Exchange}
+use Rattle.audit_text.specs.BoundLines.{carried_line, claimed_line, wider_line}
+use Rattle.audit_text.specs.RefutationLines.{refutation_lines}
+use Rattle.audit_text.specs.Settlement.{evidence_text, open_text}
+use Rattle.audit_text.specs.SilentLines.{silent_lines}
+
+-- what the answer is
+abbrev pub answer_line : List ℕ → List ℕ
+answer_line answer = line_of Human (Word answer ∷ [])
+
+-- a certificate shows the claim: how many pieces it has, and the least bound that one carries
+unfoldable pub shown_answer : ClaimData → ℕ → Option ℕ → List ℕ
+shown_answer claim pieces least_ns =
+    answer_line (codes "shown") ++ claimed_line claim.bound_ns ++
+    line_of Human (Named (codes "pieces") pieces ∷ []) ++ carried_line least_ns
+
+-- a certificate is found with pieces of so many seconds
+unfoldable pub found_answer : ClaimData → ℕ → ℕ → List ℕ
+found_answer claim step pieces =
+    answer_line (codes "certificate found") ++ claimed_line claim.bound_ns ++
+    line_of Human (Named (codes "pieces") pieces ∷ []) ++
+    line_of Human (Named (codes "step") step ∷ Word (codes "s") ∷ [])
+
+-- what is answered by a refutation, and what that says
+unfoldable pub refutation_answer : List ℕ → ClaimData → RefutationData → List ℕ
+refutation_answer answer claim refutation =
+    answer_line answer ++ refutation_lines claim refutation
+
+-- there is no evidence: how many groups have a sample, and which servers have none
+unfoldable pub evidence_answer : ClaimData → List Exchange → ℕ → List ℕ
+evidence_answer claim xs groups = evidence_text Human claim groups ++ silent_lines claim xs
+
+-- the claim stays open: where, and how much wider the least bound is
+unfoldable pub open_answer : ClaimData → ℤ → ℤ → Hull → Option ℕ → List ℕ
+open_answer claim begin end hull least_ns =
+    open_text Human begin end hull ++ claimed_line claim.bound_ns ++ carried_line least_ns ++
+    wider_line claim.bound_ns least_ns

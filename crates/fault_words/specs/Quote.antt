@@ -1,0 +1,23 @@
+-- How what stands in a file or on the command line is shown: control characters as their numbers.
+use Rattle.std.specs.Prelude.{◌≡◌, ◌⊎◌, ℕ, List, false, ◌++◌, codes, chars, encode_utf8, take}
+use Rattle.std.specs.Prelude.{if◌then◌else◌}
+use Rattle.std.specs.Char.{is_control}
+use Rattle.std.specs.Fmt.{digits}
+use Rattle.std.specs.List.{flat_map}
+
+-- a character: itself, or its number in hexadecimal digits
+abbrev pub shown_char : ℕ → List ℕ
+shown_char c = if is_control c then codes "\\u{" ++ digits 16 false c ++ codes "}"
+    else encode_utf8 c
+
+-- a text so
+abbrev pub shown : List ℕ → List ℕ
+shown text = flat_map shown_char (chars text)
+
+-- the first 40 characters so
+abbrev pub front : List ℕ → List ℕ
+front text = flat_map shown_char (take 40 (chars text))
+
+-- these alone, or two dots behind them
+abbrev pub IsQuoted : List ℕ → List ℕ → Type 0
+IsQuoted text out = (out ≡ front text) ⊎ (out ≡ front text ++ codes "..")

@@ -1,0 +1,37 @@
+use Rattle.std.proofs.Common.{◌≡◌, ℕ, false, inl, rules}
+use Rattle.byte_stream.specs.State.{SinkState}
+use Rattle.report.specs.Run.{RunState}
+use Rattle.audit.specs.Question.{AskedData}
+use Rattle.in_memory.specs.Answer.{IsJudged, JudgesBySums, feeds_of}
+use Rattle.in_memory.specs.Holding.{TakeAtMost}
+use Rattle.in_memory.specs.Sums.{SumsData}
+use Rattle.in_memory.proofs.engine.answer_by_sums.Goals as goal
+
+-- what was judged
+by_judged : {asked : AskedData} {sums : SumsData} {before after : RunState} {err err' : SinkState} {status : ℕ} →
+    IsJudged asked sums before after err err' status → err'.is_open ≡ false →
+    TakeAtMost asked.second (feeds_of before) (feeds_of after) → JudgesBySums asked sums before after err err' status
+by_judged judged closed at_most = record {
+  either = inl judged;
+  judged = λ few. judged;
+  closed = closed;
+  at_most = at_most;
+}
+
+pub returns-in-Ok : goal.returns-in-Ok
+returns-in-Ok g c =
+    let held = c.in-Ok.ensures.held in
+    let counts = c.in-Ok.ensures.counts_faults in
+    let answered = c.judge.ensures held.said held.second_is in
+    by_judged (record {
+      claim = c.in-Ok.held.claim.items;
+      second = held.said;
+      capture = c.in-Ok.held.capture.items;
+      claim_summed = held.claim;
+      second_summed = held.second;
+      capture_summed = held.capture;
+      answered = answered;
+      claim_unfailed = counts.claim;
+      second_unfailed = counts.second;
+      capture_unfailed = counts.capture;
+    }) (let tells = answered.answers.tells in search rules) c.in-Ok.ensures.at_most

@@ -1,0 +1,86 @@
+-- What is said of a run whose inputs are held to their sums, with no premise that their bytes are
+-- known beforehand.
+use Rattle.std.specs.Prelude.{◌≡◌, ◌⊎◌, ◌≤◌, ℕ, false, List, Some, Err}
+use Rattle.std.specs.Io.KnownBytes.{Keeps}
+use Rattle.byte_stream.specs.State.{SinkState}
+use Rattle.report.specs.ExitStatus.{status_of}
+use Rattle.report.specs.Run.{RunState, run_state}
+use Rattle.report.specs.Telling.{Answers, Tells}
+use Rattle.report.specs.declared.fault.Outcome.{Outcome}
+use Rattle.report.specs.declared.fault.RunFault.{RunFault}
+use Rattle.audit.specs.Finding.{ShowsFinding}
+use Rattle.audit.specs.Report.{report_of_bytes}
+use Rattle.audit.specs.Run.{ShowsAt}
+use Rattle.audit.specs.Question.{AskedData, Finding, QuestionData}
+use Rattle.audit.specs.Second.{SecondKind}
+use Rattle.in_memory.specs.Holding.{CountFaults, Feeds, IsSecondSummed, IsSummed, IsUnjudgedFor}
+use Rattle.in_memory.specs.Holding.{TakeAtMost, feed_of, feeds}
+use Rattle.in_memory.specs.Sums.{SumsData}
+
+-- the feeds of a run
+abbrev pub feeds_of : RunState → Feeds
+feeds_of run = feeds run.claim run.second run.capture
+
+-- none of a run's inputs has failed
+pub record HaveNotFailed (run : RunState) : Type 0 where
+  pub claim : run.claim.faults ≡ 0
+  pub second : run.second.faults ≡ 0
+  pub capture : run.capture.faults ≡ 0
+
+-- what an exit status shows of these bytes of claim, second input and capture
+abbrev pub ShowsOfBytes : ℕ → QuestionData → List ℕ → List ℕ → List ℕ → Type 0
+ShowsOfBytes status question claim second capture =
+    ShowsAt status question (feed_of claim) (feed_of second) (feed_of capture)
+
+-- The text that is written, the fault that is reported and the exit status are those that the
+-- definitions have for these bytes of claim, second input and capture; of `settle` and `envelope`
+-- those for a finding, which shows what it says. The bytes are in memory, so the fault isn't that
+-- of a device of theirs. The status shows what it shows of them.
+pub record IsAnsweredFor (asked : AskedData) (claim second capture : List ℕ)
+    (sink sink' err err' : SinkState) (status : ℕ) : Type 0 where
+  pub ended : RunState
+  pub sink_is : ended.sink ≡ sink'
+  pub unfailed : HaveNotFailed ended
+  pub finding : Finding
+  pub found : ShowsFinding finding (feed_of claim) (feed_of capture)
+  pub answers : Answers
+      (report_of_bytes asked finding (Some claim) (Some second) (Some capture))
+      (run_state (feed_of claim) (feed_of second) (feed_of capture) sink) ended err err' status
+  pub shows : ShowsOfBytes status asked.question claim second capture
+
+-- There are bytes of claim, second input and capture with the sums that are given for them, and
+-- they are answered for. No device of an input failed.
+pub record IsJudged (asked : AskedData) (sums : SumsData) (before after : RunState)
+    (err err' : SinkState) (status : ℕ) : Type 0 where
+  pub claim : List ℕ
+  pub second : List ℕ
+  pub capture : List ℕ
+  pub claim_summed : IsSummed sums.text sums.claim before.claim.remaining claim
+  pub second_summed : IsSecondSummed asked.second sums.text sums.second before.second.remaining
+      second
+  pub capture_summed : IsSummed sums.text sums.capture before.capture.remaining capture
+  pub answered : IsAnsweredFor asked claim second capture before.sink after.sink err err' status
+  pub claim_unfailed : after.claim.faults ≡ before.claim.faults
+  pub second_unfailed : after.second.faults ≡ before.second.faults
+  pub capture_unfailed : after.capture.faults ≡ before.capture.faults
+
+-- A run is given up before anything is judged: the fault is reported, and nothing is written.
+pub record IsUnjudged (kind : SecondKind) (sums : SumsData) (before after : RunState)
+    (err err' : SinkState) (status : ℕ) : Type 0 where
+  pub fault : RunFault
+  pub fault_is : IsUnjudgedFor kind sums (feeds_of before) (feeds_of after) fault
+  pub unwritten : Keeps before.sink.contents after.sink.contents
+  pub closed : after.sink.is_open ≡ false
+  pub tells : Tells (Err fault) err err'
+  pub status_is : status ≡ status_of (Err fault)
+  pub counts_faults : CountFaults {A = Outcome} (Err fault) (feeds_of before) (feeds_of after)
+
+-- What a run promises that is held to sums: the inputs are judged, or the run is given up; and they
+-- are judged at status 0 and 1.
+pub record JudgesBySums (asked : AskedData) (sums : SumsData) (before after : RunState)
+    (err err' : SinkState) (status : ℕ) : Type 0 where
+  pub either : IsJudged asked sums before after err err' status
+      ⊎ IsUnjudged asked.second sums before after err err' status
+  pub judged : status ≤ 1 → IsJudged asked sums before after err err' status
+  pub closed : err'.is_open ≡ false
+  pub at_most : TakeAtMost asked.second (feeds_of before) (feeds_of after)

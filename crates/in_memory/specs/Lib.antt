@@ -1,0 +1,4 @@
+pub mod Answer
+pub mod Holding
+pub mod Shown
+pub mod Sums

@@ -1,0 +1,77 @@
+-- What a file of sums gives for the inputs of a run, under the names that a command line has for
+-- them.
+use Rattle.std.specs.Prelude.{◌≡◌, ◌⊎◌, ℕ, List, [], Option, Some, None, IsOk, IsSome, Err}
+use Rattle.report.specs.declared.fault.Input.{Input}
+use Rattle.report.specs.declared.fault.Input.TheVariants as inputs
+use Rattle.report.specs.declared.fault.RunFault.{RunFault}
+use Rattle.report.specs.declared.fault.RunFault.TheVariants.{Memory, Sums as Refused}
+use Rattle.report.specs.declared.fault.SumsFault.TheVariants.{Form, Missing}
+use Rattle.sum_file.specs.declared.fault.SumFault.TheVariants as lines
+use Rattle.sum_file.specs.Reading.{sum_given, sums_of}
+use Rattle.audit.specs.Second.{SecondKind, no_second, certificate_second, refutation_second}
+
+-- The text of a file of sums, and the names that the inputs have in it. That of a second input
+-- plays no part if the question has none.
+pub record SumsData : Type 0 where
+  pub text : List ℕ
+  pub claim : List ℕ
+  pub second : List ℕ
+  pub capture : List ℕ
+
+abbrev pub sums_data : List ℕ → List ℕ → List ℕ → List ℕ → SumsData
+sums_data text claim second capture =
+    record { text = text; claim = claim; second = second; capture = capture }
+
+-- the SHA-256 that is given for each input
+pub record Digests : Type 0 where
+  pub claim : List ℕ
+  pub second : List ℕ
+  pub capture : List ℕ
+
+abbrev pub digests : List ℕ → List ℕ → List ℕ → Digests
+digests claim second capture = record { claim = claim; second = second; capture = capture }
+
+-- the digest of a second input, if this is the one that was found: a question without a second
+-- input needs none
+abbrev pub needed : SecondKind → Option (List ℕ) → Option (List ℕ)
+needed no_second found = Some []
+needed certificate_second found = found
+needed refutation_second found = found
+
+-- The file of sums gives these digests for the inputs.
+pub record AreGiven (kind : SecondKind) (sums : SumsData) (digests : Digests) : Type 0 where
+  pub claim : sum_given sums.text sums.claim ≡ Some digests.claim
+  pub second : needed kind (sum_given sums.text sums.second) ≡ Some digests.second
+  pub capture : sum_given sums.text sums.capture ≡ Some digests.capture
+
+-- which input the second one is
+abbrev pub IsSecond : SecondKind → Input → Type 0
+IsSecond no_second input = ⊥
+IsSecond certificate_second input = input ≡ inputs.Certificate
+IsSecond refutation_second input = input ≡ inputs.Refutation
+
+-- each line of the text is lawful, and what was looked for in it isn't there
+abbrev pub IsMissing : List ℕ → Option (List ℕ) → Type 0
+IsMissing text found = IsOk (sums_of text) × (found ≡ None)
+
+-- the first input, in the order claim, second input, capture, that no line names
+abbrev pub IsFirstMissing : SecondKind → SumsData → Input → Type 0
+IsFirstMissing kind sums input =
+    ((input ≡ inputs.Claim) × IsMissing sums.text (sum_given sums.text sums.claim))
+    ⊎ ((IsSecond kind input × IsSome (sum_given sums.text sums.claim)
+    × IsMissing sums.text (needed kind (sum_given sums.text sums.second)))
+    ⊎ ((input ≡ inputs.Capture) × IsSome (sum_given sums.text sums.claim)
+    × IsSome (needed kind (sum_given sums.text sums.second))
+    × IsMissing sums.text (sum_given sums.text sums.capture)))
+
+-- why the digests can't be had: the first line that isn't lawful, or the first missing input
+abbrev pub IsOfSums : SecondKind → SumsData → RunFault → Type 0
+IsOfSums kind sums (Refused (Form line)) = sums_of sums.text ≡ Err (lines.Form line)
+IsOfSums kind sums (Refused (Missing input)) = IsFirstMissing kind sums input
+IsOfSums kind sums Memory = Unit {0}
+IsOfSums kind sums fault = ⊥
+
+-- the second input is missing
+abbrev pub IsSecondMissing : SecondKind → RunFault → Type 0
+IsSecondMissing kind (Refused (Missing input)) = IsSecond kind input
+IsSecondMissing kind fault = ⊥

@@ -1,4 +1,0 @@
-pub mod Holding
-pub mod Judgement
-pub mod Question
-pub mod Sums

@@ -1,0 +1,11 @@
+use Rattle.ntpaudit.proofs.response.answer_by_text.Goals as goal
+
+pub returns-clause-judged : goal.returns-clause-judged
+returns-clause-judged g c = record {
+  after = record {
+    claim = c.answer_by_sums.new.claim;
+    second = c.answer_by_sums.new.second;
+    capture = c.answer_by_sums.new.capture;
+  };
+  judges = c.answer_by_sums.ensures;
+}

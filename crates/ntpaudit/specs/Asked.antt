@@ -1,0 +1,59 @@
+-- What may be said of a run behind its fault line.
+use Rattle.std.specs.Prelude.{ℕ, Bool, true, false, List, [], is_some, option_map, unwrap_or, codes}
+use Rattle.std.specs.Prelude.{string_bytes}
+use Rattle.fault_words.specs.Subject.{NamesData}
+use Rattle.ntpaudit.specs.Invocation.{is_human}
+use Rattle.ntpaudit.specs.declared.asked.Asked.{Asked}
+use Rattle.ntpaudit.specs.declared.asked.Asked.TheVariants as asks
+use Rattle.ntpaudit.specs.declared.invocation.Invocation.{Invocation}
+use Rattle.ntpaudit.specs.declared.invocation.Invocation.TheVariants as calls
+use Rattle.ntpaudit.specs.declared.invocation.Listed.{Listed}
+use Rattle.ntpaudit.specs.declared.invocation.Paths.{Paths}
+
+-- what remains of a command line once its run is over
+abbrev pub asked_of : Invocation → Asked
+asked_of (calls.List listed) = asks.Listing listed
+asked_of (calls.Ask request paths) = asks.Question paths
+asked_of (calls.Judge judgement paths) = asks.Judgement paths
+asked_of (calls.RefuseTime time) = asks.Time time
+asked_of (calls.Show text) = asks.Nothing
+asked_of (calls.Refuse text) = asks.Nothing
+
+-- the operand that names a listing's capture
+abbrev pub listed_name : Listed → List ℕ
+listed_name listed = unwrap_or (option_map string_bytes listed.path) (codes "-")
+
+-- the operand that names the file of sums, empty if there is none
+abbrev pub sums_name : Paths → List ℕ
+sums_name paths = unwrap_or (option_map string_bytes paths.sums) []
+
+-- what the inputs of a run are called: each by its own operand
+abbrev pub names_of : Asked → NamesData
+names_of (asks.Listing listed) =
+    record { claim = []; capture = listed_name listed; second = []; sums = [] }
+names_of (asks.Question paths) = record {
+  claim = string_bytes paths.claim;
+  capture = string_bytes paths.capture;
+  second = [];
+  sums = sums_name paths;
+}
+names_of (asks.Judgement paths) = record {
+  claim = string_bytes paths.evidence.claim;
+  capture = string_bytes paths.evidence.capture;
+  second = string_bytes paths.second;
+  sums = sums_name paths.evidence;
+}
+names_of _ = record { claim = []; capture = []; second = []; sums = [] }
+
+-- whether a run was asked to say more: by `--human`
+abbrev pub is_for_a_person : Asked → Bool
+is_for_a_person (asks.Listing listed) = is_human listed.style
+is_for_a_person (asks.Question paths) = is_human paths.style
+is_for_a_person (asks.Judgement paths) = is_human paths.evidence.style
+is_for_a_person (asks.Time time) = is_some time
+is_for_a_person asks.Nothing = false
+
+-- whether a fault of a run has a line whose words are fixed
+abbrev pub has_a_fault_line : Asked → Bool
+has_a_fault_line asks.Nothing = false
+has_a_fault_line _ = true

@@ -1,0 +1,92 @@
+//! What may be said of a run behind its fault line.
+
+ghost use Rattle.std.specs.Prelude.{◌≡◌};
+ghost use Rattle.fault_words.specs.Subject.{names_data};
+ghost use Rattle.ntpaudit.specs.Asked as spec;
+ghost use Rattle.ntpaudit.specs.Invocation as words;
+
+use crate::invocation::{JudgedPaths, Listed, Paths};
+use audit::Style;
+use fault_words::Names;
+
+/// The run of which something may be said.
+#[derive(Drop)]
+pub(crate) enum Asked {
+    /// A listing.
+    Listing(Listed),
+    /// A question without a second input.
+    Question(Paths),
+    /// A judgement.
+    Judgement(JudgedPaths),
+    /// A refusal of this TIME, which is here for a person.
+    Time(Option<String>),
+    /// A run whose words aren't fixed: help, or a refused command line.
+    Nothing,
+}
+
+/// The name of the file of sums, empty if there is none.
+fn sums_name(paths: &Paths) -> &str
+    ensures { result.now ≡ spec.sums_name paths.now }
+{
+    match &paths.sums {
+        Some(sums) => sums.as_str(),
+        None => "",
+    }
+}
+
+/// Whether a style is for a person.
+fn is_human(style: Style) -> bool
+    ensures { result ≡ words.is_human style }
+{
+    match style {
+        Style::Plain => false,
+        _ => true,
+    }
+}
+
+impl Asked {
+    /// What the inputs are called, empty for those that the run hasn't.
+    pub(crate) fn names(&self) -> Names<'_>
+        ensures { names_data result ≡ spec.names_of self.now }
+    {
+        let (claim, capture, second, sums) = match self {
+            Asked::Listing(listed) => ("", listed.operand(), "", ""),
+            Asked::Question(paths) => {
+                let (claim, capture) = (paths.claim.as_str(), paths.capture.as_str());
+                (claim, capture, "", sums_name(paths))
+            }
+            Asked::Judgement(paths) => {
+                let evidence = &paths.evidence;
+                let (claim, capture) = (evidence.claim.as_str(), evidence.capture.as_str());
+                (claim, capture, paths.second.as_str(), sums_name(evidence))
+            }
+            Asked::Time(_) | Asked::Nothing => ("", "", "", ""),
+        };
+        Names {
+            claim,
+            capture,
+            second,
+            sums,
+        }
+    }
+
+    /// Whether a fault of the run has a line whose words are fixed.
+    pub(crate) fn has_a_fault_line(&self) -> bool
+        ensures { result ≡ spec.has_a_fault_line self.now }
+    {
+        !matches!(self, Asked::Nothing)
+    }
+
+    /// Whether it was asked to say more.
+    pub(crate) fn is_for_a_person(&self) -> bool
+        ensures { result ≡ spec.is_for_a_person self.now }
+    {
+        match self {
+            Asked::Listing(listed) => is_human(listed.style),
+            Asked::Question(paths) => is_human(paths.style),
+            Asked::Judgement(paths) => is_human(paths.evidence.style),
+            Asked::Time(time) => time.is_some(),
+            Asked::Nothing => false,
+        }
+    }
+}

@@ -1,0 +1,215 @@
+//! What is said of a fault to a person, behind its line.
+//!
+//! Once a run is over and its fault is reported, the file that the fault is of is looked at again,
+//! if it is a regular one, for what stands there. That changes neither line nor status.
+
+use crate::asked::Asked;
+use crate::invocation::STDIN;
+use crate::warning::warnings;
+use byte_stream::{Feed, ReadFeed, WriteSink};
+use fault_words::{
+    Found, Kind, Names, explain, explain_time, fault_of_line, input_of, look, look_at_records,
+    shown,
+};
+use pcap_reader::CaptureFault;
+use report::{Input, RunFault, deliver, read_input};
+use std::alloc::{AllocError, Global};
+use std::fs;
+use std::fs::{File, Files};
+use std::io::{Error, ErrorKind, IsTerminal};
+
+/// How many bytes of a file are looked at, if there are no more.
+const MOST_SEEN: u64 = 1_048_576;
+
+/// How many bytes are looked at of a larger file.
+const FRONT: usize = 64;
+
+/// What stands behind a fault line at a terminal, unless it was asked to say more.
+const HINT: &[u8] = b"  (--human says more)\n";
+
+/// Says in words what stands in the line that was written on standard error, or, if there is none,
+/// what looks like a slip of the pen in what was answered. Where memory is refused nothing is said:
+/// the run is over, and its answer or its line is out.
+pub(crate) fn say(rt: &HostRuntime, asked: &Asked, line: &[u8], code: u8) {
+    if asked.is_for_a_person() {
+        if let Ok(words) = words_of(rt, asked, line, code) {
+            write(rt, words.as_slice());
+        }
+    } else if !line.is_empty() && asked.has_a_fault_line() && rt.stderr().is_terminal() {
+        write(rt, HINT);
+    }
+}
+
+/// Writes words on standard error.
+fn write(rt: &HostRuntime, words: &[u8]) {
+    let _ = deliver(words, &mut WriteSink::new(rt.stderr()));
+}
+
+/// The words about a run that was asked to say more.
+fn words_of(rt: &HostRuntime, asked: &Asked, line: &[u8], code: u8) -> Result<Vec<u8>, AllocError> {
+    let alloc = rt.alloc();
+    if line.is_empty() {
+        return if code < 2 {
+            warnings(rt, &asked.names())
+        } else {
+            Ok(Vec::new(alloc))
+        };
+    }
+    let words = match asked {
+        Asked::Time(Some(time)) => explain_time(alloc, time.as_str())?,
+        _ => words_of_line(rt, &asked.names(), line)?,
+    };
+    Ok(words.into_bytes())
+}
+
+/// The words about the fault whose line this is, and none if it is no such line.
+fn words_of_line(rt: &HostRuntime, names: &Names<'_>, line: &[u8]) -> Result<String, AllocError> {
+    let alloc = rt.alloc();
+    let line = match line {
+        [front @ .., b'\n'] => front,
+        _ => line,
+    };
+    match fault_of_line(alloc, line)? {
+        Some(fault) => words_of_fault(rt, names, &fault),
+        None => Ok(String::new(alloc)),
+    }
+}
+
+/// The words about a fault.
+fn words_of_fault(
+    rt: &HostRuntime,
+    names: &Names<'_>,
+    fault: &RunFault,
+) -> Result<String, AllocError> {
+    let alloc = rt.alloc();
+    let found = match input_of(fault) {
+        Some(input) => look_again(rt, path_of(names.of(input)), input, fault)?,
+        None => Found::nothing(alloc),
+    };
+    let claim = shown_name(alloc, names.claim)?;
+    let capture = shown_name(alloc, names.capture)?;
+    let second = shown_name(alloc, names.second)?;
+    let sums = shown_name(alloc, names.sums)?;
+    let names = Names {
+        claim: claim.as_str(),
+        capture: capture.as_str(),
+        second: second.as_str(),
+        sums: sums.as_str(),
+    };
+    explain(alloc, &names, fault, &found)
+}
+
+/// The path by which an input is looked at again.
+pub(crate) fn path_of(operand: &str) -> &str {
+    if operand == STDIN {
+        "/dev/stdin"
+    } else {
+        operand
+    }
+}
+
+/// A file's name as it is shown.
+pub(crate) fn shown_name(alloc: Global, name: &str) -> Result<String, AllocError> {
+    if name == STDIN {
+        return String::from_str(alloc, "standard input");
+    }
+    shown(alloc, name)
+}
+
+/// What is seen of a fault in the file of this path.
+fn look_again(
+    rt: &HostRuntime,
+    path: &str,
+    input: Input,
+    fault: &RunFault,
+) -> Result<Found, AllocError> {
+    match fault {
+        RunFault::Device(_) => look_at_device(rt, path),
+        RunFault::Capture(
+            fault @ (CaptureFault::TornRecord(_)
+            | CaptureFault::TooLong(_)
+            | CaptureFault::BadFraction(_)),
+        ) => count_records(rt, path, fault),
+        _ => look_at_bytes(rt, path, input, fault),
+    }
+}
+
+/// Why a regular file can't be opened, if it can't.
+fn refused_open(rt: &HostRuntime, path: &str) -> Option<Error> {
+    match fs::open(rt, path) {
+        Ok(_) => None,
+        Err(error) => Some(error),
+    }
+}
+
+/// What the system says of a file that can't be opened or read.
+fn look_at_device(rt: &HostRuntime, path: &str) -> Result<Found, AllocError> {
+    let alloc = rt.alloc();
+    let refused = match rt.metadata(path) {
+        Err(error) => Some(error),
+        Ok(metadata) if metadata.is_dir() => return Found::of_kind(alloc, Kind::Folder),
+        Ok(metadata) if metadata.is_file() => refused_open(rt, path),
+        Ok(_) => None,
+    };
+    let Some(error) = refused else {
+        return Ok(Found::nothing(alloc));
+    };
+    let kind = match error.kind() {
+        ErrorKind::NotFound => Kind::Absent,
+        _ => Kind::Unknown,
+    };
+    let seen = format!(in alloc; ": {error}")?;
+    Ok(Found {
+        kind,
+        ..Found::seen(seen)
+    })
+}
+
+/// A regular file, opened. Another one isn't: a pipe might be waited for without end.
+pub(crate) fn open_regular(rt: &HostRuntime, path: &str) -> Option<File> {
+    match rt.metadata(path) {
+        Ok(metadata) if metadata.is_file() => fs::open(rt, path).ok(),
+        _ => None,
+    }
+}
+
+/// How many records stand before the fault of a record.
+fn count_records(rt: &HostRuntime, path: &str, fault: &CaptureFault) -> Result<Found, AllocError> {
+    match open_regular(rt, path) {
+        Some(file) => look_at_records(rt.alloc(), ReadFeed::new(file), fault),
+        None => Ok(Found::nothing(rt.alloc())),
+    }
+}
+
+/// What is seen of a fault in the bytes of a file.
+fn look_at_bytes(
+    rt: &HostRuntime,
+    path: &str,
+    input: Input,
+    fault: &RunFault,
+) -> Result<Found, AllocError> {
+    let alloc = rt.alloc();
+    let Some(file) = open_regular(rt, path) else {
+        return Ok(Found::nothing(alloc));
+    };
+    match read_input(alloc, &mut ReadFeed::new(file), input, MOST_SEEN) {
+        Ok(bytes) => look(alloc, fault, bytes.as_slice(), true),
+        Err(_) => look_at_front(rt, path, fault),
+    }
+}
+
+/// What is seen of a fault in the first bytes of a large file.
+fn look_at_front(rt: &HostRuntime, path: &str, fault: &RunFault) -> Result<Found, AllocError> {
+    let alloc = rt.alloc();
+    let Some(file) = open_regular(rt, path) else {
+        return Ok(Found::nothing(alloc));
+    };
+    let mut front = [0; FRONT];
+    let Ok(count) = ReadFeed::new(file).pull(&mut front) else {
+        return Ok(Found::nothing(alloc));
+    };
+    match front.get(..count) {
+        Some(bytes) => look(alloc, fault, bytes, false),
+        None => Ok(Found::nothing(alloc)),
+    }
+}

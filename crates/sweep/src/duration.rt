@@ -1,0 +1,114 @@
+//! For how long the ends of a server's interval stay within a bound, as a piece grows.
+//!
+//! An end that is moved back from a later sample stays where it is, and so stays until the piece
+//! reaches the last sample that holds it. From there on the highest of the samples up to that one
+//! falls as the piece grows, and no sample after it is high enough. So two searches say how long
+//! the piece may grow. Nothing rests on it but the time: whoever asks confirms it by a hull.
+
+ghost use Rattle.std.specs.Prelude.{◌≤◌, ◌^◌, length};
+ghost use Rattle.sample_interval.specs.Widening.{IsRate};
+
+use crate::peak::{Peak, count_upto};
+use crate::places::{Near, Places};
+use crate::table::{BestTable, Peaks};
+use crate::tick::{from_origin, mirrored_tick};
+use arrayvec::ArrayVec;
+use sample_interval::PARTS;
+
+/// Twice as many ticks as the mirror's place has: where two mirrored ticks add up to.
+const TWICE_MIRRORED: u128 = 1 << 77;
+
+/// For how long a server's ends likely stay within a bound.
+#[derive(Clone, Copy, Default)]
+pub struct Duration {
+    pub server: u8,
+    /// For how many ticks from a piece's begin the low end is likely no less than the bound below
+    /// zero.
+    pub low: u64,
+    /// For how many ticks the high end is likely no more than the bound.
+    pub high: u64,
+    /// Whether one of them lies beyond the bound on the other side, by the last look-up.
+    pub is_beyond: bool,
+}
+
+/// The durations of the servers that have a table, for pieces from `begin` on. The last piece that
+/// was asked for with these places is the tick from there.
+pub fn durations_near(
+    tables: &[BestTable],
+    places: &mut Places,
+    begin: u64,
+    bound: u64,
+    drift_ppb: u32,
+) -> ArrayVec<Duration, 32>
+    requires few { length tables.now ≤ 32 }
+    requires rate { IsRate drift_ppb }
+{
+    let mut durations = ArrayVec::new();
+    let first = from_origin(i128::from(begin));
+    let least = from_origin(-i128::from(bound));
+    let most = from_origin(i128::from(bound));
+    for (index, table) in tables.iter().enumerate() {
+        let near = &mut places.near[index];
+        let is_beyond = most < near.lows.level.max(near.highs.level);
+        durations.push(Duration {
+            server: table.server,
+            low: duration_of(&table.lows, &mut near.lows, first, least, drift_ppb),
+            high: duration_of(&table.highs, &mut near.highs, first, least, drift_ppb),
+            is_beyond,
+        });
+    }
+    durations
+}
+
+/// For how many ticks from `begin` on some extreme likely reaches a level.
+fn duration_of(peaks: &Peaks, near: &mut Near, begin: u128, level: u128, drift_ppb: u32) -> u64
+    requires begin { begin ≤ 2 ^ 76 }
+    requires level { level ≤ 2 ^ 76 }
+    requires rate { IsRate drift_ppb }
+{
+    let rate = u128::from(drift_ppb);
+    let needed = (PARTS - rate) * level;
+    let late = count_below(
+        peaks.late.as_slice(),
+        needed + rate * mirrored_tick(begin),
+        near.late,
+    );
+    near.late = late;
+    let place = match peaks.late.as_slice().get(late) {
+        Some(peak) => TWICE_MIRRORED.saturating_sub(peak.place),
+        None => 0,
+    };
+    let early = count_upto(peaks.early.as_slice(), place.max(2 * begin), near.early);
+    near.early = early;
+    if early == 0 {
+        return 0;
+    }
+    let height = peaks.early[early - 1].height;
+    let room = height.saturating_sub(needed + rate * begin);
+    u64::try_from(room)
+        .unwrap_or(u64::MAX)
+        .checked_div(u64::from(drift_ppb))
+        .unwrap_or(u64::MAX)
+}
+
+/// How many of the peaks are lower than a height, looked for from `near` on by steps that double.
+fn count_below(peaks: &[Peak], height: u128, near: usize) -> usize {
+    let mut low = 0;
+    let mut high = peaks.len();
+    while low < high {
+        let half = (high - low) / 2;
+        let middle = if near < low {
+            low + (low - near).min(half)
+        } else if near < high {
+            near
+        } else {
+            high - 1 - (near - high).min(half)
+        };
+        if peaks[middle].height < height {
+            low = middle + 1;
+        } else {
+            high = middle;
+        }
+    }
+    low
+}
