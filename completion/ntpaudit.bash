@@ -1,29 +1,23 @@
-# Completion of ntpaudit's command line for bash.
+# Completion of the command lines of ntpaudit and ntpaudit-dossier for bash, from what their own help says.
 
 _ntpaudit() {
-    local word=${COMP_WORDS[COMP_CWORD]} command=${COMP_WORDS[1]} options files
+    local word=${COMP_WORDS[COMP_CWORD]} before=${COMP_WORDS[COMP_CWORD - 1]} words='' said files
     COMPREPLY=()
-    if ((COMP_CWORD == 1)); then
-        mapfile -t COMPREPLY < <(compgen -W 'list samples at envelope settle find check refute help --help --version' -- "$word")
-        return
+    if ((COMP_CWORD == 1)) || [[ ${COMP_WORDS[1]} == help ]]; then
+        said=$("${1##*/}" help 2>/dev/null)
+        words=$(sed -nE 's/^ {2,4}([a-z]+)  .*/\1/p' <<<"$said")
+    else
+        said=$("${1##*/}" help "${COMP_WORDS[1]}" 2>/dev/null)
     fi
-    case $command in
-    find) options='--step --refutation --human --help' ;;
-    envelope) options='--step --servers --least --human --help' ;;
-    check | settle) options='--sums --human --help' ;;
-    refute) options='--drift --sums --human --help' ;;
-    list | samples | at) options='--human --help' ;;
-    help) options='list samples at envelope settle find check refute' ;;
-    *) options='--help' ;;
-    esac
-    if [[ ${COMP_WORDS[COMP_CWORD - 1]} == --step ]]; then
-        mapfile -t COMPREPLY < <(compgen -W '1 4 8 16 64' -- "$word")
-    elif [[ $word == -* || $command == help ]]; then
-        mapfile -t COMPREPLY < <(compgen -W "$options" -- "$word")
+    if [[ $word == -* ]] || ((COMP_CWORD == 1)); then
+        words+=" $(sed -nE 's/^ {2,6}(-.( [A-Z]+)?, )?(--[a-z-]+).*/\3/p' <<<"$said")"
+    fi
+    if [[ $words || $said =~ $before\ '<'?N'>'?\  ]]; then
+        mapfile -t COMPREPLY < <(compgen -W "$words" -- "$word")
     else
         compopt -o filenames 2>/dev/null
         mapfile -t files < <(compgen -f -- "$word")
         COMPREPLY=("${files[@]}")
     fi
 }
-complete -F _ntpaudit ntpaudit
+complete -F _ntpaudit ntpaudit ntpaudit-dossier

@@ -1,21 +1,15 @@
-# Completion of ntpaudit's command line for fish.
+# Completion of the command lines of ntpaudit and ntpaudit-dossier for fish, from what their own help says.
 
-set -l commands list samples at envelope settle find check refute help
-complete -c ntpaudit -n "not __fish_seen_subcommand_from $commands" -f -l version -s V -d 'Print the version'
-complete -c ntpaudit -l help -s h -d 'Print help'
-complete -c ntpaudit -n "not __fish_seen_subcommand_from $commands" -f -a list -d 'Print one line for each NTP packet'
-complete -c ntpaudit -n "not __fish_seen_subcommand_from $commands" -f -a samples -d 'Print what each exchange says'
-complete -c ntpaudit -n "not __fish_seen_subcommand_from $commands" -f -a at -d 'Print what is known of one moment'
-complete -c ntpaudit -n "not __fish_seen_subcommand_from $commands" -f -a envelope -d 'Print how far off the clock may have been'
-complete -c ntpaudit -n "not __fish_seen_subcommand_from $commands" -f -a settle -d 'Settle a claim: show it, or refute it'
-complete -c ntpaudit -n "not __fish_seen_subcommand_from $commands" -f -a find -d 'Find a certificate or a refutation'
-complete -c ntpaudit -n "not __fish_seen_subcommand_from $commands" -f -a check -d 'Check a certificate'
-complete -c ntpaudit -n "not __fish_seen_subcommand_from $commands" -f -a refute -d 'Check a refutation'
-complete -c ntpaudit -n "not __fish_seen_subcommand_from $commands" -f -a help -d 'Print help'
-complete -c ntpaudit -n "__fish_seen_subcommand_from find envelope" -x -l step -a '1 4 8 16 64' -d 'Seconds of each piece'
-complete -c ntpaudit -n "__fish_seen_subcommand_from find" -l refutation -d 'Find a refutation'
-complete -c ntpaudit -n "__fish_seen_subcommand_from envelope" -l servers -d 'Show each server'
-complete -c ntpaudit -n "__fish_seen_subcommand_from refute" -l drift -d 'Let the error drift as the claim grants'
-complete -c ntpaudit -n "__fish_seen_subcommand_from check refute settle" -r -l sums -d 'Hold each file to its SHA-256'
-complete -c ntpaudit -n "__fish_seen_subcommand_from envelope" -l least -d 'Add the least bound that a certificate carries'
-complete -c ntpaudit -n "__fish_seen_subcommand_from list samples at envelope settle find check refute" -l human -s H -d 'Milliseconds, times of the day, and faults in words'
+function __ntpaudit_help
+    set -l words (commandline -opc)
+    set -l program (path basename $words[1])
+    set -q words[2]; and test $words[2] != help; and set -l of $words[2]
+    env COLUMNS=1000 $program help $of 2>/dev/null
+end
+
+for program in ntpaudit ntpaudit-dossier
+    complete -c $program -n '__fish_is_nth_token 1; or __fish_seen_subcommand_from help' -f -a \
+        '(__ntpaudit_help | string replace -rf "^ {2,4}([a-z]+)  +(.*)" "\$1\t\$2")'
+    complete -c $program -n 'string match -q -- "-*" (commandline -ct)' -a \
+        '(__ntpaudit_help | string replace -rf "^ {2,6}(?:-.(?: [A-Z]+)?, )?(--[a-z-]+)(?:.*?  +(.*)|.*)" "\$1\t\$2")'
+end
