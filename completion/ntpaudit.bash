@@ -8,9 +8,10 @@ _ntpaudit() {
         return
     fi
     case $command in
-    find) options='--step --refutation --human --help' ;;
+    find) options='--step --refutation --output --human --help' ;;
     envelope) options='--step --servers --least --human --help' ;;
-    check | settle) options='--sums --human --help' ;;
+    check) options='--sums --human --help' ;;
+    settle) options='--sums --output --human --help' ;;
     refute) options='--drift --sums --human --help' ;;
     list | samples | at) options='--human --help' ;;
     help) options='list samples at envelope settle find check refute' ;;

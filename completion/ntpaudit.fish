@@ -17,5 +17,6 @@ complete -c ntpaudit -n "__fish_seen_subcommand_from find" -l refutation -d 'Fin
 complete -c ntpaudit -n "__fish_seen_subcommand_from envelope" -l servers -d 'Show each server'
 complete -c ntpaudit -n "__fish_seen_subcommand_from refute" -l drift -d 'Let the error drift as the claim grants'
 complete -c ntpaudit -n "__fish_seen_subcommand_from check refute settle" -r -l sums -d 'Hold each file to its SHA-256'
+complete -c ntpaudit -n "__fish_seen_subcommand_from find settle" -r -l output -s o -d 'Write what a program reads to a file'
 complete -c ntpaudit -n "__fish_seen_subcommand_from envelope" -l least -d 'Add the least bound that a certificate carries'
 complete -c ntpaudit -n "__fish_seen_subcommand_from list samples at envelope settle find check refute" -l human -s H -d 'Milliseconds, times of the day, and faults in words'

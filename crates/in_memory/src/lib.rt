@@ -23,13 +23,16 @@ mod engine;
 mod holding;
 mod inputs;
 pub mod laws;
+mod lent_feed;
 mod memory_feed;
 mod named_feed;
 mod second;
 mod sums;
+mod twice;
 
 pub use engine::answer_by_sums;
 pub use memory_feed::MemoryFeed;
 pub use named_feed::NamedFeed;
 pub use second::SummedSource;
 pub use sums::MAX_SUMS;
+pub use twice::run_twice;

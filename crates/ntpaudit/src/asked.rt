@@ -70,6 +70,19 @@ impl Asked {
         }
     }
 
+    /// What the output is called, empty if the run has none.
+    pub(crate) fn output(&self) -> &str
+        ensures { result.now ≡ spec.output_of self.now }
+    {
+        match self {
+            Asked::Question(paths) => match &paths.output {
+                Some(path) => path.as_str(),
+                None => "",
+            },
+            _ => "",
+        }
+    }
+
     /// Whether a fault of the run has a line whose words are fixed.
     pub(crate) fn has_a_fault_line(&self) -> bool
         ensures { result ≡ spec.has_a_fault_line self.now }
