@@ -116,10 +116,8 @@ fn run_twice_on<
         (D.state draft.old) (D.state draft.new) (S.state out.old) (S.state out.new) result }
     ensures bytes { IsBytes claim.now × IsBytes capture.now }
 {
-    match run_on(alloc, question, Style::Plain, claim, capture, draft, hasher) {
-        Ok(_) => run_on(alloc, question, style, claim, capture, out, hasher),
-        Err(fault) => Err(fault),
-    }
+    run_on(alloc, question, Style::Plain, claim, capture, draft, hasher)?;
+    run_on(alloc, question, style, claim, capture, out, hasher)
 }
 
 /// Answers a question by a claim and a capture twice: for a program into `draft`, and then, if that
@@ -155,11 +153,7 @@ pub fn run_twice<
         (feeds (C.state claim.new) no_feed (F.state capture.new))
         (D.state draft.old) (D.state draft.new) (S.state out.old) (S.state out.new) result }
 {
-    match read_both(alloc, claim, capture) {
-        Ok(read) => {
-            let (claim, capture) = (read.claim.as_slice(), read.capture.as_slice());
-            run_twice_on(alloc, question, style, claim, capture, draft, out, hasher)
-        }
-        Err(fault) => Err(fault),
-    }
+    let read = read_both(alloc, claim, capture)?;
+    let (claim, capture) = (read.claim.as_slice(), read.capture.as_slice());
+    run_twice_on(alloc, question, style, claim, capture, draft, out, hasher)
 }

@@ -2,8 +2,8 @@
 //!
 //! The program reads its command line, opens its files and calls the engine of its command. What an
 //! engine writes and answers is said by its contract in its own crate, and how that is reported by
-//! the contracts of `audit::answer`, `in_memory::answer_by_sums`, `listing::answer_list` and the
-//! crate report.
+//! the contracts of `audit::answer`, `in_memory::answer_by_sums`, `in_memory::run_twice`,
+//! `listing::answer_list` and the crate report.
 
 #![tactic(auto)]
 
@@ -98,8 +98,9 @@ fn write_file<S: Sink, H: BuildHasher + Copy + Drop>(
         Ok((inputs, _)) => inputs,
         Err(fault) => return (Err(fault), None),
     };
-    let Ok(place) = Draft::of(rt.alloc(), path) else {
-        return (Err(RunFault::Memory), None);
+    let place = match Draft::of(rt.alloc(), path) {
+        Ok(place) => place,
+        Err(AllocError) => return (Err(RunFault::Memory), None),
     };
     let mut sink = match place.create(rt, paths) {
         Ok(file) => WriteSink::new(file),
