@@ -1,7 +1,7 @@
 //! The engine of runs that are made twice over the same bytes: once for a program, into a draft,
 //! and then as they are asked for.
 
-ghost use Rattle.std.specs.Prelude.{◌≡◌, ◌×◌, ◌+◌, [], Ok, Err, IfOk, IfErr};
+ghost use Rattle.std.specs.Prelude.{◌≡◌, ◌+◌, [], Ok, Err, IfOk, IfErr};
 ghost use Rattle.byte_stream.specs.Bytes.{IsBytes};
 ghost use Rattle.byte_stream.specs.Fault.{CountsFault};
 ghost use Rattle.byte_stream.specs.Intake.{TakesAtMost};

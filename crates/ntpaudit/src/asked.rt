@@ -35,7 +35,7 @@ fn sums_name(paths: &Paths) -> &str
 }
 
 /// Whether a style is for a person.
-fn is_human(style: Style) -> bool
+pub(crate) fn is_human(style: Style) -> bool
     ensures { result ≡ words.is_human style }
 {
     match style {

@@ -3,14 +3,17 @@
 ghost use Rattle.std.specs.Prelude.{◌≡◌, []};
 ghost use Rattle.byte_stream.specs.State.{IsWritable};
 ghost use Rattle.report.specs.Run.{no_feed};
+ghost use Rattle.audit.specs.Question.{asked_of};
 ghost use Rattle.audit.specs.Run.{MayRun};
+ghost use Rattle.audit.specs.Second.{no_second};
 ghost use Rattle.ntpaudit.specs.Drafted.{IsDrafted};
 ghost use Rattle.ntpaudit.specs.Reading.{reading, run_of};
-ghost use Rattle.ntpaudit.specs.Response.{question_of};
+ghost use Rattle.ntpaudit.specs.Response.{request_of};
 
+use crate::asked::is_human;
 use crate::files::Inputs;
 use crate::invocation::Request;
-use audit::{Question, Seek, Samples, Settle, Style, run};
+use audit::{Question, Samples, Seek, Settle, Style, run};
 use byte_stream::Sink;
 use in_memory::{NamedFeed, run_twice};
 use report::{Outcome, RunFault};
@@ -40,7 +43,7 @@ fn draft_one<
         inputs (D.state draft.old)) }
     requires out { IsWritable (S.state out.old) }
     ensures { IsDrafted (reading C.state (λ none. no_feed) F.state C.named (λ none. []) F.named)
-        (Q.asks question) style inputs (D.state draft.old) (D.state draft.new)
+        (asked_of (Q.asks question) no_second style) inputs (D.state draft.old) (D.state draft.new)
         (S.state out.old) (S.state out.new) result }
 {
     let Inputs {
@@ -48,15 +51,12 @@ fn draft_one<
         mut second,
         mut capture,
     } = inputs;
-    match style {
-        Style::Plain => {
-            let (claim, second) = (&mut claim, &mut second);
-            run(alloc, question, style, claim, second, capture, draft, hasher).1
-        }
-        _ => {
-            let (claim, capture) = (&mut claim, &mut capture);
-            run_twice(alloc, question, style, claim, capture, draft, out, hasher)
-        }
+    if is_human(style) {
+        let (claim, capture) = (&mut claim, &mut capture);
+        run_twice(alloc, question, style, claim, capture, draft, out, hasher)
+    } else {
+        let (claim, second) = (&mut claim, &mut second);
+        run(alloc, question, style, claim, second, capture, draft, hasher).1
     }
 }
 
@@ -81,7 +81,7 @@ pub(crate) fn draft<
         inputs (D.state draft.old)) }
     requires out { IsWritable (S.state out.old) }
     ensures { IsDrafted (reading C.state (λ none. no_feed) F.state C.named (λ none. []) F.named)
-        (question_of request) style inputs (D.state draft.old) (D.state draft.new)
+        (request_of request style) inputs (D.state draft.old) (D.state draft.new)
         (S.state out.old) (S.state out.new) result }
 {
     match request {
