@@ -3,7 +3,7 @@ use Rattle.ntpaudit.proofs.drafted.draft_one.Goals as goal
 
 pub returns-then-is_human : goal.returns-then-is_human
 returns-then-is_human g c = record {
-  alone = λ plain. absurd (true≢false (sym c.if-is_human.true ∙ plain));
+  alone = λ plain. absurd (true≢false (sym c.if-is_human.true ∙ c.is_human.ensures ∙ plain));
   told = λ human. record {
     after = record {
       claim = c.run_twice.new.claim;
@@ -14,13 +14,13 @@ returns-then-is_human g c = record {
   };
 }
 
-pub returns-else-is_human : goal.returns-else-is_human
-returns-else-is_human g c = record {
+pub returns : goal.returns
+returns g c = record {
   alone = λ plain. record {
     after = record { claim = c.run.new.claim; second = c.run.new.second; capture = c.run.result.0 };
     runs = c.run.ensures.runs;
     shows = c.run.ensures.shows;
     untold = refl;
   };
-  told = λ human. absurd (true≢false (sym human ∙ c.if-is_human.false));
+  told = λ human. absurd (true≢false (sym human ∙ sym c.is_human.ensures ∙ c.if-is_human.false));
 }
