@@ -86,7 +86,8 @@ def test_answers(folder: Path) -> None:
                       files=(files_of(inside), {"f": text}))
         fill(inside, {})
         ran = run([PROGRAM, command.name, f"--output={inside / 'f'}", *command.words, CLAIM, CAPTURE])
-        check(f"{command.title} --output before its operands", run=(fault_alone(ran, command.options)[0], told(command, 2)[0]),
+        check(f"{command.title} --output before its operands",
+              run=(fault_alone(ran, command.options), told(command, 2)),
               files=(files_of(inside), {"f": text_of(for_a_program(command), 2)[1]}))
         fill(inside, {})
         slow = f"{{ head -c 100 {shlex.quote(str(CAPTURE))}; sleep 0.02; tail -c +101 {shlex.quote(str(CAPTURE))}; }} |"
@@ -159,18 +160,18 @@ def test_obstacles(folder: Path) -> None:
 
 def test_inputs(folder: Path) -> None:
     """The claim and the capture are evidence: no path of theirs is written."""
-    claim, capture = folder / "claim", folder / "f.pcap"
-    shutil.copy(CLAIM, claim)
-    shutil.copy(CAPTURE, capture)
-    os.link(capture, folder / "other")
+    shutil.copy(CLAIM, folder / "claim")
+    shutil.copy(CAPTURE, folder / "f.pcap")
+    os.link(folder / "f.pcap", folder / "other")
     (folder / "sub").mkdir()
     before = files_of(folder)
     for command in WRITERS:
         for file in ("claim", "./claim", folder / "claim", "sub/../f.pcap", "f.pcap", "other"):
             check(f"{command.title} to an input as {file}",
                   run=(call(command, file, "claim", "f.pcap", cwd=folder), NO_OUTPUT), files=(files_of(folder), before))
-        for which, words in (("claim", {"claim": "-"}), ("f.pcap", {"capture": "-"}), ("f.pcap", {"capture": "/dev/stdin"})):
-            ran = call(command, which, **{"claim": "claim", "capture": "f.pcap", **words}, streams=f"< {which}", cwd=folder)
+        for which, claim, capture in (("claim", "-", "f.pcap"), ("f.pcap", "claim", "-"),
+                                      ("f.pcap", "claim", "/dev/stdin")):
+            ran = call(command, which, claim, capture, streams=f"< {which}", cwd=folder)
             check(f"{command.title} to its standard input, {which}", run=(ran, NO_OUTPUT),
                   files=(files_of(folder), before))
         (folder / "way").unlink(missing_ok=True)
@@ -184,14 +185,14 @@ def test_inputs(folder: Path) -> None:
 def test_output_fails(folder: Path) -> None:
     """If a person can't be told, the file is as it was, though its draft was whole."""
     for command in WRITERS:
-        for streams in ("> /dev/full", ">&-"):
+        for streams in ("> /dev/full", ">&-", "<&- >&- 2>&-"):
             for what, files in beginnings():
                 fill(folder / "in", files)
                 is_told = "--human" in command.options
                 text = text_of(for_a_program(command), 2)[1]
+                no_output = 4, b"", b"" if "2>" in streams else NO_OUTPUT[2]
                 check(f"{command.title} {streams} to {what}",
-                      run=(call(command, folder / "in/f", streams=streams),
-                           NO_OUTPUT if is_told else told(command, 2)),
+                      run=(call(command, folder / "in/f", streams=streams), no_output if is_told else told(command, 2)),
                       files=(files_of(folder / "in"), files if is_told else {"f": text}))
         fill(folder / "in", {})
         check(f"{command.title} with its error output closed",
@@ -286,7 +287,8 @@ def test_rights(folder: Path) -> None:
 def test_command_lines(folder: Path) -> None:
     """Outputs that are no path, or that don't go with another option, are refused before anything is done."""
     file = folder / "f"
-    for words in (["-o", "-"], ["-o", ""], ["--output="], ["-o"], ["-o", file, "-o", file], ["-o", file, "--sums", CLAIM]):
+    for words in (["-o", "-"], ["-o", ""], ["--output="], ["-o"], ["-o", file, "-o", file],
+                  ["-o", file, "--sums", CLAIM]):
         status, output, error = run([PROGRAM, "settle", CLAIM, CAPTURE, *words])
         check(f"settle with {words}", run=((status, output, error[:7]), (5, b"", b"error: ")),
               files=(files_of(folder), {}))
