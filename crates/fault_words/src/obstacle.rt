@@ -26,7 +26,7 @@ pub enum Obstacle {
     Full,
 }
 
-/// What is said of a file that can't be written. PART stands for its draft.
+/// What is said of a file that can't be written. FILE stands for its path.
 pub fn obstacle_sentence(obstacle: Obstacle) -> Sentence
     ensures { sentence_data result ≡ spec.obstacle_sentence obstacle }
 {

@@ -2,7 +2,7 @@
 use Rattle.std.proofs.Common.{◌≡◌, ℕ, List, [], Result, refl, subst}
 use Rattle.std.specs.Prelude.{IfOk}
 use Rattle.byte_stream.specs.State.{FeedState, SinkState}
-use Rattle.report.specs.Run.{RunState, no_feed, run_state}
+use Rattle.report.specs.Run.{RunState, run_state}
 use Rattle.report.specs.declared.fault.Outcome.{Outcome}
 use Rattle.report.specs.declared.fault.RunFault.{RunFault}
 use Rattle.audit.specs.Question.{AskedData}

@@ -1,7 +1,7 @@
 -- What is said of a run that is made twice over the same bytes: for a program into a draft, and
 -- then as it is asked for. Nothing is assumed of the bytes beforehand.
 use Rattle.std.specs.Prelude.{◌≡◌, ◌⊎◌, ◌≤◌, ◌<◌, List, ℕ, [], length, Option, Some, IfSome}
-use Rattle.std.specs.Prelude.{Result, Ok, Err, IfOk, IfErr, IsOk, MatchResult}
+use Rattle.std.specs.Prelude.{Result, Err, IfOk, IfErr, IsOk, MatchResult}
 use Rattle.byte_stream.specs.Bytes.{IsBytes}
 use Rattle.byte_stream.specs.State.{SinkState}
 use Rattle.line_writer.specs.declared.field.Style.TheVariants.{Plain}

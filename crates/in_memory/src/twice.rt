@@ -1,7 +1,7 @@
 //! The engine of runs that are made twice over the same bytes: once for a program, into a draft,
 //! and then as they are asked for.
 
-ghost use Rattle.std.specs.Prelude.{◌≡◌, ◌+◌, [], Ok, Err, IfOk, IfErr};
+ghost use Rattle.std.specs.Prelude.{◌+◌, IfOk, IfErr};
 ghost use Rattle.byte_stream.specs.Bytes.{IsBytes};
 ghost use Rattle.byte_stream.specs.Fault.{CountsFault};
 ghost use Rattle.byte_stream.specs.Intake.{TakesAtMost};
@@ -90,17 +90,22 @@ fn run_on<Q: Question<Second = ()>, S: Sink, H: BuildHasher + Drop>(
 {
     let mut claim = LentFeed::new(claim);
     let capture = LentFeed::new(capture);
-    run(alloc, question, style, &mut claim, &mut (), capture, out, hasher).1
+    run(
+        alloc,
+        question,
+        style,
+        &mut claim,
+        &mut (),
+        capture,
+        out,
+        hasher,
+    )
+    .1
 }
 
 /// Answers a question on these bytes of a claim and a capture: for a program into `draft`, and
 /// then, if that is whole, in this style on `out`.
-fn run_twice_on<
-    Q: Question<Second = ()>,
-    D: Sink,
-    S: Sink,
-    H: BuildHasher + Copy + Drop,
->(
+fn run_twice_on<Q: Question<Second = ()>, D: Sink, S: Sink, H: BuildHasher + Copy + Drop>(
     alloc: Global,
     question: Q,
     style: Style,

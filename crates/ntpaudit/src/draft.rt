@@ -7,11 +7,10 @@ use crate::invocation::Paths;
 use crate::second_look::path_of;
 use fault_words::Obstacle;
 use std::alloc::{AllocError, Global};
-use std::fs;
 use std::fs::{File, Files, Metadata, OpenOptions};
-use std::io;
 use std::io::{Error, ErrorKind, Write};
 use std::os::unix::fs::MetadataExt;
+use std::{fs, io};
 
 /// Why a file can't be written, and what the system says of it.
 #[derive(Drop)]

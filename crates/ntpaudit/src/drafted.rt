@@ -1,6 +1,6 @@
 //! The answer to a question whose text for a program goes into a draft.
 
-ghost use Rattle.std.specs.Prelude.{◌≡◌, []};
+ghost use Rattle.std.specs.Prelude.{[]};
 ghost use Rattle.byte_stream.specs.State.{IsWritable};
 ghost use Rattle.report.specs.Run.{no_feed};
 ghost use Rattle.audit.specs.Question.{asked_of};
@@ -56,7 +56,10 @@ fn draft_one<
         run_twice(alloc, question, style, claim, capture, draft, out, hasher)
     } else {
         let (claim, second) = (&mut claim, &mut second);
-        run(alloc, question, style, claim, second, capture, draft, hasher).1
+        run(
+            alloc, question, style, claim, second, capture, draft, hasher,
+        )
+        .1
     }
 }
 

@@ -106,7 +106,15 @@ fn write_file<S: Sink, H: BuildHasher + Copy + Drop>(
         Ok(file) => WriteSink::new(file),
         Err(hindrance) => return (Err(RunFault::Write(0)), Some(hindrance)),
     };
-    let answer = draft(rt.alloc(), request, paths.style, inputs, &mut sink, out, hasher);
+    let answer = draft(
+        rt.alloc(),
+        request,
+        paths.style,
+        inputs,
+        &mut sink,
+        out,
+        hasher,
+    );
     match answer {
         Ok(outcome) => match place.place(rt) {
             Ok(()) => (Ok(outcome), None),

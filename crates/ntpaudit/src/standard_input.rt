@@ -47,7 +47,10 @@ pub(crate) fn read_once(alloc: Global, invocation: Invocation) -> Result<Invocat
         return refused(alloc, "error: standard input, -, can be one input alone\n");
     }
     if names_no_file(paths) {
-        return refused(alloc, "error: -o takes a file's path; standard output needs no -o\n");
+        return refused(
+            alloc,
+            "error: -o takes a file's path; standard output needs no -o\n",
+        );
     }
     Ok(invocation)
 }
