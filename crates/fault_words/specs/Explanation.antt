@@ -1,5 +1,5 @@
 -- The words about a fault: two lines that begin with two blanks.
-use Rattle.std.specs.Prelude.{List, ℕ, ◌++◌, codes, Bool, true, false, nat_eq, if◌then◌else◌}
+use Rattle.std.specs.Prelude.{◌≡◌, ◌⊎◌, List, ℕ, ◌++◌, codes, Bool, true, false, nat_eq, if◌then◌else◌}
 use Rattle.std.specs.Prelude.{Option, Some, string_bytes}
 use Rattle.claim_file.specs.declared.fault.ClaimFault.{ClaimFault}
 use Rattle.claim_file.specs.declared.fault.ClaimFault.TheVariants as claims
@@ -12,6 +12,7 @@ use Rattle.fault_words.specs.Sentence.{SentenceData, says, sentence_of}
 use Rattle.fault_words.specs.declared.found.Found.{Found}
 use Rattle.fault_words.specs.declared.kind.Kind.{Kind}
 use Rattle.fault_words.specs.Kind.{kind_remedy}
+use Rattle.fault_words.specs.Quote.{front}
 use Rattle.fault_words.specs.Subject.{NamesData, input_of, subject}
 
 -- what was seen of a fault when its input was looked at again: the field of a claim, or 0, whether
@@ -81,3 +82,13 @@ abbrev pub explanation : NamesData → RunFault → FoundData → List ℕ
 explanation names fault found =
     codes "  " ++ subject names (input_of fault) ++
     ending (fault_sentence fault found) found.seen
+
+-- the words about a TIME that is none, as it is quoted
+abbrev pub time_words : List ℕ → List ℕ
+time_words time = codes "  TIME has to be a time of UTC; it is \"" ++ time ++ codes "\"\n  "
+    ++ field_remedy 4 ++ codes "\n"
+
+-- the same of any TIME: its first 40 characters, and two dots if there are more
+abbrev pub AreTimeWords : List ℕ → List ℕ → Type 0
+AreTimeWords time text =
+    (text ≡ time_words (front time)) ⊎ (text ≡ time_words (front time ++ codes ".."))

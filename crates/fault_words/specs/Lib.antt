@@ -1,7 +1,8 @@
-pub mod Subject
 pub mod ClaimField
-pub mod Kind
-pub mod Sentence
 pub mod Explanation
-pub mod Slip
+pub mod Kind
+pub mod Obstacle
 pub mod Quote
+pub mod Sentence
+pub mod Slip
+pub mod Subject

@@ -1,13 +1,19 @@
--- How what stands in a file or on the command line is shown: control characters as their numbers.
+-- How what stands in a file or on the command line is shown: what a terminal obeys as numbers.
 use Rattle.std.specs.Prelude.{◌≡◌, ◌⊎◌, ℕ, List, false, ◌++◌, codes, chars, encode_utf8, take}
-use Rattle.std.specs.Prelude.{if◌then◌else◌}
+use Rattle.std.specs.Prelude.{Bool, ◌||◌, if◌then◌else◌}
 use Rattle.std.specs.Char.{is_control}
+use Rattle.std.specs.Int.{is_in_range}
 use Rattle.std.specs.Fmt.{digits}
 use Rattle.std.specs.List.{flat_map}
 
+-- whether a character turns the direction in which others are shown (Unicode's Bidi_Control)
+abbrev pub turns : ℕ → Bool
+turns c = is_in_range 0x61C 0x61C c || is_in_range 0x200E 0x200F c || is_in_range 0x202A 0x202E c
+    || is_in_range 0x2066 0x2069 c
+
 -- a character: itself, or its number in hexadecimal digits
 abbrev pub shown_char : ℕ → List ℕ
-shown_char c = if is_control c then codes "\\u{" ++ digits 16 false c ++ codes "}"
+shown_char c = if is_control c || turns c then codes "\\u{" ++ digits 16 false c ++ codes "}"
     else encode_utf8 c
 
 -- a text so

@@ -111,12 +111,22 @@ pub fn explain(
     Ok(text)
 }
 
-/// The words about a TIME that is none.
-pub fn explain_time(alloc: Global, time: &str) -> Result<String, AllocError> {
+/// The words about a TIME that is none: two lines, of which the first has its first 40 characters.
+pub fn explain_time(alloc: Global, time: &str) -> Result<String, AllocError>
+    ensures says { IfOk result (λ text. spec.AreTimeWords time.now (string_bytes text)) }
+{
     let time = quoted(alloc, time)?;
-    format!(in alloc;
-        "  TIME has to be a time of UTC; it is \"{}\"\n  {}\n",
-        time.as_str(),
-        field_remedy(4)
-    )
+    time_words(alloc, time.as_str())
+}
+
+/// The same, of a TIME as it is quoted.
+fn time_words(alloc: Global, time: &str) -> Result<String, AllocError>
+    ensures { IfOk result (λ text. string_bytes text ≡ spec.time_words time.now) }
+{
+    let mut text = String::from_str(alloc, "  TIME has to be a time of UTC; it is \"")?;
+    text.push_str(time)?;
+    text.push_str("\"\n  ")?;
+    text.push_str(field_remedy(4))?;
+    text.push_str("\n")?;
+    Ok(text)
 }

@@ -8,11 +8,22 @@ use std::alloc::{AllocError, Global};
 /// How many characters of what stands in a file are shown at most.
 const MOST_SHOWN: usize = 40;
 
-/// Adds a character, or its number if it is a control character.
+/// Whether a character turns the direction in which those beside it are shown (Unicode's
+/// Bidi_Control), so that a name could be read as another.
+fn turns(c: char) -> bool
+    ensures { result ≡ spec.turns c }
+{
+    matches!(
+        c,
+        '\u{61c}' | '\u{200e}'..='\u{200f}' | '\u{202a}'..='\u{202e}' | '\u{2066}'..='\u{2069}'
+    )
+}
+
+/// Adds a character, or its number if it is a control character or turns others.
 fn add_shown(text: &mut String, alloc: Global, c: char) -> Result<(), AllocError>
     ensures { OnOk result (string_bytes text.new ≡ string_bytes text.old ++ spec.shown_char c) }
 {
-    if c.is_control() {
+    if c.is_control() || turns(c) {
         let number = format!(in alloc; "\\u{{{:x}}}", u32::from(c))?;
         text.push_str(number.as_str())
     } else {
@@ -20,7 +31,7 @@ fn add_shown(text: &mut String, alloc: Global, c: char) -> Result<(), AllocError
     }
 }
 
-/// A text with its control characters as their numbers.
+/// A text with its control characters, and those that turn others, as their numbers.
 pub fn shown(alloc: Global, text: &str) -> Result<String, AllocError>
     ensures escaped { IfOk result (λ out. string_bytes out ≡ spec.shown text.now) }
 {

@@ -20,7 +20,7 @@ pub struct Sentence {
 }
 
 /// A sentence of these words.
-fn says(wrong: &'static str, remedy: &'static str) -> Sentence
+pub(crate) fn says(wrong: &'static str, remedy: &'static str) -> Sentence
     ensures { sentence_data result ≡ spec.says wrong.now remedy.now }
 {
     Sentence { wrong, remedy }

@@ -7,6 +7,7 @@ ghost use Rattle.line_writer.specs.declared.line.TheConstants.{CAPACITY};
 ghost use Rattle.fault_words.specs.Slip as spec;
 
 use claim_file::{Claim, group_count};
+use era_unfold::TICKS_PER_SECOND;
 use line_writer::{Field, Line, Style, put_fields};
 use std::alloc::{AllocError, Global};
 
@@ -27,12 +28,9 @@ pub struct ClaimNumbers {
     pub end: u32,
 }
 
-/// The ticks of 2^-32 s in a second.
-const TICKS: i128 = 4_294_967_296;
-
 /// The Unix second that begins at a tick, if it has 32 bits, and else 0.
 fn second_at(tick: i128) -> u32 {
-    u32::try_from(tick / TICKS).unwrap_or(0)
+    u32::try_from(tick / TICKS_PER_SECOND as i128).unwrap_or(0)
 }
 
 impl ClaimNumbers {

@@ -1,19 +1,36 @@
 -- What a run over inputs in memory comes to, by what the engine promises of any run.
-use Rattle.std.proofs.Common.{◌≡◌, ℕ, List, refl, subst}
+use Rattle.std.proofs.Common.{◌≡◌, ℕ, List, [], Result, refl, subst}
+use Rattle.std.specs.Prelude.{IfOk}
 use Rattle.byte_stream.specs.State.{FeedState, SinkState}
 use Rattle.report.specs.Run.{RunState, run_state}
+use Rattle.report.specs.declared.fault.Outcome.{Outcome}
+use Rattle.report.specs.declared.fault.RunFault.{RunFault}
 use Rattle.audit.specs.Question.{AskedData}
-use Rattle.audit.specs.Run.{AnswersFor, ShowsAt}
+use Rattle.audit.specs.Run.{AnswersFor, RunsFor, ShowsAt}
 use Rattle.in_memory.specs.Answer.{HaveNotFailed, IsAnsweredFor}
 use Rattle.in_memory.specs.Holding.{Feeds, feed_of}
+use Rattle.in_memory.specs.Twice.{IsRunOn}
+
+-- these feeds are feeds of these bytes
+pub record AreFeedsOf (c s f : List ℕ) (feeds : Feeds) : Type 0 where
+  pub claim_is : feeds.claim ≡ feed_of c
+  pub second_is : feeds.second ≡ feed_of s
+  pub capture_is : feeds.capture ≡ feed_of f
+
+-- what holds of the feeds holds of memory
+of_memory : {c s f : List ℕ} (feeds : Feeds) → AreFeedsOf c s f feeds →
+    (P : FeedState → FeedState → FeedState → Type 0) →
+    P feeds.claim feeds.second feeds.capture → P (feed_of c) (feed_of s) (feed_of f)
+of_memory {c} {s} {f} feeds are P h =
+    subst (λ (x : FeedState). P (feed_of c) (feed_of s) x) are.capture_is
+    (subst (λ (x : FeedState). P (feed_of c) x feeds.capture) are.second_is
+    (subst (λ (x : FeedState). P x feeds.second feeds.capture) are.claim_is h))
 
 -- what a run over these feeds came to, which are feeds of these bytes
 pub record Told {T F : Type 0} (asked : AskedData) (c s f : List ℕ) (sink err err' : SinkState) (ended : RunState)
     (second second' : T) (capture capture' : F) (status : ℕ) : Type 0 where
   pub feeds : Feeds
-  pub claim_is : feeds.claim ≡ feed_of c
-  pub second_is : feeds.second ≡ feed_of s
-  pub capture_is : feeds.capture ≡ feed_of f
+  pub are : AreFeedsOf c s f feeds
   pub answers : AnswersFor asked (run_state feeds.claim feeds.second feeds.capture sink) ended
       second second' capture capture' err err' status
   pub shows : ShowsAt status asked.question feeds.claim feeds.second feeds.capture
@@ -22,17 +39,9 @@ pub record Told {T F : Type 0} (asked : AskedData) (c s f : List ℕ) (sink err 
 module _ {T F : Type 0} {asked : AskedData} {c s f : List ℕ} {sink err err' : SinkState} {ended : RunState}
     {second second' : T} {capture capture' : F} {status : ℕ}
     (told : Told asked c s f sink err err' ended second second' capture capture' status) where
-  -- what holds of the feeds holds of memory
-  of_memory : (P : FeedState → FeedState → FeedState → Type 0) →
-      P told.feeds.claim told.feeds.second told.feeds.capture → P (feed_of c) (feed_of s) (feed_of f)
-  of_memory P h =
-      subst (λ (x : FeedState). P (feed_of c) (feed_of s) x) told.capture_is
-      (subst (λ (x : FeedState). P (feed_of c) x told.feeds.capture) told.second_is
-      (subst (λ (x : FeedState). P x told.feeds.second told.feeds.capture) told.claim_is h))
-
   pub answered : IsAnsweredFor asked c s f sink ended.sink err err' status
   answered =
-      let answers = of_memory (λ x y z. AnswersFor asked (run_state x y z sink) ended
+      let answers = of_memory told.feeds told.are (λ x y z. AnswersFor asked (run_state x y z sink) ended
       second second' capture capture' err err' status) told.answers in
       record {
         ended = ended;
@@ -46,5 +55,33 @@ module _ {T F : Type 0} {asked : AskedData} {c s f : List ℕ} {sink err err' : 
           tells = answers.tells;
           status_is = answers.status_is;
         };
-        shows = of_memory (λ x y z. ShowsAt status asked.question x y z) told.shows;
+        shows = of_memory told.feeds told.are (λ x y z. ShowsAt status asked.question x y z) told.shows;
+      }
+
+-- the same of a run whose answer isn't reported yet, without a second input
+pub record Ran {T F : Type 0} (asked : AskedData) (c f : List ℕ) (sink : SinkState) (ended : RunState)
+    (second second' : T) (capture capture' : F) (answer : Result Outcome RunFault) : Type 0 where
+  pub feeds : Feeds
+  pub are : AreFeedsOf c [] f feeds
+  pub runs : RunsFor asked (run_state feeds.claim feeds.second feeds.capture sink) ended
+      second second' capture capture' answer
+  pub shows : IfOk answer (asked.question.Shows feeds.claim feeds.second feeds.capture)
+  pub unfailed : HaveNotFailed ended
+
+module _ {T F : Type 0} {asked : AskedData} {c f : List ℕ} {sink : SinkState} {ended : RunState}
+    {second second' : T} {capture capture' : F} {answer : Result Outcome RunFault}
+    (ran : Ran asked c f sink ended second second' capture capture' answer) where
+  pub run_on : IsRunOn asked c f sink ended.sink answer
+  run_on =
+      let runs = of_memory ran.feeds ran.are (λ x y z. RunsFor asked (run_state x y z sink) ended
+      second second' capture capture' answer) ran.runs in
+      record {
+        ended = ended;
+        sink_is = refl;
+        unfailed = ran.unfailed;
+        finding = runs.finding;
+        found = runs.found;
+        reports = runs.runs.reports;
+        unwritten = runs.runs.unwritten;
+        shows = of_memory ran.feeds ran.are (λ x y z. IfOk answer (asked.question.Shows x y z)) ran.shows;
       }

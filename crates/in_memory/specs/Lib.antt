@@ -2,3 +2,4 @@ pub mod Answer
 pub mod Holding
 pub mod Shown
 pub mod Sums
+pub mod Twice

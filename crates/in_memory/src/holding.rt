@@ -21,7 +21,7 @@ use std::alloc::Global;
 const MAX_CAPTURE: u64 = 17_179_869_184;
 
 /// The greatest length of an input, in bytes.
-fn limit(which: Input) -> u64
+pub(crate) fn limit(which: Input) -> u64
     ensures { result ≡ limit_of which }
 {
     match which {

@@ -45,6 +45,11 @@ names_of (asks.Judgement paths) = record {
 }
 names_of _ = record { claim = []; capture = []; second = []; sums = [] }
 
+-- what the output of a run is called, empty if it has none
+abbrev pub output_of : Asked → List ℕ
+output_of (asks.Question paths) = unwrap_or (option_map string_bytes paths.output) []
+output_of _ = []
+
 -- whether a run was asked to say more: by `--human`
 abbrev pub is_for_a_person : Asked → Bool
 is_for_a_person (asks.Listing listed) = is_human listed.style

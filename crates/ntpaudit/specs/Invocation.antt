@@ -59,13 +59,14 @@ pub record IsToldTime (rows : List Row) (told : Option (String Global)) : Type 0
   pub human : IsFlag (codes "human") rows (is_some told)
   pub time : IfSome told (λ text. string_bytes text ≡ operand (codes "TIME") rows)
 
--- The claim, the capture, the file of sums and the style are those of the words.
+-- The claim, the capture, the file of sums, the output and the style are those of the words.
 pub record AreNamed (rows : List Row) (paths : Paths) : Type 0 where
   pub human : IsFlag (codes "human") rows (is_human paths.style)
   pub style_is : paths.style ≡ style_of (is_human paths.style)
   pub claim : string_bytes paths.claim ≡ operand (codes "CLAIM") rows
   pub capture : string_bytes paths.capture ≡ operand (codes "CAPTURE") rows
   pub sums : option_map string_bytes paths.sums ≡ first_of (codes "sums") rows
+  pub output : option_map string_bytes paths.output ≡ first_of (codes "output") rows
 
 -- The same of a command with a second input, an operand of this name.
 pub record AreJudgedNamed (second : Text) (rows : List Row) (paths : JudgedPaths) : Type 0 where

@@ -1,4 +1,5 @@
 pub mod Asked
+pub mod Drafted
 pub mod Invocation
 pub mod Reading
 pub mod Response

@@ -35,7 +35,7 @@ fn sums_name(paths: &Paths) -> &str
 }
 
 /// Whether a style is for a person.
-fn is_human(style: Style) -> bool
+pub(crate) fn is_human(style: Style) -> bool
     ensures { result ≡ words.is_human style }
 {
     match style {
@@ -67,6 +67,19 @@ impl Asked {
             capture,
             second,
             sums,
+        }
+    }
+
+    /// What the output is called, empty if the run has none.
+    pub(crate) fn output(&self) -> &str
+        ensures { result.now ≡ spec.output_of self.now }
+    {
+        match self {
+            Asked::Question(paths) => match &paths.output {
+                Some(path) => path.as_str(),
+                None => "",
+            },
+            _ => "",
         }
     }
 

@@ -51,20 +51,22 @@ Prints:   one of five answers. A certificate, which `check` accepts: the claim i
           and then `nothing fits`: what the claim grants isn't true in this capture. `no evidence
           groups K of G false_max F`: no more groups of servers have a sample than may be wrong. Or
           `open P Q hull LO HI`: neither is found, and no certificate is accepted. With --human what
-          is found is told in short lines: milliseconds, times as 2026-11-22T06:46:09Z, servers
+          is found is told in short lines: milliseconds, times as 2026-11-22T06:46:09Z, addresses.
+          With -o FILE all but these lines goes to FILE, at status 0 and 1
 Status:   0 shown; 1 any other answer; 2 an input is refused, or over 100000 pieces are needed
           and no refutation is found; 3 out of memory; 4 a file or the output failed; 5 the command
           line is refused
-Example:  ntpaudit settle claim.json recording.pcap > certificate.json
+Example:  ntpaudit settle claim.json recording.pcap --human -o certificate.json
 More:     man ntpaudit, which says what each answer means";
 
 const FIND_HELP: &str = "\
 Prints:   a certificate, or `nothing piece K` and the hull of the first piece that shows too little.
           `check` judges a certificate. With --refutation: a refutation, or `nothing refutation`.
-          With --human what is found is told in short lines, with milliseconds
+          With --human what is found is told in short lines, with milliseconds. With -o FILE all
+          but these lines goes to FILE, at status 0 and 1
 Status:   0 something is found; 1 nothing; 2 an input is refused, or there are over 100000 pieces;
           3 out of memory; 4 a file or the output failed; 5 the command line is refused
-Example:  ntpaudit find claim.json recording.pcap --step 8 > certificate.json
+Example:  ntpaudit find claim.json recording.pcap --step 8 -o certificate.json
 More:     man ntpaudit";
 
 const REFUTE_HELP: &str = "\
@@ -154,7 +156,9 @@ fn at_command<'a>(alloc: Global) -> Result<Command<'a>, AllocError> {
 /// The command `settle`.
 fn settle_command<'a>(alloc: Global) -> Result<Command<'a>, AllocError> {
     let about = "Settle a claim by a capture: show it, or refute it";
-    evidence_command(alloc, "settle", about, SETTLE_HELP)?.arg(sums_option(alloc))
+    evidence_command(alloc, "settle", about, SETTLE_HELP)?
+        .arg(output_option(alloc).conflicts_with("sums")?)?
+        .arg(sums_option(alloc))
 }
 
 /// The command `check`.
@@ -194,6 +198,16 @@ fn sums_option<'a>(alloc: Global) -> Arg<'a> {
     )
 }
 
+/// The option `--output`.
+fn output_option<'a>(alloc: Global) -> Arg<'a> {
+    let help = "Write what a program reads to FILE, whole or not at all";
+    Arg::new(alloc, "output")
+        .short('o')
+        .long("output")
+        .value_name("FILE")
+        .help(help)
+}
+
 /// An option without a value, with these words about it.
 fn flag<'a>(alloc: Global, name: &'a str, help: &'a str) -> Arg<'a> {
     Arg::new(alloc, name)
@@ -209,7 +223,8 @@ fn find_command<'a>(alloc: Global) -> Result<Command<'a>, AllocError> {
     let about = "Find a certificate for a claim in a capture, or a refutation";
     evidence_command(alloc, "find", about, FIND_HELP)?
         .arg(step_option(alloc, step))?
-        .arg(flag(alloc, "refutation", refutation))
+        .arg(flag(alloc, "refutation", refutation))?
+        .arg(output_option(alloc))
 }
 
 /// The command `envelope`.

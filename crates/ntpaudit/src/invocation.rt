@@ -42,6 +42,8 @@ pub(crate) struct Paths {
     pub(crate) capture: String,
     /// That of the file of sums, if they are held to one.
     pub(crate) sums: Option<String>,
+    /// That of the file that a program reads, if the answer isn't for standard output alone.
+    pub(crate) output: Option<String>,
 }
 
 /// The same of a question with a second input.

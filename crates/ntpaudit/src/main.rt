@@ -2,8 +2,8 @@
 //!
 //! The program reads its command line, opens its files and calls the engine of its command. What an
 //! engine writes and answers is said by its contract in its own crate, and how that is reported by
-//! the contracts of `audit::answer`, `in_memory::answer_by_sums`, `listing::answer_list` and the
-//! crate report.
+//! the contracts of `audit::answer`, `in_memory::answer_by_sums`, `in_memory::run_twice`,
+//! `listing::answer_list` and the crate report.
 
 #![tactic(auto)]
 
@@ -16,6 +16,8 @@ mod advice;
 mod asked;
 mod command_line;
 mod commands;
+mod draft;
+mod drafted;
 mod files;
 mod invocation;
 mod response;
@@ -26,15 +28,17 @@ mod words;
 
 use crate::asked::Asked;
 use crate::command_line::read_command_line;
+use crate::draft::{Draft, Hindrance};
+use crate::drafted::draft;
 use crate::files::{open, open_evidence, open_judged};
 use crate::invocation::{Invocation, JudgedPaths, Judgement, Listed, Paths, Request};
 use crate::response::{ask, judge};
 use crate::second_look::say;
 use audit::Outputs;
 use byte_stream::{Sink, WriteSink};
-use fault_words::KeptSink;
+use fault_words::{KeptSink, Obstacle};
 use listing::answer_list;
-use report::{Input, RunFault, refuse, refuse_time, show, tell};
+use report::{Input, Outcome, RunFault, refuse, refuse_time, show, tell};
 use std::alloc::AllocError;
 use std::hash::{BuildHasher, BuildHasherDefault, FoldHasher, RandomState};
 use std::process::ExitCode;
@@ -69,6 +73,77 @@ fn ask_of_files<S: Sink, E: Sink, H: BuildHasher + Drop>(
     }
 }
 
+/// What hindered a draft from being written whose sink has failed so often, if that is the fault.
+fn hindrance_of(fault: &RunFault, faults: u64) -> Option<Hindrance> {
+    match fault {
+        RunFault::Write(_) if 0 < faults => Some(Hindrance::of(Obstacle::Full)),
+        _ => None,
+    }
+}
+
+/// Answers a question in a file of this path, and on `out` too if it's a person who asks, once all
+/// files are opened. Beside the answer stands what hinders the file from being written, if that's
+/// why. Where the answer is a fault the file is left as it was.
+fn write_file<S: Sink, H: BuildHasher + Copy + Drop>(
+    rt: &HostRuntime,
+    request: Request,
+    paths: &Paths,
+    path: &str,
+    out: &mut S,
+    hasher: H,
+) -> (Result<Outcome, RunFault>, Option<Hindrance>)
+    requires { IsWritable (S.state out.old) }
+{
+    let inputs = match open_evidence(rt, paths) {
+        Ok((inputs, _)) => inputs,
+        Err(fault) => return (Err(fault), None),
+    };
+    let place = match Draft::of(rt.alloc(), path) {
+        Ok(place) => place,
+        Err(AllocError) => return (Err(RunFault::Memory), None),
+    };
+    let mut sink = match place.create(rt, paths) {
+        Ok(file) => WriteSink::new(file),
+        Err(hindrance) => return (Err(RunFault::Write(0)), Some(hindrance)),
+    };
+    let answer = draft(
+        rt.alloc(),
+        request,
+        paths.style,
+        inputs,
+        &mut sink,
+        out,
+        hasher,
+    );
+    match answer {
+        Ok(outcome) => match place.place(rt) {
+            Ok(()) => (Ok(outcome), None),
+            Err(hindrance) => (Err(RunFault::Write(0)), Some(hindrance)),
+        },
+        Err(fault) => {
+            place.remove(rt);
+            (Err(fault), hindrance_of(&fault, sink.faults()))
+        }
+    }
+}
+
+/// Answers a question so, and reports the answer. The result is the exit status.
+fn ask_for_file<S: Sink, E: Sink, H: BuildHasher + Copy + Drop>(
+    rt: &HostRuntime,
+    request: Request,
+    paths: &Paths,
+    path: &str,
+    to: &mut Outputs<S, E>,
+    hasher: H,
+) -> (u8, Option<Hindrance>)
+    requires out { IsWritable (S.state to.old.out) }
+    requires err { IsWritable (E.state to.old.err) }
+    ensures closed { (E.state to.new.err).is_open ≡ false }
+{
+    let (answer, hindrance) = write_file(rt, request, paths, path, &mut to.out, hasher);
+    (tell(&answer, &mut to.err), hindrance)
+}
+
 /// Judges a certificate or a refutation, once its files are opened. The result is the exit status.
 fn judge_files<S: Sink, E: Sink, H: BuildHasher + Drop>(
     rt: &HostRuntime,
@@ -93,12 +168,12 @@ fn judge_files<S: Sink, E: Sink, H: BuildHasher + Drop>(
 /// Does what a command line calls for: all files are opened before anything is read. The result is
 /// the exit status, and what may be said of the run behind its fault line. What is read of a
 /// capture is hashed by `hasher`, on which no answer depends.
-fn respond<S: Sink, E: Sink, H: BuildHasher + Drop>(
+fn respond<S: Sink, E: Sink, H: BuildHasher + Copy + Drop>(
     rt: &HostRuntime,
     invocation: Invocation,
     to: &mut Outputs<S, E>,
     hasher: H,
-) -> (u8, Asked)
+) -> (u8, Asked, Option<Hindrance>)
     requires out { IsWritable (S.state to.old.out) }
     requires err { IsWritable (E.state to.old.err) }
     ensures says { SaysAlone invocation (S.state to.old.out) (S.state to.new.out)
@@ -107,18 +182,21 @@ fn respond<S: Sink, E: Sink, H: BuildHasher + Drop>(
     ensures asked { result.1 ≡ asked_of invocation }
 {
     match invocation {
-        Invocation::List(listed) => (list(rt, &listed, to), Asked::Listing(listed)),
+        Invocation::List(listed) => (list(rt, &listed, to), Asked::Listing(listed), None),
         Invocation::Ask(request, paths) => {
-            let code = ask_of_files(rt, request, &paths, to, hasher);
-            (code, Asked::Question(paths))
+            let (code, hindrance) = match &paths.output {
+                Some(path) => ask_for_file(rt, request, &paths, path.as_str(), to, hasher),
+                None => (ask_of_files(rt, request, &paths, to, hasher), None),
+            };
+            (code, Asked::Question(paths), hindrance)
         }
         Invocation::Judge(judgement, paths) => {
             let code = judge_files(rt, judgement, &paths, to, hasher);
-            (code, Asked::Judgement(paths))
+            (code, Asked::Judgement(paths), None)
         }
-        Invocation::Show(text) => (show(text, &mut to.out, &mut to.err), Asked::Nothing),
-        Invocation::Refuse(text) => (refuse(text, &mut to.err), Asked::Nothing),
-        Invocation::RefuseTime(time) => (refuse_time(&mut to.err), Asked::Time(time)),
+        Invocation::Show(text) => (show(text, &mut to.out, &mut to.err), Asked::Nothing, None),
+        Invocation::Refuse(text) => (refuse(text, &mut to.err), Asked::Nothing, None),
+        Invocation::RefuseTime(time) => (refuse_time(&mut to.err), Asked::Time(time), None),
     }
 }
 
@@ -127,7 +205,7 @@ fn main(rt: HostRuntime) -> ExitCode {
         out: WriteSink::new(rt.stdout()),
         err: KeptSink::new(WriteSink::new(rt.stderr())),
     };
-    let (code, asked) = match read_command_line(&rt) {
+    let (code, asked, hindrance) = match read_command_line(&rt) {
         // A random key, so that nobody can write a capture whose packets collide. If the system has
         // no random bytes a fixed key has to do: it slows such a capture down, no more.
         Ok(invocation) => match RandomState::new(&rt) {
@@ -139,9 +217,9 @@ fn main(rt: HostRuntime) -> ExitCode {
         },
         Err(AllocError) => {
             let code = tell(&Err(RunFault::Memory), &mut outputs.err);
-            (code, Asked::Nothing)
+            (code, Asked::Nothing, None)
         }
     };
-    say(&rt, &asked, outputs.err.kept(), code);
+    say(&rt, &asked, &hindrance, outputs.err.kept(), code);
     ExitCode::from(code)
 }

@@ -4,12 +4,13 @@
 //! if it is a regular one, for what stands there. That changes neither line nor status.
 
 use crate::asked::Asked;
+use crate::draft::Hindrance;
 use crate::invocation::STDIN;
 use crate::warning::warnings;
 use byte_stream::{Feed, ReadFeed, WriteSink};
 use fault_words::{
-    Found, Kind, Names, explain, explain_time, fault_of_line, input_of, look, look_at_records,
-    shown,
+    Found, Kind, Names, explain, explain_output, explain_time, fault_of_line, input_of, look,
+    look_at_records, shown,
 };
 use pcap_reader::CaptureFault;
 use report::{Input, RunFault, deliver, read_input};
@@ -30,9 +31,15 @@ const HINT: &[u8] = b"  (--human says more)\n";
 /// Says in words what stands in the line that was written on standard error, or, if there is none,
 /// what looks like a slip of the pen in what was answered. Where memory is refused nothing is said:
 /// the run is over, and its answer or its line is out.
-pub(crate) fn say(rt: &HostRuntime, asked: &Asked, line: &[u8], code: u8) {
+pub(crate) fn say(
+    rt: &HostRuntime,
+    asked: &Asked,
+    hindrance: &Option<Hindrance>,
+    line: &[u8],
+    code: u8,
+) {
     if asked.is_for_a_person() {
-        if let Ok(words) = words_of(rt, asked, line, code) {
+        if let Ok(words) = words_of(rt, asked, hindrance, line, code) {
             write(rt, words.as_slice());
         }
     } else if !line.is_empty() && asked.has_a_fault_line() && rt.stderr().is_terminal() {
@@ -46,7 +53,13 @@ fn write(rt: &HostRuntime, words: &[u8]) {
 }
 
 /// The words about a run that was asked to say more.
-fn words_of(rt: &HostRuntime, asked: &Asked, line: &[u8], code: u8) -> Result<Vec<u8>, AllocError> {
+fn words_of(
+    rt: &HostRuntime,
+    asked: &Asked,
+    hindrance: &Option<Hindrance>,
+    line: &[u8],
+    code: u8,
+) -> Result<Vec<u8>, AllocError> {
     let alloc = rt.alloc();
     if line.is_empty() {
         return if code < 2 {
@@ -55,11 +68,26 @@ fn words_of(rt: &HostRuntime, asked: &Asked, line: &[u8], code: u8) -> Result<Ve
             Ok(Vec::new(alloc))
         };
     }
-    let words = match asked {
-        Asked::Time(Some(time)) => explain_time(alloc, time.as_str())?,
+    let words = match (asked, hindrance) {
+        (Asked::Time(Some(time)), _) => explain_time(alloc, time.as_str())?,
+        (_, Some(hindrance)) => words_of_hindrance(alloc, asked.output(), hindrance)?,
         _ => words_of_line(rt, &asked.names(), line)?,
     };
     Ok(words.into_bytes())
+}
+
+/// The words about what hinders the file of this name from being written.
+fn words_of_hindrance(
+    alloc: Global,
+    name: &str,
+    hindrance: &Hindrance,
+) -> Result<String, AllocError> {
+    let name = shown_name(alloc, name)?;
+    let seen = match &hindrance.error {
+        Some(error) => format!(in alloc; ": {error}")?,
+        None => String::new(alloc),
+    };
+    explain_output(alloc, name.as_str(), hindrance.obstacle, seen.as_str())
 }
 
 /// The words about the fault whose line this is, and none if it is no such line.

@@ -8,25 +8,49 @@ fn count_of(operands: &[&str]) -> usize {
     operands.iter().filter(|operand| **operand == STDIN).count()
 }
 
+/// The path of an option, empty if it was left out.
+fn path_or_none(path: &Option<String>) -> &str {
+    match path {
+        Some(path) => path.as_str(),
+        None => "",
+    }
+}
+
 /// Whether standard input would be two inputs of a command with this second one, if it has one.
 fn is_twice(paths: &Paths, second: &str) -> bool {
-    let sums = match &paths.sums {
-        Some(sums) => sums.as_str(),
-        None => "",
-    };
+    let sums = path_or_none(&paths.sums);
     1 < count_of(&[paths.claim.as_str(), paths.capture.as_str(), second, sums])
 }
 
-/// What a command line calls for, refused if standard input would be two of its inputs.
+/// Whether the output is no path.
+fn names_no_file(paths: &Paths) -> bool {
+    match &paths.output {
+        Some(path) => path.as_str() == STDIN || path.is_empty(),
+        None => false,
+    }
+}
+
+/// A command line that is refused with this text.
+fn refused(alloc: Global, text: &str) -> Result<Invocation, AllocError> {
+    Ok(Invocation::Refuse(String::from_str(alloc, text)?))
+}
+
+/// What a command line calls for, refused if standard input would be two of its inputs, or if its
+/// output is no path.
 pub(crate) fn read_once(alloc: Global, invocation: Invocation) -> Result<Invocation, AllocError> {
-    let twice = match &invocation {
-        Invocation::Ask(_, paths) => is_twice(paths, ""),
-        Invocation::Judge(_, paths) => is_twice(&paths.evidence, paths.second.as_str()),
-        _ => false,
+    let (paths, second) = match &invocation {
+        Invocation::Ask(_, paths) => (paths, ""),
+        Invocation::Judge(_, paths) => (&paths.evidence, paths.second.as_str()),
+        _ => return Ok(invocation),
     };
-    if twice {
-        let text = "error: standard input, -, can be one input alone\n";
-        return Ok(Invocation::Refuse(String::from_str(alloc, text)?));
+    if is_twice(paths, second) {
+        return refused(alloc, "error: standard input, -, can be one input alone\n");
+    }
+    if names_no_file(paths) {
+        return refused(
+            alloc,
+            "error: -o takes a file's path; standard output needs no -o\n",
+        );
     }
     Ok(invocation)
 }

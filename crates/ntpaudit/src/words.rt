@@ -72,7 +72,8 @@ fn listed(alloc: Global, matches: &ArgMatches) -> Result<Listed, AllocError>
     })
 }
 
-/// The claim, the capture and the file of sums that are named, and for whom the answer is written.
+/// The claim, the capture, the file of sums and the output that are named, and for whom the answer
+/// is written.
 fn paths(alloc: Global, matches: &ArgMatches) -> Result<Paths, AllocError>
     ensures { IfOk result (AreNamed (rows_of (found_of matches.now))) }
 {
@@ -81,6 +82,7 @@ fn paths(alloc: Global, matches: &ArgMatches) -> Result<Paths, AllocError>
         claim: operand(alloc, matches, "CLAIM")?,
         capture: operand(alloc, matches, "CAPTURE")?,
         sums: text_of(alloc, matches, "sums")?,
+        output: text_of(alloc, matches, "output")?,
     })
 }
 
