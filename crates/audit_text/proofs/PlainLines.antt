@@ -26,13 +26,6 @@ pub groups_written : (first : FieldData) (a b c d : List FieldData) →
     ≡ line_of Plain (first ∷ (a ++ (b ++ (c ++ d))))
 groups_written first a b c d = simp (flat_map-append, append_assoc)
 
--- a first field and the others
-pub line_written : (first : FieldData) (fields : List FieldData) →
-    text_of Plain first ++ written fields (codes "\n") ≡ line_of Plain (first ∷ fields)
-line_written first fields =
-    ap (λ (t : List ℕ). text_of Plain first ++ t) (fields_written fields (codes "\n"))
-    ∙ sym (append_assoc (text_of Plain first) (rest_text Plain fields) (codes "\n"))
-
 -- counts with their names are shown to a person as they are to a program
 pub counts_in_any_style : (style : Style) (counts : Counts) (samples : ℕ) →
     counts_line style counts samples ≡ counts_line Plain counts samples

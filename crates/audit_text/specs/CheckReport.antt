@@ -10,7 +10,7 @@ use Rattle.checker.specs.declared.verdict.Verdict.{Verdict}
 use Rattle.checker.specs.declared.verdict.Verdict.TheVariants.{Yes, No}
 use Rattle.checker.specs.declared.verdict.Why.{Why}
 use Rattle.checker.specs.declared.verdict.Why.TheVariants.{Cut, BadSample, MixedServers, RepeatedServer, Unbounded, Contradiction, Exceeds, Uncovered}
-use Rattle.audit_text.specs.Heading.{word_for}
+use Rattle.audit_text.specs.Table.{word_for}
 use Rattle.audit_text.specs.Second.{second_of}
 use Rattle.audit_text.specs.CountsLine.{counts_line}
 use Rattle.audit_text.specs.declared.check_report.Findings.{Findings}

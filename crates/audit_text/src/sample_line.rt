@@ -9,11 +9,26 @@ ghost use Rattle.sample_interval.specs.Exchange.{IsOfSomeClaim};
 ghost use Rattle.audit_text.specs.Line.{most_line};
 ghost use Rattle.audit_text.specs.SampleLine.{sample_line, server_of};
 
+use crate::table::add_row;
 use claim_file::Claim;
-use line_writer::{Field, Line, Style, add_line};
+use line_writer::{Field, Kind, Line, Style};
 use pairing::Exchange;
 use sample_interval::{delay, offset, sample};
 use std::alloc::AllocError;
+
+/// The columns of samples.
+pub(crate) const COLUMNS: [Field<'static>; 10] = [
+    Field::Heading("sample", Kind::Number),
+    Field::Heading("server", Kind::Name),
+    Field::Heading("request", Kind::Number),
+    Field::Heading("reply", Kind::Number),
+    Field::Heading("low offset ms", Kind::End),
+    Field::Heading("high offset ms", Kind::End),
+    Field::Heading("low delay ms", Kind::End),
+    Field::Heading("high delay ms", Kind::End),
+    Field::Heading("low error ms", Kind::End),
+    Field::Heading("high error ms", Kind::End),
+];
 
 /// The address of a server, by its number.
 pub(crate) fn server_of(claim: &Claim, number: u8) -> [u8; 4]
@@ -122,5 +137,5 @@ pub(crate) fn add_sample(
         Field::Label("high"),
         Field::High(error.high),
     ];
-    add_line(text, style, &fields)
+    add_row(text, style, &fields)
 }

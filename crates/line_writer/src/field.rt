@@ -286,7 +286,8 @@ fn put_rest(line: &mut Line, style: Style, fields: &[Field<'_>])
 /// Writes fields, joined by spaces, before what stands in `line`. It takes no memory.
 pub fn put_fields(line: &mut Line, style: Style, fields: &[Field<'_>])
     requires { length line.old + room_of (map field_data fields.now) ≤ CAPACITY }
-    ensures { line.new ≡ fields_text style (map field_data fields.now) ++ line.old }
+    ensures text { line.new ≡ fields_text style (map field_data fields.now) ++ line.old }
+    ensures at_most { length line.new ≤ length line.old + room_of (map field_data fields.now) }
 {
     if let [first, rest @ ..] = fields {
         put_rest(line, style, rest);

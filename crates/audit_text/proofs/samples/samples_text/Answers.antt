@@ -10,8 +10,7 @@ returns c =
     rw (
       c.in_ok-add_counts.ensures c.args.style,
       c.in_ok-add_samples.ensures,
-      c.rows.ensures,
-      c.in_ok-add_sample_heading.ensures,
+      c.in_ok-add_heading.ensures,
       c.deref.ensures.value,
       c.new-text.ensures.items,
       length-map c.args.held.now.exchanges.items exchange_shown,
