@@ -34,4 +34,5 @@ module _ (claim : ClaimData) (collection : Collection) where
 
   -- after all samples the line of counts is left
   pub counts_left : (i : ℕ) → length collection.exchanges ≤ i → left_after i ≡ last_line
-  counts_left i past = sym (ap (λ l. l ++ last_line) (rows_done (sample_line Plain claim) collection.exchanges i past [] _ refl))
+  counts_left i past =
+      sym (ap (λ l. l ++ last_line) (rows_done (sample_line Plain claim) collection.exchanges i past [] _ refl))
