@@ -13,7 +13,7 @@ use Rattle.audit_text.proofs.Rows.{row_added, rows_done}
 module _ (claim : ClaimData) (collection : Collection) where
   -- the line of counts
   abbrev pub last_line : List ℕ
-  last_line = counts_line Plain collection.counts (length collection.exchanges)
+  last_line = counts_line collection.counts (length collection.exchanges)
 
   -- what is left of the text after so many lines
   abbrev pub left_after : ℕ → List ℕ

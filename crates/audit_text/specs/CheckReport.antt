@@ -76,6 +76,6 @@ verdict_line style (No piece why) = line_of style (
 unfoldable pub check_text : Style → ClaimData → Collection → Findings → List ℕ
 check_text style claim collection findings =
     client_line style claim findings.groups ++ span_line style claim ++
-    counts_line style collection.counts (length collection.exchanges) ++
+    counts_line collection.counts (length collection.exchanges) ++
     sources_advice style findings.sources ++ reference_advice style findings.reference ++
     pieces_line style findings.pieces ++ verdict_line style findings.verdict

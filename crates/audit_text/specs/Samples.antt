@@ -13,4 +13,4 @@ unfoldable pub samples_text : Style → ClaimData → Collection → List ℕ
 samples_text style claim collection =
     heading style sample_columns ++
     rows_from (sample_line style claim) 0 collection.exchanges ++
-    counts_line style collection.counts (length collection.exchanges)
+    counts_line collection.counts (length collection.exchanges)

@@ -1,8 +1,6 @@
 //! The line of counts.
 
 ghost use Rattle.std.specs.Prelude.{◌≡◌, ◌≤◌, ◌++◌, IfOk, length};
-ghost use Rattle.line_writer.specs.declared.field.Style.{Style as LineStyle};
-ghost use Rattle.line_writer.specs.declared.field.Style.TheVariants.{Plain};
 ghost use Rattle.pairing.specs.Held.{held_data};
 ghost use Rattle.audit_text.specs.CountsLine.{counts_line};
 ghost use Rattle.audit_text.specs.Line.{most_line};
@@ -14,8 +12,8 @@ use std::alloc::AllocError;
 /// Writes the line of counts, for a program, in place of what `line` held: at most 400 bytes.
 #[tactic(auto, unfolding(crate::specs::CountsLine::counts_line))]
 pub fn write_counts_line(line: &mut Line, held: &Held)
-    ensures text { line.new ≡ counts_line Plain (held_data held.now).counts
-        (length (held_data held.now).exchanges) }
+    ensures text { line.new ≡
+        counts_line (held_data held.now).counts (length (held_data held.now).exchanges) }
     ensures at_most { length line.new ≤ most_line }
 {
     let counts = &held.counts;
@@ -38,10 +36,10 @@ pub fn write_counts_line(line: &mut Line, held: &Held)
     put_fields(line, Style::Plain, &fields);
 }
 
-/// Adds the line of counts, which is the same in every style.
+/// Adds the line of counts.
 pub(crate) fn add_counts(text: &mut Vec<u8>, held: &Held) -> Result<(), AllocError>
-    ensures { IfOk result (λ _. (style : LineStyle) → text.new.items ≡ text.old.items ++
-        counts_line style held.now.counts (length held.now.exchanges.items)) }
+    ensures { IfOk result (λ _. text.new.items ≡ text.old.items
+        ++ counts_line (held_data held.now).counts (length (held_data held.now).exchanges)) }
 {
     let mut line = Line::new();
     write_counts_line(&mut line, held);

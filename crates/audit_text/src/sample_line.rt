@@ -2,11 +2,11 @@
 
 ghost use Rattle.std.specs.Prelude.{◌≡◌, ◌+◌, ◌<◌, ◌≤◌, [], ◌∷◌, ◌++◌, IfOk, codes, length};
 ghost use Rattle.claim_file.specs.Claim.{IsLawful, data_of};
-ghost use Rattle.line_writer.specs.Field.{Address, High, Label, Low, Number, rest_text};
+ghost use Rattle.line_writer.specs.Field.{Address, High, Label, Low, Number};
 ghost use Rattle.line_writer.specs.declared.field.Style.TheVariants.{Plain};
 ghost use Rattle.line_writer.specs.declared.line.TheConstants.{CAPACITY};
 ghost use Rattle.sample_interval.specs.Exchange.{IsOfSomeClaim};
-ghost use Rattle.audit_text.specs.Line.{most_line};
+ghost use Rattle.audit_text.specs.Line.{most_line, written};
 ghost use Rattle.audit_text.specs.SampleLine.{sample_line, server_of};
 
 use crate::table::add_row;
@@ -42,8 +42,8 @@ pub(crate) fn server_of(claim: &Claim, number: u8) -> [u8; 4]
 #[inline]
 fn put_records(line: &mut Line, server: [u8; 4], request: u32, reply: u32)
     requires { length line.old + 38 ≤ CAPACITY }
-    ensures text { line.new ≡ rest_text Plain
-        (Address server ∷ Number request ∷ Number reply ∷ []) ++ line.old }
+    ensures text { line.new ≡
+        written (Address server ∷ Number request ∷ Number reply ∷ []) line.old }
     ensures at_most { length line.new ≤ length line.old + 38 }
 {
     line.put_number(reply);
@@ -58,8 +58,8 @@ fn put_records(line: &mut Line, server: [u8; 4], request: u32, reply: u32)
 #[inline]
 fn put_interval(line: &mut Line, word: &str, ends: (i128, i128))
     requires { length line.old + length word.now + 83 ≤ CAPACITY }
-    ensures text { line.new ≡ rest_text Plain
-        (Label word.now ∷ Low ends.0 ∷ High ends.1 ∷ []) ++ line.old }
+    ensures text { line.new ≡
+        written (Label word.now ∷ Low ends.0 ∷ High ends.1 ∷ []) line.old }
     ensures at_most { length line.new ≤ length line.old + length word.now + 83 }
 {
     line.put_number(ends.1);
@@ -74,8 +74,8 @@ fn put_interval(line: &mut Line, word: &str, ends: (i128, i128))
 #[inline]
 fn put_errors(line: &mut Line, least: i128, greatest: i128)
     requires { length line.old + 91 ≤ CAPACITY }
-    ensures text { line.new ≡ rest_text Plain (Label (codes "low") ∷ Low least ∷
-        Label (codes "high") ∷ High greatest ∷ []) ++ line.old }
+    ensures text { line.new ≡ written (Label (codes "low") ∷ Low least ∷
+        Label (codes "high") ∷ High greatest ∷ []) line.old }
     ensures at_most { length line.new ≤ length line.old + 91 }
 {
     line.put_number(greatest);
