@@ -1,7 +1,6 @@
 pub mod PlainLines
-pub mod Sample
+pub mod Rows
 pub mod Shown
-pub mod PieceLines
 pub mod Lines
 pub mod Beyond
 pub mod Sources

@@ -1,4 +1,4 @@
--- The exchange of a held one, at its place.
+-- What is shown of a thing at its place in a list, as the exchange of a held one.
 use Rattle.std.proofs.Common.{◌≡◌, ◌∙◌, ◌<◌, ℕ, List, length, map, get_or, All, Some, ap, sym, subst}
 use Rattle.std.specs.Prelude.{option_map, slice_get}
 use Rattle.std.proofs.lemmas.List.{get_or-map, length-map}
@@ -6,10 +6,10 @@ use Rattle.std.proofs.lemmas.Option.{slice_get-get_or, slice_get-map}
 use Rattle.pairing.specs.declared.exchange.Exchange.{Exchange}
 use Rattle.pairing.specs.Exchange.{IsLawful}
 
-module _ {X : Type 0} (shown : X → Exchange) (held : List X) (i : ℕ) (d : X) (within : i < length held)
-    (x : Exchange) (is : x ≡ shown (get_or held i d)) where
-  -- it is the exchange at its place
-  pub stands_at : (e : Exchange) → x ≡ get_or (map shown held) i e
+module _ {X Y : Type 0} (shown : X → Y) (held : List X) (i : ℕ) (d : X) (within : i < length held)
+    (x : Y) (is : x ≡ shown (get_or held i d)) where
+  -- it is the one at its place
+  pub stands_at : (e : Y) → x ≡ get_or (map shown held) i e
   stands_at e = is ∙ sym (get_or-map shown held i d e within)
 
   -- which is one of them
@@ -21,6 +21,9 @@ module _ {X : Type 0} (shown : X → Exchange) (held : List X) (i : ℕ) (d : X)
   found_at =
       slice_get-map shown held i ∙ ap (option_map shown) (slice_get-get_or held i d within) ∙ ap Some (sym is)
 
-  -- and keeps the limits that all keep
+-- an exchange keeps the limits that all keep
+module _ {X : Type 0} (shown : X → Exchange) (held : List X) (i : ℕ) (d : X) (within : i < length held)
+    (x : Exchange) (is : x ≡ shown (get_or held i d)) where
   pub keeps_limits : (servers : ℕ) → All (IsLawful servers) (map shown held) → IsLawful servers x
-  keeps_limits servers each = subst (IsLawful servers) (sym (stands_at x)) (each i x is_inside)
+  keeps_limits servers each = subst (IsLawful servers) (sym (stands_at shown held i d within x is x))
+      (each i x (is_inside shown held i d within x is))

@@ -10,7 +10,7 @@ use Rattle.checker.specs.declared.verdict.Verdict.{Verdict}
 use Rattle.checker.specs.declared.verdict.Verdict.TheVariants.{Yes, No}
 use Rattle.checker.specs.declared.verdict.Why.{Why}
 use Rattle.checker.specs.declared.verdict.Why.TheVariants.{Cut, BadSample, MixedServers, RepeatedServer, Unbounded, Contradiction, Exceeds, Uncovered}
-use Rattle.audit_text.specs.Heading.{word_for}
+use Rattle.audit_text.specs.Table.{word_for}
 use Rattle.audit_text.specs.Second.{second_of}
 use Rattle.audit_text.specs.CountsLine.{counts_line}
 use Rattle.audit_text.specs.declared.check_report.Findings.{Findings}
@@ -76,6 +76,6 @@ verdict_line style (No piece why) = line_of style (
 unfoldable pub check_text : Style → ClaimData → Collection → Findings → List ℕ
 check_text style claim collection findings =
     client_line style claim findings.groups ++ span_line style claim ++
-    counts_line style collection.counts (length collection.exchanges) ++
+    counts_line collection.counts (length collection.exchanges) ++
     sources_advice style findings.sources ++ reference_advice style findings.reference ++
     pieces_line style findings.pieces ++ verdict_line style findings.verdict

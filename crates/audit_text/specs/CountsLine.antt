@@ -1,13 +1,13 @@
--- The line that says what became of a capture's records.
+-- The line that says what became of a capture's records. It is the same for a person.
 use Rattle.std.specs.Prelude.{ℕ, List, [], ◌∷◌, codes}
 use Rattle.line_writer.specs.Field.{line_of, Named}
-use Rattle.line_writer.specs.declared.field.Style.{Style}
+use Rattle.line_writer.specs.declared.field.Style.TheVariants.{Plain}
 use Rattle.pairing.specs.declared.counts.Counts.{Counts}
 
 -- records, requests, replies and samples; replies that are refused for what their own header says;
 -- replies with no request or several, and warnings of a leap second
-unfoldable pub counts_line : Style → Counts → ℕ → List ℕ
-counts_line style counts samples = line_of style (
+unfoldable pub counts_line : Counts → ℕ → List ℕ
+counts_line counts samples = line_of Plain (
     Named (codes "records") counts.records ∷ Named (codes "requests") counts.requests ∷
     Named (codes "replies") counts.replies ∷ Named (codes "samples") samples ∷
     Named (codes "version") counts.version ∷ Named (codes "leap") counts.leap ∷

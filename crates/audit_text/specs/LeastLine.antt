@@ -2,7 +2,7 @@
 use Rattle.std.specs.Prelude.{ℕ, List, [], ◌∷◌, codes}
 use Rattle.line_writer.specs.Field.{line_of, Named, Nanoseconds}
 use Rattle.line_writer.specs.declared.field.Style.{Style}
-use Rattle.audit_text.specs.Heading.{word_for}
+use Rattle.audit_text.specs.Table.{word_for}
 use Rattle.audit_text.specs.declared.least_line.LeastLine.{LeastLine}
 use Rattle.audit_text.specs.declared.least_line.LeastLine.TheVariants.{NotAsked, NoneHolds, Holds}
 

@@ -1,11 +1,9 @@
 pub mod Line
 pub mod Second
-pub mod Heading
+pub mod Table
 pub mod SampleLine
 pub mod CountsLine
 pub mod Samples
-pub mod IntervalLine
-pub mod HullLine
 pub mod LeastLine
 pub mod Parts
 pub mod CheckReport

@@ -1,6 +1,13 @@
--- How long a line for a program is.
-use Rattle.std.specs.Prelude.{ℕ}
+-- Lines for a program: how long they are, and how they are written from right to left.
+use Rattle.std.specs.Prelude.{ℕ, List, [], ◌∷◌, ◌++◌}
+use Rattle.line_writer.specs.Field.{FieldData, next_text}
+use Rattle.line_writer.specs.declared.field.Style.TheVariants.{Plain}
 
 -- no line of a sample or of counts has more bytes
 abbrev pub most_line : ℕ
 most_line = 400
+
+-- fields that follow another, and then a text
+abbrev pub written : List FieldData → List ℕ → List ℕ
+written [] text = text
+written (field ∷ fields) text = next_text Plain field ++ written fields text

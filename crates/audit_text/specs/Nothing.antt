@@ -3,7 +3,7 @@ use Rattle.std.specs.Prelude.{ℕ, List, [], ◌∷◌, codes}
 use Rattle.line_writer.specs.Field.{line_of, Word, Named}
 use Rattle.line_writer.specs.declared.field.Style.{Style}
 use Rattle.intersection.specs.declared.kinds.Hull.{Hull}
-use Rattle.audit_text.specs.HullLine.{hull_low, hull_high}
+use Rattle.audit_text.specs.Table.{hull_high, hull_low}
 
 -- the number of the piece that fails, and its hull
 unfoldable pub nothing_text : Style → ℕ → Hull → List ℕ

@@ -6,9 +6,8 @@ use Rattle.claim_file.specs.Claim.{ClaimData, group_count}
 use Rattle.courses.specs.Contradiction.{ShownConflict}
 use Rattle.intersection.specs.declared.kinds.Hull.{Hull}
 use Rattle.pairing.specs.declared.exchange.Exchange.{Exchange}
-use Rattle.audit_text.specs.Heading.{for_person}
-use Rattle.audit_text.specs.HullLine.{hull_low, hull_high}
 use Rattle.audit_text.specs.SampleLine.{server_of}
+use Rattle.audit_text.specs.Table.{for_person, hull_high, hull_low}
 
 -- how many of the groups have a sample, and how many may be false
 unfoldable pub evidence_text : Style → ClaimData → ℕ → List ℕ

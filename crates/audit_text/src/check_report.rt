@@ -10,8 +10,8 @@ ghost use Rattle.audit_text.specs.CheckReport.{client_line, groups_field, pieces
 ghost use Rattle.audit_text.specs.CheckReport.{sources_advice, span_line, verdict_line, why_word};
 
 use crate::counts_line::add_counts;
-use crate::heading::word_for;
 use crate::second::second_of;
+use crate::table::word_for;
 use checker::{Verdict, Why};
 use claim_file::Claim;
 use line_writer::{Field, Style, add_line};

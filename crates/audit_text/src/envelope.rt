@@ -5,21 +5,39 @@ ghost use Rattle.claim_file.specs.Claim.{IsLawful, data_of};
 ghost use Rattle.finder.specs.Envelope.{data_of as envelope_data, piece_data};
 ghost use Rattle.finder.specs.Envelope.{IsLawfulEnvelope, IsLawfulPiece};
 ghost use Rattle.finder.specs.Samples.{AreSamplesOf};
+ghost use Rattle.line_writer.specs.Field.{field_data};
 ghost use Rattle.audit_text.specs.Second.{second_of};
 ghost use Rattle.audit_text.specs.Envelope as spec;
-ghost use Rattle.audit_text.specs.Envelope.{bound_line, lines_from, piece_line, server_line, server_lines};
+ghost use Rattle.audit_text.specs.Envelope.{bound_line, piece_columns, piece_line, piece_lines, server_line, server_lines};
+ghost use Rattle.audit_text.specs.Table.{rows_from};
 
-use crate::heading::{add_piece_heading, is_plain, rows, word_for};
-use crate::hull_line::{hull_high, hull_low};
 use crate::least_line::{LeastLine, add_least};
 use crate::sample_line::server_of;
 use crate::second::second_of;
+use crate::table::{add_heading, add_row, hull_high, hull_low, is_plain, word_for};
 use claim_file::Claim;
 use finder::{Envelope, LeastBound, PieceHull, parts};
-use line_writer::{Field, Style, add_line};
+use line_writer::{Field, Kind, Style, add_line};
 use sample_interval::SampleSource;
 use span_cover::{Part, Stretch};
 use std::alloc::{AllocError, Global};
+
+/// The columns, the last of them for what servers say.
+const COLUMNS: [Field<'static>; 6] = [
+    Field::Heading("piece", Kind::Number),
+    Field::Heading("begin", Kind::Second),
+    Field::Heading("end", Kind::Second),
+    Field::Heading("low error ms", Kind::End),
+    Field::Heading("high error ms", Kind::End),
+    Field::Heading("server", Kind::Name),
+];
+
+/// The columns of pieces, and of what servers say in them.
+fn columns(servers: bool) -> &'static [Field<'static>]
+    ensures { map field_data result.now ≡ piece_columns servers }
+{
+    if servers { &COLUMNS } else { &COLUMNS[..5] }
+}
 
 /// Adds the line of a piece.
 #[tactic(auto, unfolding(crate::specs::Envelope::piece_line))]
@@ -41,7 +59,7 @@ fn add_piece(
         hull_low(piece.hull),
         hull_high(piece.hull),
     ];
-    add_line(text, style, &fields)
+    add_row(text, style, &fields)
 }
 
 /// Adds the line of a server in a piece.
@@ -65,11 +83,11 @@ fn add_part(
     let low = Field::Low(part.interval.lo);
     let high = Field::High(part.interval.hi);
     if is_plain(style) {
-        return add_line(text, style, &[number, server, low, high]);
+        return add_row(text, style, &[number, server, low, high]);
     }
     let begin = Field::Second(second_of(stretch.begin));
     let end = Field::Second(second_of(stretch.end));
-    add_line(text, style, &[number, begin, end, low, high, server])
+    add_row(text, style, &[number, begin, end, low, high, server])
 }
 
 /// Adds the line of each of these servers.
@@ -150,8 +168,9 @@ fn add_pieces<S: SampleSource>(
     requires few { length pieces.now ≤ 100_000 }
     requires pieces { All (λ piece. IsLawfulPiece (length (S.samples samples)) (piece_data piece))
         pieces.now }
-    ensures { IfOk result (λ _. text.new.items ≡ text.old.items ++ lines_from
-        style (S.samples samples) (data_of claim.now) servers 0 (map piece_data pieces.now)) }
+    ensures { IfOk result (λ _. text.new.items ≡ text.old.items ++ rows_from
+        (piece_lines style (S.samples samples) (data_of claim.now) servers) 0
+        (map piece_data pieces.now)) }
 {
     for (number, piece) in pieces.iter().enumerate() {
         if servers {
@@ -187,15 +206,8 @@ pub fn envelope_text<S: SampleSource>(
         (data_of claim.now) servers (envelope_data envelope.now) least) }
 {
     let mut text = Vec::new(alloc);
-    add_piece_heading(&mut text, style, servers)?;
-    add_pieces(
-        &mut text,
-        rows(style),
-        samples,
-        claim,
-        servers,
-        &envelope.pieces,
-    )?;
+    add_heading(&mut text, style, columns(servers))?;
+    add_pieces(&mut text, style, samples, claim, servers, &envelope.pieces)?;
     add_bound(&mut text, style, envelope.least)?;
     add_least(&mut text, style, least)?;
     Ok(text)

@@ -3,7 +3,7 @@
 ghost use Rattle.std.specs.Prelude.{◌≡◌, ◌++◌, IfOk};
 ghost use Rattle.audit_text.specs.LeastLine as spec;
 
-use crate::heading::word_for;
+use crate::table::word_for;
 use line_writer::{Field, Style, add_line};
 use std::alloc::AllocError;
 

@@ -29,9 +29,6 @@ mod check_report;
 mod counts_line;
 mod envelope;
 mod excess;
-mod heading;
-mod hull_line;
-mod interval_line;
 pub mod laws;
 mod least_line;
 mod nothing;
@@ -43,6 +40,7 @@ mod samples;
 mod second;
 mod settlement;
 mod silent_lines;
+mod table;
 
 pub use answer::{evidence_answer, found_answer, open_answer, refutation_answer, shown_answer};
 pub use check_report::{Findings, check_text};

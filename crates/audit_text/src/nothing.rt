@@ -3,7 +3,7 @@
 ghost use Rattle.std.specs.Prelude.{◌≡◌, IfOk};
 ghost use Rattle.audit_text.specs.Nothing as spec;
 
-use crate::hull_line::{hull_high, hull_low};
+use crate::table::{hull_high, hull_low};
 use intersection::kinds::Hull;
 use line_writer::{Field, Style, add_line};
 use std::alloc::{AllocError, Global};

@@ -2,19 +2,40 @@
 
 ghost use Rattle.std.specs.Prelude.{◌≡◌, ◌<◌, ◌++◌, IfOk, length, flat_map, All};
 ghost use Rattle.claim_file.specs.Claim.{data_of};
-ghost use Rattle.audit_text.specs.IntervalLine.{interval_line};
 ghost use Rattle.audit_text.specs.Parts as spec;
+ghost use Rattle.audit_text.specs.Parts.{part_row};
 
-use crate::heading::{add_part_heading, rows};
-use crate::hull_line::add_hull;
-use crate::interval_line::add_interval;
+use crate::sample_line::server_of;
+use crate::table::{add_heading, add_row, hull_high, hull_low};
 use claim_file::Claim;
 use intersection::kinds::Hull;
-use line_writer::Style;
+use line_writer::{Field, Kind, Style};
 use span_cover::Part;
 use std::alloc::{AllocError, Global};
 
-/// Adds the line of each of these servers.
+/// The columns.
+const COLUMNS: [Field<'static>; 3] = [
+    Field::Heading("server", Kind::Name),
+    Field::Heading("low error ms", Kind::End),
+    Field::Heading("high error ms", Kind::End),
+];
+
+/// Adds the row of a server's interval.
+#[tactic(auto, unfolding(crate::specs::Parts::part_row))]
+fn add_part(text: &mut Vec<u8>, style: Style, claim: &Claim, part: &Part) -> Result<(), AllocError>
+    requires { part.now.server < length claim.now.servers.items }
+    ensures { IfOk result (λ _. text.new.items ≡
+        text.old.items ++ part_row style (data_of claim.now) part.now) }
+{
+    let fields = [
+        Field::Address(server_of(claim, part.server)),
+        Field::Low(part.interval.lo),
+        Field::High(part.interval.hi),
+    ];
+    add_row(text, style, &fields)
+}
+
+/// Adds the row of each of these servers.
 fn add_parts(
     text: &mut Vec<u8>,
     style: Style,
@@ -23,10 +44,10 @@ fn add_parts(
 ) -> Result<(), AllocError>
     requires { All (λ part. part.server < length claim.now.servers.items) parts.now }
     ensures { IfOk result (λ _. text.new.items ≡
-        text.old.items ++ flat_map (interval_line style (data_of claim.now)) parts.now) }
+        text.old.items ++ flat_map (part_row style (data_of claim.now)) parts.now) }
 {
     for part in parts {
-        add_interval(text, style, claim, part)?;
+        add_part(text, style, claim, part)?;
     }
     Ok(())
 }
@@ -46,8 +67,9 @@ pub fn parts_text(
         text.items ≡ spec.parts_text style (data_of claim.now) parts.now hull) }
 {
     let mut text = Vec::new(alloc);
-    add_part_heading(&mut text, style)?;
-    add_parts(&mut text, rows(style), claim, parts)?;
-    add_hull(&mut text, rows(style), hull)?;
+    add_heading(&mut text, style, &COLUMNS)?;
+    add_parts(&mut text, style, claim, parts)?;
+    let fields = [Field::Word("hull"), hull_low(hull), hull_high(hull)];
+    add_row(&mut text, style, &fields)?;
     Ok(text)
 }

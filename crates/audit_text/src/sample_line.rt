@@ -2,18 +2,33 @@
 
 ghost use Rattle.std.specs.Prelude.{◌≡◌, ◌+◌, ◌<◌, ◌≤◌, [], ◌∷◌, ◌++◌, IfOk, codes, length};
 ghost use Rattle.claim_file.specs.Claim.{IsLawful, data_of};
-ghost use Rattle.line_writer.specs.Field.{Address, High, Label, Low, Number, rest_text};
+ghost use Rattle.line_writer.specs.Field.{Address, High, Label, Low, Number};
 ghost use Rattle.line_writer.specs.declared.field.Style.TheVariants.{Plain};
 ghost use Rattle.line_writer.specs.declared.line.TheConstants.{CAPACITY};
 ghost use Rattle.sample_interval.specs.Exchange.{IsOfSomeClaim};
-ghost use Rattle.audit_text.specs.Line.{most_line};
+ghost use Rattle.audit_text.specs.Line.{most_line, written};
 ghost use Rattle.audit_text.specs.SampleLine.{sample_line, server_of};
 
+use crate::table::add_row;
 use claim_file::Claim;
-use line_writer::{Field, Line, Style, add_line};
+use line_writer::{Field, Kind, Line, Style};
 use pairing::Exchange;
 use sample_interval::{delay, offset, sample};
 use std::alloc::AllocError;
+
+/// The columns of samples.
+pub(crate) const COLUMNS: [Field<'static>; 10] = [
+    Field::Heading("sample", Kind::Number),
+    Field::Heading("server", Kind::Name),
+    Field::Heading("request", Kind::Number),
+    Field::Heading("reply", Kind::Number),
+    Field::Heading("low offset ms", Kind::End),
+    Field::Heading("high offset ms", Kind::End),
+    Field::Heading("low delay ms", Kind::End),
+    Field::Heading("high delay ms", Kind::End),
+    Field::Heading("low error ms", Kind::End),
+    Field::Heading("high error ms", Kind::End),
+];
 
 /// The address of a server, by its number.
 pub(crate) fn server_of(claim: &Claim, number: u8) -> [u8; 4]
@@ -27,8 +42,8 @@ pub(crate) fn server_of(claim: &Claim, number: u8) -> [u8; 4]
 #[inline]
 fn put_records(line: &mut Line, server: [u8; 4], request: u32, reply: u32)
     requires { length line.old + 38 ≤ CAPACITY }
-    ensures text { line.new ≡ rest_text Plain
-        (Address server ∷ Number request ∷ Number reply ∷ []) ++ line.old }
+    ensures text { line.new ≡
+        written (Address server ∷ Number request ∷ Number reply ∷ []) line.old }
     ensures at_most { length line.new ≤ length line.old + 38 }
 {
     line.put_number(reply);
@@ -43,8 +58,8 @@ fn put_records(line: &mut Line, server: [u8; 4], request: u32, reply: u32)
 #[inline]
 fn put_interval(line: &mut Line, word: &str, ends: (i128, i128))
     requires { length line.old + length word.now + 83 ≤ CAPACITY }
-    ensures text { line.new ≡ rest_text Plain
-        (Label word.now ∷ Low ends.0 ∷ High ends.1 ∷ []) ++ line.old }
+    ensures text { line.new ≡
+        written (Label word.now ∷ Low ends.0 ∷ High ends.1 ∷ []) line.old }
     ensures at_most { length line.new ≤ length line.old + length word.now + 83 }
 {
     line.put_number(ends.1);
@@ -59,8 +74,8 @@ fn put_interval(line: &mut Line, word: &str, ends: (i128, i128))
 #[inline]
 fn put_errors(line: &mut Line, least: i128, greatest: i128)
     requires { length line.old + 91 ≤ CAPACITY }
-    ensures text { line.new ≡ rest_text Plain (Label (codes "low") ∷ Low least ∷
-        Label (codes "high") ∷ High greatest ∷ []) ++ line.old }
+    ensures text { line.new ≡ written (Label (codes "low") ∷ Low least ∷
+        Label (codes "high") ∷ High greatest ∷ []) line.old }
     ensures at_most { length line.new ≤ length line.old + 91 }
 {
     line.put_number(greatest);
@@ -122,5 +137,5 @@ pub(crate) fn add_sample(
         Field::Label("high"),
         Field::High(error.high),
     ];
-    add_line(text, style, &fields)
+    add_row(text, style, &fields)
 }

@@ -5,11 +5,12 @@ ghost use Rattle.claim_file.specs.Claim.{IsLawful, data_of};
 ghost use Rattle.pairing.specs.Exchange.{AreLawful};
 ghost use Rattle.pairing.specs.Held.{exchange_shown, held_data};
 ghost use Rattle.audit_text.specs.Samples as spec;
-ghost use Rattle.audit_text.specs.Samples.{sample_lines};
+ghost use Rattle.audit_text.specs.SampleLine.{sample_line};
+ghost use Rattle.audit_text.specs.Table.{rows_from};
 
 use crate::counts_line::add_counts;
-use crate::heading::{add_sample_heading, rows};
-use crate::sample_line::add_sample;
+use crate::sample_line::{COLUMNS, add_sample};
+use crate::table::add_heading;
 use claim_file::Claim;
 use line_writer::Style;
 use pairing::{Held, HeldExchange, ToExchange};
@@ -25,8 +26,8 @@ fn add_samples(
     requires lawful { IsLawful (data_of claim.now) }
     requires exchanges { AreLawful (length claim.now.servers.items)
         (map exchange_shown exchanges.now) }
-    ensures { IfOk result (λ _. text.new.items ≡ text.old.items ++ sample_lines
-        style (data_of claim.now) 0 (map exchange_shown exchanges.now)) }
+    ensures { IfOk result (λ _. text.new.items ≡ text.old.items ++ rows_from
+        (sample_line style (data_of claim.now)) 0 (map exchange_shown exchanges.now)) }
 {
     for (number, held) in exchanges.iter().enumerate() {
         add_sample(text, style, claim, number as u32, &held.to_exchange())?;
@@ -49,8 +50,8 @@ pub fn samples_text(
         text.items ≡ spec.samples_text style (data_of claim.now) (held_data held.now)) }
 {
     let mut text = Vec::new(alloc);
-    add_sample_heading(&mut text, style)?;
-    add_samples(&mut text, rows(style), claim, &held.exchanges)?;
+    add_heading(&mut text, style, &COLUMNS)?;
+    add_samples(&mut text, style, claim, &held.exchanges)?;
     add_counts(&mut text, held)?;
     Ok(text)
 }

@@ -7,9 +7,8 @@ ghost use Rattle.pairing.specs.Exchange.{IsLawful as IsLawfulExchange};
 ghost use Rattle.audit_text.specs.Settlement as spec;
 ghost use Rattle.audit_text.specs.Settlement.{conflict_line, pair_line};
 
-use crate::heading::for_person;
-use crate::hull_line::{hull_high, hull_low};
 use crate::sample_line::server_of;
+use crate::table::{for_person, hull_high, hull_low};
 use claim_file::{Claim, group_count};
 use courses::Conflict;
 use intersection::kinds::Hull;

@@ -1,28 +1,27 @@
 -- Texts in columns.
 use Rattle.std.proofs.Common.{◌≡◌, ℕ, ◌+◌, ◌-◌, ◌≤◌, ◌∷◌, ◌++◌, List, length, arith, refl, length-append, add-one, append_assoc}
 use Rattle.std.specs.Prelude.{replicate}
-use Rattle.line_writer.specs.Field.{FieldData, Word, Label, Number, Named, Second, TimeBelow, TimeAbove, Nanoseconds, Billionths, Low, High, Instead, Address, Reference, Nothing, in_column, width_of, most_of}
+use Rattle.line_writer.specs.declared.field.Kind.{Kind}
+use Rattle.line_writer.specs.declared.field.Kind.TheVariants as kind
+use Rattle.line_writer.specs.Field.{FieldData, Word, Label, Named, Instead, Heading, in_column, width, width_of, most_of}
 
 pub one_more : (n : ℕ) (text : List ℕ) → 32 ∷ (replicate n 32 ++ text) ≡ replicate (n + 1) 32 ++ text
 one_more n text = rw add-one refl
 
 -- no column is wider than the longest text of its field
+narrow : (k : Kind) → width k ≤ 20
+narrow kind.Number = omega arith
+narrow kind.Second = omega arith
+narrow kind.End = omega arith
+narrow kind.Name = omega arith
+
 pub in_room : (field : FieldData) → width_of field + 1 ≤ most_of field
 in_room (Word word) = omega arith
 in_room (Label word) = omega arith
-in_room (Number n) = omega arith
 in_room (Named name n) = omega arith
-in_room (Second n) = omega arith
-in_room (TimeBelow tick) = omega arith
-in_room (TimeAbove tick) = omega arith
-in_room (Nanoseconds n) = omega arith
-in_room (Billionths n) = omega arith
-in_room (Low tick) = omega arith
-in_room (High tick) = omega arith
 in_room (Instead word) = omega arith
-in_room (Address bytes) = omega arith
-in_room (Reference bytes) = omega arith
-in_room Nothing = omega arith
+in_room (Heading word k) = omega (arith, narrow k)
+in_room field = omega arith
 
 -- blanks up to an end
 pub is_in_column : (width : ℕ) (text old : List ℕ) →

@@ -13,7 +13,6 @@ use Rattle.std.proofs.lemmas.Str.{digit_value_digit}
 use Rattle.std.proofs.lemmas.Str.Parse.{digit_from_value}
 use Rattle.std.proofs.Math.Seq.{take-append_seam, drop-append_seam, drop-append-add, get_or-append_seam}
 use Rattle.era_unfold.specs.Ratio.{ceiling_of, floor_of}
-use Rattle.jiff_core.specs.Calendar.{IsCivilDate, days_from_civil}
 use Rattle.jiff_core.proofs.SignedLemmas.{signed_arith}
 use Rattle.line_writer.specs.Date.{clock_text, two_digits, four_digits, day_number, year_of, month_of, day_of, hour_of, minute_of, second_of, time_text}
 use Rattle.line_writer.specs.Millisecond.{longer, milliseconds, nanosecond_above, nanosecond_below, shorter, signed_milliseconds}
@@ -211,35 +210,30 @@ clock_is : (y m d h n s : ℕ) → y < 10000 → m < 100 → d < 100 → h < 100
 clock_is y m d h n s a b e f g i =
     rw (four_are y a, two_are m b, two_are d e, two_are h f, two_are n g, two_are s i) refl
 
--- a date and a time of day say their second
-clock_says : (y m d h n s day second : ℕ) → IsCivilDate (pos y) m d → y < 10000 → d < 100 →
-    h < 24 → n < 60 → s < 60 → days_from_civil (pos y) m d ≡ pos day →
-    86400 * day + 3600 * h + 60 * n + s ≡ second → SaysSecond (clock y m d h n s) second
-clock_says y m d h n s day second civil year_small day_small hour minute last of_day whole =
-    let a : digits_value 10 (four_digits y) ≡ y = four_value y year_small in
-    let b : digits_value 10 (two_digits m) ≡ m = two_value m (omega (arith, civil.1)) in
-    let e : digits_value 10 (two_digits d) ≡ d = two_value d day_small in
-    let f : digits_value 10 (two_digits h) ≡ h = two_value h (omega arith) in
-    let g : digits_value 10 (two_digits n) ≡ n = two_value n (omega arith) in
-    let i : digits_value 10 (two_digits s) ≡ s = two_value s (omega arith) in
-    record {
-      spelled = clock_is y m d h n s year_small (omega (arith, civil.1)) day_small (omega arith)
-          (omega arith) (omega arith);
-      date = rw (a, b, e) civil;
-      hour = rw f hour;
-      minute = rw g minute;
-      second_below = rw i last;
-      counted = rw (a, b, e, f, g, i, of_day) (ap pos (omega arith));
-    }
-
--- the second of a day of the calendar
+-- a second of a day of the calendar
 second_says : (second : ℕ) → second < 2 ^ 32 → SaysSecond (clock_text second) second
-second_says second h =
-    let is = times second h in
-    let year : year_of (day_number second) < 10000 = omega (arith, signed_arith, is.date.civil.0) in
-    clock_says (year_of (day_number second)) (month_of (day_number second)) (day_of (day_number second))
-    (hour_of second) (minute_of second) (second_of second) (day_number second) second is.date.civil
-    year (omega arith) is.hour is.minute is.second_below is.date.counted is.counted
+second_says second small =
+    let is = times second small in
+    let day = day_number second in
+    let y = year_of day in
+    let m = month_of day in
+    let d = day_of day in
+    let year : y < 10000 = omega (arith, signed_arith, is.date.civil.0) in
+    let a : digits_value 10 (four_digits y) ≡ y = four_value y year in
+    let b : digits_value 10 (two_digits m) ≡ m = two_value m (omega (arith, is.date.civil.1)) in
+    let e : digits_value 10 (two_digits d) ≡ d = two_value d (omega arith) in
+    let f : digits_value 10 (two_digits (hour_of second)) ≡ hour_of second = two_value _ (omega arith) in
+    let g : digits_value 10 (two_digits (minute_of second)) ≡ minute_of second = two_value _ (omega arith) in
+    let i : digits_value 10 (two_digits (second_of second)) ≡ second_of second = two_value _ (omega arith) in
+    record {
+      spelled = clock_is y m d (hour_of second) (minute_of second) (second_of second) year (omega (arith, is.date.civil.1))
+          (omega arith) (omega arith) (omega arith) (omega arith);
+      date = rw (a, b, e) is.date.civil;
+      hour = rw f is.hour;
+      minute = rw g is.minute;
+      second_below = rw i is.second_below;
+      counted = rw (a, b, e, f, g, i, is.date.counted) (ap pos (omega (arith, is.counted)));
+    }
 
 -- nine digits behind a point
 part_says : (ds : List ℕ) → length ds ≡ 9 → are_digits ds ≡ true →

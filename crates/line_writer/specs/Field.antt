@@ -8,6 +8,8 @@ use Rattle.line_writer.specs.Millisecond.{milliseconds, nanosecond_above, nanose
 use Rattle.line_writer.specs.Moment.{moment_above, moment_below}
 use Rattle.line_writer.specs.declared.field.Field.{Field}
 use Rattle.line_writer.specs.declared.field.Field.TheVariants as the
+use Rattle.line_writer.specs.declared.field.Kind.{Kind}
+use Rattle.line_writer.specs.declared.field.Kind.TheVariants as kind
 use Rattle.line_writer.specs.declared.field.Style.{Style}
 use Rattle.line_writer.specs.declared.field.Style.TheVariants.{Plain, Human, Columns}
 
@@ -31,11 +33,14 @@ pub data FieldData : Type 0 where
   -- the low and the high end of a range of ticks of 2^-32 s
   Low : ℤ → FieldData
   High : ℤ → FieldData
-  -- a word in the place of the ends of a range
+  -- a word in the place of the low end of a range, and an end that isn't there
   Instead : List ℕ → FieldData
+  Blank : FieldData
   -- an IPv4 address, and a reference identifier: four bytes each
   Address : List ℕ → FieldData
   Reference : List ℕ → FieldData
+  -- the heading of a column, and what stands in the column
+  Heading : List ℕ → Kind → FieldData
   -- no field stands here
   Nothing : FieldData
 
@@ -55,6 +60,8 @@ field_data (the.High tick) = High tick
 field_data (the.Instead word) = Instead word.now
 field_data (the.Address bytes) = Address bytes
 field_data (the.Reference bytes) = Reference bytes
+field_data the.Blank = Blank
+field_data (the.Heading word kind) = Heading word.now kind
 field_data the.Nothing = Nothing
 
 -- the text of a field for a program
@@ -73,6 +80,8 @@ plain_text (High tick) = signed_decimal tick
 plain_text (Instead word) = word
 plain_text (Address bytes) = address bytes
 plain_text (Reference bytes) = encode_lower bytes
+plain_text (Heading word kind) = word
+plain_text Blank = []
 plain_text Nothing = []
 
 -- a reference identifier by its name, or else the address of a server
@@ -92,15 +101,24 @@ human_text (High tick) = signed_milliseconds (nanosecond_above tick)
 human_text (Reference bytes) = reference_text bytes
 human_text field = plain_text field
 
+-- how wide a column is, by what stands in it
+abbrev pub width : Kind → ℕ
+width kind.Number = 8
+width kind.Second = 20
+width kind.End = 14
+width kind.Name = 15
+
 -- how wide the column of a field is
 abbrev pub width_of : FieldData → ℕ
-width_of (Number n) = 8
-width_of (Second n) = 20
-width_of (Low tick) = 14
-width_of (High tick) = 14
-width_of (Instead word) = 14
-width_of (Address bytes) = 15
-width_of (Word word) = 15
+width_of (Heading word kind) = width kind
+width_of (Number n) = width kind.Number
+width_of (Second n) = width kind.Second
+width_of (Low tick) = width kind.End
+width_of (High tick) = width kind.End
+width_of (Instead word) = width kind.End
+width_of Blank = width kind.End
+width_of (Address bytes) = width kind.Name
+width_of (Word word) = width kind.Name
 width_of _ = 0
 
 -- a text in a column of this width, with blanks before it
@@ -113,11 +131,13 @@ text_of Plain field = plain_text field
 text_of Human field = human_text field
 text_of Columns field = in_column (width_of field) (human_text field)
 
--- a field that leaves no trace after another: in columns no label does, since their headings say
--- what it would
+-- a field that leaves no trace after another: in columns a label, since their headings say what it
+-- would, and elsewhere an end that isn't there
 abbrev pub is_absent : Style → FieldData → Bool
 is_absent style Nothing = true
 is_absent Columns (Label word) = true
+is_absent Plain Blank = true
+is_absent Human Blank = true
 is_absent style field = false
 
 -- a field after another: a blank and its text, if it stands there
@@ -140,6 +160,7 @@ line_of style fields = fields_text style fields ++ codes "\n"
 -- how many bytes a field takes at most, with a blank before it
 abbrev pub most_of : FieldData → ℕ
 most_of (Word word) = 1 + max 15 (length word)
+most_of (Heading word kind) = 1 + max 20 (length word)
 most_of (Label word) = 1 + length word
 most_of (Instead word) = 1 + max 15 (length word)
 most_of (Named name n) = 22 + length name
@@ -153,6 +174,7 @@ room_of (field ∷ fields) = most_of field + room_of fields
 -- a field of a few words at most
 abbrev pub is_short : FieldData → Bool
 is_short (Word word) = nat_le (length word) 100
+is_short (Heading word kind) = nat_le (length word) 100
 is_short (Label word) = nat_le (length word) 100
 is_short (Instead word) = nat_le (length word) 100
 is_short (Named name n) = nat_le (length name) 79

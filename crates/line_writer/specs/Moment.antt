@@ -1,5 +1,5 @@
--- A tick of 2^-32 s of the Unix epoch as a date and a time of day in UTC, at a whole nanosecond: the
--- last that isn't after the tick, or the first that isn't before it.
+-- A tick of 2^-32 s of the Unix epoch as a date and a time of day in UTC, at a whole nanosecond:
+-- the last that isn't after the tick, or the first that isn't before it.
 use Rattle.std.specs.Prelude.{ℕ, zero, suc, ◌/◌, ◌%◌, ◌^◌, nat_lt, if◌then◌else◌}
 use Rattle.std.specs.Prelude.{ℤ, pos, negsuc, List, [], ◌++◌, codes}
 use Rattle.std.specs.Fmt.{signed_decimal}

@@ -4,7 +4,7 @@ ghost use Rattle.std.specs.Prelude.{◌≡◌, ◌+◌, ◌-◌, ◌≤◌, ◌+
 ghost use Rattle.std.specs.List.{list_all, prefix_len};
 ghost use Rattle.line_writer.specs.Text.{are_zero, is_named, is_printable, millionths};
 ghost use Rattle.line_writer.specs.Field.{field_data, fields_text, human_text, in_column, is_absent, is_short, line_of};
-ghost use Rattle.line_writer.specs.Field.{most_of, next_text, plain_text, reference_text, rest_text, room_of, text_of, width_of};
+ghost use Rattle.line_writer.specs.Field.{most_of, next_text, plain_text, reference_text, rest_text, room_of, text_of, width, width_of};
 
 use crate::date::put_time;
 use crate::line::{CAPACITY, Line};
@@ -39,14 +39,31 @@ pub enum Field<'a> {
     Low(i128),
     /// The high end of a range of ticks of 2^-32 s.
     High(i128),
-    /// A word in the place of the ends of a range.
+    /// A word in the place of the low end of a range.
     Instead(&'a str),
+    /// The end of a range that isn't there: its column is left blank.
+    Blank,
     /// An IPv4 address.
     Address([u8; 4]),
     /// A reference identifier.
     Reference([u8; 4]),
+    /// The heading of a column, and what stands in the column.
+    Heading(&'a str, Kind),
     /// No field: not even a space stands for it.
     Nothing,
+}
+
+/// What stands in a column, which says how wide that is.
+#[derive(Clone, Copy, Debug)]
+pub enum Kind {
+    /// A number that counts or names.
+    Number,
+    /// A time in whole Unix seconds.
+    Second,
+    /// An end of a range.
+    End,
+    /// An address, or a word in its place.
+    Name,
 }
 
 /// How fields are written.
@@ -67,7 +84,8 @@ fn put_plain(line: &mut Line, field: &Field<'_>)
     ensures at_most { length line.new + 1 ≤ length line.old + most_of (field_data field.now) }
 {
     match field {
-        Field::Word(word) | Field::Label(word) | Field::Instead(word) => line.put_text(word),
+        Field::Word(word) | Field::Label(word) | Field::Instead(word) | Field::Heading(word, _) =>
+            line.put_text(word),
         Field::Number(n) => line.put_number(*n),
         Field::Named(name, n) => {
             line.put_number(*n);
@@ -81,7 +99,7 @@ fn put_plain(line: &mut Line, field: &Field<'_>)
         }
         Field::Address(bytes) => line.put_address(bytes),
         Field::Reference(bytes) => line.put_hexadecimal(bytes),
-        Field::Nothing => {}
+        Field::Blank | Field::Nothing => {}
     }
 }
 
@@ -164,16 +182,30 @@ fn put_human(line: &mut Line, field: &Field<'_>)
     }
 }
 
+/// How wide a column is.
+fn width(kind: Kind) -> usize
+    ensures width { result ≡ width kind }
+    ensures narrow { result ≤ 20 }
+{
+    match kind {
+        Kind::Number => 8,
+        Kind::Second => 20,
+        Kind::End => 14,
+        Kind::Name => 15,
+    }
+}
+
 /// How wide the column of a field is.
 fn width_of(field: &Field<'_>) -> usize
     ensures width { result ≡ width_of (field_data field.now) }
     ensures narrow { result ≤ 20 }
 {
     match field {
-        Field::Number(_) => 8,
-        Field::Second(_) => 20,
-        Field::Low(_) | Field::High(_) | Field::Instead(_) => 14,
-        Field::Address(_) | Field::Word(_) => 15,
+        Field::Heading(_, kind) => width(*kind),
+        Field::Number(_) => width(Kind::Number),
+        Field::Second(_) => width(Kind::Second),
+        Field::Low(_) | Field::High(_) | Field::Instead(_) | Field::Blank => width(Kind::End),
+        Field::Address(_) | Field::Word(_) => width(Kind::Name),
         _ => 0,
     }
 }
@@ -222,6 +254,7 @@ fn is_absent(style: Style, field: &Field<'_>) -> bool
     match field {
         Field::Nothing => true,
         Field::Label(_) => matches!(style, Style::Columns),
+        Field::Blank => !matches!(style, Style::Columns),
         _ => false,
     }
 }
@@ -253,7 +286,8 @@ fn put_rest(line: &mut Line, style: Style, fields: &[Field<'_>])
 /// Writes fields, joined by spaces, before what stands in `line`. It takes no memory.
 pub fn put_fields(line: &mut Line, style: Style, fields: &[Field<'_>])
     requires { length line.old + room_of (map field_data fields.now) ≤ CAPACITY }
-    ensures { line.new ≡ fields_text style (map field_data fields.now) ++ line.old }
+    ensures text { line.new ≡ fields_text style (map field_data fields.now) ++ line.old }
+    ensures at_most { length line.new ≤ length line.old + room_of (map field_data fields.now) }
 {
     if let [first, rest @ ..] = fields {
         put_rest(line, style, rest);
@@ -266,7 +300,8 @@ fn is_short(field: &Field<'_>) -> bool
     ensures { result ≡ is_short (field_data field.now) }
 {
     match field {
-        Field::Word(word) | Field::Label(word) | Field::Instead(word) => word.len() <= 100,
+        Field::Word(word) | Field::Label(word) | Field::Instead(word) | Field::Heading(word, _) =>
+            word.len() <= 100,
         Field::Named(name, _) => name.len() <= 79,
         _ => true,
     }
@@ -288,9 +323,8 @@ fn add_field(
         return text.extend_from_slice(line.as_bytes());
     }
     match field {
-        Field::Word(word) | Field::Label(word) | Field::Instead(word) => {
-            text.extend_from_slice(word.as_bytes())
-        }
+        Field::Word(word) | Field::Label(word) | Field::Instead(word) | Field::Heading(word, _) =>
+            text.extend_from_slice(word.as_bytes()),
         Field::Named(name, n) => {
             text.extend_from_slice(name.as_bytes())?;
             line.put_number(*n);
@@ -318,8 +352,8 @@ fn add_next(
     add_field(text, line, style, field)
 }
 
-/// How many fields are written together.
-const TOGETHER: usize = 4;
+/// How many short fields have room in a line together, with its line feed.
+const TOGETHER: usize = 5;
 
 /// Whether the longest text of each field has at most 100 bytes.
 fn are_short(fields: &[Field<'_>]) -> bool
@@ -328,56 +362,22 @@ fn are_short(fields: &[Field<'_>]) -> bool
     fields.iter().all(|field| is_short(field))
 }
 
-/// Adds a few fields that follow another: if all are short, they are written and copied together.
-fn add_few(
-    text: &mut Vec<u8>,
-    line: &mut Line,
-    style: Style,
-    fields: &[Field<'_>],
-) -> Result<(), AllocError>
-    requires { length fields.now ≤ 4 }
-    ensures { IfOk result (λ _. text.new.items ≡
-        text.old.items ++ rest_text style (map field_data fields.now)) }
-{
-    if are_short(fields) {
-        line.clear();
-        put_rest(line, style, fields);
-        return text.extend_from_slice(line.as_bytes());
-    }
-    for field in fields {
-        add_next(text, line, style, field)?;
-    }
-    Ok(())
-}
-
-/// Adds fields that follow another.
-fn add_rest(
-    text: &mut Vec<u8>,
-    line: &mut Line,
-    style: Style,
-    fields: &[Field<'_>],
-) -> Result<(), AllocError>
-    ensures { IfOk result (λ _. text.new.items ≡
-        text.old.items ++ rest_text style (map field_data fields.now)) }
-{
-    let mut at = 0;
-    while at < fields.len() {
-        let end = fields.len().min(at + TOGETHER);
-        add_few(text, line, style, &fields[at..end])?;
-        at = end;
-    }
-    Ok(())
-}
-
-/// Adds a line: fields, joined by spaces, and a line feed.
+/// Adds a line: fields, joined by spaces, and a line feed. A few short ones are copied together.
 pub fn add_line(text: &mut Vec<u8>, style: Style, fields: &[Field<'_>]) -> Result<(), AllocError>
     ensures { IfOk result (λ _. text.new.items ≡
         text.old.items ++ line_of style (map field_data fields.now)) }
 {
+    let mut line = Line::new();
+    if fields.len() <= TOGETHER && are_short(fields) {
+        line.put_byte(b'\n');
+        put_fields(&mut line, style, fields);
+        return text.extend_from_slice(line.as_bytes());
+    }
     if let [first, rest @ ..] = fields {
-        let mut line = Line::new();
         add_field(text, &mut line, style, first)?;
-        add_rest(text, &mut line, style, rest)?;
+        for field in rest {
+            add_next(text, &mut line, style, field)?;
+        }
     }
     Ok(text.push(b'\n')?)
 }

@@ -2,6 +2,7 @@
 use Rattle.std.specs.Prelude.{ℕ, ◌==◌, List, [], ◌∷◌, ◌++◌, codes, Option, ℤ, pos, if◌then◌else◌}
 use Rattle.std.specs.Option.{option_map}
 use Rattle.std.specs.Fmt.{decimal, signed_decimal}
+use Rattle.std.specs.List.{join_with_byte}
 use Rattle.hex.specs.Hex.{encode_lower}
 use Rattle.era_unfold.specs.declared.unit.Unit.{Unit as SubsecondUnit}
 use Rattle.era_unfold.specs.declared.unit.Unit.TheVariants.{Micro, Nano}
@@ -19,44 +20,39 @@ abbrev pub sub_digits : SubsecondUnit → ℕ
 sub_digits Micro = 6
 sub_digits Nano = 9
 
--- fields 1 and 2: the record's number and its time
-unfoldable pub record_fields : RecordHead → List ℕ
-record_fields head =
-    decimal head.number ++ codes " " ++ decimal head.sec ++ codes "." ++
-    zero_padded (sub_digits head.unit) head.sub
+-- field 2: the record's time (field 1 is its number)
+unfoldable pub time_field : RecordHead → List ℕ
+time_field head =
+    decimal head.sec ++ codes "." ++ zero_padded (sub_digits head.unit) head.sub
 
 -- fields 3 and 4: from where and to where
-unfoldable pub endpoint_fields : Fields → List ℕ
+unfoldable pub endpoint_fields : Fields → List (List ℕ)
 endpoint_fields d =
-    codes " " ++ endpoint d.source d.source_port ++
-    codes " " ++ endpoint d.destination d.destination_port
+    endpoint d.source d.source_port ∷ endpoint d.destination d.destination_port ∷ []
 
 -- fields 5 to 7: version, mode and leap indicator
-unfoldable pub mode_fields : List ℕ → List ℕ
+unfoldable pub mode_fields : List ℕ → List (List ℕ)
 mode_fields header =
-    codes " v" ++ decimal (version_of header) ++ codes " m" ++ decimal (mode_of header) ++
-    codes " l" ++ decimal (leap_of header)
+    (codes "v" ++ decimal (version_of header)) ∷ (codes "m" ++ decimal (mode_of header)) ∷
+    (codes "l" ++ decimal (leap_of header)) ∷ []
 
 -- fields 8 and 9: stratum and precision
-unfoldable pub clock_fields : List ℕ → List ℕ
+unfoldable pub clock_fields : List ℕ → List (List ℕ)
 clock_fields header =
-    codes " s" ++ decimal (stratum_of header) ++
-    codes " p" ++ signed_decimal (precision_of header)
+    (codes "s" ++ decimal (stratum_of header)) ∷
+    (codes "p" ++ signed_decimal (precision_of header)) ∷ []
 
 -- fields 10 to 12: root delay, root dispersion and reference identifier
-unfoldable pub root_fields : List ℕ → List ℕ
+unfoldable pub root_fields : List ℕ → List (List ℕ)
 root_fields header =
-    codes " " ++ decimal (root_delay_of header) ++
-    codes " " ++ decimal (root_dispersion_of header) ++
-    codes " " ++ encode_lower (reference_id_of header)
+    decimal (root_delay_of header) ∷ decimal (root_dispersion_of header) ∷
+    encode_lower (reference_id_of header) ∷ []
 
 -- fields 13 to 16: the four timestamps as they stand
-unfoldable pub stamp_fields : List ℕ → List ℕ
+unfoldable pub stamp_fields : List ℕ → List (List ℕ)
 stamp_fields header =
-    codes " " ++ hexadecimal 8 (reference_of header) ++
-    codes " " ++ hexadecimal 8 (origin_of header) ++
-    codes " " ++ hexadecimal 8 (receive_of header) ++
-    codes " " ++ hexadecimal 8 (transmit_of header)
+    hexadecimal 8 (reference_of header) ∷ hexadecimal 8 (origin_of header) ∷
+    hexadecimal 8 (receive_of header) ∷ hexadecimal 8 (transmit_of header) ∷ []
 
 -- the moment near which the packet's timestamps are unfolded: the first tick of the record's window
 abbrev pub near_of : RecordHead → ℤ
@@ -70,48 +66,29 @@ unfolded_text near stamp =
 
 -- fields 17 to 20: the window of the record's time, in ticks, and when the sender says that it
 -- received and sent
-unfoldable pub tick_fields : RecordHead → List ℕ → List ℕ
+unfoldable pub tick_fields : RecordHead → List ℕ → List (List ℕ)
 tick_fields head header =
-    codes " " ++ signed_decimal (near_of head) ++
-    codes " " ++ signed_decimal (pos (window_high head.unit head.sec head.sub)) ++
-    codes " " ++ unfolded_text (near_of head) (receive_of header) ++
-    codes " " ++ unfolded_text (near_of head) (transmit_of header)
-
--- the whole line, with its line feed
-unfoldable pub packet_line : RecordHead → Packet → List ℕ
-packet_line head packet =
-    record_fields head ++ endpoint_fields packet.datagram ++
-    mode_fields packet.header ++ clock_fields packet.header ++
-    root_fields packet.header ++ stamp_fields packet.header ++
-    tick_fields head packet.header ++ codes "\n"
-
--- the line of a record, if it holds an NTP packet
-unfoldable pub line_of : Record → Option (List ℕ)
-line_of r = option_map (packet_line r.head) (packet_of r.bytes)
+    signed_decimal (near_of head) ∷
+    signed_decimal (pos (window_high head.unit head.sec head.sub)) ∷
+    unfolded_text (near_of head) (receive_of header) ∷
+    unfolded_text (near_of head) (transmit_of header) ∷ []
 
 -- the twenty fields one by one
 abbrev pub packet_fields : RecordHead → Packet → List (List ℕ)
 packet_fields head packet =
-    let header = packet.header in
-    let near = near_of head in
-    decimal head.number
-    ∷ (decimal head.sec ++ codes "." ++ zero_padded (sub_digits head.unit) head.sub)
-    ∷ endpoint packet.datagram.source packet.datagram.source_port
-    ∷ endpoint packet.datagram.destination packet.datagram.destination_port
-    ∷ (codes "v" ++ decimal (version_of header))
-    ∷ (codes "m" ++ decimal (mode_of header))
-    ∷ (codes "l" ++ decimal (leap_of header))
-    ∷ (codes "s" ++ decimal (stratum_of header))
-    ∷ (codes "p" ++ signed_decimal (precision_of header))
-    ∷ decimal (root_delay_of header)
-    ∷ decimal (root_dispersion_of header)
-    ∷ encode_lower (reference_id_of header)
-    ∷ hexadecimal 8 (reference_of header)
-    ∷ hexadecimal 8 (origin_of header)
-    ∷ hexadecimal 8 (receive_of header)
-    ∷ hexadecimal 8 (transmit_of header)
-    ∷ signed_decimal near
-    ∷ signed_decimal (pos (window_high head.unit head.sec head.sub))
-    ∷ unfolded_text near (receive_of header)
-    ∷ unfolded_text near (transmit_of header)
-    ∷ []
+    decimal head.number ∷ time_field head ∷ (
+    endpoint_fields packet.datagram ++ mode_fields packet.header ++ clock_fields packet.header ++
+    root_fields packet.header ++ stamp_fields packet.header ++ tick_fields head packet.header)
+
+-- the whole line: its fields with one blank between them, and a line feed
+unfoldable pub packet_line : RecordHead → Packet → List ℕ
+packet_line head packet = join_with_byte 32 (packet_fields head packet) ++ codes "\n"
+
+-- fields that follow another, a blank before each, and then a text
+abbrev pub spaced : List (List ℕ) → List ℕ → List ℕ
+spaced [] text = text
+spaced (field ∷ fields) text = codes " " ++ field ++ spaced fields text
+
+-- the line of a record, if it holds an NTP packet
+unfoldable pub line_of : Record → Option (List ℕ)
+line_of r = option_map (packet_line r.head) (packet_of r.bytes)

@@ -43,7 +43,10 @@ pub fn broken_capture_is_listed()
 }
 
 /// A line is twenty fields with one space between them, and a line feed.
+#[tactic(auto, unfolding(crate::specs::PacketLine::packet_line))]
 pub fn line_has_twenty_fields()
-    ensures { (head : RecordHead) (packet : Packet) →
+    ensures joined { (head : RecordHead) (packet : Packet) →
         packet_line head packet ≡ join_with_byte 32 (packet_fields head packet) ++ codes "\n" }
+    ensures twenty { (head : RecordHead) (packet : Packet) →
+        length (packet_fields head packet) ≡ 20 }
 {}

@@ -1,11 +1,12 @@
 //! The line of `list` for one NTP packet.
 
-ghost use Rattle.std.specs.Prelude.{◌≡◌, ◌+◌, ◌<◌, ◌≤◌, ◌++◌, length, pos, ◌≤ℤ◌, ◌^◌};
+ghost use Rattle.std.specs.Prelude.{◌≡◌, ◌+◌, ◌<◌, ◌≤◌, ◌∷◌, [], ◌++◌, length, pos, ◌≤ℤ◌, ◌^◌};
+ghost use Rattle.std.specs.Fmt.{decimal};
 ghost use Rattle.era_unfold.specs.Window.{per_second};
 ghost use Rattle.frame_reader.specs.Frame.{fields_of};
 ghost use Rattle.ntp_packet.specs.Packet.{packet_shown};
 ghost use Rattle.line_writer.specs.declared.line.TheConstants.{CAPACITY};
-ghost use Rattle.listing.specs.PacketLine.{record_fields, endpoint_fields, mode_fields, clock_fields, root_fields, stamp_fields, unfolded_text, tick_fields, packet_line};
+ghost use Rattle.listing.specs.PacketLine.{time_field, endpoint_fields, mode_fields, clock_fields, root_fields, stamp_fields, unfolded_text, tick_fields, packet_line, spaced};
 
 use era_unfold::{Unit, high, low, unfold};
 use frame_reader::kinds::Datagram;
@@ -15,12 +16,13 @@ use ntp_packet::kinds::Packet;
 use pcap_reader::RecordHead;
 
 /// The record's number and its time.
-#[tactic(auto, unfolding(crate::specs::PacketLine::record_fields))]
+#[tactic(auto, unfolding(crate::specs::PacketLine::time_field))]
 #[inline]
 fn put_record(line: &mut Line, head: &RecordHead)
     requires room { length line.old + 32 ≤ CAPACITY }
     requires lawful { head.now.sub < per_second head.now.unit }
-    ensures text { line.new ≡ record_fields head.now ++ line.old }
+    ensures text { line.new ≡
+        decimal head.now.number ++ spaced (time_field head.now ∷ []) line.old }
     ensures at_most { length line.new ≤ length line.old + 32 }
 {
     match head.unit {
@@ -38,7 +40,7 @@ fn put_record(line: &mut Line, head: &RecordHead)
 #[inline]
 fn put_endpoints(line: &mut Line, datagram: &Datagram<'_>)
     requires { length line.old + 44 ≤ CAPACITY }
-    ensures text { line.new ≡ endpoint_fields (fields_of datagram.now) ++ line.old }
+    ensures text { line.new ≡ spaced (endpoint_fields (fields_of datagram.now)) line.old }
     ensures at_most { length line.new ≤ length line.old + 44 }
 {
     line.put_endpoint(&datagram.destination, datagram.destination_port);
@@ -52,7 +54,7 @@ fn put_endpoints(line: &mut Line, datagram: &Datagram<'_>)
 #[inline]
 fn put_mode(line: &mut Line, header: &NtpView<'_>)
     requires { length line.old + 15 ≤ CAPACITY }
-    ensures text { line.new ≡ mode_fields header.now ++ line.old }
+    ensures text { line.new ≡ spaced (mode_fields header.now) line.old }
     ensures at_most { length line.new ≤ length line.old + 15 }
 {
     line.put_number(header.leap());
@@ -68,7 +70,7 @@ fn put_mode(line: &mut Line, header: &NtpView<'_>)
 #[inline]
 fn put_clock(line: &mut Line, header: &NtpView<'_>)
     requires { length line.old + 11 ≤ CAPACITY }
-    ensures text { line.new ≡ clock_fields header.now ++ line.old }
+    ensures text { line.new ≡ spaced (clock_fields header.now) line.old }
     ensures at_most { length line.new ≤ length line.old + 11 }
 {
     line.put_number(header.precision());
@@ -82,7 +84,7 @@ fn put_clock(line: &mut Line, header: &NtpView<'_>)
 #[inline]
 fn put_root(line: &mut Line, header: &NtpView<'_>)
     requires { length line.old + 31 ≤ CAPACITY }
-    ensures text { line.new ≡ root_fields header.now ++ line.old }
+    ensures text { line.new ≡ spaced (root_fields header.now) line.old }
     ensures at_most { length line.new ≤ length line.old + 31 }
 {
     line.put_hexadecimal(&header.reference_id());
@@ -98,7 +100,7 @@ fn put_root(line: &mut Line, header: &NtpView<'_>)
 #[inline]
 fn put_stamps(line: &mut Line, header: &NtpView<'_>)
     requires { length line.old + 68 ≤ CAPACITY }
-    ensures text { line.new ≡ stamp_fields header.now ++ line.old }
+    ensures text { line.new ≡ spaced (stamp_fields header.now) line.old }
     ensures grows { length line.new ≡ length line.old + 68 }
 {
     line.put_stamp(header.transmit());
@@ -134,7 +136,7 @@ fn put_unfolded(line: &mut Line, stamp: u64, near: i128)
 fn put_ticks(line: &mut Line, head: &RecordHead, header: &NtpView<'_>)
     requires room { length line.old + 164 ≤ CAPACITY }
     requires lawful { head.now.sub < per_second head.now.unit }
-    ensures text { line.new ≡ tick_fields head.now header.now ++ line.old }
+    ensures text { line.new ≡ spaced (tick_fields head.now header.now) line.old }
     ensures at_most { length line.new ≤ length line.old + 164 }
 {
     let near = low(head.sec, head.sub, head.unit);

@@ -10,7 +10,7 @@ returns g c =
       c.in_ok-add_bound.ensures,
       c.in_ok-add_pieces.ensures,
       c.deref.ensures.value,
-      c.rows.ensures,
-      c.in_ok-add_piece_heading.ensures,
+      c.in_ok-add_heading.ensures,
+      c.columns.ensures,
       c.new-text.ensures.items,
     ) (simp append_assoc refl)

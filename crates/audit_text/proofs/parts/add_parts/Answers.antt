@@ -1,15 +1,15 @@
 use Rattle.claim_file.specs.Claim.{data_of}
-use Rattle.audit_text.specs.IntervalLine.{interval_line}
+use Rattle.audit_text.specs.Parts.{part_row}
 use Rattle.audit_text.proofs.Lines.{listed_more, listed_all}
 use Rattle.audit_text.proofs.parts.add_parts.Goals as goal
 
 pub loop-part-preserved : goal.loop-part-preserved
 loop-part-preserved c =
-    listed_more (interval_line c.args.style (data_of c.args.claim.now)) c.args.parts.now c.loop-part.part-index _
-    c.loop-part-test.true c.args.text.now.items c.loop-part.text.items c.add_interval.new.text.items
-    c.in_ok-add_interval.ensures c.loop-part.invariant
+    listed_more (part_row c.args.style (data_of c.args.claim.now)) c.args.parts.now c.loop-part.part-index _
+    c.loop-part-test.true c.args.text.now.items c.loop-part.text.items c.add_part.new.text.items
+    c.in_ok-add_part.ensures c.loop-part.invariant
 
 pub returns : goal.returns
 returns c =
-    listed_all (interval_line c.args.style (data_of c.args.claim.now)) c.args.parts.now c.loop-part.part-index
+    listed_all (part_row c.args.style (data_of c.args.claim.now)) c.args.parts.now c.loop-part.part-index
     c.loop-part-test.false c.args.text.now.items c.loop-part.text.items c.loop-part.invariant

@@ -6,10 +6,10 @@ pub returns : goal.returns
 unfolding parts_text
 returns c =
     rw (
-      c.in_ok-add_hull.ensures,
-      c.rows-2.ensures,
+      c.in_ok-add_row.ensures,
+      c.hull_low.ensures,
+      c.hull_high.ensures,
       c.in_ok-add_parts.ensures,
-      c.rows.ensures,
-      c.in_ok-add_part_heading.ensures,
+      c.in_ok-add_heading.ensures,
       c.new-text.ensures.items,
     ) (simp append_assoc refl)

@@ -2,11 +2,12 @@ use Rattle.std.proofs.Common.{◌≡◌, ◌∙◌, ◌++◌, ◌^◌, ◌<◌, 
 use Rattle.std.proofs.lemmas.Int.{ints, to_z-of_z, fits_signed_from_abs}
 use Rattle.std.specs.Result.{IfOk}
 use mir.Syntax.{w128}
-use Rattle.line_writer.specs.Field.{line_of, Number, Address, Label, Low, High}
+use Rattle.line_writer.specs.Field.{Number, Address, Label, Low, High}
 use Rattle.sample_interval.specs.OnWire.{offset_from, offset_to, delay_from, delay_to}
 use Rattle.sample_interval.specs.Sample.{sample_of}
 use Rattle.sample_interval.specs.declared.kinds.Sample.{Sample}
 use Rattle.audit_text.specs.SampleLine.{sample_line}
+use Rattle.audit_text.specs.Table.{row_of}
 use Rattle.audit_text.proofs.sample_line.add_sample.Goals as goal
 
 fits : (a : ℤ) → unsigned_abs a < 2 ^ 127 → to_z w128 (of_z w128 a) ≡ a
@@ -25,10 +26,10 @@ returns c =
     let delay = c.delay-delay_from.result in
     let error = c.sample-error.result in
     let kept : ℤ → ℤ = λ z. to_z w128 (of_z w128 z) in
-    let told : IfOk c.add_line.result (λ _. c.add_line.new.text.items ≡ c.args.text.now.items ++ line_of c.args.style (
+    let told : IfOk c.add_row.result (λ _. c.add_row.new.text.items ≡ c.args.text.now.items ++ row_of c.args.style (
     Number c.from.result ∷ Address c.server_of.result ∷ Number c.from-2.result ∷ Number c.from-3.result ∷
     Label (codes "offset") ∷ Low (kept offset.0) ∷ High (kept offset.1) ∷ Label (codes "delay") ∷ Low (kept delay.0) ∷ High (kept delay.1) ∷
-    Label (codes "low") ∷ Low (kept error.low) ∷ Label (codes "high") ∷ High (kept error.high) ∷ [])) = c.add_line.ensures in
+    Label (codes "low") ∷ Low (kept error.low) ∷ Label (codes "high") ∷ High (kept error.high) ∷ [])) = c.add_row.ensures in
     rw (
       sym c.from.ensures,
       sym c.from-2.ensures,

@@ -1,17 +1,26 @@
-use Rattle.std.proofs.Common.{◌≡◌, ◌∙◌, ◌^◌, ◌<◌, ℤ, [], ◌∷◌, ap, arith, codes, unsigned_abs, to_z, of_z}
+use Rattle.std.proofs.Common.{◌≡◌, ◌∙◌, ◌^◌, ◌<◌, ℕ, ℤ, [], ◌∷◌, ap, arith, codes, refl, unsigned_abs, to_z, of_z}
 use Rattle.std.proofs.lemmas.Int.{ints, to_z-of_z, fits_signed_from_abs}
 use mir.Syntax.{w128}
-use Rattle.line_writer.specs.Field.{Number, Address, Label, Low, High}
-use Rattle.claim_file.specs.Claim.{data_of}
+use Rattle.line_writer.specs.Field.{line_of, Number, Address, Label, Low, High}
+use Rattle.line_writer.specs.declared.field.Style.TheVariants.{Plain}
+use Rattle.claim_file.specs.Claim.{ClaimData, data_of}
+use Rattle.pairing.specs.declared.exchange.Exchange.{Exchange}
 use Rattle.sample_interval.specs.OnWire.{offset_from, offset_to, delay_from, delay_to}
 use Rattle.sample_interval.specs.Sample.{least_error, greatest_error, sample_of}
 use Rattle.sample_interval.specs.declared.kinds.Sample.{Sample}
-use Rattle.audit_text.specs.SampleLine.{sample_line, server_of}
+use Rattle.audit_text.specs.SampleLine.{sample_fields, sample_line, server_of}
+use Rattle.audit_text.specs.Table.{row_of}
 use Rattle.audit_text.proofs.PlainLines.{groups_written}
 use Rattle.audit_text.proofs.sample_line.write_sample_line.Goals as goal
 
 fits : (a : ℤ) → unsigned_abs a < 2 ^ 127 → to_z w128 (of_z w128 a) ≡ a
 fits a h = to_z-of_z w128 a (fits_signed_from_abs w128 a h)
+
+-- no field of it is blank
+whole : (claim : ClaimData) (number : ℕ) (x : Exchange) →
+    line_of Plain (sample_fields claim number x) ≡ row_of Plain (sample_fields claim number x)
+unfolding row_of
+whole claim number x = refl
 
 pub returns-clause-text : goal.returns-clause-text
 unfolding sample_line
@@ -44,4 +53,5 @@ returns-clause-text c =
     (Label (codes "offset") ∷ Low (offset_from x claim.reading) ∷ High (offset_to x claim.reading) ∷ [])
     (Label (codes "delay") ∷ Low (delay_from x claim.reading) ∷ High (delay_to x claim.reading) ∷ [])
     (Label (codes "low") ∷ Low (least_error x claim.reading) ∷
-    Label (codes "high") ∷ High (greatest_error x claim.reading) ∷ []))
+    Label (codes "high") ∷ High (greatest_error x claim.reading) ∷ [])
+    ∙ whole claim c.args.number x)

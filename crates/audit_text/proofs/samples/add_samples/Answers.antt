@@ -3,7 +3,7 @@ use Rattle.std.proofs.lemmas.List.{length-map}
 use Rattle.claim_file.specs.Claim.{data_of}
 use Rattle.pairing.specs.Held.{exchange_shown}
 use Rattle.audit_text.specs.SampleLine.{sample_line}
-use Rattle.audit_text.proofs.Sample.{line_added, lines_done}
+use Rattle.audit_text.proofs.Rows.{row_added, rows_done}
 use Rattle.audit_text.proofs.Shown.{keeps_limits, stands_at}
 use Rattle.audit_text.proofs.samples.add_samples.Goals as goal
 
@@ -27,7 +27,7 @@ loop-number-preserved c =
     let x = c.to_exchange.result in
     let stands = stands_at exchange_shown held i _ c.loop-number-test.true x c.to_exchange.ensures x in
     let within : i < length (map exchange_shown held) = rw (length-map held exchange_shown) c.loop-number-test.true in
-    line_added c.args.style claim (map exchange_shown held) i x within c.loop-number.text.items _ _
+    row_added (sample_line c.args.style claim) (map exchange_shown held) i x within c.loop-number.text.items _ _
     (c.in_ok-add_sample.ensures ∙ ap (λ e. c.loop-number.text.items ++ sample_line c.args.style claim i e) stands)
     c.loop-number.invariant
 
@@ -36,5 +36,5 @@ returns c =
     let held = c.args.exchanges.now in
     let past : length (map exchange_shown held) ≤ c.loop-number.number =
     rw (length-map held exchange_shown) c.loop-number-test.false in
-    lines_done c.args.style (data_of c.args.claim.now) (map exchange_shown held) c.loop-number.number past
+    rows_done (sample_line c.args.style (data_of c.args.claim.now)) (map exchange_shown held) c.loop-number.number past
     _ _ c.loop-number.invariant

@@ -1,12 +1,12 @@
 use Rattle.std.proofs.Common.{◌≡◌, ◌++◌, drop, map}
 use Rattle.pairing.specs.Held.{exchange_shown}
 use Rattle.claim_file.specs.Claim.{data_of}
-use Rattle.audit_text.specs.Samples.{sample_lines}
+use Rattle.audit_text.specs.SampleLine.{sample_line}
+use Rattle.audit_text.specs.Table.{rows_from}
 use Rattle.audit_text.proofs.samples.add_samples.Given as goal
 
 abbrev pub invariant-loop-number : goal.invariant-loop-number
 invariant-loop-number l =
-    let claim = data_of l.claim in
+    let row = sample_line l.style (data_of l.claim) in
     let exchanges = map exchange_shown l.exchanges in
-    l.text.items ++ sample_lines l.style claim l.number (drop l.number exchanges)
-    ≡ l.initial.text.items ++ sample_lines l.style claim 0 exchanges
+    l.text.items ++ rows_from row l.number (drop l.number exchanges) ≡ l.initial.text.items ++ rows_from row 0 exchanges

@@ -3,7 +3,7 @@ use Rattle.std.proofs.lemmas.Int.{ints, to_z-of_z, fits_signed_from_abs}
 use mir.Syntax.{w128}
 use Rattle.line_writer.specs.Field.{TimeAbove}
 use Rattle.pairing.specs.Exchange.{IsInRange}
-use Rattle.audit_text.specs.Heading.{for_person}
+use Rattle.audit_text.specs.Table.{for_person}
 use Rattle.audit_text.specs.Settlement.{pair_line}
 use Rattle.audit_text.proofs.settlement.add_pair.Goals as goal
 

@@ -1,4 +1,4 @@
-use Rattle.std.proofs.Common.{◌∙◌, append_assoc}
+use Rattle.std.proofs.Common.{◌∙◌}
 use Rattle.std.proofs.lemmas.Int.{to_z-of_z}
 use mir.Syntax.{w128}
 use Rattle.listing.specs.PacketLine.{tick_fields}
@@ -22,4 +22,4 @@ returns-clause-text c =
       c.put_unfolded.ensures.text,
       c.transmit.ensures,
       low,
-    ) (simp append_assoc)
+    )

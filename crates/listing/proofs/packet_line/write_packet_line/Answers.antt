@@ -1,5 +1,5 @@
-use Rattle.std.proofs.Common.{append_assoc}
 use Rattle.listing.specs.PacketLine.{packet_line}
+use Rattle.listing.proofs.TwentyFields.{joined_by_blanks, spaced-append}
 use Rattle.listing.proofs.packet_line.write_packet_line.Goals as goal
 
 pub returns-clause-text : goal.returns-clause-text
@@ -15,4 +15,4 @@ returns-clause-text c =
       c.put_ticks.ensures.text,
       c.put_byte.ensures.text,
       c.clear.ensures,
-    ) (simp append_assoc)
+    ) (simp (joined_by_blanks, spaced-append))

@@ -1,7 +1,7 @@
 use Rattle.std.proofs.Common.{◌≡◌, ◌++◌, map, take}
 use Rattle.line_writer.specs.Field.{field_data, rest_text}
-use Rattle.line_writer.proofs.field.add_few.Given as goal
+use Rattle.line_writer.proofs.field.add_line.Given as goal
 
 abbrev pub invariant-loop-field : goal.invariant-loop-field
 invariant-loop-field l =
-    l.text.items ≡ l.initial.text.items ++ rest_text l.style (map field_data (take l.field-index l.fields))
+    l.text.items ≡ l.initial.text.items ++ rest_text l.style (map field_data (take l.field-index l.rest))

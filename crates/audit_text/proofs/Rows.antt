@@ -1,0 +1,23 @@
+-- Rows of numbered things, one after another.
+use Rattle.std.proofs.Common.{◌≡◌, ◌∙◌, ◌+◌, ◌<◌, ◌≤◌, ◌++◌, ℕ, List, length, drop, get_or, refl, sym, ap, add-one, append_assoc, append-nil}
+use Rattle.std.proofs.lemmas.List.{drop_all}
+use Rattle.std.proofs.Math.Seq.{drop-cons}
+use Rattle.audit_text.specs.Table.{rows_from}
+
+module _ {X : Type 0} (row : ℕ → X → List ℕ) (xs : List X) (i : ℕ) where
+  -- the row of the one at a place, and then those of the others
+  rows_more : (d : X) → i < length xs →
+      rows_from row i (drop i xs) ≡ row i (get_or xs i d) ++ rows_from row (i + 1) (drop (i + 1) xs)
+  rows_more d within = ap (rows_from row i) (drop-cons xs i d within) ∙ rw add-one refl
+
+  -- the row of the one at a place was added
+  pub row_added : (d : X) → i < length xs → (old new start : List ℕ) → new ≡ old ++ row i (get_or xs i d) →
+      old ++ rows_from row i (drop i xs) ≡ start → new ++ rows_from row (i + 1) (drop (i + 1) xs) ≡ start
+  row_added d within old new start added so_far =
+      rw (added, append_assoc) (ap (λ l. old ++ l) (sym (rows_more d within)) ∙ so_far)
+
+  -- every row was added
+  pub rows_done : length xs ≤ i → (text start : List ℕ) → text ++ rows_from row i (drop i xs) ≡ start → text ≡ start
+  rows_done past text start so_far =
+      let none = ap (rows_from row i) (drop_all i xs past) in
+      sym (append-nil text) ∙ ap (λ l. text ++ l) (sym none) ∙ so_far
