@@ -129,15 +129,11 @@ same_most_second refutation_second made answer stays = same_most inputs.Refutati
 
 -- ---- what was lawful if memory is refused
 
-has_claim : (known : Option (List ℕ)) (claim : Claim) →
-    IfSome known (λ bytes. Reads claim_data (claim_read bytes) (Ok claim)) → HasClaim known
-has_claim None claim reads = tt
-has_claim (Some bytes) claim reads = subst (λ (r : Result ClaimData RunFault). IsOk r) (sym reads) refl
-
 -- no later input was looked at, or the claim was read
 pub claim_was_read : (P : Type 0) (known : Option (List ℕ)) (read : Result Claim RunFault) →
     IfSome known (λ bytes. Reads claim_data (claim_read bytes) read) → IfErr read (λ fault. P) → P ⊎ HasClaim known
-claim_was_read P known (Ok claim) reads unread = inr (has_claim known claim reads)
+claim_was_read P None (Ok claim) reads unread = inr tt
+claim_was_read P (Some bytes) (Ok claim) reads unread = inr (rw reads refl)
 claim_was_read P known (Err fault) reads unread = inl unread
 
 -- the second input was read
@@ -225,20 +221,12 @@ any_outside : (report : Option Report) (fault : RunFault) → IsFromOutside faul
 any_outside None fault h = tt
 any_outside (Some r) fault h = made_outside r fault h
 
-of_capture_isnt_written : (fault : RunFault) → IsOfCapture fault → IsUnwritten (Err fault)
-of_capture_isnt_written (faults.Write sent) h = absurd h
-of_capture_isnt_written (faults.Device inputs.Sums) h = absurd h
-of_capture_isnt_written fault h = tt
-
-of_second_isnt_written : (fault : RunFault) → IsOfSecond fault → IsUnwritten (Err fault)
-of_second_isnt_written (faults.Write sent) h = absurd h
-of_second_isnt_written (faults.Device inputs.Sums) h = absurd h
-of_second_isnt_written fault h = tt
-
-of_claim_isnt_written : (fault : RunFault) → IsOfClaim fault → IsUnwritten (Err fault)
-of_claim_isnt_written (faults.Write sent) h = absurd h
-of_claim_isnt_written (faults.Device inputs.Sums) h = absurd h
-of_claim_isnt_written fault h = tt
+-- an input's fault is no failed write, nor that of a file of sums
+isnt_written : (IsOf : RunFault → Type 0) → ((sent : ℕ) → ¬ (IsOf (faults.Write sent))) →
+    ¬ (IsOf (faults.Device inputs.Sums)) → (fault : RunFault) → IsOf fault → IsUnwritten (Err fault)
+isnt_written IsOf no_write no_sums (faults.Write sent) h = no_write sent h
+isnt_written IsOf no_write no_sums (faults.Device inputs.Sums) h = no_sums h
+isnt_written IsOf no_write no_sums fault h = tt
 
 -- the refusal is what reading gave
 same_refusal : {A : Type 0} (other : Result A RunFault) (fault : RunFault) → IsUnwritten (Err fault) →
@@ -258,7 +246,8 @@ module _ {V : Type 0} (said : V → SecondData) (asked : AskedData) (finding : F
       IfSome (after_second asked finding claim second capture) (λ report. IsMadeFor report (Err fault))
   second_refusal of None capture reads = tt
   second_refusal of (Some (Err other)) capture reads =
-      same_refusal (let read : Result SecondData RunFault = Err other in read) fault (of_second_isnt_written fault of) reads
+      same_refusal (let read : Result SecondData RunFault = Err other in read) fault
+      (isnt_written IsOfSecond (λ sent h. h) (λ h. h) fault of) reads
   second_refusal of (Some (Ok known)) capture (inl outside) =
       any_outside (after_second asked finding claim (Some (Ok known)) capture) fault outside
   second_refusal of (Some (Ok known)) capture (inr is) = absurd cc
@@ -269,7 +258,8 @@ module _ (asked : AskedData) (finding : Finding) (fault : RunFault) (of : IsOfCl
   pub claim_refusal : (expected : Result ClaimData RunFault) → Reads claim_data expected (Err fault) →
       IfSome (after_claim asked finding expected second capture) (λ report. IsMadeFor report (Err fault))
   claim_refusal (Err other) reads =
-      same_refusal (let read : Result ClaimData RunFault = Err other in read) fault (of_claim_isnt_written fault of) reads
+      same_refusal (let read : Result ClaimData RunFault = Err other in read) fault
+      (isnt_written IsOfClaim (λ sent h. h) (λ h. h) fault of) reads
   claim_refusal (Ok known) (inl outside) =
       any_outside (after_claim asked finding (Ok known) second capture) fault outside
   claim_refusal (Ok known) (inr is) = absurd cc
@@ -280,7 +270,7 @@ module _ (asked : AskedData) (finding : Finding) (claim : ClaimData) (fault : Ru
   refused_after said read (inl outside) = made_outside (after_capture asked finding said claim read) fault outside
   refused_after said read (inr is) =
       subst (λ (r : Result Collection RunFault). IsMadeFor (after_capture asked finding said claim r) (Err fault))
-      (sym is) (refusal_for fault (of_capture_isnt_written fault of))
+      (sym is) (refusal_for fault (isnt_written IsOfCapture (λ sent h. h) (λ h. h) fault of))
 
   -- its refusal is what the bytes of the inputs call for
   pub capture_refusal : {V : Type 0} (said : V → SecondData) (value : V)

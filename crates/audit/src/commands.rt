@@ -76,16 +76,8 @@ pub fn run_samples<C: Feed, F: Feed, S: Sink>(
         (run_state (C.state claim.new) no_feed (F.state result.0) (S.state out.new))
         capture result.0 result.1 }
 {
-    run(
-        alloc,
-        Samples,
-        Style::Plain,
-        claim,
-        &mut (),
-        capture,
-        out,
-        fixed(),
-    )
+    let (style, hasher) = (Style::Plain, fixed());
+    run(alloc, Samples, style, claim, &mut (), capture, out, hasher)
 }
 
 /// Shows what each server says about the clock of the claim's client at one moment, by its best
@@ -107,15 +99,16 @@ pub fn run_at<C: Feed, F: Feed, S: Sink>(
     ensures held { IfOk result.1 (λ outcome.
         IsHeld second (C.state claim.old) (F.state capture)) }
 {
+    let (style, hasher) = (Style::Plain, fixed());
     run(
         alloc,
         At { second },
-        Style::Plain,
+        style,
         claim,
         &mut (),
         capture,
         out,
-        fixed(),
+        hasher,
     )
 }
 
@@ -141,15 +134,16 @@ pub fn run_check<C: Feed, F: Feed, T: Feed, S: Sink>(
     ensures contradiction { result.1 ≡ Ok Outcome.No →
         IsNotTraced (C.state claim.old) (T.state certificate.old) (F.state capture) }
 {
+    let (style, hasher) = (Style::Plain, fixed());
     run(
         alloc,
         Check,
-        Style::Plain,
+        style,
         claim,
         certificate,
         capture,
         out,
-        fixed(),
+        hasher,
     )
 }
 
@@ -176,15 +170,16 @@ pub fn run_refute<C: Feed, F: Feed, T: Feed, S: Sink>(
     ensures uncontested { result.1 ≡ Ok Outcome.No →
         IsUncontested false (C.state claim.old) (T.state refutation.old) (F.state capture) }
 {
+    let (style, hasher) = (Style::Plain, fixed());
     run(
         alloc,
         Refute { drift: false },
-        Style::Plain,
+        style,
         claim,
         refutation,
         capture,
         out,
-        fixed(),
+        hasher,
     )
 }
 
@@ -213,15 +208,16 @@ pub fn run_find<C: Feed, F: Feed, S: Sink>(
         IsNotFound step_s (C.state claim.old) (F.state capture) }
 {
     let step = Step { seconds: step_s };
+    let (style, hasher) = (Style::Plain, fixed());
     run(
         alloc,
         Find { step },
-        Style::Plain,
+        style,
         claim,
         &mut (),
         capture,
         out,
-        fixed(),
+        hasher,
     )
 }
 
@@ -243,14 +239,6 @@ pub fn run_seek<C: Feed, F: Feed, S: Sink>(
     ensures none { result.1 ≡ Ok Outcome.No →
         IsIrrefutable (C.state claim.old) (F.state capture) }
 {
-    run(
-        alloc,
-        Seek,
-        Style::Plain,
-        claim,
-        &mut (),
-        capture,
-        out,
-        fixed(),
-    )
+    let (style, hasher) = (Style::Plain, fixed());
+    run(alloc, Seek, style, claim, &mut (), capture, out, hasher)
 }
