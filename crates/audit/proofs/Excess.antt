@@ -1,5 +1,5 @@
 -- An error beyond the bound: in parts of a tick, in nanoseconds, and of an accepted refutation.
-use Rattle.std.proofs.Common.{◌≡◌, ℕ, suc, ◌*◌, ◌<◌, ◌≤◌, ℤ, pos, negsuc, ◌*ℤ◌, ◌<ℤ◌, unsigned_abs, Bool, true, false, inl, ⊎_elim, List, length, get_or, Some, refl, ap, ◌∙◌, subst, arith}
+use Rattle.std.proofs.Common.{◌≡◌, ℕ, suc, ◌*◌, ◌<◌, ◌≤◌, ℤ, pos, negsuc, ◌*ℤ◌, ◌<ℤ◌, unsigned_abs, Bool, true, false, inl, ⊎_elim, List, length, get_or, Some, refl, ap, ◌∙◌, arith}
 use Rattle.std.specs.Prelude.{slice_get}
 use Rattle.std.proofs.Math.Nat.{mul-le-mul_right}
 use Rattle.std.proofs.lemmas.Bool.{cases_lt}
@@ -59,8 +59,7 @@ module _ (text : List ℕ) (claim : ClaimData) (said : IsClaimText text claim) (
   beyond_ticks : said.bound < size
   unfolding size
   beyond_ticks =
-      let beyond : pos said.bound <ℤ pos (unsigned_abs has.error) =
-      subst (λ (z : ℤ). z <ℤ pos (unsigned_abs has.error)) said.bound_in_ticks has.beyond in
+      let beyond = rw said.bound_in_ticks at has.beyond in
       omega (arith, ints)
 
   pub beyond_in_ticks : IsBeyond has.course claim.bound

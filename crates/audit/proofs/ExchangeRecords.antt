@@ -210,11 +210,7 @@ pub record AreInPlace (unit : TimeUnit) (records : List Record) : Type 0 where
 -- the same packet, with addresses and ports said in other words
 pub moved : {s s₂ : List ℕ} {p p₂ : ℕ} {d d₂ : List ℕ} {q q₂ : ℕ} (frame header : List ℕ) → s ≡ s₂ → p ≡ p₂ → d ≡ d₂
     → q ≡ q₂ → HoldsPacket frame s p d q header → HoldsPacket frame s₂ p₂ d₂ q₂ header
-moved {s} {s₂} {p} {p₂} {d} {d₂} {q} {q₂} frame header a b c e held =
-    subst (λ (x : List ℕ). HoldsPacket frame x p₂ d₂ q₂ header) a
-    (subst (λ (x : ℕ). HoldsPacket frame s x d₂ q₂ header) b
-    (subst (λ (x : List ℕ). HoldsPacket frame s p x q₂ header) c
-    (subst (λ (x : ℕ). HoldsPacket frame s p d x header) e held)))
+moved frame header a b c e held = rw (a, b, c, e) at held
 
 module _ (laws : Laws) (claim : ClaimData) (apart : AllPairs (λ a b. a ≢ b) claim.servers) (unit : TimeUnit)
     (records : List Record) (given : AreInPlace unit records) where

@@ -34,12 +34,11 @@ ntp_port_of d h = (
 
 module _ (a b c d e : List ℕ) where
   five : a ++ b ++ c ++ d ++ e ≡ a ++ (b ++ (c ++ (d ++ e)))
-  five = append_assoc (a ++ b ++ c) d e ∙ append_assoc (a ++ b) c (d ++ e) ∙ append_assoc a b (c ++ (d ++ e))
+  five = simp append_assoc
 
   module _ (front : List ℕ) where
     after_front : front ++ a ++ b ++ c ++ d ++ e ≡ front ++ (a ++ (b ++ (c ++ (d ++ e))))
-    after_front = append_assoc (front ++ a ++ b ++ c) d e ∙ append_assoc (front ++ a ++ b) c (d ++ e)
-        ∙ append_assoc (front ++ a) b (c ++ (d ++ e)) ∙ append_assoc front a (b ++ (c ++ (d ++ e)))
+    after_front = simp append_assoc
 
 -- what stands before the payload of a UDP datagram
 abbrev udp_head : ℕ → ℕ → ℕ → ℕ → List ℕ

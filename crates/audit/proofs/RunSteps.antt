@@ -40,10 +40,9 @@ use Rattle.audit.specs.Finding.{IsFindingIn, IsFindingOf}
 -- what holds of the fault of what was made, and of any failed write, holds of the answer's
 pub of_fault : (P : RunFault → Type 0) → ((sent : ℕ) → P (faults.Write sent)) → (made : Result Ready RunFault)
     (answer : Result Outcome RunFault) → IsAnswerFor made answer → IfErr made P → IfErr answer P
-of_fault P write (Ok m) answer (inl same) h = subst (λ (a : Result Outcome RunFault). IfErr a P) (sym same) tt
-of_fault P write (Ok m) answer (inr (sent, is)) h =
-    subst (λ (a : Result Outcome RunFault). IfErr a P) (sym is) (write sent)
-of_fault P write (Err fault) answer same h = subst (λ (a : Result Outcome RunFault). IfErr a P) (sym same) h
+of_fault P write (Ok m) answer (inl same) h = rw same tt
+of_fault P write (Ok m) answer (inr (sent, is)) h = rw is (write sent)
+of_fault P write (Err fault) answer same h = rw same h
 
 -- being out of memory was known before
 pub was_memory : (made : Result Ready RunFault) (answer : Result Outcome RunFault) → IsAnswerFor made answer →
@@ -101,8 +100,7 @@ pub claim_taken : (read : Result Claim RunFault) (made : Result Ready RunFault) 
     IfErr read (λ fault. made ≡ Err fault) → TakesAtMost (most_read inputs.Claim max_claim read) before after →
     TakesAtMost (most_read inputs.Claim max_claim made) before after
 claim_taken (Ok claim) made before after is h = takes_within inputs.Claim max_claim made before after h
-claim_taken (Err fault) made before after is h =
-    subst (λ (m : Result Ready RunFault). TakesAtMost (most_read inputs.Claim max_claim m) before after) (sym is) h
+claim_taken (Err fault) made before after is h = rw is h
 
 -- what is taken of a second input that was read is within its limit at any later answer
 pub second_taken : {V : Type 0} (kind : SecondKind) (read : V) (answer : Result Ready RunFault)
@@ -198,10 +196,8 @@ module _ {T F : Type 0} (asked : AskedData) (finding : Finding) (before after : 
         made answer p.stays h.second_untouched;
     capture_untouched = of_fault (λ fault. IsBeforeCapture fault → capture' ≡ capture) (λ sent no. absurd no)
         made answer p.stays h.capture_untouched;
-    claim_at_most = subst (λ (n : ℕ). TakesAtMost n before.claim after.claim)
-        (same_most inputs.Claim max_claim made answer p.stays) h.claim_at_most;
-    second_at_most = subst (λ (n : ℕ). TakesAtMost n before.second after.second)
-        (same_most_second asked.second made answer p.stays) h.second_at_most;
+    claim_at_most = rw (same_most inputs.Claim max_claim made answer p.stays) at h.claim_at_most;
+    second_at_most = rw (same_most_second asked.second made answer p.stays) at h.second_at_most;
     capture_at_most = h.capture_at_most;
     claim_memory = λ is. h.claim_memory (was_memory made answer p.stays is);
     second_memory = λ is. h.second_memory (was_memory made answer p.stays is);
@@ -298,11 +294,8 @@ module _ {V : Type 0} (said : V → SecondData) (asked : AskedData) (finding : F
   evidence_made (Some (Err other)) capture read collected is = absurd cc
   evidence_made (Some (Ok known)) None read collected is = tt
   evidence_made (Some (Ok known)) (Some bytes) read collected is =
-      subst (λ (r : Result Collection RunFault). IsMadeFor (after_capture asked finding known claim r) made)
-      (sym collected)
-      (subst (λ (s : SecondData). IsMadeFor
-      (asked.question.report asked.style finding s (evidence_of claim (held_data held))) made)
-      (let same : said value ≡ known = cc in same) is)
+      let same : said value ≡ known = cc in
+      rw collected (rw same at is)
 
 -- a finding on the evidence is one on the bytes of the capture
 pub finding_after : (finding : Finding) (claim : ClaimData) (collection : Collection) (capture : Option (List ℕ)) →

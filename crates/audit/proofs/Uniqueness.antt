@@ -12,7 +12,6 @@ use Rattle.serde_json.specs.Find.{get}
 use Rattle.serde_json.specs.View.{items_of}
 use Rattle.claim_file.specs.Address.{address_of}
 use Rattle.claim_file.specs.Claim.{ClaimData}
-use Rattle.claim_file.specs.Group.{IsInGroup}
 use Rattle.claim_file.specs.Time.{IsTime, time_of}
 use Rattle.audit.specs.Claimed.{IsClaimText, IsTimeAt, numbers_value}
 
@@ -105,15 +104,13 @@ module _ (laws : Laws) where
     client_same : c.client ≡ d.client
     client_same =
         let texts : x.client_text ≡ y.client_text = cc (value_same, x.client_stands, y.client_stands) in
-        dotted_same y.client_text c.client d.client
-        (subst (λ (l : List ℕ). IsDotted l c.client) texts x.client) y.client
+        dotted_same y.client_text c.client d.client (rw texts at x.client) y.client
 
     servers_same : c.servers ≡ d.servers
     servers_same =
         let texts = lists_same string (λ s t is. cc) x.server_texts y.server_texts
         (cc (value_same, x.servers_stand, y.servers_stand)) in
-        all_dotted_same y.server_texts c.servers d.servers
-        (subst (λ (l : List (List ℕ)). AllZip IsDotted l c.servers) texts x.servers) y.servers
+        all_dotted_same y.server_texts c.servers d.servers (rw texts at x.servers) y.servers
 
     bound_ns_same : c.bound_ns ≡ d.bound_ns
     bound_ns_same = number_at (codes "bound_ns") c.bound_ns d.bound_ns x.bound_ns y.bound_ns
@@ -121,8 +118,7 @@ module _ (laws : Laws) where
     bound_same : c.bound ≡ d.bound
     bound_same =
         let is = floor_same (d.bound_ns * ticks_per_second) nanoseconds_per_second x.bound y.bound
-        (subst (λ (n : ℕ). IsFloor (n * ticks_per_second) nanoseconds_per_second x.bound) bound_ns_same x.bound_is)
-        y.bound_is in
+        (rw bound_ns_same at x.bound_is) y.bound_is in
         x.bound_in_ticks ∙ ap pos is ∙ sym y.bound_in_ticks
 
     reading_ns_same : c.reading_ns ≡ d.reading_ns
@@ -131,8 +127,7 @@ module _ (laws : Laws) where
     reading_same : c.reading ≡ d.reading
     reading_same =
         let is = ceiling_same (d.reading_ns * ticks_per_second) nanoseconds_per_second x.reading y.reading
-        (subst (λ (n : ℕ). IsCeiling (n * ticks_per_second) nanoseconds_per_second x.reading) reading_ns_same
-        x.reading_is) y.reading_is in
+        (rw reading_ns_same at x.reading_is) y.reading_is in
         x.reading_in_ticks ∙ ap pos is ∙ sym y.reading_in_ticks
 
     listed_same : x.listed ≡ y.listed
@@ -146,8 +141,7 @@ module _ (laws : Laws) where
     group_same = same_list c.groups d.groups
         (x.each_in_a_group ∙ counts_same ∙ sym y.each_in_a_group)
         (λ server group at. (y.groups server group).1
-        (subst (λ (o : Option (List (List ℕ))). IsInGroup (length d.servers) o server group) listed_same
-        (subst (λ (n : ℕ). IsInGroup n x.listed server group) counts_same ((x.groups server group).0 at))))
+        (rw (listed_same, counts_same) at ((x.groups server group).0 at)))
 
     -- a text says one claim
     pub one_claim : c ≡ d

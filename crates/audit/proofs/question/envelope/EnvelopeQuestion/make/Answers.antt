@@ -6,7 +6,7 @@ use Rattle.audit.specs.Envelope.{IsEnvelopeOf, envelope}
 use Rattle.audit.specs.Evidence.{evidence_data}
 use Rattle.audit.specs.Question.{ShowsOf, no_finding}
 use Rattle.audit.specs.Second.{no_second, nothing_said}
-use Rattle.audit.proofs.EnvelopeShowing.{count_is_few, envelope_made, envelope_refused, envelope_shows, few_pieces, why_refused}
+use Rattle.audit.proofs.EnvelopeShowing.{count_is_few, envelope_made, envelope_refused, envelope_shows, few_pieces}
 use Rattle.audit.proofs.Showing.{of_evidence, told_made, told_shows, unfound}
 use Rattle.audit.proofs.question.envelope.EnvelopeQuestion.make.Goals as goal
 
@@ -56,5 +56,4 @@ returns-clause-made c =
     let e = evidence_data c.args.evidence in
     unfound (envelope_refused c.args.style c.args.self.step.seconds c.args.self.servers c.args.self.least e
     c.in-Err.fault c.run_fault_of.result c.run_fault_of.ensures
-    (why_refused e.claim c.args.self.step.seconds _ _ c.samples_of.ensures.samples c.in-Err.fault
-    c.in-Err.ensures.exact))
+    (rw c.samples_of.ensures.samples at c.in-Err.ensures.exact))
