@@ -1,16 +1,17 @@
 -- The errors that the entries of an accepted piece admit: there are some, and none is beyond the bound.
-use Rattle.std.proofs.Common.{◌≡◌, ℕ, zero, suc, ◌-◌, ◌*◌, ◌<◌, ◌≤◌, ℤ, pos, negsuc, neg_ℤ, ◌+ℤ◌, ◌-ℤ◌, ◌*ℤ◌, ◌≤ℤ◌, ◌<ℤ◌, unsigned_abs, nat_lt, Bool, true, false, cond, ◌&&◌, List, [], ◌∷◌, length, Option, Some, None, count_by, refl, sym, ap, ◌∙◌, subst, arith}
-use Rattle.std.specs.Prelude.{slice_get, slice_index, ◌==◌}
-use Rattle.std.specs.List.{AllZip, list_any}
+use Rattle.std.proofs.Common.{◌≡◌, ℕ, zero, suc, ◌-◌, ◌*◌, ◌<◌, ◌≤◌, ℤ, pos, negsuc, neg_ℤ, ◌+ℤ◌, ◌-ℤ◌, ◌*ℤ◌, ◌≤ℤ◌, ◌<ℤ◌, unsigned_abs, Bool, true, false, cond, ◌&&◌, ⊎_elim, List, length, Option, Some, None, count_by, refl, sym, ap, ◌∙◌, subst, arith}
+use Rattle.std.specs.Prelude.{IsSomeAnd, slice_get, slice_index, ◌==◌}
+use Rattle.std.specs.List.{list_any}
 use Rattle.std.specs.Option.{option_map}
 use Rattle.std.proofs.Math.Nat.{mul-le-mul_right}
-use Rattle.std.proofs.lemmas.Bool.{ltb-true, ltb-false, cond-true, cond-false, and_parts, and_from}
+use Rattle.std.proofs.lemmas.Bool.{cases_lt, cond-true, cond-false, and_parts, and_from}
 use Rattle.std.proofs.lemmas.Bool.Decides.{nat_tests}
 use Rattle.std.proofs.lemmas.Int.{ints}
 use Rattle.std.proofs.lemmas.List.Folds.{Any-from_list_any}
 use Rattle.std.proofs.lemmas.List.Sums.{sum_by-le-sum_by}
 use Rattle.std.proofs.lemmas.Map.Keys.{any_passes_from_place}
 use Rattle.std.proofs.lemmas.Option.{slice_get-map, slice_get_read}
+use Rattle.std.proofs.lemmas.Slice.Zip.{AllZip-left, AllZip-right}
 use Rattle.era_unfold.specs.Ratio.{IsCeiling}
 use Rattle.claim_file.specs.Claim.{ClaimData}
 use Rattle.intersection.specs.Interval.{leaves_out}
@@ -32,35 +33,14 @@ use Rattle.checker.proofs.EntryStep.{held_ends, held_test}
 use Rattle.checker.proofs.Part.{by_test}
 use Rattle.checker.proofs.PieceFit.{all_numbers}
 use Rattle.audit.specs.Headline.{MayChangeBy, Admit}
+use Rattle.audit.proofs.RecordFrames.{mapped}
 
 -- ---- lists
 
--- what stands at a place of the first list goes with what stands there in the second
-zip_at : {A B : Type 0} (R : A → B → Type 0) (xs : List A) (ys : List B) → AllZip R xs ys → (j : ℕ) (x : A)
-    → slice_get xs j ≡ Some x → (y : B) × (slice_get ys j ≡ Some y) × R x y
-zip_at R [] ys all j x at = absurd cc
-zip_at R (a ∷ xs) [] all j x at = absurd all
-zip_at R (a ∷ xs) (b ∷ ys) all zero x at =
-    let same : a ≡ x = cc in
-    (b, refl, subst (λ z. R z b) same all.0)
-zip_at R (a ∷ xs) (b ∷ ys) all (suc j) x at = zip_at R xs ys all.1 j x at
-
--- and the other way round
-zip_back : {A B : Type 0} (R : A → B → Type 0) (xs : List A) (ys : List B) → AllZip R xs ys → (j : ℕ) (y : B)
-    → slice_get ys j ≡ Some y → (x : A) × (slice_get xs j ≡ Some x) × R x y
-zip_back R [] [] all j y at = absurd cc
-zip_back R [] (b ∷ ys) all j y at = absurd all
-zip_back R (a ∷ xs) [] all j y at = absurd all
-zip_back R (a ∷ xs) (b ∷ ys) all zero y at =
-    let same : b ≡ y = cc in
-    (a, refl, subst (λ z. R a z) same all.0)
-zip_back R (a ∷ xs) (b ∷ ys) all (suc j) y at = zip_back R xs ys all.1 j y at
-
--- what is made of an element
-made_of : {A B : Type 0} (f : A → B) (o : Option A) (y : B) → option_map f o ≡ Some y
-    → (x : A) × (o ≡ Some x) × (f x ≡ y)
-made_of f None y is = absurd cc
-made_of f (Some x) y is = (x, refl, cc)
+-- a value of which something holds
+some_with : {A : Type 0} (P : A → Type 0) (o : Option A) → IsSomeAnd o P → (x : A) × (o ≡ Some x) × P x
+some_with P None h = absurd h
+some_with P (Some x) h = (x, refl, h)
 
 -- ---- ratios
 
@@ -86,26 +66,18 @@ in_reach n (suc d) w (negsuc k) some ceiling most = omega (arith, ints)
 in_reach n (suc d) w (pos zero) some ceiling most = omega (arith, ints)
 in_reach n (suc d) w (pos (suc k)) some ceiling most =
     let below : k < w = omega (arith, ints) in
-    at below (nat_lt (k * suc d) n) refl
-  where
-    at : k < w → (b : Bool) → nat_lt (k * suc d) n ≡ b → ((pos (suc k) -ℤ pos 1) *ℤ pos (suc d)) <ℤ pos n
-    at below true e = subst (λ (z : ℤ). z <ℤ pos n) (sym (one_less k (suc d)))
-        (as_whole (k * suc d) n (ltb-true (k * suc d) n e))
-    at below false e = let least = ceiling.least k (ltb-false (k * suc d) n e) in absurd (omega (arith, least, below))
+    rw (one_less k (suc d)) (as_whole (k * suc d) n (⊎_elim (λ less. less)
+    (λ more. absurd (let least = ceiling.least k more in omega (arith, least, below)))
+    (cases_lt (k * suc d) n)))
 
 -- and what is less than that is no more
 from_reach : (n d w : ℕ) (z : ℤ) → IsCeiling n d w → ((z -ℤ pos 1) *ℤ pos d) <ℤ pos n → z ≤ℤ pos w
 from_reach n d w (negsuc k) ceiling less = omega (arith, ints)
 from_reach n d w (pos zero) ceiling less = omega (arith, ints)
 from_reach n d w (pos (suc k)) ceiling less =
-    at (as_natural (k * d) n (subst (λ (z : ℤ). z <ℤ pos n) (one_less k d) less)) (nat_lt k w) refl
-  where
-    at : k * d < n → (b : Bool) → nat_lt k w ≡ b → pos (suc k) ≤ℤ pos w
-    at fewer true e = let below = ltb-true k w e in omega (arith, ints, below)
-    at fewer false e =
-        let scaled = mul-le-mul_right d (ltb-false k w e) in
-        let enough = ceiling.not_below in
-        absurd (omega (arith, scaled, enough, fewer))
+    let fewer = as_natural (k * d) n (rw (one_less k d) at less) in
+    ⊎_elim (λ below. omega (arith, ints, below))
+    (λ over. absurd (omega (arith, mul-le-mul_right d over, ceiling.not_below, fewer))) (cases_lt k w)
 
 low_over : (l e : ℤ) (w : ℕ) → (l -ℤ pos w) ≤ℤ e → (l -ℤ e) ≤ℤ pos w
 low_over l e w h = omega (arith, ints)
@@ -200,7 +172,7 @@ module _ (widenings : WideningLaw) (claim : ClaimData) (rate : claim.drift_ppb �
   exchange_at : (k : ℕ) (s : Sample) → slice_get (samples_of xs claim) k ≡ Some s
       → (x : Exchange) × (slice_get xs k ≡ Some x) × (sample_of x claim.reading ≡ s)
   exchange_at k s found =
-      made_of (λ z. sample_of z claim.reading) (slice_get xs k) s
+      mapped (λ z. sample_of z claim.reading) (slice_get xs k) s
       (sym (slice_get-map (λ z. sample_of z claim.reading) xs k) ∙ found)
 
   -- the part that an entry of two exchanges says
@@ -250,7 +222,8 @@ module _ (widenings : WideningLaw) (claim : ClaimData) (rate : claim.drift_ppb �
         (all_numbers (length claim.groups))
         (let few = shown.hull.1.0 in let same = count_is shown.lo in omega (arith, few, same));
     room = λ j a b x y named at_a at_b fine.
-        let found = zip_at Said entries shown.parts shown.said j (a, b) named in
+        let found = some_with (Said (a, b)) (slice_get shown.parts j)
+        (rw named at (AllZip-left Said entries shown.parts shown.said j)) in
         let part = found.0 in
         let is = part_is a b x y part at_a at_b found.2 in
         let server : part.server ≡ x.server = ap (λ (p : Part). p.server) is in
@@ -269,7 +242,8 @@ module _ (widenings : WideningLaw) (claim : ClaimData) (rate : claim.drift_ppb �
     admitted_by : (j : ℕ) (part : Part) → slice_get shown.parts j ≡ Some part
         → admit.is_wrong (slice_index claim.groups part.server) ≡ false → leaves_out part.interval error ≡ false
     admitted_by j part at fine =
-        let found = zip_back Said entries shown.parts shown.said j part at in
+        let found = some_with (λ entry. Said entry part) (slice_get entries j)
+        (rw at at (AllZip-right Said entries shown.parts shown.said j)) in
         let entry = found.0 in
         let low_at = exchange_at entry.0 found.2.low found.2.low_is in
         let high_at = exchange_at entry.1 found.2.high found.2.high_is in

@@ -1,5 +1,5 @@
 -- What a claim that was read says about its text.
-use Rattle.std.proofs.Common.{◌≡◌, ℕ, ◌*◌, ◌<◌, ◌≤◌, Bool, true, false, ◌↔◌, List, [], ◌∷◌, length, map, codes, Option, Some, None, Result, Ok, Err, refl, ap, ◌∙◌, subst, arith}
+use Rattle.std.proofs.Common.{◌≡◌, ℕ, ◌*◌, ◌<◌, ◌≤◌, Bool, true, ◌↔◌, List, [], ◌∷◌, length, map, codes, Option, Some, None, Result, Ok, Err, refl, ap, subst, arith}
 use Rattle.std.specs.Prelude.{slice_get}
 use Rattle.std.proofs.lemmas.Bool.Decides.{nat_tests}
 use Rattle.std.specs.List.{AllZip}
@@ -8,7 +8,7 @@ use Rattle.std.specs.Net.Grammar.{IsDotted}
 use Rattle.era_unfold.specs.Nanoseconds.{nanoseconds_per_second, ticks_down, ticks_up}
 use Rattle.era_unfold.specs.Ratio.{IsFloor, IsCeiling, floor_of, ceiling_of}
 use Rattle.era_unfold.specs.Window.{ticks_per_second}
-use Rattle.serde_json.specs.Data.{Data, null, boolean, number, string, array, object, Items, no_items, item, Num, unsigned, negative, float}
+use Rattle.serde_json.specs.Data.{Data, number, string, array, Items, no_items, item, Num, unsigned}
 use Rattle.serde_json.specs.Find.{get, as_array, as_str, as_u64}
 use Rattle.serde_json.specs.View.{items_of}
 use Rattle.json_text.specs.Member.{unsigned_at, unsigned_of}
@@ -37,46 +37,33 @@ pub record Laws : Type 0 where
 -- ---- members of a kind
 
 string_is : (d : Data) (text : List ℕ) → as_str d ≡ Some text → d ≡ string text
-string_is null text e = absurd cc
-string_is (boolean b) text e = absurd cc
-string_is (number n) text e = absurd cc
-string_is (string s) text e = let same : s ≡ text = cc in ap string same
-string_is (array items) text e = absurd cc
-string_is (object _) text e = absurd cc
+string_is (string s) text e = cc
+string_is d text e = cc
 
 array_is : (d : Data) (items : Items) → as_array d ≡ Some items → d ≡ array items
-array_is null items e = absurd cc
-array_is (boolean b) items e = absurd cc
-array_is (number n) items e = absurd cc
-array_is (string s) items e = absurd cc
-array_is (array list) items e = let same : list ≡ items = cc in ap array same
-array_is (object _) items e = absurd cc
+array_is (array list) items e = cc
+array_is d items e = cc
 
 whole_is : (num : Num) (n : ℕ) → as_u64 num ≡ Some n → num ≡ unsigned n
-whole_is (unsigned m) n e = let same : m ≡ n = cc in ap unsigned same
-whole_is (negative z) n e = absurd cc
-whole_is (float x) n e = absurd cc
+whole_is (unsigned m) n e = cc
+whole_is num n e = cc
 
 number_is : (d : Data) (n : ℕ) → unsigned_of d ≡ Some n → d ≡ number (unsigned n)
-number_is null n e = absurd cc
-number_is (boolean b) n e = absurd cc
 number_is (number num) n e = ap number (whole_is num n e)
-number_is (string s) n e = absurd cc
-number_is (array items) n e = absurd cc
-number_is (object _) n e = absurd cc
+number_is d n e = cc
 
 -- a member, if it is there and of a kind
 member_is : {A : Type 0} (kind : Data → Option A) (make : A → Data)
     → ((d : Data) (a : A) → kind d ≡ Some a → d ≡ make a) → (o : Option Data) (a : A)
     → option_and_then kind o ≡ Some a → o ≡ Some (make a)
-member_is kind make is None a e = absurd cc
+member_is kind make is None a e = cc
 member_is kind make is (Some d) a e = ap Some (is d a e)
 
 -- the elements of an array of a kind
 items_are : {A : Type 0} (kind : Data → Option A) (make : A → Data)
     → ((d : Data) (a : A) → kind d ≡ Some a → d ≡ make a) → (items : Items) (xs : List A)
     → all_of kind items ≡ Some xs → items ≡ items_of (map make xs)
-items_are kind make is no_items xs e = let same : [] ≡ xs = cc in ap (λ l. items_of (map make l)) same
+items_are kind make is no_items xs e = cc
 items_are kind make is (item d rest) xs e =
     at (kind d) (all_of kind rest) refl (λ others of_rest. items_are kind make is rest others of_rest) e
   where
@@ -84,23 +71,15 @@ items_are kind make is (item d rest) xs e =
         → ((list : List _) → others ≡ Some list → rest ≡ items_of (map make list))
         → option_and_then (λ a. option_map (λ as'. a ∷ as') others) first ≡ Some xs
         → item d rest ≡ items_of (map make xs)
-    at None others first_is rest_is h = absurd cc
-    at (Some a) None first_is rest_is h = absurd cc
-    at (Some a) (Some as') first_is rest_is h =
-        let same : a ∷ as' ≡ xs = cc in
-        ap (λ (v : Data). item v rest) (is d a first_is) ∙ ap (λ (l : Items). item (make a) l) (rest_is as' refl)
-        ∙ ap (λ l. items_of (map make l)) same
+    at (Some a) (Some as') first_is rest_is h = cc (is d a first_is, rest_is as' refl)
+    at first others first_is rest_is h = cc
 
 -- an array of a kind, as the value of a member
 list_is : {A : Type 0} (kind : Data → Option A) (make : A → Data)
     → ((d : Data) (a : A) → kind d ≡ Some a → d ≡ make a) → (d : Data) (xs : List A)
     → option_and_then (all_of kind) (as_array d) ≡ Some xs → d ≡ array (items_of (map make xs))
-list_is kind make is d xs e = at (as_array d) refl e
-  where
-    at : (o : Option Items) → as_array d ≡ o → option_and_then (all_of kind) o ≡ Some xs
-        → d ≡ array (items_of (map make xs))
-    at None found h = absurd cc
-    at (Some items) found h = array_is d items found ∙ ap array (items_are kind make is items xs h)
+list_is kind make is (array items) xs e = ap array (items_are kind make is items xs e)
+list_is kind make is d xs e = cc
 
 numbers_are : (d : Data) (ns : List ℕ) → numbers_of d ≡ Some ns → d ≡ numbers_value ns
 numbers_are d ns e = list_is unsigned_of (λ n. number (unsigned n)) number_is d ns e
@@ -109,34 +88,30 @@ numbers_are d ns e = list_is unsigned_of (λ n. number (unsigned n)) number_is d
 texts_are : (o : Option Data) (texts : List (List ℕ))
     → option_and_then texts_of (option_and_then as_array o) ≡ Some texts
     → o ≡ Some (array (items_of (map string texts)))
-texts_are None texts e = absurd cc
+texts_are None texts e = cc
 texts_are (Some d) texts e = ap Some (list_is as_str string string_is d texts e)
 
 -- groups, which may be absent
 groups_are : (o : Option Data) (listed : Option (List (List ℕ))) → absent_or number_lists_of o ≡ Some listed
     → o ≡ option_map (λ groups. array (items_of (map numbers_value groups))) listed
-groups_are None listed e = let same : None ≡ listed = cc in
-    ap (option_map (λ groups. array (items_of (map numbers_value groups)))) same
+groups_are None listed e = cc
 groups_are (Some d) listed e = at (number_lists_of d) refl e
   where
     at : (o : Option (List (List ℕ))) → number_lists_of d ≡ o → option_map Some o ≡ Some listed
         → Some d ≡ option_map (λ groups. array (items_of (map numbers_value groups))) listed
-    at None found h = absurd cc
-    at (Some groups) found h =
-        let same : Some groups ≡ listed = cc in
-        ap Some (list_is numbers_of numbers_value numbers_are d groups found)
-        ∙ ap (option_map (λ lists. array (items_of (map numbers_value lists)))) same
+    at None found h = cc
+    at (Some groups) found h = cc (list_is numbers_of numbers_value numbers_are d groups found)
 
 -- ---- one step of a reading
 
 given_step : {A B E : Type 0} (fault : E) (o : Option A) (rest : A → Result B E) (b : B)
     → given fault o rest ≡ Ok b → (a : A) × (o ≡ Some a) × (rest a ≡ Ok b)
-given_step fault None rest b e = absurd cc
+given_step fault None rest b e = cc
 given_step fault (Some a) rest b e = (a, refl, e)
 
 after_step : {A B E : Type 0} (r : Result A E) (rest : A → Result B E) (b : B) → after r rest ≡ Ok b
     → (a : A) × (r ≡ Ok a) × (rest a ≡ Ok b)
-after_step (Err fault) rest b e = absurd cc
+after_step (Err fault) rest b e = cc
 after_step (Ok a) rest b e = (a, refl, e)
 
 -- ---- all steps of a reading
@@ -185,65 +160,23 @@ fields_parts : {M E : Type 0} (e : ℕ → E) (found : Found M) (f : FieldsData)
     × (found.7 ≡ Some f.drift_ppb)
     × (found.8 ≡ Some f.reading_ns)
     × (found.9 ≡ Some f.groups)
-fields_parts e (None, o0, o1, o2, o3, o4, o5, o6, o7, o8) f h = absurd cc
-fields_parts e (Some m, None, o1, o2, o3, o4, o5, o6, o7, o8) f h = absurd cc
-fields_parts e (Some m, Some v0, None, o2, o3, o4, o5, o6, o7, o8) f h = absurd cc
-fields_parts e (Some m, Some v0, Some v1, None, o3, o4, o5, o6, o7, o8) f h = absurd cc
-fields_parts e (Some m, Some v0, Some v1, Some v2, None, o4, o5, o6, o7, o8) f h = absurd cc
-fields_parts e (Some m, Some v0, Some v1, Some v2, Some v3, None, o5, o6, o7, o8) f h = absurd cc
-fields_parts e (Some m, Some v0, Some v1, Some v2, Some v3, Some v4, None, o6, o7, o8) f h = absurd cc
-fields_parts e (Some m, Some v0, Some v1, Some v2, Some v3, Some v4, Some v5, None, o7, o8) f h = absurd cc
-fields_parts e (Some m, Some v0, Some v1, Some v2, Some v3, Some v4, Some v5, Some v6, None, o8) f h = absurd cc
-fields_parts e (Some m, Some v0, Some v1, Some v2, Some v3, Some v4, Some v5, Some v6, Some v7, None) f h = absurd cc
 fields_parts e (Some m, Some v0, Some v1, Some v2, Some v3, Some v4, Some v5, Some v6, Some v7, Some v8) f h =
-    let same : record {
-      client = v0;
-      servers = v1;
-      false_max = v2;
-      begin = v3;
-      end = v4;
-      bound_ns = v5;
-      drift_ppb = v6;
-      reading_ns = v7;
-      groups = v8;
-    } ≡ f = cc in (
-      ap (λ (x : FieldsData). Some x.client) same,
-      ap (λ (x : FieldsData). Some x.servers) same,
-      ap (λ (x : FieldsData). Some x.false_max) same,
-      ap (λ (x : FieldsData). Some x.begin) same,
-      ap (λ (x : FieldsData). Some x.end) same,
-      ap (λ (x : FieldsData). Some x.bound_ns) same,
-      ap (λ (x : FieldsData). Some x.drift_ppb) same,
-      ap (λ (x : FieldsData). Some x.reading_ns) same,
-      ap (λ (x : FieldsData). Some x.groups) same,
-    )
+    (cc, cc, cc, cc, cc, cc, cc, cc, cc)
+fields_parts e found f h = absurd cc
 
 named_parts : {E : Type 0} (x y z w : E) (a : Option (List ℕ)) (b : Option (List (List ℕ))) (s t : Option ℕ)
     (n : NamedData)
     → (given x a λ client. given y b λ servers. given z s λ first. given w t λ last.
     Ok (record { client = client; servers = servers; first = first; last = last })) ≡ Ok n
     → (a ≡ Some n.client) × (b ≡ Some n.servers) × (s ≡ Some n.first) × (t ≡ Some n.last)
-named_parts x y z w None b s t n h = absurd cc
-named_parts x y z w (Some a) None s t n h = absurd cc
-named_parts x y z w (Some a) (Some b) None t n h = absurd cc
-named_parts x y z w (Some a) (Some b) (Some s) None n h = absurd cc
-named_parts x y z w (Some a) (Some b) (Some s) (Some t) n h =
-    let same : record { client = a; servers = b; first = s; last = t } ≡ n = cc in (
-      ap (λ (m : NamedData). Some m.client) same,
-      ap (λ (m : NamedData). Some m.servers) same,
-      ap (λ (m : NamedData). Some m.first) same,
-      ap (λ (m : NamedData). Some m.last) same,
-    )
+named_parts x y z w (Some a) (Some b) (Some s) (Some t) n h = (cc, cc, cc, cc)
+named_parts x y z w a b s t n h = absurd cc
 
 limits_parts : {E : Type 0} (x y z : E) (a b : Bool) (o : Option (List ℕ)) (made : List ℕ → ClaimData)
     (claim : ClaimData) → asked x a (asked y b (given z o λ groups. Ok (made groups))) ≡ Ok claim
     → (groups : List ℕ) × (a ≡ true) × (o ≡ Some groups) × (made groups ≡ claim)
-limits_parts x y z false b o made claim h = absurd cc
-limits_parts x y z true false o made claim h = absurd cc
-limits_parts x y z true true None made claim h = absurd cc
-limits_parts x y z true true (Some groups) made claim h =
-    let same : made groups ≡ claim = cc in
-    (groups, refl, refl, same)
+limits_parts x y z true true (Some groups) made claim h = (groups, refl, refl, cc)
+limits_parts x y z a b o made claim h = absurd cc
 
 -- a claim in range has a server
 some_server : (f : FieldsData) (n : NamedData) → is_in_range f n ≡ true → 1 ≤ length n.servers
@@ -252,22 +185,19 @@ some_server f n e = grind (arith, nat_tests)
 -- ---- addresses
 
 module _ (laws : Laws) where
-  dotted_step : (text : List ℕ) (texts : List (List ℕ)) (first : Option (List ℕ)) (others : Option (List (List ℕ)))
-      (list : List (List ℕ)) → address_of text ≡ first
-      → ((rest : List (List ℕ)) → others ≡ Some rest → AllZip IsDotted texts rest)
-      → option_and_then (λ a. option_map (λ as'. a ∷ as') others) first ≡ Some list
-      → AllZip IsDotted (text ∷ texts) list
-  dotted_step text texts None others list is rest e = absurd cc
-  dotted_step text texts (Some first) None list is rest e = absurd cc
-  dotted_step text texts (Some first) (Some others) list is rest e =
-      let same : first ∷ others ≡ list = cc in
-      subst (AllZip IsDotted (text ∷ texts)) same ((laws.address text first).0 is, rest others refl)
-
   dotted : (texts : List (List ℕ)) (list : List (List ℕ)) → addresses_of texts ≡ Some list
       → AllZip IsDotted texts list
   dotted [] list e = let same : [] ≡ list = cc in subst (AllZip IsDotted []) same tt
-  dotted (text ∷ texts) list e =
-      dotted_step text texts (address_of text) (addresses_of texts) list refl (λ rest is. dotted texts rest is) e
+  dotted (text ∷ texts) list e = at (address_of text) (addresses_of texts) refl (λ rest is. dotted texts rest is) e
+    where
+      at : (first : Option (List ℕ)) (others : Option (List (List ℕ))) → address_of text ≡ first
+          → ((rest : List (List ℕ)) → others ≡ Some rest → AllZip IsDotted texts rest)
+          → option_and_then (λ a. option_map (λ as'. a ∷ as') others) first ≡ Some list
+          → AllZip IsDotted (text ∷ texts) list
+      at (Some first) (Some others) is rest e =
+          let same : first ∷ others ≡ list = cc in
+          subst (AllZip IsDotted (text ∷ texts)) same ((laws.address text first).0 is, rest others refl)
+      at first others is rest e = absurd cc
 
   -- ---- the claim
 

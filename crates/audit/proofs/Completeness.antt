@@ -1,5 +1,5 @@
 -- Each exchange in the frames of a capture is collected.
-use Rattle.std.proofs.Common.{◌≡◌, ◌≢◌, ℕ, zero, suc, ◌&&◌, ◌==◌, ℤ, pos, Bool, true, false, inl, List, [], ◌∷◌, map, Option, Some, None, refl, sym, ap, ◌∙◌, subst, arith}
+use Rattle.std.proofs.Common.{◌≡◌, ◌≢◌, ℕ, zero, suc, ◌&&◌, ◌==◌, ℤ, pos, Bool, true, inl, List, [], ◌∷◌, map, Option, Some, None, refl, sym, ap, ◌∙◌, subst, arith}
 use Rattle.std.specs.Prelude.{AllPairs, Contains, slice_get, filter, filter_map}
 use Rattle.std.specs.List.{cons_option}
 use Rattle.std.specs.Option.{option_and_then, option_map}
@@ -17,6 +17,7 @@ use Rattle.pairing.specs.declared.exchange.Exchange.{Exchange}
 use Rattle.pairing.specs.Message.{Request, Reply, request_of, reply_of, reply_in, reply_from}
 use Rattle.pairing.specs.Pair.{IsPair}
 use Rattle.pairing.specs.Pairing.{requests_of, replies_of, answers, exchange_of, exchanges_of, low_of, high_of}
+use Rattle.checker.proofs.Part.{by_test}
 use Rattle.audit.specs.Captured.{CapturedFrame, frame_of}
 use Rattle.audit.specs.Held.{HoldsPacket, packet_with}
 use Rattle.audit.specs.Exchanged.{HoldsRequest, IsWindowOf, IsExchangeIn, SameExchange, IsAmong}
@@ -33,7 +34,7 @@ module _ {X Y : Type 0} (f : X → Option Y) where
 
   first_among : (o : Option Y) (ys : List Y) (y : Y) → o ≡ Some y → Contains (cons_option o ys) y
   first_among None ys y is = absurd cc
-  first_among (Some z) ys y is = let same : z ≡ y = cc in (0, omega arith, same)
+  first_among (Some z) ys y is = (0, omega arith, cc)
 
   -- what is given of one of these stands in what is given of all
   given_among : (xs : List X) (k : ℕ) (x : X) (y : Y) → slice_get xs k ≡ Some x → f x ≡ Some y
@@ -46,23 +47,19 @@ module _ {X Y : Type 0} (f : X → Option Y) where
       kept_among (f first) (filter_map f xs) y (given_among xs k x y at is)
 
   module _ (p : Y → Bool) where
-    dropped : (z : Y) (ys rest : List Y) → (p z ≡ true → ⊥) → filter p ys ≡ rest → (b : Bool) → p z ≡ b
-        → filter p (z ∷ ys) ≡ rest
-    dropped z ys rest fails is true e = absurd (fails e)
-    dropped z ys rest fails is false e = cond-false (p z) (z ∷ filter p ys) (filter p ys) e ∙ is
-
     skipped : (o : Option Y) (ys rest : List Y) → ((y : Y) → o ≡ Some y → p y ≡ true → ⊥)
         → filter p ys ≡ rest → filter p (cons_option o ys) ≡ rest
     skipped None ys rest fails is = is
-    skipped (Some z) ys rest fails is = dropped z ys rest (fails z refl) is (p z) refl
+    skipped (Some z) ys rest fails is =
+        let test = by_test (p z) (λ passes. absurd (fails z refl passes)) (λ fails'. fails') in
+        cond-false (p z) (z ∷ filter p ys) (filter p ys) test ∙ is
 
     taken : (o : Option Y) (ys : List Y) (y : Y) → o ≡ Some y → p y ≡ true → filter p ys ≡ []
         → filter p (cons_option o ys) ≡ y ∷ []
     taken None ys y is passes none = absurd cc
     taken (Some z) ys y is passes none =
-        let same : z ≡ y = cc in
-        cond-true (p z) (z ∷ filter p ys) (filter p ys) (ap p same ∙ passes)
-        ∙ ap (λ (l : List Y). z ∷ l) none ∙ ap (λ (w : Y). w ∷ []) same
+        let test : p z ≡ true = cc in
+        cc (cond-true (p z) (z ∷ filter p ys) (filter p ys) test)
 
     -- if nothing that is given passes, nothing is kept
     none_kept : (xs : List X)

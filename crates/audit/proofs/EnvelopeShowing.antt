@@ -87,27 +87,19 @@ module _ (P : PieceHullData → Type 0) (at : ℕ → PieceHullData) (each : (k 
 module _ (style : Style) (step : ℕ) (servers least : Bool) (found : Option (Option LeastCarried)) (e : EvidenceData)
     (made : Result Ready RunFault) where
   pub envelope_made : (envelope : EnvelopeData) (line : LeastLine) → envelope_in step e ≡ Ok envelope
-      → least_line_of e.claim step least found ≡ Some line → IsMadeFor (text_of style servers e envelope (Some line)) made
+      → least_line_of e.claim step least found ≡ Some line
+      → IsMadeFor (text_of style servers e envelope (Some line)) made
       → IsMadeFor (envelope_report style step servers least found e) made
-  envelope_made envelope line is line_is h =
-      subst (λ (r : Result EnvelopeData FindFault). IsMadeFor (report_of style step servers least found e r) made) (sym is)
-      (subst (λ (l : Option LeastLine). IsMadeFor (text_of style servers e envelope l) made) (sym line_is) h)
+  envelope_made envelope line is line_is h = rw (is, line_is) h
 
 pub envelope_refused : (style : Style) (step : ℕ) (servers least : Bool) (e : EvidenceData) (fault : FindFault)
     (told : RunFault) → told ≡ find_run_fault_of fault → (fault ≡ Memory) ⊎ (envelope_in step e ≡ Err fault)
     → IsMadeFor (envelope_report style step servers least None e) (Err told)
-envelope_refused style step servers least e Memory told is why =
-    subst (λ (r : RunFault). IsMadeFor (envelope_report style step servers least None e) (Err r)) (sym is) tt
+envelope_refused style step servers least e Memory told is why = rw is tt
 envelope_refused style step servers least e TooManyPieces told is (inl memory) = absurd cc
 envelope_refused style step servers least e TooManyPieces told is (inr same) =
     subst (λ (r : Result EnvelopeData FindFault). IsMadeFor (report_of style step servers least None e r) (Err told))
     (sym same) (refused_made TooManyPieces told is)
-
-pub why_refused : (claim : ClaimData) (step : ℕ) (samples other : List Sample) → samples ≡ other → (fault : FindFault)
-    → (fault ≡ Memory) ⊎ (envelope_of samples claim step ≡ Err fault)
-    → (fault ≡ Memory) ⊎ (envelope_of other claim step ≡ Err fault)
-why_refused claim step samples other same fault why =
-    subst (λ (s : List Sample). (fault ≡ Memory) ⊎ (envelope_of s claim step ≡ Err fault)) same why
 
 -- ---- the whole
 
@@ -144,5 +136,4 @@ module _ (law : HullLaw) (step : ℕ) (e : EvidenceData) (lawful : IsLawful e.cl
       → (envelope : Envelope) (outcome : Outcome) → outcome ≡ bound_outcome envelope.least
       → FindsEnvelope samples e.claim step (Ok envelope) → IsEnvelopeOf step outcome e
   envelope_shows are samples same envelope outcome is finds =
-      subst (λ (o : Outcome). IsEnvelopeOf step o e) (sym is)
-      (shown are envelope (subst (λ (s : List Sample). FindsEnvelope s e.claim step (Ok envelope)) same finds))
+      rw is (shown are envelope (rw same at finds))

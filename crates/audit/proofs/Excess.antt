@@ -1,8 +1,8 @@
 -- An error beyond the bound: in parts of a tick, in nanoseconds, and of an accepted refutation.
-use Rattle.std.proofs.Common.{◌≡◌, ℕ, suc, ◌*◌, ◌<◌, ◌≤◌, ℤ, pos, negsuc, ◌*ℤ◌, ◌<ℤ◌, unsigned_abs, nat_lt, Bool, true, false, inl, List, length, get_or, Some, refl, ap, ◌∙◌, subst, arith}
+use Rattle.std.proofs.Common.{◌≡◌, ℕ, suc, ◌*◌, ◌<◌, ◌≤◌, ℤ, pos, negsuc, ◌*ℤ◌, ◌<ℤ◌, unsigned_abs, Bool, true, false, inl, ⊎_elim, List, length, get_or, Some, refl, ap, ◌∙◌, arith}
 use Rattle.std.specs.Prelude.{slice_get}
 use Rattle.std.proofs.Math.Nat.{mul-le-mul_right}
-use Rattle.std.proofs.lemmas.Bool.{ltb-true, ltb-false}
+use Rattle.std.proofs.lemmas.Bool.{cases_lt}
 use Rattle.std.proofs.lemmas.Int.{ints}
 use Rattle.std.proofs.lemmas.List.{length-map}
 use Rattle.std.proofs.lemmas.Option.{slice_get-get_or}
@@ -18,8 +18,8 @@ use Rattle.claim_file.specs.Claim.{ClaimData}
 use Rattle.pairing.specs.Answer.{AreGiven}
 use Rattle.pairing.specs.declared.exchange.Exchange.{Exchange}
 use Rattle.sample_interval.specs.Moment.{error_of}
-use Rattle.checker.specs.Refutation.{IsAgainst, HasCourse}
-use Rattle.courses.specs.DriftRefutation.{HasDriftCourse}
+use Rattle.checker.specs.Course.{Course, Fits}
+use Rattle.checker.specs.Refutation.{IsAgainst, HasCourse, SharesRequests}
 use Rattle.audit.specs.Captured.{frame_of}
 use Rattle.audit.specs.Claimed.{IsClaimText}
 use Rattle.audit.specs.Contested.{HasCourseBeyond, IsBeyond, IsBeyondNanoseconds}
@@ -43,16 +43,9 @@ times_lt a b n some less =
 -- what is beyond a rounded bound in ticks is beyond the bound in nanoseconds
 above_floor : (bound_ns bound size : ℕ) → IsFloor (bound_ns * ticks_per_second) nanoseconds_per_second bound
     → bound < size → bound_ns * ticks_per_second < size * nanoseconds_per_second
-above_floor bound_ns bound size floor beyond =
-    at (nat_lt (bound_ns * ticks_per_second) (size * nanoseconds_per_second)) refl
-  where
-    at : (b : Bool) → nat_lt (bound_ns * ticks_per_second) (size * nanoseconds_per_second) ≡ b
-        → bound_ns * ticks_per_second < size * nanoseconds_per_second
-    at true e = ltb-true (bound_ns * ticks_per_second) (size * nanoseconds_per_second) e
-    at false e =
-        let least = floor.greatest size
-        (ltb-false (bound_ns * ticks_per_second) (size * nanoseconds_per_second) e) in
-        absurd (omega (arith, least, beyond))
+above_floor bound_ns bound size floor beyond = ⊎_elim (λ above. above)
+    (λ within. absurd (let least = floor.greatest size within in omega (arith, least, beyond)))
+    (cases_lt (bound_ns * ticks_per_second) (size * nanoseconds_per_second))
 
 module _ (text : List ℕ) (claim : ClaimData) (said : IsClaimText text claim) (xs : List Exchange)
     (has : HasCourseBeyond claim xs) where
@@ -66,8 +59,7 @@ module _ (text : List ℕ) (claim : ClaimData) (said : IsClaimText text claim) (
   beyond_ticks : said.bound < size
   unfolding size
   beyond_ticks =
-      let beyond : pos said.bound <ℤ pos (unsigned_abs has.error) =
-      subst (λ (z : ℤ). z <ℤ pos (unsigned_abs has.error)) said.bound_in_ticks has.beyond in
+      let beyond = rw said.bound_in_ticks at has.beyond in
       omega (arith, ints)
 
   pub beyond_in_ticks : IsBeyond has.course claim.bound
@@ -86,50 +78,41 @@ module _ (text : List ℕ) (claim : ClaimData) (said : IsClaimText text claim) (
 
 -- ---- refutations
 
--- the course of an accepted refutation
-pub course_beyond : (claim : ClaimData) (xs : List Exchange) (r : RefutationData) → IsAgainst claim r
-    → HasCourse claim xs r → HasCourseBeyond claim xs
-course_beyond claim xs r against (course, of) =
+-- a course that is observed at a refutation's reading, off by its error
+observed_beyond : (claim : ClaimData) (xs : List Exchange) (r : RefutationData) → IsAgainst claim r
+    → (course : Course) → Fits claim xs course → SharesRequests xs course
+    → course.observation.reading ≡ (pos r.reading *ℤ pos course.fineness)
+    → error_of course.observation ≡ (r.error *ℤ pos course.fineness) → HasCourseBeyond claim xs
+observed_beyond claim xs r against course fits shares reading error =
     let n = course.fineness in
     let span = against.in_span in
     record {
       course = course;
-      fits = of.fits;
-      shares_requests = of.shares_requests;
-      in_span = rw of.observed (
-        times_le claim.first (pos r.reading) n span.0,
-        times_le (pos r.reading) claim.last n
-            span.1,
-      );
-      error = r.error;
-      error_is = of.off_throughout.one_error course.observation (inl refl);
-      beyond = against.beyond_bound;
-    }
-
--- the course of one whose error may drift
-drift_course_beyond : (claim : ClaimData) (xs : List Exchange) (r : RefutationData) → IsAgainst claim r
-    → HasDriftCourse claim xs r → HasCourseBeyond claim xs
-drift_course_beyond claim xs r against of =
-    let n = of.course.fineness in
-    let span = against.in_span in
-    record {
-      course = of.course;
-      fits = of.fits;
-      shares_requests = of.shares_requests;
-      in_span = rw of.observed.reading (
+      fits = fits;
+      shares_requests = shares;
+      in_span = rw reading (
         times_le claim.first (pos r.reading) n span.0,
         times_le (pos r.reading) claim.last n span.1,
       );
       error = r.error;
-      error_is = of.observed.error;
+      error_is = error;
       beyond = against.beyond_bound;
     }
+
+-- the course of an accepted refutation
+pub course_beyond : (claim : ClaimData) (xs : List Exchange) (r : RefutationData) → IsAgainst claim r
+    → HasCourse claim xs r → HasCourseBeyond claim xs
+course_beyond claim xs r against (course, of) =
+    observed_beyond claim xs r against course of.fits of.shares_requests of.observed
+    (of.off_throughout.one_error course.observation (inl refl))
 
 -- one that stands has a course beyond the bound
 pub standing_beyond : (drift : Bool) (r : RefutationData) (e : EvidenceData) → IsContestedOf drift r e
     → HasCourseBeyond e.claim e.collection.exchanges
 standing_beyond true r e stands =
-    drift_course_beyond e.claim e.collection.exchanges r stands.accepted.against stands.course
+    let of = stands.course in
+    observed_beyond e.claim e.collection.exchanges r stands.accepted.against of.course of.fits of.shares_requests
+    of.observed.reading of.observed.error
 standing_beyond false r e stands =
     course_beyond e.claim e.collection.exchanges r stands.accepted.against stands.course
 

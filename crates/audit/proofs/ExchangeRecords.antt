@@ -8,7 +8,7 @@ use Rattle.std.proofs.lemmas.Bool.Decides.{nat_tests}
 use Rattle.std.proofs.lemmas.Grind.{common_steps}
 use Rattle.std.proofs.lemmas.Int.{ints}
 use Rattle.std.proofs.Math.Seq.{take-append_seam, drop-append_seam}
-use Rattle.std.proofs.lemmas.List.Elements.{All-nil, All-cons, All-filter, All-map, All-take, All-drop}
+use Rattle.std.proofs.lemmas.List.Elements.{All-nil, All-cons, All-contains, All-filter, All-map, All-take, All-drop}
 use Rattle.std.proofs.lemmas.Option.{get_or_from_slice_get, slice_get_within, slice_get_read}
 use Rattle.byte_stream.specs.Bytes.{IsBytes}
 use Rattle.era_unfold.specs.declared.unit.Unit.{Unit as TimeUnit}
@@ -35,7 +35,7 @@ use Rattle.checker.specs.Traceability.{samples_of}
 use Rattle.audit.specs.Captured.{CapturedFrame, frame_of}
 use Rattle.audit.specs.Held.{HoldsPacket, HoldsShown, packet_with}
 use Rattle.audit.specs.Exchanged.{HoldsRequest, IsUsable, IsWindowOf, IsExchangeIn}
-use Rattle.audit.proofs.RecordFrames.{each_record, frame_at, said_by}
+use Rattle.audit.proofs.RecordFrames.{each_record, frame_at, mapped, said_by}
 
 -- the laws of the layers below
 pub record Laws : Type 0 where
@@ -72,39 +72,36 @@ module _ {X Y : Type 0} (f : X → Option Y) where
   all_given (x ∷ xs) = step_given x xs (f x) (filter_map f xs) refl (all_given xs)
 
   module _ (p : Y → Bool) where
-    step_kept : (o : Option Y) (ys : List Y) (y : Y) → (j : ℕ) × (slice_get (filter p ys) j ≡ Some y)
-        → (j : ℕ) × (slice_get (filter p (cons_option o ys)) j ≡ Some y)
-    step_kept None ys y found = found
-    step_kept (Some z) ys y found =
-        elim (p z) as (λ b. (j : ℕ) × (slice_get (cond b (z ∷ filter p ys) (filter p ys)) j ≡ Some y)) [
-          | true ↦ (suc found.0, found.1)
-          | false ↦ found
-        ]
-
-    here_kept : (o : Option Y) (ys : List Y) (y : Y) → o ≡ Some y → p y ≡ true
-        → (j : ℕ) × (slice_get (filter p (cons_option o ys)) j ≡ Some y)
-    here_kept None ys y is passes = absurd cc
-    here_kept (Some z) ys y is passes =
-        let same : z ≡ y = cc in
-        let test : p z ≡ true = ap p same ∙ passes in
-        (0, ap (λ (l : List Y). slice_get l 0) (cond-true (p z) (z ∷ filter p ys) (filter p ys) test) ∙ is)
-
     pub kept_at : (xs : List X) (k : ℕ) (x : X) (y : Y) → slice_get xs k ≡ Some x → f x ≡ Some y → p y ≡ true
         → (j : ℕ) × (slice_get (filter p (filter_map f xs)) j ≡ Some y)
     kept_at [] k x y at is passes = absurd cc
-    kept_at (first ∷ xs) zero x y at is passes =
-        let same : first ≡ x = cc in
-        here_kept (f first) (filter_map f xs) y (ap f same ∙ is) passes
-    kept_at (first ∷ xs) (suc k) x y at is passes =
-        step_kept (f first) (filter_map f xs) y (kept_at xs k x y at is passes)
+    kept_at (first ∷ xs) zero x y at is passes = (0, here (f first) cc)
+      where
+        here : (o : Option Y) → o ≡ Some y → slice_get (filter p (cons_option o (filter_map f xs))) 0 ≡ Some y
+        here None e = cc
+        here (Some z) e =
+            let test : p z ≡ true = cc in
+            ap (λ (l : List Y). slice_get l 0) (cond-true (p z) (z ∷ filter p (filter_map f xs)) _ test) ∙ e
+    kept_at (first ∷ xs) (suc k) x y at is passes = after (f first) (kept_at xs k x y at is passes)
+      where
+        after : (o : Option Y) → (j : ℕ) × (slice_get (filter p (filter_map f xs)) j ≡ Some y)
+            → (j : ℕ) × (slice_get (filter p (cons_option o (filter_map f xs))) j ≡ Some y)
+        after None found = found
+        after (Some z) found = elim (p z) as (λ b. (j : ℕ)
+            × (slice_get (cond b (z ∷ filter p (filter_map f xs)) (filter p (filter_map f xs))) j ≡ Some y)) [
+              | true ↦ (suc found.0, found.1)
+              | false ↦ found
+            ]
 
 lone_at : {Y : Type 0} (q y : Y) (j : ℕ) → slice_get (q ∷ []) j ≡ Some y → q ≡ y
 lone_at q y zero at = cc
 lone_at q y (suc j) at = absurd cc
 
--- what holds of an element
-of_element : {Y : Type 0} (P : Y → Type 0) (ys : List Y) (y : Y) → All P ys → Contains ys y → P y
-of_element P ys y all (k, below, is) = subst P is (all k y below)
+-- what comes of a value, if there is one
+passed : {A B : Type 0} (f : A → Option B) (o : Option A) (b : B) → option_and_then f o ≡ Some b
+    → (a : A) × (o ≡ Some a) × (f a ≡ Some b)
+passed f None b is = absurd cc
+passed f (Some a) b is = (a, refl, is)
 
 -- ---- requests and replies
 
@@ -116,27 +113,17 @@ module _ (laws : Laws) (claim : ClaimData) (apart : AllPairs (λ a b. a ≢ b) c
     pub answers' : IsReplyOf claim reply.server packet
     pub is : reply ≡ reply_from r.head packet reply.server
 
-  reply_by : (r : Record) (reply : Reply) (p : Packet) → HoldsShown r.bytes p → (o : Option ℕ)
-      → replying_server claim p ≡ o → option_map (reply_from r.head p) o ≡ Some reply → IsReplyAt r reply
-  reply_by r reply p held None at e = absurd cc
-  reply_by r reply p held (Some server) at e =
-      let same : reply_from r.head p server ≡ reply = cc in
-      subst (IsReplyAt r) same (record {
-        packet = p;
-        held = held;
-        answers' = (laws.reply claim p server apart).0 at;
-        is = refl;
-      })
-
-  reply_in' : (r : Record) (reply : Reply) → IsBytes r.bytes → (o : Option Packet) → packet_of r.bytes ≡ o
-      → option_and_then (reply_in claim r.head) o ≡ Some reply → IsReplyAt r reply
-  reply_in' r reply bytes None at e = absurd cc
-  reply_in' r reply bytes (Some p) at e =
-      reply_by r reply p (laws.given r.bytes p bytes at) (replying_server claim p) refl e
-
   pub reply_at : (r : Record) (reply : Reply) → IsBytes r.bytes → reply_of claim r ≡ Some reply → IsReplyAt r reply
   unfolding reply_of
-  reply_at r reply bytes e = reply_in' r reply bytes (packet_of r.bytes) refl e
+  reply_at r reply bytes e =
+      let read = passed (reply_in claim r.head) (packet_of r.bytes) reply e in
+      let from = mapped (reply_from r.head read.0) (replying_server claim read.0) reply read.2 in
+      subst (IsReplyAt r) from.2 (record {
+        packet = read.0;
+        held = laws.given r.bytes read.0 bytes read.1;
+        answers' = (laws.reply claim read.0 from.0 apart).0 from.1;
+        is = refl;
+      })
 
   -- and of one that gives a request
   pub record IsRequestAt (r : Record) (q : Request) : Type 0 where
@@ -145,27 +132,17 @@ module _ (laws : Laws) (claim : ClaimData) (apart : AllPairs (λ a b. a ≢ b) c
     pub asks : IsRequestTo claim q.server packet
     pub is : q ≡ request_to r.head packet q.server
 
-  request_by : (r : Record) (q : Request) (p : Packet) → HoldsShown r.bytes p → (o : Option ℕ)
-      → requested_server claim p ≡ o → option_map (request_to r.head p) o ≡ Some q → IsRequestAt r q
-  request_by r q p held None at e = absurd cc
-  request_by r q p held (Some server) at e =
-      let same : request_to r.head p server ≡ q = cc in
-      subst (IsRequestAt r) same (record {
-        packet = p;
-        held = held;
-        asks = (laws.request claim p server apart).0 at;
-        is = refl;
-      })
-
-  request_in' : (r : Record) (q : Request) → IsBytes r.bytes → (o : Option Packet) → packet_of r.bytes ≡ o
-      → option_and_then (request_in claim r.head) o ≡ Some q → IsRequestAt r q
-  request_in' r q bytes None at e = absurd cc
-  request_in' r q bytes (Some p) at e =
-      request_by r q p (laws.given r.bytes p bytes at) (requested_server claim p) refl e
-
   pub request_at : (r : Record) (q : Request) → IsBytes r.bytes → request_of claim r ≡ Some q → IsRequestAt r q
   unfolding request_of
-  request_at r q bytes e = request_in' r q bytes (packet_of r.bytes) refl e
+  request_at r q bytes e =
+      let read = passed (request_in claim r.head) (packet_of r.bytes) q e in
+      let to = mapped (request_to r.head read.0) (requested_server claim read.0) q read.2 in
+      subst (IsRequestAt r) to.2 (record {
+        packet = read.0;
+        held = laws.given r.bytes read.0 bytes read.1;
+        asks = (laws.request claim read.0 to.0 apart).0 to.1;
+        is = refl;
+      })
 
   -- a record that holds a request gives it
   pub gives_request : (r : Record) (server : ℕ) (address : List ℕ) (port stamp : ℕ)
@@ -233,11 +210,7 @@ pub record AreInPlace (unit : TimeUnit) (records : List Record) : Type 0 where
 -- the same packet, with addresses and ports said in other words
 pub moved : {s s₂ : List ℕ} {p p₂ : ℕ} {d d₂ : List ℕ} {q q₂ : ℕ} (frame header : List ℕ) → s ≡ s₂ → p ≡ p₂ → d ≡ d₂
     → q ≡ q₂ → HoldsPacket frame s p d q header → HoldsPacket frame s₂ p₂ d₂ q₂ header
-moved {s} {s₂} {p} {p₂} {d} {d₂} {q} {q₂} frame header a b c e held =
-    subst (λ (x : List ℕ). HoldsPacket frame x p₂ d₂ q₂ header) a
-    (subst (λ (x : ℕ). HoldsPacket frame s x d₂ q₂ header) b
-    (subst (λ (x : List ℕ). HoldsPacket frame s p x q₂ header) c
-    (subst (λ (x : ℕ). HoldsPacket frame s p d x header) e held)))
+moved frame header a b c e held = rw (a, b, c, e) at held
 
 module _ (laws : Laws) (claim : ClaimData) (apart : AllPairs (λ a b. a ≢ b) claim.servers) (unit : TimeUnit)
     (records : List Record) (given : AreInPlace unit records) where
@@ -260,7 +233,7 @@ module _ (laws : Laws) (claim : ClaimData) (apart : AllPairs (λ a b. a ≢ b) c
       → IsExchangeIn claim unit (map frame_of records) (exchange_of q reply)
   unfolding requests_of replies_of
   exchange_in q reply contained accepted only same_server same_port same_stamp =
-      let replied = of_element (GivesAt (reply_of claim) records) (replies_of claim records) reply
+      let replied = All-contains (GivesAt (reply_of claim) records) (replies_of claim records) reply
       (all_given (reply_of claim) records) contained in
       let asked = subst (λ (qs : List Request). All (GivesAt (request_of claim) records) qs) only
       (All-filter (answers reply) (GivesAt (request_of claim) records) (requests_of claim records)

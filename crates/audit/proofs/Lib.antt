@@ -1,5 +1,4 @@
 pub mod Nanosecond
-pub mod Sample
 pub mod SampleLines
 pub mod Capture
 pub mod LeastShowing

@@ -2,16 +2,14 @@
 use Rattle.std.proofs.Common.{◌≡◌, ℕ, ℤ, inl, inr, ⊎_elim, List, length, Option, Some, None, refl, sym, ap, ◌∙◌, subst, arith}
 use Rattle.std.specs.Prelude.{slice_get}
 use Rattle.std.proofs.lemmas.Option.{slice_get_cases, slice_get_within}
-use Rattle.era_unfold.specs.declared.unit.Unit.{Unit as TimeUnit}
 use Rattle.claim_file.specs.Claim.{ClaimData}
 use Rattle.pairing.specs.declared.exchange.Exchange.{Exchange}
 use Rattle.sample_interval.specs.Moment.{Moment, IsInWindow, IsWithinDistance}
 use Rattle.sample_interval.specs.Window.{request_start, request_end, reply_start, reply_end}
 use Rattle.checker.specs.Course.{Course, Fits, IsClientMoment}
 use Rattle.checker.specs.PieceFit.{FitsPiece}
-use Rattle.audit.specs.Captured.{CapturedFrame}
-use Rattle.audit.specs.Contested.{IsBeyondNanoseconds, IsContestedShown}
-use Rattle.audit.specs.Exchanged.{IsExchangeIn, IsAmong, SameExchange}
+use Rattle.audit.specs.Contested.{IsContestedShown}
+use Rattle.audit.specs.Exchanged.{IsAmong, SameExchange}
 use Rattle.audit.specs.Headline.{IsShown}
 
 -- ---- exchanges that agree
@@ -98,15 +96,7 @@ module _ (xs ys : List Exchange) (among : (k : ℕ) (x : Exchange) → slice_get
         (fits.within_root_distance (place k) there.0 there.1 (ap course.is_false (sym there.2.server) ∙ true'));
   }
 
--- ---- what is contested, of one claim and one list of frames
-
-record Contests (claim : ClaimData) (unit : TimeUnit) (frames : List CapturedFrame) : Type 0 where
-  exchanges : List Exchange
-  none_is_missing : (x : Exchange) → IsExchangeIn claim unit frames x → IsAmong exchanges x
-  course : Course
-  fits : Fits claim exchanges course
-  in_span : IsInWindow course.fineness claim.first claim.last course.observation.reading
-  beyond : IsBeyondNanoseconds course claim.bound_ns
+-- ---- what is shown and contested
 
 -- the law on courses that fit the whole capture
 abbrev pub PieceFitLaw : Type 0
@@ -114,29 +104,15 @@ PieceFitLaw = (claim : ClaimData) (xs : List Exchange) (entries : List (ℕ × �
     → Fits claim xs course → FitsPiece claim xs entries course
 
 module _ (fit : PieceFitLaw) (claim_bytes capture_bytes : List ℕ) (shown : IsShown claim_bytes capture_bytes) where
-  refuted : Contests shown.claim shown.unit shown.frames → ⊥
-  refuted other =
-      let among : (k : ℕ) (x : Exchange) → slice_get shown.exchanges k ≡ Some x → IsAmong other.exchanges x =
-      λ k x at. other.none_is_missing x (shown.exchanges_are k x at) in
-      let course = renumbered shown.exchanges other.exchanges among other.course in
-      let fits = still_fits shown.exchanges other.exchanges among shown.claim other.course other.fits in
-      let at = shown.within other.course.fineness other.course.observation.reading other.in_span in
-      let within = at.6 course refl refl (fit shown.claim shown.exchanges at.0 course fits) in
-      let beyond = other.beyond in
-      absurd (omega (arith, within, beyond))
-
   pub never_both : (contested : IsContestedShown claim_bytes capture_bytes) → shown.claim ≡ contested.claim
       → shown.unit ≡ contested.unit → shown.frames ≡ contested.frames → ⊥
   never_both contested claim_same unit_same frames_same =
-      let here : Contests contested.claim contested.unit contested.frames = record {
-        exchanges = contested.exchanges;
-        none_is_missing = contested.none_is_missing;
-        course = contested.course;
-        fits = contested.fits;
-        in_span = contested.in_span;
-        beyond = contested.beyond_nanoseconds;
-      } in
-      refuted
-      (subst (λ (c : ClaimData). Contests c shown.unit shown.frames) (sym claim_same)
-      (subst (λ (u : TimeUnit). Contests contested.claim u shown.frames) (sym unit_same)
-      (subst (λ (f : List CapturedFrame). Contests contested.claim contested.unit f) (sym frames_same) here)))
+      let among : (k : ℕ) (x : Exchange) → slice_get shown.exchanges k ≡ Some x → IsAmong contested.exchanges x =
+      λ k x at. contested.none_is_missing x
+      (rw (claim_same, unit_same, frames_same) at (shown.exchanges_are k x at)) in
+      let course = renumbered shown.exchanges contested.exchanges among contested.course in
+      let fits = still_fits shown.exchanges contested.exchanges among contested.claim contested.course contested.fits in
+      let at = shown.within course.fineness course.observation.reading (rw claim_same contested.in_span) in
+      let within = at.6 course refl refl (fit shown.claim shown.exchanges at.0 course (rw claim_same fits)) in
+      let beyond = rw (← claim_same) at contested.beyond_nanoseconds in
+      absurd (omega (arith, within, beyond))

@@ -12,12 +12,9 @@ use Rattle.ntp_packet.specs.Header.{header_of, version_of, leap_of, stratum_of, 
 use Rattle.ntp_packet.specs.Packet.{Packet, packet_of, is_ntp, ntp_port}
 use Rattle.pairing.specs.Refusal.{refusal_of, has_zero_stamp, is_synchronized_stratum}
 use Rattle.std.proofs.lemmas.Bool.{cond-false}
+use Rattle.checker.proofs.Part.{by_test}
 use Rattle.audit.specs.Held.{HoldsPacket, HoldsShown, packet_with}
 use Rattle.audit.specs.Exchanged.{IsUsable}
-
-by_test : {P : Type 0} (b : Bool) → (b ≡ true → P) → (b ≡ false → P) → P
-by_test true f g = f refl
-by_test false f g = g refl
 
 -- ---- packets
 
@@ -37,12 +34,11 @@ ntp_port_of d h = (
 
 module _ (a b c d e : List ℕ) where
   five : a ++ b ++ c ++ d ++ e ≡ a ++ (b ++ (c ++ (d ++ e)))
-  five = append_assoc (a ++ b ++ c) d e ∙ append_assoc (a ++ b) c (d ++ e) ∙ append_assoc a b (c ++ (d ++ e))
+  five = simp append_assoc
 
   module _ (front : List ℕ) where
     after_front : front ++ a ++ b ++ c ++ d ++ e ≡ front ++ (a ++ (b ++ (c ++ (d ++ e))))
-    after_front = append_assoc (front ++ a ++ b ++ c) d e ∙ append_assoc (front ++ a ++ b) c (d ++ e)
-        ∙ append_assoc (front ++ a) b (c ++ (d ++ e)) ∙ append_assoc front a (b ++ (c ++ (d ++ e)))
+    after_front = simp append_assoc
 
 -- what stands before the payload of a UDP datagram
 abbrev udp_head : ℕ → ℕ → ℕ → ℕ → List ℕ
@@ -274,12 +270,8 @@ module _ {X : Type 0} (p q r s t : X) where
   five_fail : (a b c d e : Bool)
       → cond a (Some p) (cond b (Some q) (cond c (Some r) (cond d (Some s) (cond e (Some t) None)))) ≡ None
       → (a ≡ false) × (b ≡ false) × (c ≡ false) × (d ≡ false) × (e ≡ false)
-  five_fail true b c d e h = absurd cc
-  five_fail false true c d e h = absurd cc
-  five_fail false false true d e h = absurd cc
-  five_fail false false false true e h = absurd cc
-  five_fail false false false false true h = absurd cc
   five_fail false false false false false h = (refl, refl, refl, refl, refl)
+  five_fail a b c d e h = absurd cc
 
 passes : (a : Bool) → not a ≡ false → a ≡ true
 passes true h = refl

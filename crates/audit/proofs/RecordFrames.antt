@@ -1,9 +1,9 @@
 -- What a capture's records are, one by one, and the frames that they say.
-use Rattle.std.proofs.Common.{◌≡◌, ℕ, zero, suc, ◌+◌, ◌<◌, ◌≤◌, nat_lt, Bool, true, false, ⊎_elim, List, [], ◌∷◌, ◌++◌, length, map, get_or, Option, Some, None, refl, sym, ap, ◌∙◌, subst, append_assoc, arith}
+use Rattle.std.proofs.Common.{◌≡◌, ℕ, zero, suc, ◌+◌, ◌<◌, ◌≤◌, ⊎_elim, List, [], ◌∷◌, ◌++◌, length, map, get_or, Option, Some, None, refl, sym, ap, ◌∙◌, subst, append_assoc, arith}
 use Rattle.std.specs.Prelude.{All, slice_get}
 use Rattle.std.specs.List.{flat_map}
 use Rattle.std.specs.Option.{option_map}
-use Rattle.std.proofs.lemmas.Bool.{ltb-true, ltb-false}
+use Rattle.std.proofs.lemmas.Bool.{cases_lt}
 use Rattle.std.proofs.lemmas.List.{length-append, length-map}
 use Rattle.std.proofs.lemmas.List.Elements.{All-map}
 use Rattle.std.proofs.lemmas.Option.{slice_get-get_or, slice_get-map, slice_get_cases}
@@ -75,11 +75,7 @@ module _ (order : Endian) (unit : TimeUnit) where
       (respelled (number + 1) (place + (16 + length r.bytes)) records are.1)
 
 few_frames : (n : ℕ) → (4000000 < n → ⊥) → n ≤ 4000000
-few_frames n no' = at (nat_lt 4000000 n) refl
-  where
-    at : (b : Bool) → nat_lt 4000000 n ≡ b → n ≤ 4000000
-    at true e = absurd (no' (ltb-true 4000000 n e))
-    at false e = ltb-false 4000000 n e
+few_frames n no' = ⊎_elim (λ many. absurd (no' many)) (λ few. few) (cases_lt 4000000 n)
 
 -- a capture of records is one of the frames that they say
 pub captured : (bytes : List ℕ) (format : Format) (records : List Record) → IsCapture bytes format records
@@ -113,16 +109,17 @@ pub record SaidBy (records : List Record) (k : ℕ) (frame : CapturedFrame) : Ty
   pub stands : slice_get records k ≡ Some by
   pub is : frame_of by ≡ frame
 
-said_from : (records : List Record) (k : ℕ) (frame : CapturedFrame) (o : Option Record) → slice_get records k ≡ o
-    → option_map frame_of o ≡ Some frame → SaidBy records k frame
-said_from records k frame None at is = absurd cc
-said_from records k frame (Some r) at is =
-    record { by = r; stands = at; is = (let same : frame_of r ≡ frame = cc in same) }
+-- what is made of a value, if there is one
+pub mapped : {A B : Type 0} (f : A → B) (o : Option A) (b : B) → option_map f o ≡ Some b
+    → (a : A) × (o ≡ Some a) × (f a ≡ b)
+mapped f None b is = absurd cc
+mapped f (Some a) b is = (a, refl, cc)
 
 pub said_by : (records : List Record) (k : ℕ) (frame : CapturedFrame)
     → slice_get (map frame_of records) k ≡ Some frame → SaidBy records k frame
 said_by records k frame at =
-    said_from records k frame (slice_get records k) refl (sym (slice_get-map frame_of records k) ∙ at)
+    let found = mapped frame_of (slice_get records k) frame (sym (slice_get-map frame_of records k) ∙ at) in
+    record { by = found.0; stands = found.1; is = found.2 }
 
 pub frame_at : (records : List Record) (k : ℕ) (r : Record) → slice_get records k ≡ Some r
     → slice_get (map frame_of records) k ≡ Some (frame_of r)

@@ -40,10 +40,9 @@ use Rattle.audit.specs.Finding.{IsFindingIn, IsFindingOf}
 -- what holds of the fault of what was made, and of any failed write, holds of the answer's
 pub of_fault : (P : RunFault → Type 0) → ((sent : ℕ) → P (faults.Write sent)) → (made : Result Ready RunFault)
     (answer : Result Outcome RunFault) → IsAnswerFor made answer → IfErr made P → IfErr answer P
-of_fault P write (Ok m) answer (inl same) h = subst (λ (a : Result Outcome RunFault). IfErr a P) (sym same) tt
-of_fault P write (Ok m) answer (inr (sent, is)) h =
-    subst (λ (a : Result Outcome RunFault). IfErr a P) (sym is) (write sent)
-of_fault P write (Err fault) answer same h = subst (λ (a : Result Outcome RunFault). IfErr a P) (sym same) h
+of_fault P write (Ok m) answer (inl same) h = rw same tt
+of_fault P write (Ok m) answer (inr (sent, is)) h = rw is (write sent)
+of_fault P write (Err fault) answer same h = rw same h
 
 -- being out of memory was known before
 pub was_memory : (made : Result Ready RunFault) (answer : Result Outcome RunFault) → IsAnswerFor made answer →
@@ -101,8 +100,7 @@ pub claim_taken : (read : Result Claim RunFault) (made : Result Ready RunFault) 
     IfErr read (λ fault. made ≡ Err fault) → TakesAtMost (most_read inputs.Claim max_claim read) before after →
     TakesAtMost (most_read inputs.Claim max_claim made) before after
 claim_taken (Ok claim) made before after is h = takes_within inputs.Claim max_claim made before after h
-claim_taken (Err fault) made before after is h =
-    subst (λ (m : Result Ready RunFault). TakesAtMost (most_read inputs.Claim max_claim m) before after) (sym is) h
+claim_taken (Err fault) made before after is h = rw is h
 
 -- what is taken of a second input that was read is within its limit at any later answer
 pub second_taken : {V : Type 0} (kind : SecondKind) (read : V) (answer : Result Ready RunFault)
@@ -129,15 +127,11 @@ same_most_second refutation_second made answer stays = same_most inputs.Refutati
 
 -- ---- what was lawful if memory is refused
 
-has_claim : (known : Option (List ℕ)) (claim : Claim) →
-    IfSome known (λ bytes. Reads claim_data (claim_read bytes) (Ok claim)) → HasClaim known
-has_claim None claim reads = tt
-has_claim (Some bytes) claim reads = subst (λ (r : Result ClaimData RunFault). IsOk r) (sym reads) refl
-
 -- no later input was looked at, or the claim was read
 pub claim_was_read : (P : Type 0) (known : Option (List ℕ)) (read : Result Claim RunFault) →
     IfSome known (λ bytes. Reads claim_data (claim_read bytes) read) → IfErr read (λ fault. P) → P ⊎ HasClaim known
-claim_was_read P known (Ok claim) reads unread = inr (has_claim known claim reads)
+claim_was_read P None (Ok claim) reads unread = inr tt
+claim_was_read P (Some bytes) (Ok claim) reads unread = inr (rw reads refl)
 claim_was_read P known (Err fault) reads unread = inl unread
 
 -- the second input was read
@@ -202,10 +196,8 @@ module _ {T F : Type 0} (asked : AskedData) (finding : Finding) (before after : 
         made answer p.stays h.second_untouched;
     capture_untouched = of_fault (λ fault. IsBeforeCapture fault → capture' ≡ capture) (λ sent no. absurd no)
         made answer p.stays h.capture_untouched;
-    claim_at_most = subst (λ (n : ℕ). TakesAtMost n before.claim after.claim)
-        (same_most inputs.Claim max_claim made answer p.stays) h.claim_at_most;
-    second_at_most = subst (λ (n : ℕ). TakesAtMost n before.second after.second)
-        (same_most_second asked.second made answer p.stays) h.second_at_most;
+    claim_at_most = rw (same_most inputs.Claim max_claim made answer p.stays) at h.claim_at_most;
+    second_at_most = rw (same_most_second asked.second made answer p.stays) at h.second_at_most;
     capture_at_most = h.capture_at_most;
     claim_memory = λ is. h.claim_memory (was_memory made answer p.stays is);
     second_memory = λ is. h.second_memory (was_memory made answer p.stays is);
@@ -225,20 +217,12 @@ any_outside : (report : Option Report) (fault : RunFault) → IsFromOutside faul
 any_outside None fault h = tt
 any_outside (Some r) fault h = made_outside r fault h
 
-of_capture_isnt_written : (fault : RunFault) → IsOfCapture fault → IsUnwritten (Err fault)
-of_capture_isnt_written (faults.Write sent) h = absurd h
-of_capture_isnt_written (faults.Device inputs.Sums) h = absurd h
-of_capture_isnt_written fault h = tt
-
-of_second_isnt_written : (fault : RunFault) → IsOfSecond fault → IsUnwritten (Err fault)
-of_second_isnt_written (faults.Write sent) h = absurd h
-of_second_isnt_written (faults.Device inputs.Sums) h = absurd h
-of_second_isnt_written fault h = tt
-
-of_claim_isnt_written : (fault : RunFault) → IsOfClaim fault → IsUnwritten (Err fault)
-of_claim_isnt_written (faults.Write sent) h = absurd h
-of_claim_isnt_written (faults.Device inputs.Sums) h = absurd h
-of_claim_isnt_written fault h = tt
+-- an input's fault is no failed write, nor that of a file of sums
+isnt_written : (IsOf : RunFault → Type 0) → ((sent : ℕ) → ¬ (IsOf (faults.Write sent))) →
+    ¬ (IsOf (faults.Device inputs.Sums)) → (fault : RunFault) → IsOf fault → IsUnwritten (Err fault)
+isnt_written IsOf no_write no_sums (faults.Write sent) h = no_write sent h
+isnt_written IsOf no_write no_sums (faults.Device inputs.Sums) h = no_sums h
+isnt_written IsOf no_write no_sums fault h = tt
 
 -- the refusal is what reading gave
 same_refusal : {A : Type 0} (other : Result A RunFault) (fault : RunFault) → IsUnwritten (Err fault) →
@@ -258,7 +242,8 @@ module _ {V : Type 0} (said : V → SecondData) (asked : AskedData) (finding : F
       IfSome (after_second asked finding claim second capture) (λ report. IsMadeFor report (Err fault))
   second_refusal of None capture reads = tt
   second_refusal of (Some (Err other)) capture reads =
-      same_refusal (let read : Result SecondData RunFault = Err other in read) fault (of_second_isnt_written fault of) reads
+      same_refusal (let read : Result SecondData RunFault = Err other in read) fault
+      (isnt_written IsOfSecond (λ sent h. h) (λ h. h) fault of) reads
   second_refusal of (Some (Ok known)) capture (inl outside) =
       any_outside (after_second asked finding claim (Some (Ok known)) capture) fault outside
   second_refusal of (Some (Ok known)) capture (inr is) = absurd cc
@@ -269,7 +254,8 @@ module _ (asked : AskedData) (finding : Finding) (fault : RunFault) (of : IsOfCl
   pub claim_refusal : (expected : Result ClaimData RunFault) → Reads claim_data expected (Err fault) →
       IfSome (after_claim asked finding expected second capture) (λ report. IsMadeFor report (Err fault))
   claim_refusal (Err other) reads =
-      same_refusal (let read : Result ClaimData RunFault = Err other in read) fault (of_claim_isnt_written fault of) reads
+      same_refusal (let read : Result ClaimData RunFault = Err other in read) fault
+      (isnt_written IsOfClaim (λ sent h. h) (λ h. h) fault of) reads
   claim_refusal (Ok known) (inl outside) =
       any_outside (after_claim asked finding (Ok known) second capture) fault outside
   claim_refusal (Ok known) (inr is) = absurd cc
@@ -280,7 +266,7 @@ module _ (asked : AskedData) (finding : Finding) (claim : ClaimData) (fault : Ru
   refused_after said read (inl outside) = made_outside (after_capture asked finding said claim read) fault outside
   refused_after said read (inr is) =
       subst (λ (r : Result Collection RunFault). IsMadeFor (after_capture asked finding said claim r) (Err fault))
-      (sym is) (refusal_for fault (of_capture_isnt_written fault of))
+      (sym is) (refusal_for fault (isnt_written IsOfCapture (λ sent h. h) (λ h. h) fault of))
 
   -- its refusal is what the bytes of the inputs call for
   pub capture_refusal : {V : Type 0} (said : V → SecondData) (value : V)
@@ -308,11 +294,8 @@ module _ {V : Type 0} (said : V → SecondData) (asked : AskedData) (finding : F
   evidence_made (Some (Err other)) capture read collected is = absurd cc
   evidence_made (Some (Ok known)) None read collected is = tt
   evidence_made (Some (Ok known)) (Some bytes) read collected is =
-      subst (λ (r : Result Collection RunFault). IsMadeFor (after_capture asked finding known claim r) made)
-      (sym collected)
-      (subst (λ (s : SecondData). IsMadeFor
-      (asked.question.report asked.style finding s (evidence_of claim (held_data held))) made)
-      (let same : said value ≡ known = cc in same) is)
+      let same : said value ≡ known = cc in
+      rw collected (rw same at is)
 
 -- a finding on the evidence is one on the bytes of the capture
 pub finding_after : (finding : Finding) (claim : ClaimData) (collection : Collection) (capture : Option (List ℕ)) →

@@ -1,5 +1,5 @@
 -- What the outcome of a search shows.
-use Rattle.std.proofs.Common.{◌≡◌, ℕ, List, Ok, sym, subst}
+use Rattle.std.proofs.Common.{◌≡◌, ℕ, List, Ok}
 use Rattle.sample_interval.specs.declared.kinds.Sample.{Sample}
 use Rattle.finder.specs.declared.found.Found.{Found}
 use Rattle.finder.specs.declared.found.Found.TheVariants as founds
@@ -36,8 +36,7 @@ module _ (step : ℕ) (e : EvidenceData) where
       → outcome ≡ found_outcome (data_of found) → Finds samples e.claim step (Ok found)
       → IsSearchOf step e outcome
   found_shows samples same found outcome is finds =
-      subst (IsSearchOf step e) (sym is)
-      (shown found (subst (λ (s : List Sample). Finds s e.claim step (Ok found)) same finds))
+      rw is (shown found (rw same at finds))
 
   -- the bytes of any inputs that give the evidence show the same
   pub search_shown : (outcome : Outcome) → IsSearchOf step e outcome →

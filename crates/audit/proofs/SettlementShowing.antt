@@ -26,7 +26,8 @@ use Rattle.audit.specs.Question.{no_finding}
 use Rattle.audit.specs.Settle.{IsSettledOf}
 
 module _ (e : EvidenceData) (agree : AllPairs SameRequest e.collection.exchanges)
-    (traced : (certificate : CertificateData) → IsVerdictOn e.claim (samples_in e) certificate (verdict_on certificate e)) where
+    (traced : (certificate : CertificateData) →
+    IsVerdictOn e.claim (samples_in e) certificate (verdict_on certificate e)) where
   pub settled_of : (settled : SettledData) → IsSettledAs e.claim e.collection.exchanges settled → IsSettledOf e settled
   settled_of (settles.shown certificate) h = record {
     yes = record {
@@ -59,9 +60,8 @@ fault_found e finds.TooManyPieces h = ⊎_elim (λ memory. absurd cc) (λ too_ma
 
 pub refused_made : (fault : FindFault) (told : RunFault) → told ≡ find_run_fault_of fault
     → IsMadeFor (refused (find_run_fault_of fault)) (Err told)
-refused_made finds.Memory told is = subst (λ (r : RunFault). IsMadeFor (refused (find_run_fault_of finds.Memory)) (Err r)) (sym is) tt
-refused_made finds.TooManyPieces told is =
-    subst (λ (r : RunFault). IsMadeFor (refused (find_run_fault_of finds.TooManyPieces)) (Err r)) (sym is) (refl, refl)
+refused_made finds.Memory told is = rw is tt
+refused_made finds.TooManyPieces told is = rw is (refl, refl)
 
 -- conflicts name exchanges of the list
 module _ (claim : ClaimData) (xs : List Exchange) (conflicts : List Conflict)

@@ -1,16 +1,16 @@
 -- The text of a settled claim, on the least bound where it names that.
-use Rattle.std.proofs.Common.{◌≡◌, List, ℕ, Option, Some, None, Result, Ok, Err, refl, sym, subst}
+use Rattle.std.proofs.Common.{◌≡◌, List, ℕ, None, Result, Ok, Err, refl}
 use Rattle.std.specs.Prelude.{IfOk, MatchResult}
 use Rattle.finder.specs.Settlement.{SettledData}
 use Rattle.line_writer.specs.declared.field.Style.{Style}
-use Rattle.report.specs.Publication.{IsMadeFor, Ready}
+use Rattle.report.specs.Publication.{Ready}
 use Rattle.report.specs.declared.fault.Outcome.{Outcome}
 use Rattle.report.specs.declared.fault.RunFault.{RunFault}
 use Rattle.report.specs.declared.fault.RunFault.TheVariants.{Memory}
 use Rattle.audit.specs.Evidence.{EvidenceData}
 use Rattle.audit.specs.Report.{IsMadeOf}
 use Rattle.audit.specs.Second.{nothing_said}
-use Rattle.audit.specs.Settle.{IsSettledOf, IsTextFor, report_of, settle, settled_outcome}
+use Rattle.audit.specs.Settle.{IsSettledOf, IsTextFor, settle, settled_outcome}
 
 module _ (e : EvidenceData) (settled : SettledData) (holds : IsSettledOf e settled) (style : Style) where
   -- a text on some bound that was found makes the report on that
@@ -20,10 +20,7 @@ module _ (e : EvidenceData) (settled : SettledData) (holds : IsSettledOf e settl
   of_text text is outcome told = record {
     finding = record { settled = Ok settled; least = is.found };
     found = record { settled = holds; least = is.shows };
-    is_made = subst (λ (t : Option (List ℕ)).
-        IsMadeFor (report_of settled t) (Ok (record { text = text; outcome = outcome }))) (sym is.text_is)
-        (subst (λ (o : Outcome). IsMadeFor (report_of settled (Some text)) (Ok (record { text = text; outcome = o })))
-        (sym told) (refl, refl));
+    is_made = rw (is.text_is, told) (refl, refl);
   }
 
   -- what is told of a text that was made, or wasn't
@@ -32,9 +29,9 @@ module _ (e : EvidenceData) (settled : SettledData) (holds : IsSettledOf e settl
       MatchResult text (λ t. made ≡ Ok (record { text = items t; outcome = outcome })) (λ _. made ≡ Err Memory) →
       IfOk text (λ t. IsTextFor style e settled (items t)) → IsMadeOf settle style nothing_said e made
   text_made (Ok t) items outcome made told is text =
-      subst (IsMadeOf settle style nothing_said e) (sym is) (of_text (items t) text outcome told)
+      rw is (of_text (items t) text outcome told)
   text_made (Err fault) items outcome made told is text =
-      subst (IsMadeOf settle style nothing_said e) (sym is) (record {
+      rw is (record {
         finding = record { settled = Ok settled; least = None };
         found = record { settled = holds; least = tt };
         is_made = tt;

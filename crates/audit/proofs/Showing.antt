@@ -92,8 +92,7 @@ refutation_is r (Some s) is = refutation_of (refutation_read s) r is
 
 -- nothing was found, and so nothing is said
 nothing_from : (finding : Finding) (b f : List ℕ) → finding ≡ no_finding → IsFindingFrom finding b f
-nothing_from finding b f is =
-    subst (λ (found : Finding). IsFindingFrom found b f) (sym is) (record { settled = inl refl; least = tt })
+nothing_from finding b f is = rw is (record { settled = inl refl; least = tt })
 
 module _ (nanoseconds : GivesNanoseconds) (b f : List ℕ) (e : EvidenceData) (is : IsEvidenceOf b f e)
     (certificate : CertificateData) (h : HasVerdictYes certificate e) where
@@ -207,14 +206,11 @@ module _ (question : QuestionData) (claim second capture : FeedState) where
       IfErr read (λ fault. made ≡ Err fault) →
       IfOk made (λ m. IfOk read (λ c. ShowsAfter question (claim_data c) second capture m.outcome)) →
       IsAnswerFor made answer → IfOk answer (question.Shows claim second capture)
-  run_shows read (Err fault) answer reads refused after same =
-      subst (λ (a : Result Outcome RunFault). IfOk a (question.Shows claim second capture)) (sym same) tt
-  run_shows read (Ok m) answer reads refused after (inr (sent, is)) =
-      subst (λ (a : Result Outcome RunFault). IfOk a (question.Shows claim second capture)) (sym is) tt
+  run_shows read (Err fault) answer reads refused after same = rw same tt
+  run_shows read (Ok m) answer reads refused after (inr (sent, is)) = rw is tt
   run_shows (Err fault) (Ok m) answer reads refused after (inl same) = cc
   run_shows (Ok c) (Ok m) answer reads refused after (inl same) =
-      subst (λ (a : Result Outcome RunFault). IfOk a (question.Shows claim second capture)) (sym same)
-      (after claim (known_claim claim.remaining c reads))
+      rw same (after claim (known_claim claim.remaining c reads))
 
 -- ---- what was made
 
@@ -225,12 +221,10 @@ pub unfound : {question : QuestionData} {style : Style} {said : SecondData} {e :
 unfound is = record { finding = no_finding; found = record { settled = tt; least = tt }; is_made = is }
 
 pub told_made : {T E : Type 0} (text : Result T E) (items : T → List ℕ) (outcome : Outcome)
-    (made : Result Ready RunFault) (expected : List ℕ) → MatchResult text (λ t. made ≡ Ok (record { text = items t; outcome = outcome }))
-    (λ e. made ≡ Err faults.Memory) → IfOk text (λ t. items t ≡ expected) → IsMadeFor (whole_text expected outcome) made
-told_made (Ok t) items outcome made expected is same =
-    subst (λ (m : Result Ready RunFault). IsMadeFor (whole_text expected outcome) m) (sym is) (sym same, refl)
-told_made (Err e) items outcome made expected is same =
-    subst (λ (m : Result Ready RunFault). IsMadeFor (whole_text expected outcome) m) (sym is) tt
+    (made : Result Ready RunFault) (expected : List ℕ) →
+    MatchResult text (λ t. made ≡ Ok (record { text = items t; outcome = outcome })) (λ e. made ≡ Err faults.Memory) → IfOk text (λ t. items t ≡ expected) → IsMadeFor (whole_text expected outcome) made
+told_made (Ok t) items outcome made expected is same = rw is (sym same, refl)
+told_made (Err e) items outcome made expected is same = rw is tt
 
 pub told_shows : (made : Result Ready RunFault) (outcome : Outcome) (P : Outcome → Type 0) → P outcome →
     IfOk made (λ m. m.outcome ≡ outcome) → IfOk made (λ m. P m.outcome)

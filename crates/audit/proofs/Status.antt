@@ -4,21 +4,12 @@ use Rattle.std.specs.Prelude.{IfOk}
 use Rattle.report.specs.declared.fault.Outcome.{Outcome}
 use Rattle.report.specs.declared.fault.Outcome.TheVariants.{Yes, No}
 use Rattle.report.specs.declared.fault.RunFault.{RunFault}
-use Rattle.report.specs.declared.fault.RunFault.TheVariants.{Capture, Claim, Certificate, Refutation, Exchanges, Pieces, TooBig, Device, Write, Memory, Sums}
+use Rattle.report.specs.declared.fault.RunFault.TheVariants.{Memory}
 use Rattle.report.specs.ExitStatus.{status_of}
 
 fault_status : (fault : RunFault) → 2 ≤ status_of (Err fault)
-fault_status (Capture fault) = omega arith
-fault_status (Claim fault) = omega arith
-fault_status (Certificate fault) = omega arith
-fault_status (Refutation fault) = omega arith
-fault_status Exchanges = omega arith
-fault_status Pieces = omega arith
-fault_status (TooBig input) = omega arith
 fault_status Memory = omega arith
-fault_status (Device input) = omega arith
-fault_status (Write sent) = omega arith
-fault_status (Sums fault) = omega arith
+fault_status fault = omega arith
 
 outcome_status : (outcome : Outcome) → status_of (Ok outcome) ≤ 1
 outcome_status Yes = omega arith
@@ -27,8 +18,7 @@ outcome_status No = omega arith
 same_outcome : (a o : Outcome) → status_of (Ok a) ≡ status_of (Ok o) → a ≡ o
 same_outcome Yes Yes same = refl
 same_outcome No No same = refl
-same_outcome Yes No same = absurd (omega arith)
-same_outcome No Yes same = absurd (omega arith)
+same_outcome a o same = absurd (omega arith)
 
 -- an answer with the status of an outcome is that outcome
 pub outcome_told : (answer : Result Outcome RunFault) (outcome : Outcome) →

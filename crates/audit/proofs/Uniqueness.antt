@@ -7,12 +7,11 @@ use Rattle.std.specs.Net.Grammar.{IsDotted}
 use Rattle.era_unfold.specs.Nanoseconds.{nanoseconds_per_second}
 use Rattle.era_unfold.specs.Ratio.{IsFloor, IsCeiling}
 use Rattle.era_unfold.specs.Window.{ticks_per_second}
-use Rattle.serde_json.specs.Data.{Data, number, string, unsigned, array, Items}
+use Rattle.serde_json.specs.Data.{Data, number, string, unsigned, array}
 use Rattle.serde_json.specs.Find.{get}
 use Rattle.serde_json.specs.View.{items_of}
 use Rattle.claim_file.specs.Address.{address_of}
 use Rattle.claim_file.specs.Claim.{ClaimData}
-use Rattle.claim_file.specs.Group.{IsInGroup}
 use Rattle.claim_file.specs.Time.{IsTime, time_of}
 use Rattle.audit.specs.Claimed.{IsClaimText, IsTimeAt, numbers_value}
 
@@ -23,36 +22,19 @@ pub record Laws : Type 0 where
 
 -- ---- members
 
-some_same : {A : Type 0} (o : Option A) (a b : A) → o ≡ Some a → o ≡ Some b → a ≡ b
-some_same o a b x y = cc
-
-string_same : (a b : List ℕ) → string a ≡ string b → a ≡ b
-string_same a b e = cc
-
-number_same : (a b : ℕ) → number (unsigned a) ≡ number (unsigned b) → a ≡ b
-number_same a b e = cc
-
-array_same : (a b : Items) → array a ≡ array b → a ≡ b
-array_same a b e = cc
-
 -- arrays of one kind
 items_same : {A : Type 0} (make : A → Data) → ((a b : A) → make a ≡ make b → a ≡ b) → (xs ys : List A)
     → items_of (map make xs) ≡ items_of (map make ys) → xs ≡ ys
 items_same make same [] [] e = refl
-items_same make same [] (y ∷ ys) e = absurd cc
-items_same make same (x ∷ xs) [] e = absurd cc
-items_same make same (x ∷ xs) (y ∷ ys) e =
-    let first : make x ≡ make y = cc in
-    let rest : items_of (map make xs) ≡ items_of (map make ys) = cc in
-    ap (λ z. z ∷ xs) (same x y first) ∙ ap (λ zs. y ∷ zs) (items_same make same xs ys rest)
+items_same make same (x ∷ xs) (y ∷ ys) e = cc (same x y cc, items_same make same xs ys cc)
+items_same make same xs ys e = cc
 
 lists_same : {A : Type 0} (make : A → Data) → ((a b : A) → make a ≡ make b → a ≡ b) → (xs ys : List A)
     → array (items_of (map make xs)) ≡ array (items_of (map make ys)) → xs ≡ ys
-lists_same make same xs ys e =
-    items_same make same xs ys (array_same (items_of (map make xs)) (items_of (map make ys)) e)
+lists_same make same xs ys e = items_same make same xs ys cc
 
 numbers_same : (a b : List ℕ) → numbers_value a ≡ numbers_value b → a ≡ b
-numbers_same a b e = lists_same (λ n. number (unsigned n)) number_same a b e
+numbers_same a b e = lists_same (λ n. number (unsigned n)) (λ m n is. cc) a b e
 
 -- groups, which may be absent
 abbrev groups_value : List (List ℕ) → Data
@@ -60,10 +42,8 @@ groups_value groups = array (items_of (map numbers_value groups))
 
 groups_same : (a b : Option (List (List ℕ))) → option_map groups_value a ≡ option_map groups_value b → a ≡ b
 groups_same None None e = refl
-groups_same None (Some y) e = absurd cc
-groups_same (Some x) None e = absurd cc
-groups_same (Some x) (Some y) e =
-    ap Some (lists_same numbers_value numbers_same x y (let same : groups_value x ≡ groups_value y = cc in same))
+groups_same (Some x) (Some y) e = ap Some (lists_same numbers_value numbers_same x y cc)
+groups_same a b e = cc
 
 -- ---- values
 
@@ -83,17 +63,13 @@ ceiling_same n d a b x y =
 same_list : (a b : List ℕ) → length a ≡ length b
     → ((k x : ℕ) → slice_get a k ≡ Some x → slice_get b k ≡ Some x) → a ≡ b
 same_list [] [] sized each = refl
-same_list [] (y ∷ b) sized each = absurd (omega (arith, sized))
-same_list (x ∷ a) [] sized each = absurd (omega (arith, sized))
 same_list (x ∷ a) (y ∷ b) sized each =
-    let first : y ≡ x = some_same (Some y) y x refl (each 0 x refl) in
-    let rest = same_list a b (omega (arith, sized)) (λ k z at. each (suc k) z at) in
-    ap (λ z. z ∷ a) (sym first) ∙ ap (λ zs. y ∷ zs) rest
+    cc (each 0 x refl, same_list a b (omega (arith, sized)) (λ k z at. each (suc k) z at))
+same_list a b sized each = absurd (omega (arith, sized))
 
 module _ (laws : Laws) where
   dotted_same : (text a b : List ℕ) → IsDotted text a → IsDotted text b → a ≡ b
-  dotted_same text a b x y =
-      some_same (address_of text) a b ((laws.address text a).1 x) ((laws.address text b).1 y)
+  dotted_same text a b x y = cc ((laws.address text a).1 x, (laws.address text b).1 y)
 
   all_dotted_same : (texts a b : List (List ℕ)) → AllZip IsDotted texts a → AllZip IsDotted texts b → a ≡ b
   all_dotted_same [] [] [] x y = refl
@@ -102,32 +78,24 @@ module _ (laws : Laws) where
   all_dotted_same (text ∷ texts) [] b x y = absurd x
   all_dotted_same (text ∷ texts) (p ∷ a) [] x y = absurd y
   all_dotted_same (text ∷ texts) (p ∷ a) (q ∷ b) x y =
-      ap (λ z. z ∷ a) (dotted_same text p q x.0 y.0)
-      ∙ ap (λ zs. q ∷ zs) (all_dotted_same texts a b x.1 y.1)
+      cc (dotted_same text p q x.0 y.0, all_dotted_same texts a b x.1 y.1)
 
   time_same : (value : Data) (name : List ℕ) (s t : ℤ) → IsTimeAt value name s → IsTimeAt value name t → s ≡ t
   time_same value name s t x y =
-      let text = string_same x.text y.text
-      (some_same (get name value) (string x.text) (string y.text) x.stands y.stands) in
-      let second = some_same (time_of y.text) x.second y.second
-      (subst (λ (l : List ℕ). time_of l ≡ Some x.second) text ((laws.time x.text x.second).1 x.is_time))
-      ((laws.time y.text y.second).1 y.is_time) in
+      let text : x.text ≡ y.text = cc (x.stands, y.stands) in
+      let second : x.second ≡ y.second =
+      cc (text, (laws.time x.text x.second).1 x.is_time, (laws.time y.text y.second).1 y.is_time) in
       x.in_ticks ∙ ap (λ (n : ℕ). pos (n * ticks_per_second)) second ∙ sym y.in_ticks
 
   -- two claims that one value says
   module _ (text : List ℕ) (c d : ClaimData) (x : IsClaimText text c) (y : IsClaimText text d) where
     value_same : x.value ≡ y.value
-    value_same = some_same _ x.value y.value x.is_json y.is_json
+    value_same = cc (x.is_json, y.is_json)
 
     -- the member of a name, once for both
-    member_same : (name : List ℕ) (a b : Data) → get name x.value ≡ Some a → get name y.value ≡ Some b → a ≡ b
-    member_same name a b in_x in_y =
-        some_same (get name y.value) a b (subst (λ (v : Data). get name v ≡ Some a) value_same in_x) in_y
-
     number_at : (name : List ℕ) (m n : ℕ) → get name x.value ≡ Some (number (unsigned m))
         → get name y.value ≡ Some (number (unsigned n)) → m ≡ n
-    number_at name m n in_x in_y =
-        number_same m n (member_same name (number (unsigned m)) (number (unsigned n)) in_x in_y)
+    number_at name m n in_x in_y = cc value_same
 
     time_at : (name : List ℕ) (s t : ℤ) → IsTimeAt x.value name s → IsTimeAt y.value name t → s ≡ t
     time_at name s t in_x in_y =
@@ -135,17 +103,14 @@ module _ (laws : Laws) where
 
     client_same : c.client ≡ d.client
     client_same =
-        let texts = string_same x.client_text y.client_text
-        (member_same (codes "client") (string x.client_text) (string y.client_text) x.client_stands y.client_stands) in
-        dotted_same y.client_text c.client d.client
-        (subst (λ (l : List ℕ). IsDotted l c.client) texts x.client) y.client
+        let texts : x.client_text ≡ y.client_text = cc (value_same, x.client_stands, y.client_stands) in
+        dotted_same y.client_text c.client d.client (rw texts at x.client) y.client
 
     servers_same : c.servers ≡ d.servers
     servers_same =
-        let texts = lists_same string string_same x.server_texts y.server_texts
-        (member_same (codes "servers") _ _ x.servers_stand y.servers_stand) in
-        all_dotted_same y.server_texts c.servers d.servers
-        (subst (λ (l : List (List ℕ)). AllZip IsDotted l c.servers) texts x.servers) y.servers
+        let texts = lists_same string (λ s t is. cc) x.server_texts y.server_texts
+        (cc (value_same, x.servers_stand, y.servers_stand)) in
+        all_dotted_same y.server_texts c.servers d.servers (rw texts at x.servers) y.servers
 
     bound_ns_same : c.bound_ns ≡ d.bound_ns
     bound_ns_same = number_at (codes "bound_ns") c.bound_ns d.bound_ns x.bound_ns y.bound_ns
@@ -153,8 +118,7 @@ module _ (laws : Laws) where
     bound_same : c.bound ≡ d.bound
     bound_same =
         let is = floor_same (d.bound_ns * ticks_per_second) nanoseconds_per_second x.bound y.bound
-        (subst (λ (n : ℕ). IsFloor (n * ticks_per_second) nanoseconds_per_second x.bound) bound_ns_same x.bound_is)
-        y.bound_is in
+        (rw bound_ns_same at x.bound_is) y.bound_is in
         x.bound_in_ticks ∙ ap pos is ∙ sym y.bound_in_ticks
 
     reading_ns_same : c.reading_ns ≡ d.reading_ns
@@ -163,8 +127,7 @@ module _ (laws : Laws) where
     reading_same : c.reading ≡ d.reading
     reading_same =
         let is = ceiling_same (d.reading_ns * ticks_per_second) nanoseconds_per_second x.reading y.reading
-        (subst (λ (n : ℕ). IsCeiling (n * ticks_per_second) nanoseconds_per_second x.reading) reading_ns_same
-        x.reading_is) y.reading_is in
+        (rw reading_ns_same at x.reading_is) y.reading_is in
         x.reading_in_ticks ∙ ap pos is ∙ sym y.reading_in_ticks
 
     listed_same : x.listed ≡ y.listed
@@ -178,8 +141,7 @@ module _ (laws : Laws) where
     group_same = same_list c.groups d.groups
         (x.each_in_a_group ∙ counts_same ∙ sym y.each_in_a_group)
         (λ server group at. (y.groups server group).1
-        (subst (λ (o : Option (List (List ℕ))). IsInGroup (length d.servers) o server group) listed_same
-        (subst (λ (n : ℕ). IsInGroup n x.listed server group) counts_same ((x.groups server group).0 at))))
+        (rw (listed_same, counts_same) at ((x.groups server group).0 at)))
 
     -- a text says one claim
     pub one_claim : c ≡ d

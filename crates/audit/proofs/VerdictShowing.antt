@@ -1,16 +1,13 @@
 -- What a verdict shows.
-use Rattle.std.proofs.Common.{◌≡◌, length, refl, sym, ap, subst}
+use Rattle.std.proofs.Common.{◌≡◌, refl, sym, ap, subst}
 use Rattle.certificate.specs.Certificate.{CertificateData}
-use Rattle.claim_file.specs.Claim.{group_count}
-use Rattle.pairing.specs.Sources.{common_reference, source_count}
 use Rattle.checker.specs.Traceability.{IsVerdictOn}
 use Rattle.checker.specs.declared.verdict.Verdict.{Verdict}
 use Rattle.checker.specs.declared.verdict.Verdict.TheVariants as verdicts
 use Rattle.byte_stream.specs.Bytes.{IsBytes}
 use Rattle.report.specs.declared.fault.Outcome.{Outcome}
 use Rattle.report.specs.declared.fault.Outcome.TheVariants.{Yes, No}
-use Rattle.audit_text.specs.declared.check_report.Findings.{Findings}
-use Rattle.audit.specs.Check.{HasVerdict, IsDenied, IsTracedByPieces, IsTracedTo, check, findings_on, outcome_of, verdict_on}
+use Rattle.audit.specs.Check.{HasVerdict, IsDenied, IsTracedByPieces, IsTracedTo, check, outcome_of}
 use Rattle.audit.specs.Evidence.{EvidenceData, samples_in}
 use Rattle.audit.specs.Question.{ShowsOf}
 use Rattle.audit.specs.Evidence.{OfClaimAndCapture}
@@ -39,27 +36,6 @@ module _ (certificate : CertificateData) (e : EvidenceData) where
   pub verdict_shows : (verdict : Verdict) (outcome : Outcome) → outcome ≡ outcome_of verdict →
       IsVerdictOn e.claim (samples_in e) certificate verdict → HasVerdict certificate e outcome
   verdict_shows verdict outcome is settled = subst (HasVerdict certificate e) (sym is) (shown verdict settled)
-
-  -- what is calculated, one by one
-  pub record AreFindings (f : Findings) : Type 0 where
-    pub groups : f.groups ≡ group_count e.claim.groups
-    pub sources : f.sources ≡ source_count e.collection.exchanges (length e.claim.servers)
-    pub reference : f.reference ≡ common_reference e.collection.exchanges
-    pub pieces : f.pieces ≡ length certificate.pieces
-    pub verdict : f.verdict ≡ verdict_on certificate e
-
-  -- it is what the report takes
-  pub findings_are : (f : Findings) → AreFindings f → f ≡ findings_on certificate e
-  findings_are f is =
-      let all : record {
-        groups = f.groups;
-        sources = f.sources;
-        reference = f.reference;
-        pieces = f.pieces;
-        verdict = f.verdict;
-      } ≡ findings_on certificate e =
-      rw (is.groups, is.sources, is.reference, is.pieces, is.verdict) refl in
-      all
 
   -- the bytes of any inputs that say the certificate and give the evidence show the same
   pub verdict_shown : GivesNanoseconds → ShowsHeadline → (outcome : Outcome) → HasVerdict certificate e outcome →

@@ -3,7 +3,7 @@
 -- Where the samples of a capture contradict each other, more than one bound may be the first with a
 -- certificate. So the report is one on a bound that was found, and what that shows is said of the
 -- evidence and of the bytes that give it.
-use Rattle.std.specs.Prelude.{ℕ, pos, ◌<◌, ◌≤◌, Bool, true, false, Option, Some, None, Ok, IfSome}
+use Rattle.std.specs.Prelude.{◌≡◌, ℕ, pos, ◌<◌, ◌≤◌, Bool, true, false, Option, Some, None, Ok, IfSome}
 use Rattle.claim_file.specs.Claim.{ClaimData, max_bound_ns}
 use Rattle.courses.specs.Cover.{SomeCourse}
 use Rattle.finder.specs.Carried.{FindsLeastBound, IsCarried, piece_holding}
@@ -41,3 +41,10 @@ pub record IsLeastBoundOf (e : EvidenceData) (found : Option LeastCarried) : Typ
       m < least.bound_ns → NoneOfFewIsAccepted (samples_in e) (with_bound e.claim m))
   pub enough : SomeCourse e.claim e.collection.exchanges → IfSome found (λ least. (m : ℕ) →
       least.bound_ns ≤ m → m ≤ max_bound_ns → IsCarried (samples_in e) (with_bound e.claim m))
+
+-- A line that is asked for, or not, of evidence: it is that on a bound that was found, which shows
+-- what it says.
+pub record IsLineFor (step : ℕ) (asked : Bool) (e : EvidenceData) (line : LeastLine) : Type 0 where
+  pub found : Option (Option LeastCarried)
+  pub shows : IfSome found (IsLeastBoundOf e)
+  pub line_is : least_line_of e.claim step asked found ≡ Some line

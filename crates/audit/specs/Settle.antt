@@ -121,12 +121,6 @@ IsSettledOf e (no_evidence groups) = IsUnheard e.claim e.collection.exchanges gr
 IsSettledOf e (left_open begin end hull) =
     IsLeftOpen e.claim e.collection.exchanges begin end hull
 
--- what an outcome shows of evidence
-pub record IsSettledWith (e : EvidenceData) (outcome : Outcome) : Type 0 where
-  pub settled : SettledData
-  pub outcome_is : outcome ≡ settled_outcome settled
-  pub holds : IsSettledOf e settled
-
 -- ---- what it shows of bytes
 
 -- The certificate shows the claim, and the clock is traced to UTC as at a yes of `check`: whole, in

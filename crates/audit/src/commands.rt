@@ -58,7 +58,7 @@ pub fn answer_check<C: Feed, T: Feed, F: Feed, S: Sink, E: Sink, H: BuildHasher 
 }
 
 /// A hasher of a fixed key.
-fn fixed() -> BuildHasherDefault<FoldHasher> {
+fn fixed_hasher() -> BuildHasherDefault<FoldHasher> {
     BuildHasherDefault::<FoldHasher>::new()
 }
 
@@ -76,16 +76,8 @@ pub fn run_samples<C: Feed, F: Feed, S: Sink>(
         (run_state (C.state claim.new) no_feed (F.state result.0) (S.state out.new))
         capture result.0 result.1 }
 {
-    run(
-        alloc,
-        Samples,
-        Style::Plain,
-        claim,
-        &mut (),
-        capture,
-        out,
-        fixed(),
-    )
+    let (asked, style, fixed) = (Samples, Style::Plain, fixed_hasher());
+    run(alloc, asked, style, claim, &mut (), capture, out, fixed)
 }
 
 /// Shows what each server says about the clock of the claim's client at one moment, by its best
@@ -107,16 +99,8 @@ pub fn run_at<C: Feed, F: Feed, S: Sink>(
     ensures held { IfOk result.1 (λ outcome.
         IsHeld second (C.state claim.old) (F.state capture)) }
 {
-    run(
-        alloc,
-        At { second },
-        Style::Plain,
-        claim,
-        &mut (),
-        capture,
-        out,
-        fixed(),
-    )
+    let (asked, style, fixed) = (At { second }, Style::Plain, fixed_hasher());
+    run(alloc, asked, style, claim, &mut (), capture, out, fixed)
 }
 
 /// Settles whether a certificate shows that the clock of the claim's client stayed within the
@@ -141,16 +125,8 @@ pub fn run_check<C: Feed, F: Feed, T: Feed, S: Sink>(
     ensures contradiction { result.1 ≡ Ok Outcome.No →
         IsNotTraced (C.state claim.old) (T.state certificate.old) (F.state capture) }
 {
-    run(
-        alloc,
-        Check,
-        Style::Plain,
-        claim,
-        certificate,
-        capture,
-        out,
-        fixed(),
-    )
+    let (asked, style, fixed) = (Check, Style::Plain, fixed_hasher());
+    run(alloc, asked, style, claim, certificate, capture, out, fixed)
 }
 
 /// Settles whether a refutation stands against the claim: whether the clock of the claim's client
@@ -176,16 +152,8 @@ pub fn run_refute<C: Feed, F: Feed, T: Feed, S: Sink>(
     ensures uncontested { result.1 ≡ Ok Outcome.No →
         IsUncontested false (C.state claim.old) (T.state refutation.old) (F.state capture) }
 {
-    run(
-        alloc,
-        Refute { drift: false },
-        Style::Plain,
-        claim,
-        refutation,
-        capture,
-        out,
-        fixed(),
-    )
+    let (asked, style, fixed) = (Refute { drift: false }, Style::Plain, fixed_hasher());
+    run(alloc, asked, style, claim, refutation, capture, out, fixed)
 }
 
 /// Looks for a certificate of the claim in pieces of `step_s` seconds, from 1 to 86,400: the answer
@@ -213,16 +181,8 @@ pub fn run_find<C: Feed, F: Feed, S: Sink>(
         IsNotFound step_s (C.state claim.old) (F.state capture) }
 {
     let step = Step { seconds: step_s };
-    run(
-        alloc,
-        Find { step },
-        Style::Plain,
-        claim,
-        &mut (),
-        capture,
-        out,
-        fixed(),
-    )
+    let (asked, style, fixed) = (Find { step }, Style::Plain, fixed_hasher());
+    run(alloc, asked, style, claim, &mut (), capture, out, fixed)
 }
 
 /// Looks for a refutation of the claim: the answer is `Yes` with the refutation, which stands, or
@@ -243,14 +203,6 @@ pub fn run_seek<C: Feed, F: Feed, S: Sink>(
     ensures none { result.1 ≡ Ok Outcome.No →
         IsIrrefutable (C.state claim.old) (F.state capture) }
 {
-    run(
-        alloc,
-        Seek,
-        Style::Plain,
-        claim,
-        &mut (),
-        capture,
-        out,
-        fixed(),
-    )
+    let (asked, style, fixed) = (Seek, Style::Plain, fixed_hasher());
+    run(alloc, asked, style, claim, &mut (), capture, out, fixed)
 }

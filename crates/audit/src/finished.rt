@@ -64,18 +64,6 @@ impl Finished {
 /// What making a report comes to.
 pub type Making = Result<Finished, RunFault>;
 
-/// What was made whole, or the fault for which it wasn't.
-pub(crate) fn whole(made: Result<Made, RunFault>) -> Making
-    ensures { result ≡ made }
-{
-    match made {
-        Ok(made) => Ok(Finished {
-            kept: Kept::Whole(made),
-        }),
-        Err(fault) => Err(fault),
-    }
-}
-
 /// A text that was made whole, with its outcome; or it wasn't, for want of memory.
 pub(crate) fn told(text: Result<Vec<u8>, AllocError>, outcome: Outcome) -> Making
     ensures made { MatchResult text

@@ -6,7 +6,7 @@ ghost use Rattle.claim_file.specs.Claim.{data_of};
 ghost use Rattle.finder.specs.Piece.{count_of};
 ghost use Rattle.audit.specs.Evidence.{IsLawfulEvidence, evidence_data};
 ghost use Rattle.audit.specs.Least as spec;
-ghost use Rattle.audit.specs.Least.{IsLeastBoundOf};
+ghost use Rattle.audit.specs.Least.{IsLeastBoundOf, IsLineFor};
 
 use crate::evidence::Evidence;
 use crate::sample_list::samples_of;
@@ -45,7 +45,7 @@ pub(crate) fn nanoseconds_of(found: Option<LeastCarried>) -> Option<u64>
 
 /// The line for it, with the number of the piece that holds its tick. There are at most 100,000
 /// pieces of this length.
-pub(crate) fn line_of(step: Step, evidence: &Evidence, found: Option<LeastCarried>) -> LeastLine
+fn line_of(step: Step, evidence: &Evidence, found: Option<LeastCarried>) -> LeastLine
     requires evidence { IsLawfulEvidence evidence.now }
     requires few { count_of (data_of evidence.now.claim) step.seconds ≤ max_pieces }
     requires found { IsLeastBoundOf (evidence_data evidence.now) found }
@@ -59,4 +59,22 @@ pub(crate) fn line_of(step: Step, evidence: &Evidence, found: Option<LeastCarrie
         },
         None => LeastLine::NoneHolds,
     }
+}
+
+/// The line, if it is asked for: only then is the bound looked for.
+pub(crate) fn line_for(
+    alloc: Global,
+    step: Step,
+    asked: bool,
+    evidence: &Evidence,
+) -> Result<LeastLine, AllocError>
+    requires evidence { IsLawfulEvidence evidence.now }
+    requires few { count_of (data_of evidence.now.claim) step.seconds ≤ max_pieces }
+    ensures { IfOk result (IsLineFor step.seconds asked (evidence_data evidence.now)) }
+{
+    if !asked {
+        return Ok(LeastLine::NotAsked);
+    }
+    let found = least_carried(alloc, evidence)?;
+    Ok(line_of(step, evidence, found))
 }

@@ -1,18 +1,15 @@
 //! What is made for `find`.
 
-ghost use Rattle.std.specs.Prelude.{◌≡◌, ◌++◌, IfOk, IfErr, codes};
+ghost use Rattle.std.specs.Prelude.{◌≡◌, ◌++◌, IfOk, codes};
 ghost use Rattle.certificate.specs.Certificate.{data_of as certificate_data};
 ghost use Rattle.certificate.specs.Writing.{certificate_text};
 ghost use Rattle.claim_file.specs.Claim.{data_of};
 ghost use Rattle.finder.specs.Found.{data_of as found_data};
-ghost use Rattle.report.specs.Publication.{IsMadeFor};
-ghost use Rattle.audit.specs.Evidence.{IsLawfulEvidence, evidence_data};
 ghost use Rattle.audit.specs.Find as spec;
-ghost use Rattle.audit.specs.Find.{IsSearchOf, find, find_report, find_run_fault_of, found_outcome};
-ghost use Rattle.audit.specs.Report.{IsOfMaking};
+ghost use Rattle.audit.specs.Find.{find, find_run_fault_of, found_outcome};
 
 use crate::evidence::Evidence;
-use crate::finished::{Making, whole};
+use crate::finished::{Making, told};
 use crate::question::Question;
 use crate::sample_list::samples_of;
 use crate::step::Step;
@@ -21,7 +18,7 @@ use certificate::{Certificate, write_certificate};
 use claim_file::Claim;
 use finder::{FindFault, Found, find_over};
 use line_writer::Style;
-use report::{Made, Outcome, RunFault};
+use report::{Outcome, RunFault};
 use std::alloc::{AllocError, Global};
 
 /// Is there a certificate with pieces of one length?
@@ -85,35 +82,19 @@ fn found_text(
     }
 }
 
-/// Looks for a certificate with pieces of this length: `Yes` with one that `check` accepts, or `No`
-/// with the first piece for which the samples show too little.
-fn make_find(alloc: Global, style: Style, step: Step, evidence: &Evidence) -> Result<Made, RunFault>
-    requires { IsLawfulEvidence evidence.now }
-    ensures made { IsMadeFor (find_report style step.seconds (evidence_data evidence.now)) result }
-    ensures fault { IfErr result IsOfMaking }
-    ensures shows { IfOk result (λ made.
-        IsSearchOf step.seconds (evidence_data evidence.now) made.outcome) }
-{
-    let claim = &evidence.claim;
-    let samples = samples_of(evidence);
-    match find_over(alloc, samples, claim, step.seconds) {
-        Ok(found) => match found_text(alloc, style, step, claim, &found) {
-            Ok(text) => Ok(Made {
-                text,
-                outcome: outcome_of(&found),
-            }),
-            Err(AllocError) => Err(RunFault::Memory),
-        },
-        Err(fault) => Err(run_fault_of(fault)),
-    }
-}
-
 impl Question for Find {
     type Second = ();
 
     ghost asks = { λ asked. find asked.step.seconds };
 
     fn make(self, alloc: Global, style: Style, _second: &(), evidence: Evidence) -> Making {
-        whole(make_find(alloc, style, self.step, &evidence))
+        let claim = &evidence.claim;
+        match find_over(alloc, samples_of(&evidence), claim, self.step.seconds) {
+            Ok(found) => {
+                let text = found_text(alloc, style, self.step, claim, &found);
+                told(text, outcome_of(&found))
+            }
+            Err(fault) => Err(run_fault_of(fault)),
+        }
     }
 }

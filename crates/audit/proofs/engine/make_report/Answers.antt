@@ -1,12 +1,8 @@
-use Rattle.std.proofs.Common.{◌≡◌, inr, Result, Ok, Err, refl, sym, subst}
-use Rattle.std.specs.Prelude.{IfSome}
-use Rattle.claim_file.specs.Claim.{ClaimData, data_of as claim_data}
-use Rattle.report.specs.declared.fault.RunFault.{RunFault}
-use Rattle.report.specs.Publication.{IsMadeFor}
+use Rattle.std.proofs.Common.{◌≡◌, inr, Ok, Err, refl}
+use Rattle.claim_file.specs.Claim.{data_of as claim_data}
 use Rattle.pairing.specs.Held.{held_data}
 use Rattle.audit.specs.Question.{no_finding, asked_of}
 use Rattle.audit.specs.Evidence.{evidence_of}
-use Rattle.audit.specs.Report.{after_claim}
 use Rattle.audit.specs.Second.{second_read}
 use Rattle.audit.proofs.Capture.{header_was_read}
 use Rattle.audit.proofs.RunSteps.{capture_refusal, claim_refusal, evidence_made, finding_after, none_after, second_refusal, second_taken, second_was_read}
@@ -46,9 +42,7 @@ returns-in-Err-read_second-clause-made g c =
       found = rw c.in-Ok.is (none_after claim (g.F.Feed.state c.args.capture).remaining);
       is_made = λ expected reads.
           let is : expected ≡ Ok claim = rw c.in-Ok.is at reads in
-          subst (λ (e : Result ClaimData RunFault). IfSome (after_claim asked no_finding e
-          (g.T.SecondSource.state c.args.second.now).remaining (g.F.Feed.state c.args.capture).remaining)
-          (λ report. IsMadeFor report (Err c.in-Err-read_second.fault))) (sym is)
+          rw is
           (second_refusal g.Q.Second.SecondInput.said asked no_finding claim c.in-Err-read_second.fault
           (rw c.in-Err-read_second.is at c.read_second.ensures.fault)
           (second_read g.Q.Second.SecondInput.kind (g.T.SecondSource.state c.args.second.now).remaining)
@@ -69,9 +63,7 @@ returns-in-Ok-collected-clause-made g c =
           (rw c.in-Ok-collected.is at c.read_capture_from-capture.ensures.known) made.found);
       is_made = λ expected reads.
           let is : expected ≡ Ok claim = rw c.in-Ok.is at reads in
-          subst (λ (e : Result ClaimData RunFault). IfSome (after_claim asked made.finding e
-          (g.T.SecondSource.state c.args.second.now).remaining capture)
-          (λ report. IsMadeFor report c.make.result)) (sym is)
+          rw is
           (evidence_made g.Q.Second.SecondInput.said asked made.finding claim c.in-Ok-read_second.said
           c.in-Ok-collected.held c.make.result second capture (rw c.in-Ok-read_second.is at c.read_second.ensures.known)
           (rw c.in-Ok-collected.is at c.read_capture_from-capture.ensures.known) made.is_made);
@@ -90,9 +82,7 @@ returns-in-Err-collected-clause-made g c =
       found = rw c.in-Ok.is (none_after claim capture);
       is_made = λ expected reads.
           let is : expected ≡ Ok claim = rw c.in-Ok.is at reads in
-          subst (λ (e : Result ClaimData RunFault). IfSome (after_claim asked no_finding e
-          (g.T.SecondSource.state c.args.second.now).remaining capture)
-          (λ report. IsMadeFor report (Err fault))) (sym is)
+          rw is
           (capture_refusal asked no_finding claim fault
           (rw c.in-Err-collected.is at c.read_capture_from-capture.ensures.fault)
           g.Q.Second.SecondInput.said c.in-Ok-read_second.said second capture

@@ -1,10 +1,10 @@
 use Rattle.report.specs.declared.fault.Outcome.TheVariants.{Yes}
+use Rattle.checker.proofs.Exchange.{listed_samples}
 use Rattle.audit.specs.At.{IsHeldAt, at, stretch_at}
 use Rattle.audit.specs.Evidence.{evidence_data, samples_in}
 use Rattle.audit.specs.Question.{ShowsOf}
 use Rattle.audit.specs.Second.{no_second, nothing_said}
 use Rattle.audit.proofs.Showing.{of_evidence, told_made, told_shows, unfound}
-use Rattle.audit.proofs.Sample.{listed_samples}
 use Rattle.audit.proofs.question.at.AtQuestion.make.Goals as goal
 
 pub returns-clause-made : goal.returns-clause-made
@@ -17,5 +17,5 @@ returns-clause-shows c =
     let second = c.args.self.second in
     told_shows c.told.result Yes (ShowsOf (at second) no_second nothing_said e) (of_evidence (IsHeldAt second) e
     (c.hulls_hold_the_error.ensures.best e.claim (samples_in e) (stretch_at second)
-    c.requires.evidence.claim (listed_samples e.claim e.collection.exchanges _ c.requires.evidence.exchanges.each)))
+    c.requires.evidence.claim (listed_samples e.collection.exchanges e.claim _ c.requires.evidence.exchanges.each)))
     c.told.ensures.outcome

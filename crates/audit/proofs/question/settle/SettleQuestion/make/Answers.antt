@@ -9,36 +9,31 @@ use Rattle.audit.proofs.Showing.{BytesLaws, of_inputs, settled_from, told_shows}
 use Rattle.audit.proofs.SettlementText.{text_made}
 use Rattle.audit.proofs.question.settle.SettleQuestion.make.Goals as goal
 
-pub returns-in-Ok-clause-made : goal.returns-in-Ok-clause-made
-returns-in-Ok-clause-made c =
+pub returns-in-Ok : goal.returns-in-Ok
+returns-in-Ok c =
     let e = evidence_data c.args.evidence in
+    let settled = settled_data c.in-Ok.settled in
     let settles = rw c.deref.ensures.value at c.in-Ok.ensures in
     let holds = settled_of e c.requires.evidence.exchanges.agree
     (λ certificate. c.verdicts_are_traceable.ensures e.claim (samples_in e) certificate c.requires.evidence.claim
     (c.samples_of_exchanges_keep_limits.ensures.listed e.claim e.collection.exchanges
-    c.requires.evidence.exchanges.each)) (settled_data c.in-Ok.settled) settles.settled in
-    text_made e (settled_data c.in-Ok.settled) holds c.args.style c.text_for.result (λ t. t.items)
-    c.outcome_of.result c.told.result c.outcome_of.ensures c.told.ensures.made c.text_for.ensures
-
-pub returns-in-Ok-clause-shows : goal.returns-in-Ok-clause-shows
-returns-in-Ok-clause-shows c =
-    let e = evidence_data c.args.evidence in
-    let settles = rw c.deref.ensures.value at c.in-Ok.ensures in
-    let holds = settled_of e c.requires.evidence.exchanges.agree
-    (λ certificate. c.verdicts_are_traceable.ensures e.claim (samples_in e) certificate c.requires.evidence.claim
-    (c.samples_of_exchanges_keep_limits.ensures.listed e.claim e.collection.exchanges
-    c.requires.evidence.exchanges.each)) (settled_data c.in-Ok.settled) settles.settled in
+    c.requires.evidence.exchanges.each)) settled settles.settled in
     let laws : BytesLaws = record {
       nanoseconds = c.bounds_of_bytes_hold_in_nanoseconds.ensures;
       headline = c.yes_shows_the_headline.ensures;
       contested = c.course_beyond_the_bound_contests_the_claim.ensures;
     } in
-    told_shows c.told.result c.outcome_of.result (ShowsOf settle no_second nothing_said e)
-    (of_inputs e (IsSettledBy c.outcome_of.result) (λ b f is. record {
-      settled = settled_data c.in-Ok.settled;
-      outcome_is = c.outcome_of.ensures;
-      holds = settled_from laws b f e is (settled_data c.in-Ok.settled) holds;
-    })) c.told.ensures.outcome
+    record {
+      made = text_made e settled holds c.args.style c.text_for.result (λ t. t.items) c.outcome_of.result c.told.result
+          c.outcome_of.ensures c.told.ensures.made c.text_for.ensures;
+      fault = c.told.ensures.fault;
+      shows = told_shows c.told.result c.outcome_of.result (ShowsOf settle no_second nothing_said e)
+          (of_inputs e (IsSettledBy c.outcome_of.result) (λ b f is. record {
+            settled = settled;
+            outcome_is = c.outcome_of.ensures;
+            holds = settled_from laws b f e is settled holds;
+          })) c.told.ensures.outcome;
+    }
 
 pub returns-clause-made : goal.returns-clause-made
 returns-clause-made c =
