@@ -259,7 +259,8 @@ fn likely_least(
     requires tables { IsTabled (claim_data claim.now) tables.now }
     requires in_range { start ≤ max_bound_ns }
 {
-    let Count::Pieces(pieces) = count_with(alloc, tables, claim, MOST_BOUND_NS, MOST_PIECES, false)? else {
+    let Count::Pieces(pieces) = count_with(alloc, tables, claim, MOST_BOUND_NS, MOST_PIECES, false)?
+    else {
         return Ok(MOST_BOUND_NS);
     };
     let mut bracket = Bracket {

@@ -125,7 +125,10 @@ impl Pace {
     fn see(&mut self, length: u64, likely: u64) {
         let is_right = length == likely && likely < self.shortened;
         self.trust = if is_right {
-            self.trust.saturating_mul(2).saturating_add(1).min(MOST_TRUST)
+            self.trust
+                .saturating_mul(2)
+                .saturating_add(1)
+                .min(MOST_TRUST)
         } else {
             0
         };

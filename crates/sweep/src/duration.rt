@@ -79,7 +79,11 @@ fn duration_of(peaks: &Peaks, near: &mut Near, begin: u128, level: u128, drift_p
         Some(peak) => TWICE_MIRRORED.saturating_sub(peak.place),
         None => 0,
     };
-    let early = count_upto(peaks.early.as_slice(), place.max(2 * begin), near.peaks.early);
+    let early = count_upto(
+        peaks.early.as_slice(),
+        place.max(2 * begin),
+        near.peaks.early,
+    );
     near.peaks.early = early;
     if early == 0 {
         return 0;
