@@ -254,11 +254,3 @@ module _ (laws : BoundLaws) (samples : List Sample) (claim : ClaimData) (lawful 
           (λ below. stop_is_tick below.0 (pos least.tick) below.2) first,
     );
   }
-
-  pub finds_none : (tick : ℤ) → StopsAt samples (with_bound claim max_bound_ns) tick
-      → FindsLeastBound samples claim (Ok None)
-  finds_none tick stops =
-      record { found = tt; not_below = tt; least = tt; enough = tt; none = (tick, stops); lawful = tt }
-
-  pub finds_no_memory : (e : AllocError) → FindsLeastBound samples claim (Err e)
-  finds_no_memory e = record { found = tt; not_below = tt; least = tt; enough = tt; none = tt; lawful = tt }

@@ -14,14 +14,6 @@ use Rattle.finder.specs.Entry.{AreNamed, best_over, best_entries, part_between, 
 use Rattle.finder.proofs.Best.{BestLaw, best_of_is}
 use Rattle.finder.proofs.List.{All-slice_get, All-filter_map}
 
--- what an entry says that names samples that there are
-pub part_there : (samples : List Sample) (claim : ClaimData) (stretch : Stretch) (entry : ℕ × ℕ) (d e : Sample)
-    → entry.0 < length samples → entry.1 < length samples
-    → part_named samples claim stretch entry
-    ≡ Some (part_of (get_or samples entry.0 d) (get_or samples entry.1 e) stretch claim.drift_ppb)
-part_there samples claim stretch entry d e low high =
-    rw (slice_get-get_or samples entry.0 d low, slice_get-get_or samples entry.1 e high) refl
-
 -- the same if what is said was computed
 pub part_computed : (samples : List Sample) (claim : ClaimData) (stretch : Stretch) (entry : ℕ × ℕ) (low high : Sample)
     (part : Part) → slice_get samples entry.0 ≡ Some low → slice_get samples entry.1 ≡ Some high

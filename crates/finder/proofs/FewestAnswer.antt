@@ -108,19 +108,3 @@ module _ (laws : Laws) (samples : List Sample) (claim : ClaimData) (lawful : IsL
         let count = is.as_many in
         absurd (omega (arith, more, count, few));
   }
-
-pub finds_without_memory : (samples : List Sample) (claim : ClaimData) (result : Result Fewest FindFault)
-    → IsErrAnd result (λ fault. fault ≡ Memory) → FindsFewest samples claim result
-finds_without_memory samples claim (Ok found) is = absurd is
-finds_without_memory samples claim (Err fault) is = record {
-  exact = tt;
-  stuck = tt;
-  refused = inl is;
-  accepted = tt;
-  fewest = tt;
-  few = tt;
-  none_accepted = tt;
-  contradiction = tt;
-  held = tt;
-  too_many = λ e. absurd cc;
-}

@@ -148,15 +148,6 @@ module _ (samples : List Sample) (claim : ClaimData) where
     pub reach_begins : pos q ≡ end_after claim.first items
     reach_begins = sym (ap (end_after claim.first) items_are ∙ end_after_more claim.first ends (pos q))
 
-    pub reach_ends : pos q ≡ claim.last → length ends < max_pieces → AreEnds samples claim items
-    reach_ends all few = record {
-      earlier = ends;
-      longest = are;
-      last = subst (IsLongest samples claim (end_after claim.first ends)) all long_after;
-      few = few;
-      are = items_are ∙ ap (λ (x : ℤ). ends ++ x ∷ []) all;
-    }
-
   -- one more piece of a certificate
   pub taken_more : (ends : List ℤ) (k : ℕ) (old : List PieceData) (entries : List (ℕ × ℕ)) (upto : ℕ)
       → k < length ends → old ≡ pieces_over samples claim claim.first (take k ends)

@@ -231,12 +231,13 @@ pub(crate) fn is_as_long(
         && (!is_near || have_same_peaks(&before, &pace.places))
 }
 
-/// Whether the same peaks decided in all tables.
+/// Whether the same peaks decided in all tables, at whatever levels.
 fn have_same_peaks(one: &Places, other: &Places) -> bool {
     for index in 0..32 {
-        let a = one.near[index];
-        let b = other.near[index];
-        if a.lows.peaks != b.lows.peaks || a.highs.peaks != b.highs.peaks {
+        let mut levelled = other.near[index];
+        levelled.lows.level = one.near[index].lows.level;
+        levelled.highs.level = one.near[index].highs.level;
+        if one.near[index] != levelled {
             return false;
         }
     }

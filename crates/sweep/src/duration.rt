@@ -72,19 +72,15 @@ fn duration_of(peaks: &Peaks, near: &mut Near, begin: u128, level: u128, drift_p
     let late = count_below(
         peaks.late.as_slice(),
         needed + rate * mirrored_tick(begin),
-        near.peaks.late,
+        near.late,
     );
-    near.peaks.late = late;
+    near.late = late;
     let place = match peaks.late.as_slice().get(late) {
         Some(peak) => TWICE_MIRRORED.saturating_sub(peak.place),
         None => 0,
     };
-    let early = count_upto(
-        peaks.early.as_slice(),
-        place.max(2 * begin),
-        near.peaks.early,
-    );
-    near.peaks.early = early;
+    let early = count_upto(peaks.early.as_slice(), place.max(2 * begin), near.early);
+    near.early = early;
     if early == 0 {
         return 0;
     }

@@ -1,26 +1,18 @@
 //! Where look-ups in the tables ended.
 
-/// The peaks that decided the level of one kind of end.
-#[derive(Clone, Copy, Default, PartialEq, Eq)]
-pub struct Deciding {
-    /// How many early peaks come up to the piece's middle.
-    pub early: usize,
-    /// The same with time running backwards.
-    pub late: usize,
-    /// Whether the last of these reaches the higher level.
-    pub is_late: bool,
-}
-
 /// Where the last look-ups ended in the peaks of one kind of end.
-#[derive(Clone, Copy, Default)]
+#[derive(Clone, Copy, Default, PartialEq, Eq)]
 pub struct Near {
-    pub peaks: Deciding,
+    pub early: usize,
+    pub late: usize,
+    /// Whether the late peaks reach the higher level.
+    pub is_late: bool,
     /// The level that was found, counted from the origin.
     pub level: u128,
 }
 
 /// Where the last look-ups ended in a table.
-#[derive(Clone, Copy, Default)]
+#[derive(Clone, Copy, Default, PartialEq, Eq)]
 pub struct NearTable {
     pub lows: Near,
     pub highs: Near,

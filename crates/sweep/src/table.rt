@@ -123,25 +123,15 @@ fn level_over(peaks: &Peaks, near: &mut Near, stretch: Stretch, drift_ppb: u32) 
 {
     // What the proof knows of widenings.
     widening_is_one_number();
-    let early = early_rise(
-        peaks.early.as_slice(),
-        &mut near.peaks.early,
-        stretch,
-        drift_ppb,
-    );
+    let early = early_rise(peaks.early.as_slice(), &mut near.early, stretch, drift_ppb);
     let mirrored = Stretch {
         begin: mirrored_tick(stretch.end),
         end: mirrored_tick(stretch.begin),
     };
-    let late = early_rise(
-        peaks.late.as_slice(),
-        &mut near.peaks.late,
-        mirrored,
-        drift_ppb,
-    );
+    let late = early_rise(peaks.late.as_slice(), &mut near.late, mirrored, drift_ppb);
     let level = level_of(early.max(late), second_before(near.level), drift_ppb);
     near.level = level;
-    near.peaks.is_late = early < late;
+    near.is_late = early < late;
     level
 }
 
