@@ -2,7 +2,6 @@
 use Rattle.std.proofs.Common.{◌≡◌, ◌⊎◌, inl, inr, ⊎_elim, ℕ, ◌+◌, ◌*◌, ◌<◌, ◌≤◌, ◌^◌, ℤ, pos, ◌≤ℤ◌, ◌<ℤ◌, false, cond, is_some, ◌||◌, int_lt, List, [], ◌∷◌, ◌++◌, length, Option, Some, None, Result, Ok, Err, refl, sym, ap, ◌∙◌, subst, arith}
 use Rattle.std.proofs.lemmas.Int.{ints, clamps}
 use Rattle.std.specs.Prelude.{MatchOption}
-use Rattle.std.specs.declared.alloc.AllocError.{AllocError}
 use Rattle.era_unfold.specs.Nanoseconds.{nanoseconds_per_second, ticks_down}
 use Rattle.era_unfold.specs.Window.{ticks_per_second}
 use Rattle.certificate.specs.Certificate.{CertificateData, PieceData, max_pieces}
