@@ -2,7 +2,6 @@
 use Rattle.std.proofs.Common.{◌≡◌, ◌⊎◌, inl, inr, ⊎_elim, ℕ, ◌+◌, ◌*◌, ◌<◌, ◌≤◌, ◌^◌, ℤ, pos, ◌≤ℤ◌, ◌<ℤ◌, false, cond, is_some, ◌||◌, int_lt, List, [], ◌∷◌, ◌++◌, length, Option, Some, None, Result, Ok, Err, refl, sym, ap, ◌∙◌, subst, arith}
 use Rattle.std.proofs.lemmas.Int.{ints, clamps}
 use Rattle.std.specs.Prelude.{MatchOption}
-use Rattle.std.specs.declared.alloc.AllocError.{AllocError}
 use Rattle.era_unfold.specs.Nanoseconds.{nanoseconds_per_second, ticks_down}
 use Rattle.era_unfold.specs.Window.{ticks_per_second}
 use Rattle.certificate.specs.Certificate.{CertificateData, PieceData, max_pieces}
@@ -254,11 +253,3 @@ module _ (laws : BoundLaws) (samples : List Sample) (claim : ClaimData) (lawful 
           (λ below. stop_is_tick below.0 (pos least.tick) below.2) first,
     );
   }
-
-  pub finds_none : (tick : ℤ) → StopsAt samples (with_bound claim max_bound_ns) tick
-      → FindsLeastBound samples claim (Ok None)
-  finds_none tick stops =
-      record { found = tt; not_below = tt; least = tt; enough = tt; none = (tick, stops); lawful = tt }
-
-  pub finds_no_memory : (e : AllocError) → FindsLeastBound samples claim (Err e)
-  finds_no_memory e = record { found = tt; not_below = tt; least = tt; enough = tt; none = tt; lawful = tt }

@@ -1,9 +1,9 @@
 -- The entries of a piece, one after another.
-use Rattle.std.proofs.Common.{◌≡◌, ℕ, ◌<◌, List, [], ◌∷◌, length, get_or, Option, Some, None, refl, sym, ap}
+use Rattle.std.proofs.Common.{◌≡◌, ℕ, ◌<◌, List, [], ◌∷◌, length, Option, Some, None, refl, sym, ap}
 use Rattle.std.specs.Prelude.{All, slice_get}
 use Rattle.std.specs.List.{cons_option}
 use Rattle.std.proofs.lemmas.List.Elements.{All-nil, All-cons}
-use Rattle.std.proofs.lemmas.Option.{slice_get-get_or, slice_get_within}
+use Rattle.std.proofs.lemmas.Option.{slice_get_within}
 use Rattle.claim_file.specs.Claim.{ClaimData}
 use Rattle.claim_file.specs.Group.{servers_of}
 use Rattle.sample_interval.specs.declared.kinds.Sample.{Sample}
@@ -13,14 +13,6 @@ use Rattle.span_cover.specs.declared.stretch.Stretch.{Stretch}
 use Rattle.finder.specs.Entry.{AreNamed, best_over, best_entries, part_between, part_named, parts_named}
 use Rattle.finder.proofs.Best.{BestLaw, best_of_is}
 use Rattle.finder.proofs.List.{All-slice_get, All-filter_map}
-
--- what an entry says that names samples that there are
-pub part_there : (samples : List Sample) (claim : ClaimData) (stretch : Stretch) (entry : ℕ × ℕ) (d e : Sample)
-    → entry.0 < length samples → entry.1 < length samples
-    → part_named samples claim stretch entry
-    ≡ Some (part_of (get_or samples entry.0 d) (get_or samples entry.1 e) stretch claim.drift_ppb)
-part_there samples claim stretch entry d e low high =
-    rw (slice_get-get_or samples entry.0 d low, slice_get-get_or samples entry.1 e high) refl
 
 -- the same if what is said was computed
 pub part_computed : (samples : List Sample) (claim : ClaimData) (stretch : Stretch) (entry : ℕ × ℕ) (low high : Sample)

@@ -1,6 +1,5 @@
 -- What is found, and what that says.
-use Rattle.std.proofs.Common.{◌≡◌, ℕ, ◌+◌, ℤ, pos, ◌≤ℤ◌, to_z, of_z, List, [], ◌∷◌, ◌++◌, length, Ok, Err, inl, inr, refl, sym, ap, ◌∙◌, subst, arith}
-use Rattle.std.specs.Prelude.{Result, IsErrAnd}
+use Rattle.std.proofs.Common.{◌≡◌, ℕ, ◌+◌, ℤ, pos, ◌≤ℤ◌, to_z, of_z, List, [], ◌∷◌, ◌++◌, length, Ok, Err, inr, refl, sym, ap, ◌∙◌, subst, arith}
 use mir.Syntax.{w128}
 use Rattle.certificate.specs.Certificate.{data_of as certificate_data}
 use Rattle.certificate.specs.declared.certificate.Certificate.{Certificate}
@@ -13,9 +12,7 @@ use Rattle.finder.specs.Fewest.{IsStuck, IsTooLong, hull_over, pieces_over, stre
 use Rattle.finder.specs.FewestAnswer.{FindsFewest}
 use Rattle.finder.specs.Reach.{AreEnds}
 use Rattle.finder.specs.Samples.{AreSamplesOf}
-use Rattle.finder.specs.declared.fault.FindFault.{FindFault}
-use Rattle.finder.specs.declared.fault.FindFault.TheVariants.{TooManyPieces, Memory}
-use Rattle.finder.specs.declared.fewest.Fewest.{Fewest}
+use Rattle.finder.specs.declared.fault.FindFault.TheVariants.{TooManyPieces}
 use Rattle.finder.specs.declared.fewest.Fewest.TheVariants as found
 use Rattle.finder.proofs.FewestPieces.{InSpan, Laws, as_many_pieces, end_after_in_span, end_after_later, first_in_span, more_of_accepted, next_within, none_accepted_over, one_more_end, yes_from}
 use Rattle.finder.proofs.LongestPiece.{in_64_bits, tick_kept}
@@ -108,19 +105,3 @@ module _ (laws : Laws) (samples : List Sample) (claim : ClaimData) (lawful : IsL
         let count = is.as_many in
         absurd (omega (arith, more, count, few));
   }
-
-pub finds_without_memory : (samples : List Sample) (claim : ClaimData) (result : Result Fewest FindFault)
-    → IsErrAnd result (λ fault. fault ≡ Memory) → FindsFewest samples claim result
-finds_without_memory samples claim (Ok found) is = absurd is
-finds_without_memory samples claim (Err fault) is = record {
-  exact = tt;
-  stuck = tt;
-  refused = inl is;
-  accepted = tt;
-  fewest = tt;
-  few = tt;
-  none_accepted = tt;
-  contradiction = tt;
-  held = tt;
-  too_many = λ e. absurd cc;
-}

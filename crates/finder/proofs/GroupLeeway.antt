@@ -259,13 +259,6 @@ pub record IsTightestTo (leeways : List ℤ) (left_out : ℕ → Bool) (n tighte
   pub least_of : (other : ℕ) → other < n → left_out other ≡ false → least ≤ℤ leeway_in leeways other
 
 module _ (leeways : List ℤ) (left_out : ℕ → Bool) where
-  pub none_tight : (tightest : ℕ) (least : ℤ) → least ≡ no_limit → IsTightestTo leeways left_out 0 tightest least
-  none_tight tightest least is = record {
-    at_most = omega (arith, ints, is);
-    its_own = λ less. absurd (omega (arith, ints, is, less));
-    least_of = λ other first. absurd (no_number_below other first);
-  }
-
   module _ (n tightest : ℕ) (least : ℤ) (before : IsTightestTo leeways left_out n tightest least) where
     pub tighter : left_out n ≡ false → leeway_in leeways n <ℤ least
         → IsTightestTo leeways left_out (n + 1) n (leeway_in leeways n)

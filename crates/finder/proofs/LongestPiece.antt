@@ -13,7 +13,6 @@ use Rattle.span_cover.specs.Piece.{IsPiece}
 use Rattle.sweep.specs.Pieces.{ArePieces, IsPieceAt}
 use Rattle.finder.specs.Entry.{best_entries}
 use Rattle.finder.specs.Fewest.{AreLongest, IsLongest, end_after, next_tick, piece_over, pieces_over, shows, stretch_over}
-use Rattle.finder.specs.Reach.{AreEnds}
 use Rattle.finder.specs.Samples.{AreSamplesOf}
 use Rattle.finder.proofs.Claim.{first_kept, last_kept}
 use Rattle.finder.proofs.FewestPieces.{InSpan, Laws, end_in_span, longest_forward, piece_to, shown_before}
@@ -147,15 +146,6 @@ module _ (samples : List Sample) (claim : ClaimData) where
 
     pub reach_begins : pos q ≡ end_after claim.first items
     reach_begins = sym (ap (end_after claim.first) items_are ∙ end_after_more claim.first ends (pos q))
-
-    pub reach_ends : pos q ≡ claim.last → length ends < max_pieces → AreEnds samples claim items
-    reach_ends all few = record {
-      earlier = ends;
-      longest = are;
-      last = subst (IsLongest samples claim (end_after claim.first ends)) all long_after;
-      few = few;
-      are = items_are ∙ ap (λ (x : ℤ). ends ++ x ∷ []) all;
-    }
 
   -- one more piece of a certificate
   pub taken_more : (ends : List ℤ) (k : ℕ) (old : List PieceData) (entries : List (ℕ × ℕ)) (upto : ℕ)

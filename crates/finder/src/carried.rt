@@ -11,7 +11,7 @@ ghost use Rattle.finder.specs.Piece.{IsStep};
 ghost use Rattle.finder.specs.Reach.{AreTablesFor, IsTabled};
 ghost use Rattle.finder.specs.Samples.{AreSamplesOf};
 
-use crate::guess::likely_least;
+use crate::guess::Guess;
 use crate::laws::{
     best_entries_show_as_much, best_hulls_hold_the_error, pieces_within_have_no_wider_hulls,
 };
@@ -78,7 +78,6 @@ fn least_bound_by(
 ) -> Result<Option<LeastCarried>, AllocError>
     requires claim { IsLawful (claim_data claim.now) }
     requires tables { IsTabled (claim_data claim.now) tables.now }
-    requires in_range { start ≤ max_bound_ns }
     ensures { (samples : List TheSample) → AreTablesFor samples (claim_data claim.now) tables.now →
         FindsLeastBound samples (claim_data claim.now) result }
 {
@@ -94,20 +93,18 @@ fn least_bound_by(
     if widest.is_some() {
         return Ok(None);
     }
-    let mut near = start;
+    let mut guess = Guess::at(start);
     let mut least = 0;
     let mut bound_ns = MOST_BOUND_NS;
     let mut tick = claim.first as u64;
     while least < bound_ns {
-        let tried_ns = trial(least, bound_ns, near, 0);
+        let near = guess.next(alloc, tables, claim, least, bound_ns)?;
+        let tried_ns = trial(least, bound_ns, near);
         match try_bound(alloc, tables, claim, tried_ns)? {
             None => bound_ns = tried_ns,
             Some(stop) => {
                 least = tried_ns + 1;
                 tick = stop;
-                if tried_ns == start {
-                    near = likely_least(alloc, tables, claim, start)?;
-                }
             }
         }
     }

@@ -12,8 +12,9 @@ ghost use Rattle.finder.specs.Reach.{IsTabled};
 
 use crate::carried::{MOST_BOUND_NS, claim_with};
 use crate::least::reach_of;
-use crate::longest::{Pace, is_as_long, longest_piece};
+use crate::longest::{Pace, is_as_long, likely_end, longest_piece};
 use crate::neediest::in_nanoseconds;
+use crate::trial::trial;
 use certificate::MAX_PIECES;
 use claim_file::Claim;
 use era_unfold::laws::nanoseconds_lie_between_their_ticks;
@@ -200,9 +201,55 @@ impl Bracket {
     }
 }
 
+/// Where the least bound is looked for, from try to try.
+#[derive(Clone, Copy)]
+pub(crate) struct Guess {
+    /// Where it's looked for first, in nanoseconds.
+    start: u64,
+    /// Where it likely is.
+    near: u64,
+    /// How many times it was asked for.
+    times: u32,
+}
+
+impl Guess {
+    /// The first try is a lower limit, in nanoseconds.
+    pub(crate) fn at(start: u64) -> Guess {
+        Guess {
+            start,
+            near: start,
+            times: 0,
+        }
+    }
+
+    /// Where to look next, if the least bound is one of those from `least` to `most`, and this one
+    /// is enough: at the start; if that wasn't, where it likely is; and if it's neither there nor a
+    /// nanosecond beside it, where it is by a closer count.
+    pub(crate) fn next(
+        &mut self,
+        alloc: Global,
+        tables: &[BestTable],
+        claim: &Claim,
+        least: u64,
+        most: u64,
+    ) -> Result<u64, AllocError>
+        requires claim { IsLawful (claim_data claim.now) }
+        requires tables { IsTabled (claim_data claim.now) tables.now }
+    {
+        if self.start < least && self.times == 1 {
+            self.near = likely_least(alloc, tables, claim, self.start.min(MOST_BOUND_NS))?;
+        }
+        if self.start < least && self.times == 3 {
+            self.near = nearly_least(alloc, tables, claim, least, most, self.near)?;
+        }
+        self.times = self.times.saturating_add(1);
+        Ok(self.near)
+    }
+}
+
 /// The bound in nanoseconds that is likely the least one, if `start` isn't enough and the greatest
 /// bound is.
-pub(crate) fn likely_least(
+fn likely_least(
     alloc: Global,
     tables: &[BestTable],
     claim: &Claim,
@@ -212,7 +259,8 @@ pub(crate) fn likely_least(
     requires tables { IsTabled (claim_data claim.now) tables.now }
     requires in_range { start ≤ max_bound_ns }
 {
-    let Count::Pieces(pieces) = count_with(alloc, tables, claim, MOST_BOUND_NS, MOST_PIECES)? else {
+    let Count::Pieces(pieces) = count_with(alloc, tables, claim, MOST_BOUND_NS, MOST_PIECES, false)?
+    else {
         return Ok(MOST_BOUND_NS);
     };
     let mut bracket = Bracket {
@@ -234,11 +282,40 @@ pub(crate) fn likely_least(
                 break;
             }
             let bound_ns = bracket.bound_at(turn, most).min(MOST_BOUND_NS);
-            let count = count_with(alloc, tables, claim, bound_ns, most + most / 4)?;
+            let count = count_with(alloc, tables, claim, bound_ns, most + most / 4, false)?;
             bracket.see(bound_ns, count, most);
         }
     }
     Ok(bracket.high.bound_ns)
+}
+
+/// The bound in nanoseconds that is likely the least one, of those from `least` to `most`, which is
+/// enough, if it lies near one of them: by counts that skip nothing but what is of one shape. At
+/// most as many bounds are tried as it takes to double a number of 64 bits and to halve it.
+fn nearly_least(
+    alloc: Global,
+    tables: &[BestTable],
+    claim: &Claim,
+    least: u64,
+    most: u64,
+    near: u64,
+) -> Result<u64, AllocError>
+    requires claim { IsLawful (claim_data claim.now) }
+    requires tables { IsTabled (claim_data claim.now) tables.now }
+{
+    let mut least = least;
+    let mut most = most;
+    for _ in 0..130 {
+        if most <= least {
+            break;
+        }
+        let bound_ns = trial(least, most, near).min(MOST_BOUND_NS);
+        match count_with(alloc, tables, claim, bound_ns, MOST_PIECES, true)? {
+            Count::Pieces(_) => most = bound_ns,
+            Count::More | Count::Needs(_) => least = bound_ns + 1,
+        }
+    }
+    Ok(most)
 }
 
 /// How many pieces a bound takes, if they are no more than `most`.
@@ -248,6 +325,7 @@ fn count_with(
     claim: &Claim,
     bound_ns: u64,
     most: u64,
+    is_near: bool,
 ) -> Result<Count, AllocError>
     requires claim { IsLawful (claim_data claim.now) }
     requires tables { IsTabled (claim_data claim.now) tables.now }
@@ -255,33 +333,38 @@ fn count_with(
 {
     nanoseconds_lie_between_their_ticks();
     let claim = claim_with(alloc, claim, bound_ns)?;
-    Ok(count_of(tables, &claim, most))
+    Ok(count_of(tables, &claim, most, is_near))
 }
 
-/// How many pieces the claim's bound takes, if they are no more than `most`. After two of one
-/// length, as many as have been skipped before and as many again are taken to have it too, if the
-/// piece behind them has.
-fn count_of(tables: &[BestTable], claim: &Claim, most: u64) -> Count
+/// How many pieces the claim's bound takes, if they are no more than `most`. Where lengths are
+/// likely right most pieces aren't looked at. After pieces of one length as many as have been
+/// skipped before and as many again are taken to have it too, if the piece behind them has; but if
+/// the bound `is_near` the least one, only after many, and where the same peaks decide.
+fn count_of(tables: &[BestTable], claim: &Claim, most: u64, is_near: bool) -> Count
     requires claim { IsLawful (claim_data claim.now) }
     requires tables { IsTabled (claim_data claim.now) tables.now }
 {
+    let before = if is_near { 16 } else { 1 };
     let last = claim.last as u64;
     let mut begin = claim.first as u64;
-    let mut pace = Pace::of_first(last);
+    let mut pace = Pace::new();
     let mut pieces = 0u64;
     let mut leap = 1u64;
     while pieces < most {
-        match longest_piece(tables, &mut pace, claim, begin) {
-            Err(hull) => return Count::Needs(need_of(hull)),
-            Ok(end) => begin = end,
-        }
+        begin = match likely_end(tables, &mut pace, claim, begin) {
+            Some(end) => end,
+            None => match longest_piece(tables, &mut pace, claim, begin) {
+                Err(hull) => return Count::Needs(need_of(hull)),
+                Ok(end) => end,
+            },
+        };
         pieces += 1;
         if begin == last {
             return Count::Pieces(pieces);
         }
-        if let Some(length) = pace.steady() {
+        if let Some(length) = pace.steady(before) {
             let ahead = begin.saturating_add(length.saturating_mul(leap));
-            if is_as_long(tables, &mut pace, claim, ahead, length) {
+            if is_as_long(tables, &mut pace, claim, ahead, length, is_near) {
                 begin = ahead;
                 pieces = pieces.saturating_add(leap);
                 leap = leap.saturating_mul(2);

@@ -1,7 +1,7 @@
 //! The longest piece from a reading.
 
 ghost use Rattle.std.specs.Prelude.{◌≡◌, ◌≤◌, pos, ◌+ℤ◌, ◌≤ℤ◌, true, List, length, IfOk};
-ghost use Rattle.std.specs.Prelude.{IsTrue, MatchResult};
+ghost use Rattle.std.specs.Prelude.{IfSome, IsTrue, MatchResult};
 ghost use Rattle.std.specs.Int.{int_min};
 ghost use Rattle.claim_file.specs.Claim.{IsLawful, data_of};
 ghost use Rattle.pairing.specs.Exchange.{most_exchanges};
@@ -94,29 +94,61 @@ pub(crate) struct Pace {
     places: Places,
     /// How many ticks the last piece has.
     length: u64,
-    /// How many more or fewer than the one before.
-    change: u64,
+    /// How many pieces before it are as long.
+    same: u32,
+    /// How long a piece was that ended before the servers' ends left the bound, if the last ones
+    /// weren't longer.
+    shortened: u64,
+    /// How many pieces may be taken for as long as is likely, without a look.
+    trust: u32,
+    /// How many of them are left.
+    left: u32,
 }
 
+/// So many pieces are taken at most before the next one is looked at.
+const MOST_TRUST: u32 = 15;
+
 impl Pace {
-    /// No piece is found yet: the first may be as long as this.
-    pub(crate) fn of_first(length: u64) -> Pace {
+    /// No piece is found yet.
+    pub(crate) fn new() -> Pace {
         Pace {
-            places: Places::new(),
-            length,
-            change: length,
+            places: Places::default(),
+            length: 0,
+            same: 0,
+            shortened: u64::MAX,
+            trust: 0,
+            left: 0,
         }
     }
 
-    /// Takes note of a piece of so many ticks.
-    fn see(&mut self, length: u64) {
-        self.change = self.length.abs_diff(length);
+    /// Takes note of a piece of so many ticks, where so many were likely.
+    fn see(&mut self, length: u64, likely: u64) {
+        let is_right = length == likely && likely < self.shortened;
+        self.trust = if is_right {
+            self.trust
+                .saturating_mul(2)
+                .saturating_add(1)
+                .min(MOST_TRUST)
+        } else {
+            0
+        };
+        self.left = self.trust;
+        if length < likely {
+            self.shortened = length;
+        } else if self.shortened < length {
+            self.shortened = u64::MAX;
+        }
+        self.same = if length == self.length {
+            self.same.saturating_add(1)
+        } else {
+            0
+        };
         self.length = length;
     }
 
-    /// How long the last piece was, if the one before was as long.
-    pub(crate) fn steady(self) -> Option<u64> {
-        if self.change == 0 {
+    /// How long the last piece was, if so many before it were as long, and it was looked at.
+    pub(crate) fn steady(self, before: u32) -> Option<u64> {
+        if before <= self.same && self.left == self.trust {
             Some(self.length)
         } else {
             None
@@ -125,9 +157,9 @@ impl Pace {
 }
 
 /// Where the longest piece from `begin` ends; or, if the piece of one tick from there doesn't show
-/// that the error is within the bound, the hull over it. If the last two pieces were of one length,
-/// to a tick, the end is looked for at that length, else where the servers' ends likely leave the
-/// bound; and each look-up goes on from where the last one ended.
+/// that the error is within the bound, the hull over it. The end is looked for where the servers'
+/// ends likely leave the bound, or sooner if pieces have been shorter; and each look-up goes on from
+/// where the last one ended.
 pub(crate) fn longest_piece(
     tables: &[BestTable],
     pace: &mut Pace,
@@ -146,24 +178,44 @@ pub(crate) fn longest_piece(
     if !is_inside(claim.bound, hull) {
         return Err(hull);
     }
-    let (length, step) = if pace.change <= 1 {
-        (pace.length, pace.change)
-    } else {
-        (likely_length(tables, &mut pace.places, claim, begin), 0)
-    };
+    let likely = likely_length(tables, &mut pace.places, claim, begin);
+    let length = likely.min(pace.shortened);
     let near = begin.saturating_add(length).min(claim.last as u64);
-    let end = longest_end(tables, &mut pace.places, claim, begin, next, near, step);
-    pace.see(end.saturating_sub(begin));
+    let end = longest_end(tables, &mut pace.places, claim, begin, next, near);
+    pace.see(end.saturating_sub(begin), likely);
     Ok(end)
 }
 
-/// Whether the longest piece from `begin` likely has so many ticks, and ends before the span.
+/// Where the longest piece from `begin` likely ends, before the span does, if the last ones ended
+/// where it was likely.
+pub(crate) fn likely_end(
+    tables: &[BestTable],
+    pace: &mut Pace,
+    claim: &Claim,
+    begin: u64,
+) -> Option<u64>
+    requires claim { IsLawful (data_of claim.now) }
+    requires tables { IsTabled (data_of claim.now) tables.now }
+    ensures { IfSome result (λ end. pos end ≤ℤ claim.now.last) }
+{
+    pace.left = pace.left.checked_sub(1)?;
+    let length = likely_length(tables, &mut pace.places, claim, begin);
+    let end = begin.saturating_add(length);
+    if length == 0 || pace.shortened <= length || claim.last as u64 <= end {
+        return None;
+    }
+    Some(end)
+}
+
+/// Whether the longest piece from `begin` likely has so many ticks, and ends before the span; if it
+/// `is_near`, only where the same peaks decide as did over the last piece.
 pub(crate) fn is_as_long(
     tables: &[BestTable],
     pace: &mut Pace,
     claim: &Claim,
     begin: u64,
     length: u64,
+    is_near: bool,
 ) -> bool
     requires claim { IsLawful (data_of claim.now) }
     requires tables { IsTabled (data_of claim.now) tables.now }
@@ -173,8 +225,23 @@ pub(crate) fn is_as_long(
     if claim.last as u64 <= end {
         return false;
     }
+    let before = pace.places;
     is_shown(tables, &mut pace.places, claim, begin, end)
         && !is_shown(tables, &mut pace.places, claim, begin, end + 1)
+        && (!is_near || have_same_peaks(&before, &pace.places))
+}
+
+/// Whether the same peaks decided in all tables, at whatever levels.
+fn have_same_peaks(one: &Places, other: &Places) -> bool {
+    for index in 0..32 {
+        let mut levelled = other.near[index];
+        levelled.lows.level = one.near[index].lows.level;
+        levelled.highs.level = one.near[index].highs.level;
+        if one.near[index] != levelled {
+            return false;
+        }
+    }
+    true
 }
 
 /// Where the longest piece from `begin` ends, if the piece from there to `next`, the next tick,
@@ -187,7 +254,6 @@ fn longest_end(
     begin: u64,
     next: u64,
     near: u64,
-    step: u64,
 ) -> u64
     requires claim { IsLawful (data_of claim.now) }
     requires tables { IsTabled (data_of claim.now) tables.now }
@@ -206,7 +272,7 @@ fn longest_end(
     let mut low = next;
     let mut high = claim.last as u64;
     while low < high {
-        let middle = trial(low, high, near, step) + 1;
+        let middle = trial(low, high, near) + 1;
         if is_shown(tables, places, claim, begin, middle) {
             low = middle;
         } else {

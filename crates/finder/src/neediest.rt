@@ -1,14 +1,14 @@
 //! The tick that needs the widest bound where some groups have no say.
 //!
 //! If the groups of a cover are left out, what is left has no conflict: no hull is empty, and its
-//! ends change no faster than the clock may drift. So looking into the stretch first that needs
-//! most soon finds the neediest tick. Where many ticks need nearly as much, the span is cut at once
-//! into stretches that are hardly longer than from sample to sample. Nothing rests on it but where
-//! other searches begin.
+//! ends change no faster than the clock may drift. So what two ticks need says how much those
+//! between them may need, and where: mostly it's the tick where a server's samples before it and
+//! those after it say as little. Nothing rests on it but where other searches begin.
 
 ghost use Rattle.std.specs.Prelude.{◌<◌, ◌≤◌, IfOk, length, All};
 ghost use Rattle.claim_file.specs.Claim.{IsLawful, data_of as claim_data, max_bound_ns};
 ghost use Rattle.finder.specs.Reach.{IsTabled};
+ghost use Rattle.sample_interval.specs.Widening.{IsRate};
 
 use crate::carried::MOST_BOUND_NS;
 use crate::least::{nanoseconds_of, reach_of};
@@ -17,15 +17,15 @@ use arrayvec::ArrayVec;
 use claim_file::Claim;
 use courses::Groups;
 use intersection::kinds::Hull;
+use sample_interval::PARTS;
 use span_cover::laws::best_samples_are_the_first_best;
 use span_cover::{Part, piece_hull};
 use std::alloc::{AllocError, Global};
 use std::cmp::Reverse;
-use std::collections::BinaryHeap;
 use sweep::{BestTable, Places, parts_near};
 
-/// A stretch of the span, by how many ticks the bound of its hull has to have. The one that needs
-/// most is the greatest, and of those that need as much the first.
+/// A stretch of the span, mostly a tick, by how many ticks the bound of its hull has to have. The one
+/// that needs most is the greatest, and of those that need as much the first.
 #[derive(Clone, Copy, PartialEq, Eq, PartialOrd, Ord)]
 pub(crate) struct StretchNeed {
     /// How many ticks of 2^-32 s the bound has to have.
@@ -49,10 +49,10 @@ pub(crate) fn likely_bound(
     requires tables { IsTabled (claim_data claim.now) tables.now }
     ensures { IfOk result (λ bound_ns. bound_ns ≤ max_bound_ns) }
 {
-    let effort = Effort::of(samples, covers.len());
+    let splits = splits_for(samples, covers.len());
     let mut most = 0;
     for cover in covers {
-        if let Some(tick) = neediest_tick(alloc, tables, claim, *cover, effort)? {
+        if let Some(tick) = neediest_tick(alloc, tables, claim, *cover, splits)? {
             most = most.max(tick.ticks);
         }
     }
@@ -69,116 +69,192 @@ pub(crate) fn in_nanoseconds(ticks: u128) -> u64
     nanoseconds_of(ticks).min(u128::from(MOST_BOUND_NS)) as u64
 }
 
-/// How many stretches are halved before the span is cut.
-const HALVED_FIRST: usize = 1000;
-
-/// How many stretches are looked at for one cover, if those that are halved first aren't enough.
-#[derive(Clone, Copy)]
-pub(crate) struct Effort {
-    /// Into how many the span is cut at first.
-    parts: u64,
-    /// How many of them are halved at most.
-    halved: usize,
+/// How many gaps are split for each of some covers: all in all 4 for each sample and 100,000
+/// besides.
+pub(crate) fn splits_for(samples: usize, covers: usize) -> usize {
+    samples.saturating_mul(4).saturating_add(100_000) / covers.max(1)
 }
 
-impl Effort {
-    /// The effort for each of some covers: all in all a stretch for two samples at first, and 4
-    /// halved for each sample and 100,000 besides.
-    pub(crate) fn of(samples: usize, covers: usize) -> Effort {
-        let covers = covers.max(1);
-        Effort {
-            parts: (samples / 2 / covers).max(1) as u64,
-            halved: samples.saturating_mul(4).saturating_add(100_000) / covers,
-        }
+/// What lies between two ticks of the span of which it's known how many ticks the bound has to have
+/// for them.
+#[derive(Clone, Copy)]
+struct Gap {
+    /// Where it begins, in Unix ticks.
+    begin: u64,
+    /// How many ticks it has.
+    reach: u64,
+    /// What the tick at its begin needs.
+    first: u128,
+    /// What the tick at its end needs.
+    last: u128,
+}
+
+impl Gap {
+    /// By how much the need may change from its begin to its end.
+    fn change(self, drift_ppb: u32) -> u128
+        requires rate { IsRate drift_ppb }
+    {
+        let rate = u128::from(drift_ppb);
+        (rate * u128::from(self.reach)).div_ceil(PARTS - rate)
+    }
+
+    /// The most that a tick in it may need, since the need rises and falls no faster than the clock
+    /// drifts.
+    fn most(self, drift_ppb: u32) -> u128
+        requires rate { IsRate drift_ppb }
+    {
+        let ends = self.first.saturating_add(self.last);
+        ends.saturating_add(self.change(drift_ppb)).div_ceil(2)
+    }
+
+    /// Where the tick would lie that needs the most, counted from the begin, but no closer to an
+    /// end than an eighth of the gap. If rounding tells as much as the drift, the middle.
+    fn split(self, drift_ppb: u32) -> u64
+        requires rate { IsRate drift_ppb }
+    {
+        let change = self.change(drift_ppb);
+        let rise = change.saturating_add(self.last).saturating_sub(self.first);
+        let part = u128::from(self.reach).saturating_mul(rise);
+        let half = match part.checked_div(change.saturating_mul(2)) {
+            Some(half) if 4 < change => u64::try_from(half).unwrap_or(self.reach),
+            _ => self.reach / 2,
+        };
+        let margin = self.reach / 8;
+        half.max(margin).min(self.reach - margin)
     }
 }
 
-/// The tick that needs most where the groups of a cover have no say, if some tick needs a bound; or
-/// where the stretch begins that needs most, once as many were halved as may be.
+/// The tick that needs most where the groups of a cover have no say, the first of those that need
+/// as much, if some tick needs a bound; or the one that needs most of those that were seen, once as
+/// many gaps were split as may be.
+///
+/// Of the two gaps that a tick splits the one that may need more comes first, so that what lies
+/// close in time is mostly looked up one after the other.
 pub(crate) fn neediest_tick(
     alloc: Global,
     tables: &[BestTable],
     claim: &Claim,
     cover: Groups,
-    effort: Effort,
+    splits: usize,
 ) -> Result<Option<StretchNeed>, AllocError>
     requires claim { IsLawful (claim_data claim.now) }
     requires tables { IsTabled (claim_data claim.now) tables.now }
 {
-    let mut places = Places::new();
-    let mut left = BinaryHeap::new(alloc);
-    let last = claim.last as u64;
-    let first = claim.first as u64;
-    let all = last.saturating_sub(first);
-    add_stretch(&mut left, tables, &mut places, claim, cover, first, all)?;
-    if halve(&mut left, tables, &mut places, claim, cover, HALVED_FIRST)? {
-        return Ok(left.pop());
+    let mut places = Places::default();
+    let begin = claim.first as u64;
+    let end = claim.last as u64;
+    let Some(first) = tick_need(tables, &mut places, claim, cover, begin) else {
+        return Ok(None);
+    };
+    let Some(last) = tick_need(tables, &mut places, claim, cover, end) else {
+        return Ok(None);
+    };
+    let mut best = first.max(last);
+    let mut left = Vec::new(alloc);
+    left.push(Gap {
+        begin,
+        reach: end.saturating_sub(begin),
+        first: first.ticks,
+        last: last.ticks,
+    })?;
+    for _ in 0..splits {
+        let Some(gap) = left.pop() else {
+            break;
+        };
+        if !may_need_more(tables, &mut places, claim, cover, gap, best) {
+            continue;
+        }
+        let half = gap.split(claim.drift_ppb);
+        let middle = gap.begin.saturating_add(half);
+        if let Some(tick) = tick_need(tables, &mut places, claim, cover, middle) {
+            best = best.max(tick);
+            let before = Gap {
+                reach: half,
+                last: tick.ticks,
+                ..gap
+            };
+            let after = Gap {
+                begin: middle,
+                reach: gap.reach.saturating_sub(half),
+                first: tick.ticks,
+                ..gap
+            };
+            let is_after_first = before.most(claim.drift_ppb) < after.most(claim.drift_ppb);
+            let (next, later) = if is_after_first {
+                (after, before)
+            } else {
+                (before, after)
+            };
+            left.push(later)?;
+            left.push(next)?;
+        }
     }
-    let mut left = BinaryHeap::new(alloc);
-    let mut begin = first;
-    let length = (all / effort.parts.max(1)).saturating_add(1);
-    for _ in 0..effort.parts {
-        let reach = length.min(last.saturating_sub(begin));
-        add_stretch(&mut left, tables, &mut places, claim, cover, begin, reach)?;
-        begin = begin.saturating_add(reach);
-    }
-    halve(&mut left, tables, &mut places, claim, cover, effort.halved)?;
-    Ok(left.pop())
+    Ok(Some(best))
 }
 
-/// Halves the stretch that needs most, so many times at most: whether the one that needs most then
-/// is a tick, or none is left.
-fn halve(
-    left: &mut BinaryHeap<StretchNeed>,
+/// Whether a tick in a gap may need more than the best one, or as much and come before it. What
+/// rounding leaves open the hull over all of the gap tells.
+fn may_need_more(
     tables: &[BestTable],
     places: &mut Places,
     claim: &Claim,
     cover: Groups,
-    times: usize,
-) -> Result<bool, AllocError>
+    gap: Gap,
+    best: StretchNeed,
+) -> bool
     requires claim { IsLawful (claim_data claim.now) }
     requires tables { IsTabled (claim_data claim.now) tables.now }
 {
-    for _ in 0..times {
-        let Some(widest) = left.pop() else {
-            return Ok(true);
-        };
-        if widest.reach <= 1 {
-            left.push(widest)?;
-            return Ok(true);
-        }
-        let half = widest.reach / 2;
-        let begin = widest.begin.0;
-        let middle = begin.saturating_add(half);
-        let rest = widest.reach - half;
-        add_stretch(left, tables, places, claim, cover, begin, half)?;
-        add_stretch(left, tables, places, claim, cover, middle, rest)?;
+    let is_before = gap.begin < best.begin.0;
+    let most = gap.most(claim.drift_ppb);
+    if gap.reach <= 1 || most < best.ticks || (most == best.ticks && !is_before) {
+        return false;
     }
-    Ok(false)
+    if best.ticks.saturating_add(1) < most {
+        return true;
+    }
+    match need_over(tables, places, claim, cover, gap.begin, gap.reach) {
+        Some(all) => best.ticks < all.ticks || (best.ticks == all.ticks && is_before),
+        None => false,
+    }
 }
 
-/// Adds a stretch to those that are left, if its hull has ends.
-fn add_stretch(
-    left: &mut BinaryHeap<StretchNeed>,
+/// What the tick from `begin` needs, or the moment if the span ends there.
+fn tick_need(
+    tables: &[BestTable],
+    places: &mut Places,
+    claim: &Claim,
+    cover: Groups,
+    begin: u64,
+) -> Option<StretchNeed>
+    requires claim { IsLawful (claim_data claim.now) }
+    requires tables { IsTabled (claim_data claim.now) tables.now }
+{
+    let reach = (claim.last as u64).saturating_sub(begin).min(1);
+    need_over(tables, places, claim, cover, begin, reach)
+}
+
+/// What a stretch needs, if its hull has ends.
+fn need_over(
     tables: &[BestTable],
     places: &mut Places,
     claim: &Claim,
     cover: Groups,
     begin: u64,
     reach: u64,
-) -> Result<(), AllocError>
+) -> Option<StretchNeed>
     requires claim { IsLawful (claim_data claim.now) }
     requires tables { IsTabled (claim_data claim.now) tables.now }
 {
     let end = begin.saturating_add(reach);
-    if let Hull::Bounded { lo, hi } = hull_without(tables, places, claim, cover, begin, end) {
-        left.push(StretchNeed {
+    match hull_without(tables, places, claim, cover, begin, end) {
+        Hull::Bounded { lo, hi } => Some(StretchNeed {
             ticks: reach_of(lo, hi),
             begin: Reverse(begin),
             reach,
-        })?;
+        }),
+        Hull::Unbounded | Hull::Empty => None,
     }
-    Ok(())
 }
 
 /// The hull over a stretch of what the groups outside a cover say, if as many of them may be false

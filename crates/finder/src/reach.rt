@@ -38,7 +38,7 @@ pub(crate) fn longest_ends(
 {
     let last = claim.last as u64;
     let mut begin = claim.first as u64;
-    let mut pace = Pace::of_first(last);
+    let mut pace = Pace::new();
     let mut ends: Vec<i128> = Vec::new(alloc);
     while ends.len() < MAX_PIECES {
         match longest_piece(tables, &mut pace, claim, begin) {

@@ -19,7 +19,7 @@ use crate::fault::FindFault;
 use crate::fewest::{Fewest, fewest_by};
 use crate::laws::samples_of_exchanges_keep_limits;
 use crate::longest::tables_for;
-use crate::neediest::{Effort, neediest_tick};
+use crate::neediest::{neediest_tick, splits_for};
 use certificate::{Certificate, Refutation};
 use claim_file::Claim;
 use courses::laws::{
@@ -117,10 +117,10 @@ fn refutation_of<X: ToExchange>(
     tables_settle_covers();
     let least = conflicts.covers(claim.false_max);
     let covers = least.as_slice();
-    let effort = Effort::of(exchanges.len(), covers.len());
+    let splits = splits_for(exchanges.len(), covers.len());
     for cover in covers {
         let cover = *cover;
-        if let Some(tick) = neediest_tick(alloc, tables, claim, cover, effort)? {
+        if let Some(tick) = neediest_tick(alloc, tables, claim, cover, splits)? {
             let begin = tick.begin.0;
             let ends = [begin, begin.saturating_add(tick.reach)];
             let there = find_with_cover(exchanges, claim, conflicts, cover, &ends);

@@ -5,7 +5,7 @@
 //! falls as the piece grows, and no sample after it is high enough. So two searches say how long
 //! the piece may grow. Nothing rests on it but the time: whoever asks confirms it by a hull.
 
-ghost use Rattle.std.specs.Prelude.{◌≤◌, ◌^◌, length};
+ghost use Rattle.std.specs.Prelude.{◌≡◌, ◌≤◌, ◌^◌, length};
 ghost use Rattle.sample_interval.specs.Widening.{IsRate};
 
 use crate::peak::{Peak, count_upto};
@@ -31,7 +31,7 @@ pub struct Duration {
     pub is_beyond: bool,
 }
 
-/// The durations of the servers that have a table, for pieces from `begin` on. The last piece that
+/// The duration of each server that has a table, in their order, for pieces from `begin` on. The last piece that
 /// was asked for with these places is the tick from there.
 pub fn durations_near(
     tables: &[BestTable],
@@ -42,6 +42,7 @@ pub fn durations_near(
 ) -> ArrayVec<Duration, 32>
     requires few { length tables.now ≤ 32 }
     requires rate { IsRate drift_ppb }
+    ensures { length result.items ≡ length tables.now }
 {
     let mut durations = ArrayVec::new();
     let first = from_origin(i128::from(begin));

@@ -18,11 +18,11 @@
 //! high enough.
 //!
 //! Where the pieces aren't known beforehand, [`tables_of`] lays the samples of each server out
-//! once, by a sort, and [`parts_over`] says by a search what the best of them say over any one
+//! once, by a sort, and [`parts_near`] says by a search what the best of them say over any one
 //! piece. Of the samples that are early the table has only those that are higher than all before
-//! them, so that the last of these up to the piece's middle is the highest. [`parts_near`] gives
-//! the same, and goes on from where the last search ended: if the next piece lies near, it takes a
-//! few steps in place of some twenty.
+//! them, so that the last of these up to the piece's middle is the highest. The search goes on from
+//! where the last one ended: if the next piece lies near, it takes a few steps in place of some
+//! twenty.
 //!
 //! The hull over any one piece, as `hull_over` of `finder/src/longest.rt`, with its proof:
 //!
@@ -58,4 +58,4 @@ pub use duration::{Duration, durations_near};
 pub use extreme::servers_of;
 pub use pieces::best_of_pieces;
 pub use places::Places;
-pub use table::{BestTable, parts_near, parts_over, tables_of};
+pub use table::{BestTable, parts_near, tables_of};

@@ -131,6 +131,7 @@ fn level_over(peaks: &Peaks, near: &mut Near, stretch: Stretch, drift_ppb: u32) 
     let late = early_rise(peaks.late.as_slice(), &mut near.late, mirrored, drift_ppb);
     let level = level_of(early.max(late), second_before(near.level), drift_ppb);
     near.level = level;
+    near.is_late = early < late;
     level
 }
 
@@ -201,26 +202,9 @@ fn interval_between(low: u128, high: u128) -> Interval
 /// servers: the interval of its best samples there.
 ///
 /// The piece is of Unix ticks, from 0 to below 2^64. The rate is the one that the tables were made
-/// for, and they are at most 32.
-pub fn parts_over(
-    tables: &[BestTable],
-    begin: i128,
-    end: i128,
-    drift_ppb: u32,
-) -> ArrayVec<Part, 32>
-    requires few { length tables.now ≤ 32 }
-    requires piece { IsPiece begin end }
-    requires rate { IsRate drift_ppb }
-    ensures { (samples : List Sample) (count : ℕ) →
-        AreTablesOf samples count drift_ppb tables.now →
-        result.items ≡ best_parts samples count begin end drift_ppb }
-{
-    parts_near(tables, &mut Places::new(), begin, end, drift_ppb)
-}
-
-/// The same, found in the fewer steps the nearer the piece lies to the last one that was asked for
-/// with these places, and in at most twice as many where it lies far. What is found doesn't depend
-/// on the places. They say afterwards where it was found.
+/// for, and they are at most 32. The nearer the piece lies to the last one that was asked for with
+/// these places the fewer steps it takes, and where it lies far at most twice as many as a search
+/// from nothing. What is found doesn't depend on the places. They say afterwards where it was found.
 pub fn parts_near(
     tables: &[BestTable],
     places: &mut Places,
