@@ -6,5 +6,5 @@ mod finds;
 mod hulls;
 mod pieces;
 mod refutation_texts;
-mod samples;
+pub(crate) mod samples;
 mod verdicts;

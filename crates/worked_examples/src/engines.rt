@@ -5,8 +5,6 @@ mod endless;
 mod envelopes;
 mod failures;
 mod fault_lines;
-mod inputs;
-mod lengths;
 mod listings;
 mod moments;
 mod people;

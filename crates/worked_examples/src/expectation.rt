@@ -8,6 +8,13 @@ ghost use Rattle.std.specs.Prelude.{◌≡◌, Ok};
 use std::fmt::Debug;
 use std::process::Abort;
 
+/// A table, a row a line: its cells are divided by commas, and a semicolon ends it.
+macro_rules! table {
+    ($($($cell:expr),+;)+) => { [$(($($cell),+)),+] };
+}
+
+pub(crate) use table;
+
 /// The value of a call that has to succeed.
 pub(crate) fn assert_ok<T, E: Debug + Drop>(rt: &impl Abort, answer: Result<T, E>) -> T
     ensures { answer ≡ Ok result }
@@ -31,4 +38,12 @@ pub(crate) fn assert_equal_at<T: PartialEq + Debug + Drop, C: Debug + Drop>(
     case: C,
 ) {
     assert_eq!(rt; seen, wanted, "{case:?}");
+}
+
+/// The two parts of a row in a table that is text.
+pub(crate) fn halves<'a>(rt: &impl Abort, row: &'a str) -> (&'a str, &'a str) {
+    match row.split_once(" | ") {
+        Some(halves) => halves,
+        None => panic!(rt; "{row}"),
+    }
 }

@@ -10,5 +10,7 @@ mod engines;
 #[cfg(test)]
 mod expectation;
 #[cfg(test)]
+mod inputs;
+#[cfg(test)]
 mod readers;
 pub mod uses;

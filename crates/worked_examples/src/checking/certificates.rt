@@ -1,6 +1,6 @@
 //! Certificates, by hand. The table is text, a row a line.
 
-use crate::expectation::{assert_equal, assert_ok};
+use crate::expectation::{assert_equal, assert_equal_at, assert_ok, halves, table};
 use certificate::{CertificateFault, read_certificate, write_certificate};
 use std::alloc::{AllocError, Global};
 use std::process::Abort;
@@ -87,38 +87,35 @@ fn answer(alloc: Global, text: &str) -> Result<String, AllocError> {
 
 /// A text is answered so.
 fn answers(rt: &impl Abort, alloc: Global, text: &str, expected: &str) {
-    assert_equal(rt, assert_ok(rt, answer(alloc, text)).as_str(), expected);
-}
-
-/// A row of the table holds.
-fn holds(rt: &impl Abort, alloc: Global, row: &str) {
-    match row.split_once(" | ") {
-        Some((expected, text)) => answers(rt, alloc, text, expected),
-        None => panic!(rt; "{row}"),
-    }
+    let answer = assert_ok(rt, answer(alloc, text));
+    assert_equal_at(
+        rt,
+        answer.as_str(),
+        expected,
+        text.get(..200).unwrap_or(text),
+    );
 }
 
 #[test]
 fn texts(rt: HostRuntime) {
     for row in TEXTS.lines() {
-        holds(&rt, rt.alloc(), row);
+        let (expected, text) = halves(&rt, row);
+        answers(&rt, rt.alloc(), text, expected);
     }
 }
 
 /// A text: how it begins, a part of it that is repeated, how often, and its end.
-fn repeated(
-    alloc: Global,
-    begin: &str,
-    part: &str,
-    times: u32,
-    end: &str,
-) -> Result<String, AllocError> {
-    let mut text = String::from_str(alloc, begin)?;
+type Repeated<'a> = (&'a str, &'a str, u32, &'a str);
+
+/// Such a text is answered so.
+fn repeated(rt: &impl Abort, alloc: Global, text: Repeated<'_>, expected: &str) {
+    let (begin, part, times, end) = text;
+    let mut text = assert_ok(rt, String::from_str(alloc, begin));
     for _ in 0..times {
-        text.push_str(part)?;
+        assert_ok(rt, text.push_str(part));
     }
-    text.push_str(end)?;
-    Ok(text)
+    assert_ok(rt, text.push_str(end));
+    answers(rt, alloc, text.as_str(), expected);
 }
 
 const PIECES: &str = "{\"pieces\":[";
@@ -131,49 +128,41 @@ const ENTRIES: &str = "{\"pieces\":[{\"entries\":[";
 
 const UPTO_FIRST: &str = "{\"pieces\":[{\"upto\":0,\"entries\":[";
 
-/// The begin of a text, a part that stands so many times, the end, and what is answered.
-type Count = (&'static str, &'static str, u32, &'static str, &'static str);
-
-/// Texts at the limits of pieces and entries.
-const COUNTS: [Count; 12] = [
-    (PIECES, PIECE, 99_999, LAST, "read"),
-    (PIECES, "{},", 99_999, "{}]}", "shape 0"),
-    (PIECES, "{},", 100_000, "{}]}", "fault 5"),
-    (PIECES, PIECE, 100_000, LAST, "fault 5"),
-    (PIECES, "{},", 100_000, "{}],\"pieces\":[]}", "read"),
-    (ENTRIES, "[0,0],", 31, "[0,0]],\"upto\":0}]}", "read"),
-    (ENTRIES, "[0,0],", 31, "[0]],\"upto\":0}]}", "shape 0"),
-    (ENTRIES, "[0,0],", 32, "[0,0]],\"upto\":0}]}", "entries 0"),
-    (UPTO_FIRST, "[0,0],", 31, "[0,0]]}]}", "read"),
-    (UPTO_FIRST, "[0,0],", 31, "[0]]}]}", "shape 0"),
-    (UPTO_FIRST, "[0,0],", 32, "[0,0]]}]}", "entries 0"),
-    (UPTO_FIRST, "[0,0],", 32, "[0]]}]}", "entries 0"),
-];
-
-/// A row of that table.
-fn counted(rt: &impl Abort, alloc: Global, (begin, part, times, end, expected): Count) {
-    let text = assert_ok(rt, repeated(alloc, begin, part, times, end));
-    answers(rt, alloc, text.as_str(), expected);
-}
+/// Texts at the limits of pieces and entries, and what is answered.
+const COUNTS: [(Repeated<'static>, &str); 12] = table! {
+    (PIECES, PIECE, 99_999, LAST), "read";
+    (PIECES, "{},", 99_999, "{}]}"), "shape 0";
+    (PIECES, "{},", 100_000, "{}]}"), "fault 5";
+    (PIECES, PIECE, 100_000, LAST), "fault 5";
+    (PIECES, "{},", 100_000, "{}],\"pieces\":[]}"), "read";
+    (ENTRIES, "[0,0],", 31, "[0,0]],\"upto\":0}]}"), "read";
+    (ENTRIES, "[0,0],", 31, "[0]],\"upto\":0}]}"), "shape 0";
+    (ENTRIES, "[0,0],", 32, "[0,0]],\"upto\":0}]}"), "entries 0";
+    (UPTO_FIRST, "[0,0],", 31, "[0,0]]}]}"), "read";
+    (UPTO_FIRST, "[0,0],", 31, "[0]]}]}"), "shape 0";
+    (UPTO_FIRST, "[0,0],", 32, "[0,0]]}]}"), "entries 0";
+    (UPTO_FIRST, "[0,0],", 32, "[0]]}]}"), "entries 0";
+};
 
 #[test]
 fn counts(rt: HostRuntime) {
-    for row in COUNTS {
-        counted(&rt, rt.alloc(), row);
+    for (text, expected) in COUNTS {
+        repeated(&rt, rt.alloc(), text, expected);
     }
 }
 
-/// Arrays that nest so deep are answered so.
-fn nests(rt: &impl Abort, alloc: Global, depth: u32, expected: &str) {
-    let open = assert_ok(rt, repeated(alloc, "", "[", depth, ""));
-    let text = assert_ok(rt, repeated(alloc, open.as_str(), "]", depth, ""));
-    answers(rt, alloc, text.as_str(), expected);
-}
-
+/// Arrays that nest this deep.
 #[test]
 fn depths(rt: HostRuntime) {
-    nests(&rt, rt.alloc(), 127, "fault 2");
-    nests(&rt, rt.alloc(), 128, "fault 1");
+    for (depth, expected) in [(127, "fault 2"), (128, "fault 1")] {
+        let ends = assert_ok(&rt, "]".repeat(rt.alloc(), depth));
+        repeated(
+            &rt,
+            rt.alloc(),
+            ("", "[", depth as u32, ends.as_str()),
+            expected,
+        );
+    }
 }
 
 #[test]
@@ -183,19 +172,15 @@ fn written_again(rt: HostRuntime) {
     assert_equal(&rt, text.as_str(), K1);
 }
 
-/// `K1` with this end is answered so.
-fn ends(rt: &impl Abort, alloc: Global, end: &str, expected: &str) {
-    let mut text = assert_ok(rt, String::from_str(alloc, K1));
-    assert_ok(rt, text.push_str(end));
-    answers(rt, alloc, text.as_str(), expected);
-}
-
 /// What `find` writes ends with a line feed, which is no part of the certificate.
 #[test]
 fn ends_of_lines(rt: HostRuntime) {
-    let alloc = rt.alloc();
-    ends(&rt, alloc, "\n", "read");
-    ends(&rt, alloc, "\n\n", "read");
-    ends(&rt, alloc, "\r\n", "read");
-    ends(&rt, alloc, "\n}", "fault 1");
+    for (end, expected) in [
+        ("\n", "read"),
+        ("\n\n", "read"),
+        ("\r\n", "read"),
+        ("\n}", "fault 1"),
+    ] {
+        repeated(&rt, rt.alloc(), ("", K1, 1, end), expected);
+    }
 }

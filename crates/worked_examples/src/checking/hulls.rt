@@ -1,6 +1,7 @@
 //! The hulls of lists of intervals, by hand.
 
-use crate::expectation::{assert_equal, assert_equal_at};
+use crate::expectation::{assert_equal_at, table};
+use Hull::{Bounded, Empty, Unbounded};
 use arrayvec::ArrayVec;
 use intersection::kinds::{Hull, Interval};
 use intersection::{hull, hull_walk, meet};
@@ -16,23 +17,20 @@ fn list_of(rt: &impl Abort, intervals: &[(i128, i128)]) -> ArrayVec<Interval, 32
     list
 }
 
+const MIN: i128 = i128::MIN;
+
+const MAX: i128 = i128::MAX;
+
 /// Intervals, how many of them may be wrong, and their hull.
-const HULLS: [(&[(i128, i128)], u8, Hull); 7] = [
-    (&[], 0, Hull::Unbounded),
-    (&[(0, 5), (5, 9)], 0, Hull::Bounded { lo: 5, hi: 5 }),
-    (&[(0, 5), (6, 9)], 0, Hull::Empty),
-    (&[(0, 5), (6, 9), (6, 7)], 1, Hull::Bounded { lo: 6, hi: 7 }),
-    (&[(0, 5), (6, 9), (6, 7)], 2, Hull::Bounded { lo: 0, hi: 9 }),
-    (&[(0, 5), (6, 9), (6, 7)], 255, Hull::Unbounded),
-    (
-        &[(i128::MIN, i128::MAX), (i128::MAX, i128::MAX)],
-        1,
-        Hull::Bounded {
-            lo: i128::MIN,
-            hi: i128::MAX,
-        },
-    ),
-];
+const HULLS: [(&[(i128, i128)], u8, Hull); 7] = table! {
+    &[], 0, Unbounded;
+    &[(0, 5), (5, 9)], 0, Bounded { lo: 5, hi: 5 };
+    &[(0, 5), (6, 9)], 0, Empty;
+    &[(0, 5), (6, 9), (6, 7)], 1, Bounded { lo: 6, hi: 7 };
+    &[(0, 5), (6, 9), (6, 7)], 2, Bounded { lo: 0, hi: 9 };
+    &[(0, 5), (6, 9), (6, 7)], 255, Unbounded;
+    &[(MIN, MAX), (MAX, MAX)], 1, Bounded { lo: MIN, hi: MAX };
+};
 
 #[test]
 fn hulls(rt: HostRuntime) {
@@ -43,18 +41,13 @@ fn hulls(rt: HostRuntime) {
 }
 
 /// The same, and how many ends are looked at.
-const WALKS: [(&[(i128, i128)], u8, Hull, u32); 5] = [
-    (
-        &[(0, 5), (4, 10), (20, 30)],
-        1,
-        Hull::Bounded { lo: 4, hi: 5 },
-        6,
-    ),
-    (&[(0, 5), (4, 10), (20, 30)], 0, Hull::Empty, 6),
-    (&[(0, 1), (10, 11)], 1, Hull::Bounded { lo: 0, hi: 11 }, 2),
-    (&[(0, 1), (10, 11)], 2, Hull::Unbounded, 0),
-    (&[(5, 4)], 0, Hull::Empty, 0),
-];
+const WALKS: [(&[(i128, i128)], u8, Hull, u32); 5] = table! {
+    &[(0, 5), (4, 10), (20, 30)], 1, Bounded { lo: 4, hi: 5 }, 6;
+    &[(0, 5), (4, 10), (20, 30)], 0, Empty, 6;
+    &[(0, 1), (10, 11)], 1, Bounded { lo: 0, hi: 11 }, 2;
+    &[(0, 1), (10, 11)], 2, Unbounded, 0;
+    &[(5, 4)], 0, Empty, 0;
+};
 
 #[test]
 fn walks(rt: HostRuntime) {
@@ -66,15 +59,8 @@ fn walks(rt: HostRuntime) {
 
 #[test]
 fn meets(rt: HostRuntime) {
-    let left = Interval { lo: 0, hi: 5 };
-    assert_equal(
-        &rt,
-        meet(left, Interval { lo: 4, hi: 10 }),
-        Interval { lo: 4, hi: 5 },
-    );
-    assert_equal(
-        &rt,
-        meet(left, Interval { lo: 6, hi: 9 }),
-        Interval { lo: 6, hi: 5 },
-    );
+    for ((lo, hi), met) in [((4, 10), (4, 5)), ((6, 9), (6, 5))] {
+        let both = meet(Interval { lo: 0, hi: 5 }, Interval { lo, hi });
+        assert_equal_at(&rt, (both.lo, both.hi), met, (lo, hi));
+    }
 }

@@ -55,22 +55,15 @@ fn best_samples(rt: HostRuntime) {
 #[test]
 fn ends_of_pieces(rt: HostRuntime) {
     let minute = TICK + 64 * TICKS_PER_SECOND as i128;
-    assert_equal(
-        &rt,
-        piece_end(TICK, minute, 64, 0),
-        4_294_967_570_877_906_944,
-    );
-    assert_equal(
-        &rt,
-        piece_end(TICK, minute, 32, 0),
-        4_294_967_433_438_953_472,
-    );
-    assert_equal(
-        &rt,
-        piece_end(TICK, minute, 32, 1),
-        4_294_967_570_877_906_944,
-    );
-    assert_equal(&rt, piece_end(TICK, minute, 48, 1), minute);
     let day = 4_295_396_792_729_600_000;
-    assert_equal(&rt, piece_end(TICK, day, 1, 99_999), day);
+    let ends = [
+        piece_end(TICK, minute, 64, 0),
+        piece_end(TICK, minute, 32, 0),
+        piece_end(TICK, minute, 32, 1),
+        piece_end(TICK, minute, 48, 1),
+        piece_end(TICK, day, 1, 99_999),
+    ];
+    let half = 4_294_967_433_438_953_472;
+    let whole = 4_294_967_570_877_906_944;
+    assert_equal(&rt, ends, [whole, half, whole, minute, day]);
 }

@@ -1,9 +1,8 @@
 //! The texts of refutations, by hand. The table is text, a row a line.
 
-use crate::expectation::{assert_equal_at, assert_ok};
+use crate::expectation::{assert_equal_at, assert_ok, halves};
 use certificate::{RefutationFault, read_refutation, write_refutation};
 use std::alloc::{AllocError, Global};
-use std::process::Abort;
 
 /// What is answered, and a text: `same` if the refutation that it says is written as that text,
 /// else what is written of it.
@@ -50,10 +49,9 @@ fn answer(alloc: Global, text: &str) -> Result<String, AllocError> {
     match read_refutation(alloc, text.as_bytes()) {
         Ok(refutation) => {
             let written = write_refutation(alloc, &refutation)?;
-            if written.as_str() == text {
-                String::from_str(alloc, "same")
-            } else {
-                Ok(written)
+            match written.as_str() == text {
+                true => String::from_str(alloc, "same"),
+                false => Ok(written),
             }
         }
         Err(RefutationFault::Json) => String::from_str(alloc, "json"),
@@ -62,22 +60,11 @@ fn answer(alloc: Global, text: &str) -> Result<String, AllocError> {
     }
 }
 
-/// A row of the table holds.
-fn holds(rt: &impl Abort, alloc: Global, row: &str) {
-    match row.split_once(" | ") {
-        Some((expected, text)) => assert_equal_at(
-            rt,
-            assert_ok(rt, answer(alloc, text)).as_str(),
-            expected,
-            row,
-        ),
-        None => panic!(rt; "{row}"),
-    }
-}
-
 #[test]
 fn texts(rt: HostRuntime) {
     for row in TEXTS.lines() {
-        holds(&rt, rt.alloc(), row);
+        let (expected, text) = halves(&rt, row);
+        let answer = assert_ok(&rt, answer(rt.alloc(), text));
+        assert_equal_at(&rt, answer.as_str(), expected, row);
     }
 }

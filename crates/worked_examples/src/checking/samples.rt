@@ -10,7 +10,7 @@ use sample_interval::{delay, offset, sample, widen};
 use vectors::TICK;
 
 /// A request at the second, in microseconds, its reply 20 ms later, and both timestamps half way.
-fn exchange() -> Exchange
+pub(crate) fn exchange() -> Exchange
     ensures { IsOfSomeClaim result }
 {
     Exchange {

@@ -1,63 +1,86 @@
-//! Inputs that never end: how many bytes are taken of each before a run gives up.
+//! Inputs that never end, and the longest certificate: how many bytes are taken of each.
 
-use crate::engines::inputs::REFUTATION;
-use crate::expectation::{assert_equal, assert_equal_at, assert_ok};
+use crate::engines::trial::Answer;
+use crate::expectation::{assert_equal_at, assert_ok, table};
+use crate::inputs::REFUTATION;
+use Asked::{Check, List, Refute};
 use audit::{run_check, run_refute};
-use byte_stream::{ReadFeed, TestSink};
+use byte_stream::{ReadFeed, Sink, TestSink};
 use listing::run_list;
 use pcap_reader::CaptureFault;
 use report::{Input, Outcome, RunFault};
 use std::alloc::Global;
 use std::io::{self, Read};
 use std::process::Abort;
-use vectors::{C1, K1};
+use vectors::{C1, K1, V1};
 
-/// A device that gives a text, or blanks without end if it has none, and counts what it gave.
+/// A device that gives a text and then so many blanks, and counts what it gave.
 #[derive(Drop)]
 struct Device<'a> {
-    text: Option<&'a [u8]>,
+    text: &'a [u8],
+    blanks: u64,
     given: u64,
-}
-
-impl Device<'_> {
-    fn of(text: Option<&[u8]>) -> Device<'_> {
-        Device { text, given: 0 }
-    }
 }
 
 impl Read for Device<'_> {
     fn read(&mut self, buf: &mut [u8]) -> io::Result<usize> {
-        let count = match self.text {
-            None => {
-                buf.fill(b' ');
-                buf.len()
-            }
-            Some(text) => {
-                let count = text.len().min(buf.len());
-                let (front, rest) = text.split_at(count);
-                buf[..count].copy_from_slice(front);
-                self.text = Some(rest);
-                count
-            }
-        };
+        let mut count = self.text.len().min(buf.len());
+        if count > 0 {
+            let (front, rest) = self.text.split_at(count);
+            buf[..count].copy_from_slice(front);
+            self.text = rest;
+        } else {
+            count = self.blanks.min(buf.len() as u64) as usize;
+            buf[..count].fill(b' ');
+            self.blanks = self.blanks.saturating_sub(count as u64);
+        }
         self.given = self.given.saturating_add(count as u64);
         Ok(count)
     }
 }
 
-/// What is asked of a claim, a second input and a capture.
+/// What is asked of a capture, and of a claim and a second input before it.
 #[derive(Clone, Copy, Debug)]
 enum Asked {
+    List,
     Check,
     Refute,
 }
 
-/// The claim and the second input of a run, and its answer; a capture stands after them. Those that
-/// are left out never end, nor does the capture.
-type Run = (Asked, [Option<&'static str>; 2], RunFault);
+/// A text, and how many blanks stand behind it.
+type Text<'a> = (&'a [u8], u64);
 
-/// A header that isn't one.
-const MAGIC: RunFault = RunFault::Capture(CaptureFault::Magic);
+/// A run answers this, and so many bytes are taken of its inputs.
+fn answers(
+    rt: &impl Abort,
+    alloc: Global,
+    asked: Asked,
+    texts: [Text<'_>; 3],
+    (answer, taken): (Answer, [u64; 3]),
+) {
+    let [mut claim, mut second, mut capture] = texts.map(|(text, blanks)| Device {
+        text,
+        blanks,
+        given: 0,
+    });
+    let mut out = assert_ok(rt, TestSink::new(alloc, 1000, 1000, None, false));
+    let mut first = ReadFeed::new(&mut claim);
+    let mut next = ReadFeed::new(&mut second);
+    let last = ReadFeed::new(&mut capture);
+    let (_, given) = match asked {
+        List => run_list(alloc, last, &mut out),
+        Check => run_check(alloc, &mut first, last, &mut next, &mut out),
+        Refute => run_refute(alloc, &mut first, last, &mut next, &mut out),
+    };
+    let seen = (
+        given,
+        [claim.given, second.given, capture.given],
+        out.faults(),
+    );
+    assert_equal_at(rt, seen, (answer, taken, 0), asked);
+}
+
+const ENDLESS: (&str, u64) = ("", u64::MAX);
 
 const CLAIM: u64 = C1.len() as u64;
 
@@ -65,73 +88,45 @@ const CERTIFICATE: u64 = K1.len() as u64;
 
 const REFUTATION_LENGTH: u64 = REFUTATION.len() as u64;
 
-/// A run, and how many bytes it takes of each input: one past its limit of a claim, a certificate
-/// and a refutation, none of what is read after it, and one buffer of a capture whose header is
-/// refused.
-const RUNS: [(Run, [u64; 3]); 6] = [
-    (
-        (Asked::Check, [None, None], RunFault::TooBig(Input::Claim)),
-        [65_537, 0, 0],
-    ),
-    (
-        (Asked::Refute, [None, None], RunFault::TooBig(Input::Claim)),
-        [65_537, 0, 0],
-    ),
-    (
-        (
-            Asked::Check,
-            [Some(C1), None],
-            RunFault::TooBig(Input::Certificate),
-        ),
-        [CLAIM, 134_217_729, 0],
-    ),
-    (
-        (
-            Asked::Refute,
-            [Some(C1), None],
-            RunFault::TooBig(Input::Refutation),
-        ),
-        [CLAIM, 65_537, 0],
-    ),
-    (
-        (Asked::Check, [Some(C1), Some(K1)], MAGIC),
-        [CLAIM, CERTIFICATE, 524_288],
-    ),
-    (
-        (Asked::Refute, [Some(C1), Some(REFUTATION)], MAGIC),
-        [CLAIM, REFUTATION_LENGTH, 524_288],
-    ),
-];
+/// A header that isn't one.
+const MAGIC: RunFault = RunFault::Capture(CaptureFault::Magic);
 
-/// A run answers this, and so many bytes are taken of its inputs.
-fn gives_up(rt: &impl Abort, alloc: Global, (asked, texts, fault): Run, taken: [u64; 3]) {
-    let [mut claim, mut second] = texts.map(|text| Device::of(text.map(str::as_bytes)));
-    let mut capture = Device::of(None);
-    let mut out = assert_ok(rt, TestSink::new(alloc, 10, 10, None, false));
-    let mut first = ReadFeed::new(&mut claim);
-    let mut next = ReadFeed::new(&mut second);
-    let last = ReadFeed::new(&mut capture);
-    let (_, answer) = match asked {
-        Asked::Check => run_check(alloc, &mut first, last, &mut next, &mut out),
-        Asked::Refute => run_refute(alloc, &mut first, last, &mut next, &mut out),
-    };
-    let seen = (answer, [claim.given, second.given, capture.given]);
-    let wanted: Result<Outcome, RunFault> = Err(fault);
-    assert_equal_at(rt, seen, (wanted, taken), asked);
-}
+/// What is asked, a claim, a second input, the refusal, and how many bytes are taken of each input:
+/// one past its limit of a claim, a certificate and a refutation, none of what is read after it,
+/// and one buffer of a capture whose header is refused. No capture ends.
+const ENDLESS_RUNS: [(Asked, [(&str, u64); 2], RunFault, [u64; 3]); 7] = table! {
+    List, [ENDLESS, ENDLESS], MAGIC, [0, 0, 524_288];
+    Check, [ENDLESS, ENDLESS], RunFault::TooBig(Input::Claim), [65_537, 0, 0];
+    Refute, [ENDLESS, ENDLESS], RunFault::TooBig(Input::Claim), [65_537, 0, 0];
+    Check, [(C1, 0), ENDLESS], RunFault::TooBig(Input::Certificate), [CLAIM, 134_217_729, 0];
+    Refute, [(C1, 0), ENDLESS], RunFault::TooBig(Input::Refutation), [CLAIM, 65_537, 0];
+    Check, [(C1, 0), (K1, 0)], MAGIC, [CLAIM, CERTIFICATE, 524_288];
+    Refute, [(C1, 0), (REFUTATION, 0)], MAGIC, [CLAIM, REFUTATION_LENGTH, 524_288];
+};
 
 #[test]
 fn endless_inputs(rt: HostRuntime) {
-    for (run, taken) in RUNS {
-        gives_up(&rt, rt.alloc(), run, taken);
+    for (asked, [claim, second], fault, taken) in ENDLESS_RUNS {
+        let texts = [
+            (claim.0.as_bytes(), claim.1),
+            (second.0.as_bytes(), second.1),
+            (b"".as_slice(), u64::MAX),
+        ];
+        answers(&rt, rt.alloc(), asked, texts, (Err(fault), taken));
     }
 }
 
+/// `K1` with blanks up to the greatest length is read, and with one more refused.
 #[test]
-fn endless_listing(rt: HostRuntime) {
-    let mut capture = Device::of(None);
-    let mut out = assert_ok(&rt, TestSink::new(rt.alloc(), 10, 10, None, false));
-    let (_, answer) = run_list(rt.alloc(), ReadFeed::new(&mut capture), &mut out);
-    let wanted: Result<Outcome, RunFault> = Err(MAGIC);
-    assert_equal(&rt, (answer, capture.given), (wanted, 524_288));
+fn longest_certificate(rt: HostRuntime) {
+    let too_big = RunFault::TooBig(Input::Certificate);
+    for (length, answer, capture) in [
+        (134_217_728, Ok(Outcome::Yes), 236),
+        (134_217_729, Err(too_big), 0),
+    ] {
+        let certificate = (K1.as_bytes(), length - CERTIFICATE);
+        let texts = [(C1.as_bytes(), 0), certificate, (V1.as_slice(), 0)];
+        let taken = [CLAIM, length, capture];
+        answers(&rt, rt.alloc(), Check, texts, (answer, taken));
+    }
 }

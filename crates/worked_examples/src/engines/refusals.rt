@@ -1,173 +1,107 @@
 //! Inputs that are refused, by every engine that reads them.
 
-use crate::engines::inputs::{REFUTATION, edited, first_of, padded};
-use crate::engines::trial::{Command, Inputs, gives};
-use crate::expectation::assert_ok;
-use Command::{At, Check, Envelope, Find, List, Refute, Samples, Seek};
+use crate::engines::trial::{COMMANDS, Command, Row, hold};
+use crate::expectation::table;
+use crate::inputs::{Capture, Edit, REFUTATION, TO, WHOLE, padded};
+use CaptureFault::{BadFraction, Link, Magic, TooLong, TornHeader, TornRecord, Version};
+use Command::{At, Check, Envelope, Find, Refute, Samples, Seek};
+use audit::Style;
 use certificate::{CertificateFault, RefutationFault};
 use claim_file::ClaimFault;
 use pcap_reader::CaptureFault;
 use report::{Input, RunFault};
-use std::alloc::Global;
-use std::process::Abort;
-use vectors::{C1, K1, SECOND, V1};
+use vectors::{C1, K1, SECOND};
 
-/// The commands that read a capture, with the second input of each.
-const COMMANDS: [(Command, &str); 8] = [
-    (List, K1),
-    (Samples, K1),
-    (At(SECOND), K1),
-    (Check, K1),
-    (Find(64), K1),
-    (Refute, REFUTATION),
-    (Seek, K1),
-    (Envelope(64, true, false), K1),
-];
-
-/// Every engine refuses this capture so.
-fn refuses(rt: &impl Abort, alloc: Global, capture: &[u8], fault: CaptureFault) {
-    for (command, second) in COMMANDS {
-        let inputs = Inputs {
-            claim: C1.as_bytes(),
-            second: second.as_bytes(),
-            capture,
-        };
-        let wanted = Err(RunFault::Capture(fault));
-        gives(rt, alloc, command, inputs, wanted, &[]);
-    }
-}
+/// Captures that are refused: for their header, torn, too long, and with a whole second in the
+/// sub-second field, in microseconds and in nanoseconds.
+const CAPTURES: [(Capture, CaptureFault); 8] = table! {
+    (&[(0, 236)], &[(0, b"\x00")]), Magic;
+    (&[(0, 236)], &[(4, b"\x03")]), Version;
+    (&[(0, 236)], &[(20, b"\x71")]), Link;
+    (&[(0, 23)], &[]), TornHeader;
+    (&[(0, 129)], &[]), TornRecord(24);
+    (&[(0, 40)], &[(32, b"\x01\x00\x04\x00")]), TooLong(24);
+    (&[(0, 236)], &[(28, b"\x40\x42\x0f\x00")]), BadFraction(24);
+    (&[(0, 236)], &[(0, b"\x4d\x3c\xb2\xa1"), (28, b"\x00\xca\x9a\x3b")]), BadFraction(24);
+};
 
 /// A refused capture is reported as what it is by every engine, and never as out of memory.
 #[test]
 fn captures(rt: HostRuntime) {
-    let alloc = rt.alloc();
-    refuses(&rt, alloc, &edited(&[(0, b"\x00")]), CaptureFault::Magic);
-    refuses(&rt, alloc, &edited(&[(4, b"\x03")]), CaptureFault::Version);
-    refuses(&rt, alloc, &edited(&[(20, b"\x71")]), CaptureFault::Link);
-    refuses(&rt, alloc, &V1[..23], CaptureFault::TornHeader);
-    refuses(&rt, alloc, &V1[..129], CaptureFault::TornRecord(24));
-    let long = edited(&[(32, b"\x01\x00\x04\x00")]);
-    refuses(&rt, alloc, first_of(&long, 40), CaptureFault::TooLong(24));
-}
-
-/// A whole second in the sub-second field, in microseconds and in nanoseconds.
-#[test]
-fn fractions(rt: HostRuntime) {
-    let micro = edited(&[(28, b"\x40\x42\x0f\x00")]);
-    let nano = edited(&[(0, b"\x4d\x3c\xb2\xa1"), (28, b"\x00\xca\x9a\x3b")]);
-    refuses(&rt, rt.alloc(), &micro, CaptureFault::BadFraction(24));
-    refuses(&rt, rt.alloc(), &nano, CaptureFault::BadFraction(24));
-}
-
-/// A command refuses this claim, this second input or a torn capture so.
-fn refuses_first(
-    rt: &impl Abort,
-    alloc: Global,
-    command: Command,
-    claim: &[u8],
-    second: &[u8],
-    fault: RunFault,
-) {
-    let inputs = Inputs {
-        claim,
-        second,
-        capture: &V1[..23],
-    };
-    gives(rt, alloc, command, inputs, Err(fault), &[]);
+    for (capture, fault) in CAPTURES {
+        let wanted = Err(RunFault::Capture(fault));
+        let list: Row<'_> = (Command::List, &[], capture, wanted, &[]);
+        hold(&rt, rt.alloc(), Style::Plain, &[list]);
+        for (command, _) in COMMANDS {
+            let row: Row<'_> = (command, &[], capture, wanted, &[]);
+            hold(&rt, rt.alloc(), Style::Plain, &[row]);
+        }
+    }
 }
 
 const NO_JSON: RunFault = RunFault::Claim(ClaimFault::Json);
 
 const NO_CLIENT: RunFault = RunFault::Claim(ClaimFault::Field(1));
 
-const TORN: RunFault = RunFault::Capture(CaptureFault::TornHeader);
-
 const NO_REFUTATION: RunFault = RunFault::Refutation(RefutationFault::Shape);
 
-const TOO_GREAT: &str = "{\"error\":9223372036854775808,\"false\":[],\"reading\":0}";
+const NO_HEADER: RunFault = RunFault::Capture(TornHeader);
 
-/// A command, its claim and its second input, and what is refused.
-const FIRST: [(Command, &str, &str, RunFault); 11] = [
-    (Check, "[", "{}", NO_JSON),
-    (Samples, "{}", "{}", NO_CLIENT),
-    (Refute, "[", "{}", NO_JSON),
-    (Seek, "{}", "{}", NO_CLIENT),
-    (Envelope(64, true, false), "{}", "{}", NO_CLIENT),
-    (
-        Check,
-        C1,
-        "{}",
-        RunFault::Certificate(CertificateFault::Top),
-    ),
-    (Refute, C1, "{}", NO_REFUTATION),
-    (Refute, C1, "[", RunFault::Refutation(RefutationFault::Json)),
-    (Refute, C1, TOO_GREAT, NO_REFUTATION),
-    (Check, C1, K1, TORN),
-    (Refute, C1, REFUTATION, TORN),
-];
+const TORN: Capture = (&[(0, 23)], &[]);
 
-/// The claim is refused before the second input, and this before the capture.
+/// In place of `C1`: what is no JSON text, and an object without a client.
+const OPEN: Edit<'static> = (C1, "[");
+
+const NO_FIELD: Edit<'static> = (C1, "{}");
+
+/// A time that is none, and a number of false servers that is too great.
+const LATE: Edit<'static> = (r#""false_max":0,"from":""#, r#""false_max":32,"from":"x"#);
+
+/// A span of more than 100,000 seconds.
+const DAY: Edit<'static> = (TO, r#""to":"2001-09-10T05:33:21Z""#);
+
+const TOO_GREAT: &str = r#"{"error":9223372036854775808,"false":[],"reading":0}"#;
+
+/// The claim is refused before the second input, and this before the capture, which is torn. A time
+/// is told before a number. That a span has too many pieces is found last.
+const FIRST: [Row<'static>; 16] = table! {
+    Check("{}"), &[OPEN], TORN, Err(NO_JSON), &[];
+    Samples, &[NO_FIELD], TORN, Err(NO_CLIENT), &[];
+    Refute("{}"), &[OPEN], TORN, Err(NO_JSON), &[];
+    Seek, &[NO_FIELD], TORN, Err(NO_CLIENT), &[];
+    Envelope(64, true, false), &[NO_FIELD], TORN, Err(NO_CLIENT), &[];
+    Check("{}"), &[], TORN, Err(RunFault::Certificate(CertificateFault::Top)), &[];
+    Refute("{}"), &[], TORN, Err(NO_REFUTATION), &[];
+    Refute("["), &[], TORN, Err(RunFault::Refutation(RefutationFault::Json)), &[];
+    Refute(TOO_GREAT), &[], TORN, Err(NO_REFUTATION), &[];
+    Check(K1), &[], TORN, Err(NO_HEADER), &[];
+    Refute(REFUTATION), &[], TORN, Err(NO_HEADER), &[];
+    At(SECOND), &[LATE], TORN, Err(RunFault::Claim(ClaimFault::Time)), &[];
+    Find(1), &[DAY], WHOLE, Err(RunFault::Pieces), &[];
+    Envelope(1, false, false), &[DAY], WHOLE, Err(RunFault::Pieces), &[];
+    Find(1), &[DAY], TORN, Err(NO_HEADER), &[];
+    Envelope(1, false, false), &[DAY], TORN, Err(NO_HEADER), &[];
+};
+
 #[test]
 fn first_refusals(rt: HostRuntime) {
-    for (command, claim, second, fault) in FIRST {
-        let claim = claim.as_bytes();
-        refuses_first(&rt, rt.alloc(), command, claim, second.as_bytes(), fault);
+    hold(&rt, rt.alloc(), Style::Plain, &FIRST);
+}
+
+/// A claim and a refutation with blanks up to 65,536 bytes are read, and with one more refused.
+#[test]
+fn long_inputs(rt: HostRuntime) {
+    for (length, claim_fault, refutation_fault) in table! {
+        65_536, NO_HEADER, NO_HEADER;
+        65_537, RunFault::TooBig(Input::Claim), RunFault::TooBig(Input::Refutation);
+    } {
+        let claim = padded(&rt, rt.alloc(), C1, length);
+        let refutation = padded(&rt, rt.alloc(), REFUTATION, length);
+        let edit = (C1, claim.as_str());
+        let rows: [Row<'_>; 2] = table! {
+            Find(64), &[edit], TORN, Err(claim_fault), &[];
+            Refute(refutation.as_str()), &[], TORN, Err(refutation_fault), &[];
+        };
+        hold(&rt, rt.alloc(), Style::Plain, &rows);
     }
-}
-
-/// A time that is none is told before a number of false servers that is too great.
-#[test]
-fn first_of_claim(rt: HostRuntime) {
-    let old = "\"false_max\":0,\"from\":\"";
-    let claim = assert_ok(
-        &rt,
-        C1.replace(rt.alloc(), old, "\"false_max\":32,\"from\":\"x"),
-    );
-    let fault = RunFault::Claim(ClaimFault::Time);
-    refuses_first(&rt, rt.alloc(), At(SECOND), claim.as_bytes(), b"{}", fault);
-}
-
-/// A claim with blanks up to 65,536 bytes is read, and with one more refused.
-#[test]
-fn long_claims(rt: HostRuntime) {
-    let alloc = rt.alloc();
-    let most = assert_ok(&rt, padded(alloc, C1, 65_536));
-    let longer = assert_ok(&rt, padded(alloc, C1, 65_537));
-    let fault = RunFault::TooBig(Input::Claim);
-    refuses_first(&rt, alloc, Find(64), most.as_slice(), b"", TORN);
-    refuses_first(&rt, alloc, Find(64), longer.as_slice(), b"", fault);
-}
-
-/// The same of a refutation.
-#[test]
-fn long_refutations(rt: HostRuntime) {
-    let alloc = rt.alloc();
-    let most = assert_ok(&rt, padded(alloc, REFUTATION, 65_536));
-    let longer = assert_ok(&rt, padded(alloc, REFUTATION, 65_537));
-    let claim = C1.as_bytes();
-    let fault = RunFault::TooBig(Input::Refutation);
-    refuses_first(&rt, alloc, Refute, claim, most.as_slice(), TORN);
-    refuses_first(&rt, alloc, Refute, claim, longer.as_slice(), fault);
-}
-
-/// That a span has too many pieces is found last, by these commands.
-fn refuses_span(rt: &impl Abort, alloc: Global, command: Command) {
-    let last = "\"to\":\"2001-09-09T01:46:40Z\"";
-    let day = assert_ok(
-        rt,
-        C1.replace(alloc, last, "\"to\":\"2001-09-10T05:33:21Z\""),
-    );
-    let inputs = Inputs {
-        claim: day.as_bytes(),
-        second: b"",
-        capture: &V1,
-    };
-    gives(rt, alloc, command, inputs, Err(RunFault::Pieces), &[]);
-    refuses_first(rt, alloc, command, day.as_bytes(), b"", TORN);
-}
-
-#[test]
-fn pieces(rt: HostRuntime) {
-    refuses_span(&rt, rt.alloc(), Find(1));
-    refuses_span(&rt, rt.alloc(), Envelope(1, false, false));
 }

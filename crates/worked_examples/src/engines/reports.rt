@@ -1,54 +1,10 @@
-//! Answers reported, and texts on their way to a sink.
+//! Texts on their way to a sink.
 
 use crate::expectation::{assert_equal, assert_ok};
 use byte_stream::TestSink;
-use report::{Input, Made, Outcome, RunFault, SumsFault, fault_line, publish, status};
+use report::{Made, Outcome, RunFault, publish};
 use std::alloc::Global;
 use std::process::Abort;
-
-/// Each fault's number, exit status and line.
-const FAULTS: [(RunFault, u8, u8, &str); 6] = [
-    (
-        RunFault::Exchanges,
-        5,
-        2,
-        "ntpaudit: exchanges over 1000000",
-    ),
-    (
-        RunFault::TooBig(Input::Claim),
-        7,
-        2,
-        "ntpaudit: too-big claim",
-    ),
-    (
-        RunFault::Device(Input::Capture),
-        8,
-        4,
-        "ntpaudit: device capture",
-    ),
-    (
-        RunFault::Write(459),
-        9,
-        4,
-        "ntpaudit: device output after 459",
-    ),
-    (RunFault::Memory, 10, 3, "ntpaudit: memory"),
-    (
-        RunFault::Sums(SumsFault::Differ(Input::Certificate)),
-        11,
-        2,
-        "ntpaudit: sums differ certificate",
-    ),
-];
-
-#[test]
-fn faults(rt: HostRuntime) {
-    for (fault, number, code, line) in FAULTS {
-        let told = assert_ok(&rt, fault_line(rt.alloc(), &fault));
-        let seen = (told.as_str(), fault.number(), status(&Err(fault)));
-        assert_equal(&rt, seen, (line, number, code));
-    }
-}
 
 /// A text of six bytes goes to a sink that takes so much at once, and whose push of this number or
 /// whose `finish` fails: the answer, and how many bytes went out.

@@ -2,7 +2,9 @@
 
 ghost use Rattle.std.specs.Prelude.{◌≤◌, IfOk};
 
-use crate::expectation::{assert_equal, assert_equal_at};
+use crate::expectation::{assert_equal, assert_equal_at, table};
+use ErrorKind::{Interrupted, Other, WouldBlock};
+use Step::{Fails, Takes};
 use byte_stream::{Feed, ReadFeed, Sink, WriteSink};
 use std::io::{self, ErrorKind, Read, Write};
 use std::process::Abort;
@@ -14,8 +16,6 @@ enum Step {
     Fails(ErrorKind),
 }
 
-use Step::{Fails, Takes};
-
 /// A device that does these steps in turn, and nothing after them, and counts the calls.
 #[derive(Drop)]
 struct Script<'a> {
@@ -23,7 +23,11 @@ struct Script<'a> {
     calls: usize,
 }
 
-impl Script<'_> {
+impl<'a> Script<'a> {
+    fn of(steps: &'a [Step]) -> Self {
+        Script { steps, calls: 0 }
+    }
+
     fn answer(&mut self, room: usize) -> io::Result<usize>
         ensures { IfOk result (λ n. n ≤ room) }
     {
@@ -51,12 +55,6 @@ impl Write for Script<'_> {
     fn flush(&mut self) -> io::Result<()> {
         self.answer(0)?;
         Ok(())
-    }
-}
-
-impl<'a> Script<'a> {
-    fn of(steps: &'a [Step]) -> Self {
-        Script { steps, calls: 0 }
     }
 }
 
@@ -96,17 +94,13 @@ fn goes(rt: &impl Abort, steps: &[Step], is_well: bool, calls: usize) {
 }
 
 /// What a device does, whether a call of it goes well, and how often it's called.
-const STEPS: [([Step; 2], bool, usize); 5] = [
-    ([Takes(2), Takes(1)], true, 1),
-    ([Fails(ErrorKind::Other), Takes(2)], false, 1),
-    ([Fails(ErrorKind::WouldBlock), Takes(2)], false, 1),
-    ([Fails(ErrorKind::Interrupted), Takes(2)], true, 2),
-    (
-        [Fails(ErrorKind::Interrupted), Fails(ErrorKind::Other)],
-        false,
-        2,
-    ),
-];
+const STEPS: [([Step; 2], bool, usize); 5] = table! {
+    [Takes(2), Takes(1)], true, 1;
+    [Fails(Other), Takes(2)], false, 1;
+    [Fails(WouldBlock), Takes(2)], false, 1;
+    [Fails(Interrupted), Takes(2)], true, 2;
+    [Fails(Interrupted), Fails(Other)], false, 2;
+};
 
 /// A call that fails is a fault at once, though the next one would succeed. An interrupted one is
 /// tried again. This is so of a read, of a write and of a flush, by which a sink is finished.
@@ -121,7 +115,7 @@ fn failures(rt: HostRuntime) {
 /// the call has failed, and isn't made again.
 #[test]
 fn interruptions(rt: HostRuntime) {
-    let mut steps = [Fails(ErrorKind::Interrupted); 1_001];
+    let mut steps = [Fails(Interrupted); 1_001];
     steps[1_000] = Takes(2);
     goes(&rt, &steps, false, 1_000);
     steps[999] = Takes(2);
@@ -131,11 +125,6 @@ fn interruptions(rt: HostRuntime) {
 /// A write that takes nothing is a failure too.
 #[test]
 fn no_progress(rt: HostRuntime) {
-    let mut device = Script {
-        steps: &[Takes(0), Takes(2)],
-        calls: 0,
-    };
-    let mut sink = WriteSink::new(&mut device);
-    assert!(rt; sink.push(b"pushed").is_err());
-    assert_equal(&rt, device.calls, 1);
+    let (is_well, _, calls) = push(&[Takes(0), Takes(2)]);
+    assert_equal(&rt, (is_well, calls), (false, 1));
 }

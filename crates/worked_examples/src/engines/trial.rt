@@ -1,57 +1,86 @@
-//! One run of an engine, with devices that go as a test says.
+//! One run of an engine, with devices that go as a test says, and rows of what runs answer.
 
 ghost use Rattle.byte_stream.specs.State.{IsWritable};
 
-use crate::expectation::{assert_equal, assert_equal_at, assert_ok};
+use crate::expectation::{assert_equal, assert_equal_at, assert_ok, table};
+use crate::inputs::{Capture, Edit, REFUTATION, capture_of, claim_of};
 use audit::{At, Check, Envelope, Find, Refute, Samples, Seek, Step, Style};
 use byte_stream::{Cut, Feed, Sink, TestFeed, TestSink};
 use listing::run_list;
-use report::{Outcome, RunFault};
+use report::{Input, Outcome, RunFault};
 use std::alloc::Global;
 use std::hash::{BuildHasherDefault, FoldHasher};
 use std::process::Abort;
+use vectors::K1;
 
-/// A command, with what it's asked for: a moment in Unix seconds, or the length of pieces, whether
-/// to show the servers, and whether to show the least bound.
+/// A command, with what it's asked for: a moment in Unix seconds, its second input, or the length
+/// of pieces in seconds, whether to show the servers, and whether to show the least bound.
 #[derive(Clone, Copy, Debug)]
-pub(crate) enum Command {
+pub(crate) enum Command<'a> {
     List,
     Samples,
     At(u32),
-    Check,
+    Check(&'a str),
     Find(u32),
-    Refute,
+    Refute(&'a str),
     Seek,
     Envelope(u32, bool, bool),
 }
 
-/// What the inputs of a run hold: the claim, the certificate or refutation, and the capture. A
-/// command reads those that it has.
+impl<'a> Command<'a> {
+    /// Which its second input is, and what that holds. One that a command hasn't stays unread.
+    pub(crate) fn second(self) -> (Input, &'a [u8]) {
+        match self {
+            Command::Check(certificate) => (Input::Certificate, certificate.as_bytes()),
+            Command::Refute(refutation) => (Input::Refutation, refutation.as_bytes()),
+            _ => (Input::Certificate, K1.as_bytes()),
+        }
+    }
+}
+
+/// What is run: a command in a style, and what the claim and the capture hold.
 #[derive(Clone, Copy, Debug)]
-pub(crate) struct Inputs<'a> {
+pub(crate) struct Asked<'a> {
+    pub(crate) command: Command<'a>,
+    pub(crate) style: Style,
     pub(crate) claim: &'a [u8],
-    pub(crate) second: &'a [u8],
     pub(crate) capture: &'a [u8],
 }
 
-/// Which pull of each input fails, the first being number 1.
-#[derive(Clone, Copy, Debug)]
-pub(crate) struct Failing {
-    pub(crate) claim: Option<u64>,
-    pub(crate) second: Option<u64>,
-    pub(crate) capture: Option<u64>,
-}
+pub(crate) type Answer = Result<Outcome, RunFault>;
 
-pub(crate) const NONE: Failing = Failing {
-    claim: None,
-    second: None,
-    capture: None,
+pub(crate) const YES: Answer = Ok(Outcome::Yes);
+
+pub(crate) const NO: Answer = Ok(Outcome::No);
+
+/// A command, and its answer on the worked inputs.
+pub(crate) type Worked = (Command<'static>, Answer);
+
+/// Each command that has a claim.
+pub(crate) const COMMANDS: [Worked; 7] = table! {
+    Command::Samples, YES;
+    Command::At(1_000_000_000), YES;
+    Command::Check(K1), YES;
+    Command::Find(64), YES;
+    Command::Refute(REFUTATION), NO;
+    Command::Seek, NO;
+    Command::Envelope(64, true, false), YES;
 };
+
+/// The input of which a pull fails, and the number of that pull, the first being number 1.
+pub(crate) type Failing = Option<(Input, u64)>;
+
+fn pull_of(failing: Failing, input: Input) -> Option<u64> {
+    match failing {
+        Some((failing, number)) if failing == input => Some(number),
+        _ => None,
+    }
+}
 
 /// What a run has answered, and its feeds.
 #[derive(Drop)]
 pub(crate) struct Ran<'a> {
-    pub(crate) answer: Result<Outcome, RunFault>,
+    pub(crate) answer: Answer,
     pub(crate) claim: TestFeed<'a>,
     pub(crate) second: TestFeed<'a>,
     pub(crate) capture: TestFeed<'a>,
@@ -71,61 +100,42 @@ fn step_of(seconds: u32) -> Step {
     Step { seconds }
 }
 
-/// Runs a command in this style on feeds that cut and fail so.
+/// Runs a command on feeds that cut and fail so.
 pub(crate) fn run<'a>(
     alloc: Global,
-    command: Command,
-    style: Style,
-    inputs: Inputs<'a>,
+    asked: Asked<'a>,
     cut: Cut,
     failing: Failing,
     out: &mut TestSink,
 ) -> Ran<'a>
     requires { IsWritable (⟦<TestSink as Sink>⟧.state out.old) }
 {
-    let mut claim = TestFeed::new(inputs.claim, cut, failing.claim);
-    let mut second = TestFeed::new(inputs.second, cut, failing.second);
-    let capture = TestFeed::new(inputs.capture, cut, failing.capture);
+    let style = asked.style;
+    let (input, text) = asked.command.second();
+    let mut claim = TestFeed::new(asked.claim, cut, pull_of(failing, Input::Claim));
+    let mut second = TestFeed::new(text, cut, pull_of(failing, input));
+    let capture = TestFeed::new(asked.capture, cut, pull_of(failing, Input::Capture));
     let hasher = BuildHasherDefault::<FoldHasher>::new();
     let first = &mut claim;
+    let next = &mut second;
     let none = &mut ();
-    let (capture, answer) = match command {
+    let (capture, answer) = match asked.command {
         Command::List => run_list(alloc, capture, out),
         Command::Samples => audit::run(alloc, Samples, style, first, none, capture, out, hasher),
         Command::At(second) => {
             let at = At { second };
             audit::run(alloc, at, style, first, none, capture, out, hasher)
         }
-        Command::Check => {
-            audit::run(
-                alloc,
-                Check,
-                style,
-                first,
-                &mut second,
-                capture,
-                out,
-                hasher,
-            )
-        }
+        Command::Check(_) => audit::run(alloc, Check, style, first, next, capture, out, hasher),
         Command::Find(seconds) => {
             let find = Find {
                 step: step_of(seconds),
             };
             audit::run(alloc, find, style, first, none, capture, out, hasher)
         }
-        Command::Refute => {
+        Command::Refute(_) => {
             let refute = Refute { drift: false };
-            audit::run(
-                alloc,
-                refute,
-                style,
-                first,
-                &mut second,
-                capture,
-                out,
-                hasher,
-            )
+            audit::run(alloc, refute, style, first, next, capture, out, hasher)
         }
         Command::Seek => audit::run(alloc, Seek, style, first, none, capture, out, hasher),
         Command::Envelope(seconds, servers, least) => {
@@ -148,65 +158,45 @@ pub(crate) fn run<'a>(
 /// A run gives this answer and these lines, from feeds that give one byte with each pull, and one,
 /// two and so on. Over a sink whose `finish` alone fails a refusal stays, and an outcome becomes
 /// `Write`.
-pub(crate) fn gives(
-    rt: &impl Abort,
-    alloc: Global,
-    command: Command,
-    inputs: Inputs<'_>,
-    wanted: Result<Outcome, RunFault>,
-    lines: &[&str],
-) {
-    gives_in(rt, alloc, command, Style::Plain, inputs, wanted, lines);
-}
-
-/// The same in this style.
-pub(crate) fn gives_in(
-    rt: &impl Abort,
-    alloc: Global,
-    command: Command,
-    style: Style,
-    inputs: Inputs<'_>,
-    wanted: Result<Outcome, RunFault>,
-    lines: &[&str],
-) {
-    for (cut, finish_fails) in [
-        (Cut::Fixed(1), false),
-        (Cut::Fixed(1), true),
-        (Cut::Growing, false),
-        (Cut::Growing, true),
-    ] {
+fn gives(rt: &impl Abort, alloc: Global, asked: Asked<'_>, wanted: Answer, lines: &[&str]) {
+    for (cut, finish_fails) in table! {
+        Cut::Fixed(1), false;
+        Cut::Fixed(1), true;
+        Cut::Growing, false;
+        Cut::Growing, true;
+    } {
         let mut out = assert_ok(rt, TestSink::new(alloc, 2000, 2000, None, finish_fails));
-        let ran = run(alloc, command, style, inputs, cut, NONE, &mut out);
-        went(rt, &ran, &out, wanted, finish_fails, lines);
+        let ran = run(alloc, asked, cut, None, &mut out);
+        let answer = match wanted {
+            Ok(_) if finish_fails => Err(RunFault::Write(out.bytes().len() as u64)),
+            answer => answer,
+        };
+        let seen = (ran.answer, ran.faults(), out.faults());
+        let wanted = (answer, 0, u64::from(finish_fails));
+        assert_equal_at(rt, seen, wanted, (asked.command, lines, finish_fails));
+        assert_equal(rt, lines_of(rt, out.bytes(), lines), lines.len());
     }
 }
 
-/// A run went so.
-fn went(
-    rt: &impl Abort,
-    ran: &Ran<'_>,
-    out: &TestSink,
-    wanted: Result<Outcome, RunFault>,
-    finish_fails: bool,
-    lines: &[&str],
-) {
-    let answer = match wanted {
-        Ok(_) if finish_fails => Err(RunFault::Write(out.bytes().len() as u64)),
-        answer => answer,
-    };
-    assert_equal_at(rt, ran.answer, answer, (lines, finish_fails));
-    assert_equal(rt, lines_of(rt, out.bytes(), lines), lines.len());
-    assert_equal(
-        rt,
-        (ran.faults(), out.faults()),
-        (0, u64::from(finish_fails)),
-    );
-}
+/// The lines of a text, each with its line feed.
+type Lines = &'static [&'static str];
 
-/// Nothing was taken of these bytes: the next one is their first.
-pub(crate) fn is_untouched(feed: &mut TestFeed<'_>, bytes: &[u8]) -> bool {
-    let mut first = [0; 1];
-    feed.faults() == 0 && feed.pull(&mut first) == Ok(1) && bytes.first() == Some(&first[0])
+/// A command, the edits that make its claim of `C1`, its capture, its answer and its lines.
+pub(crate) type Row<'a> = (Command<'a>, &'a [Edit<'a>], Capture, Answer, Lines);
+
+/// The rows of a table hold, in this style.
+pub(crate) fn hold(rt: &impl Abort, alloc: Global, style: Style, rows: &[Row<'_>]) {
+    for (command, edits, capture, answer, lines) in rows {
+        let claim = claim_of(rt, alloc, edits);
+        let capture = capture_of(rt, alloc, *capture);
+        let asked = Asked {
+            command: *command,
+            style,
+            claim: claim.as_bytes(),
+            capture: capture.as_slice(),
+        };
+        gives(rt, alloc, asked, *answer, lines);
+    }
 }
 
 /// How many of these lines the text begins with, one after another. Nothing stands after them.

@@ -1,26 +1,16 @@
 //! The heads of a capture's records, by hand.
 
-use crate::expectation::{assert_equal, assert_ok};
+use crate::expectation::{assert_equal, assert_ok, table};
 use era_unfold::Unit;
 use pcap_reader::{RecordHead, RecordSource, Whole};
 use vectors::V1;
 
 /// Where the numbers in the headers of `V1` stand, and how many bytes each has.
-const NUMBERS: [(usize, usize); 13] = [
-    (0, 4),
-    (4, 2),
-    (6, 2),
-    (16, 4),
-    (20, 4),
-    (24, 4),
-    (28, 4),
-    (32, 4),
-    (36, 4),
-    (130, 4),
-    (134, 4),
-    (138, 4),
-    (142, 4),
-];
+const NUMBERS: [(usize, usize); 13] = table! {
+    0, 4; 4, 2; 6, 2; 16, 4; 20, 4;
+    24, 4; 28, 4; 32, 4; 36, 4;
+    130, 4; 134, 4; 138, 4; 142, 4;
+};
 
 fn big_endian(mut file: [u8; 236]) -> [u8; 236] {
     for (place, width) in NUMBERS {

@@ -1,10 +1,10 @@
 //! Claims and times, by hand. The tables are text, a row a line.
 
-use crate::expectation::{assert_equal_at, assert_ok};
+use crate::expectation::{assert_equal_at, assert_ok, halves};
+use crate::inputs::claim_of;
 use claim_file::{ClaimFault, read_claim, read_time};
 use std::alloc::{AllocError, Global};
 use std::process::Abort;
-use vectors::C1;
 
 /// What is answered, and a text.
 const TEXTS: &str = r#"fault 1 | [
@@ -89,39 +89,39 @@ field 9 | "192.0.2.1"] | "192.0.2.1","192.0.2.2"],"groups":[0,1]
 field 9 | "192.0.2.1"] | "192.0.2.1","192.0.2.2"],"groups":{}
 field 9 | "192.0.2.1"] | "192.0.2.1","192.0.2.2"],"groups":null"#;
 
-/// A time's text, and its Unix second.
-const TIMES: &str = r#"1970-01-01T00:00:00Z|0
-1970-01-01T00:00:01Z|1
-1999-12-31T23:59:59Z|946684799
-2000-02-29T00:00:00Z|951782400
-2001-09-09T01:46:40Z|1000000000
-2100-03-01T00:00:00Z|4107542400
-2106-02-07T06:28:15Z|4294967295
-2106-02-07T06:28:16Z|none
-1969-12-31T23:59:59Z|none
-1900-02-29T00:00:00Z|none
-2100-02-29T00:00:00Z|none
-2001-02-29T00:00:00Z|none
-2001-00-09T01:46:40Z|none
-2001-13-09T01:46:40Z|none
-2001-09-00T01:46:40Z|none
-2001-09-31T01:46:40Z|none
-2001-09-09T24:00:00Z|none
-2001-09-09T23:60:00Z|none
-2001-09-09T23:59:60Z|none
-2001-09-09t01:46:40Z|none
-2001-09-09T01:46:40z|none
-2001-09-09T01:46:40+00:00|none
-2001-09-09T01:46:40|none
-2001-09-09T01:46:40.0Z|none
-2001-09-09 01:46:40Z|none
- 2001-09-09T01:46:40Z|none
-2001-09-09T01:46:40Z |none
-2001-9-09T01:46:400Z|none
-200:-09-09T01:46:40Z|none
-/001-09-09T01:46:40Z|none
-+001-09-09T01:46:40Z|none
-|none"#;
+/// A Unix second, and the text of its time.
+const TIMES: &str = r#"0 | 1970-01-01T00:00:00Z
+1 | 1970-01-01T00:00:01Z
+946684799 | 1999-12-31T23:59:59Z
+951782400 | 2000-02-29T00:00:00Z
+1000000000 | 2001-09-09T01:46:40Z
+4107542400 | 2100-03-01T00:00:00Z
+4294967295 | 2106-02-07T06:28:15Z
+none | 2106-02-07T06:28:16Z
+none | 1969-12-31T23:59:59Z
+none | 1900-02-29T00:00:00Z
+none | 2100-02-29T00:00:00Z
+none | 2001-02-29T00:00:00Z
+none | 2001-00-09T01:46:40Z
+none | 2001-13-09T01:46:40Z
+none | 2001-09-00T01:46:40Z
+none | 2001-09-31T01:46:40Z
+none | 2001-09-09T24:00:00Z
+none | 2001-09-09T23:60:00Z
+none | 2001-09-09T23:59:60Z
+none | 2001-09-09t01:46:40Z
+none | 2001-09-09T01:46:40z
+none | 2001-09-09T01:46:40+00:00
+none | 2001-09-09T01:46:40
+none | 2001-09-09T01:46:40.0Z
+none | 2001-09-09 01:46:40Z
+none |  2001-09-09T01:46:40Z
+none | 2001-09-09T01:46:40Z 
+none | 2001-9-09T01:46:400Z
+none | 200:-09-09T01:46:40Z
+none | /001-09-09T01:46:40Z
+none | +001-09-09T01:46:40Z
+none | "#;
 
 fn answer(alloc: Global, text: &str) -> Result<String, AllocError> {
     match read_claim(alloc, text.as_bytes()) {
@@ -133,20 +133,8 @@ fn answer(alloc: Global, text: &str) -> Result<String, AllocError> {
 
 /// A text is answered so.
 fn answers(rt: &impl Abort, alloc: Global, text: &str, expected: &str) {
-    assert_equal_at(
-        rt,
-        assert_ok(rt, answer(alloc, text)).as_str(),
-        expected,
-        text,
-    );
-}
-
-/// The two halves of a row.
-fn halves<'a>(rt: &impl Abort, row: &'a str) -> (&'a str, &'a str) {
-    match row.split_once(" | ") {
-        Some(halves) => halves,
-        None => panic!(rt; "{row}"),
-    }
+    let answer = assert_ok(rt, answer(alloc, text));
+    assert_equal_at(rt, answer.as_str(), expected, text);
 }
 
 #[test]
@@ -157,52 +145,33 @@ fn texts(rt: HostRuntime) {
     }
 }
 
-/// A row of the table of edits holds.
-fn holds(rt: &impl Abort, alloc: Global, row: &str) {
-    let (expected, edit) = halves(rt, row);
-    let (part, other) = halves(rt, edit);
-    let text = assert_ok(rt, C1.replace(alloc, part, other));
-    answers(rt, alloc, text.as_str(), expected);
-}
-
 #[test]
 fn edits(rt: HostRuntime) {
     for row in EDITS.lines() {
-        holds(&rt, rt.alloc(), row);
+        let (expected, edit) = halves(&rt, row);
+        let text = claim_of(&rt, rt.alloc(), &[halves(&rt, edit)]);
+        answers(&rt, rt.alloc(), text.as_str(), expected);
     }
-}
-
-/// A claim that names so many servers is answered so.
-fn names(rt: &impl Abort, alloc: Global, count: u32, expected: &str) {
-    let mut servers = assert_ok(rt, String::from_str(alloc, r#""1.0.0.0""#));
-    for number in 1..count {
-        let server = assert_ok(rt, format!(in alloc; ",\"1.0.0.{number}\""));
-        assert_ok(rt, servers.push_str(server.as_str()));
-    }
-    let text = assert_ok(rt, C1.replace(alloc, r#""192.0.2.1""#, servers.as_str()));
-    answers(rt, alloc, text.as_str(), expected);
 }
 
 /// A claim may name 32 servers, and no more.
 #[test]
 fn server_counts(rt: HostRuntime) {
-    names(&rt, rt.alloc(), 32, "read");
-    names(&rt, rt.alloc(), 33, "fault 5");
-}
-
-/// A row of the table of times holds.
-fn is_at(rt: &impl Abort, row: &str) {
-    match row.split_once('|') {
-        Some((text, second)) => {
-            assert_equal_at(rt, read_time(text), second.parse::<u32>().ok(), row);
+    for (count, expected) in [(32, "read"), (33, "fault 5")] {
+        let mut servers = assert_ok(&rt, String::from_str(rt.alloc(), r#""1.0.0.0""#));
+        for number in 1..count {
+            let server = assert_ok(&rt, format!(in rt.alloc(); ",\"1.0.0.{number}\""));
+            assert_ok(&rt, servers.push_str(server.as_str()));
         }
-        None => panic!(rt; "{row}"),
+        let text = claim_of(&rt, rt.alloc(), &[(r#""192.0.2.1""#, servers.as_str())]);
+        answers(&rt, rt.alloc(), text.as_str(), expected);
     }
 }
 
 #[test]
 fn times(rt: HostRuntime) {
     for row in TIMES.lines() {
-        is_at(&rt, row);
+        let (second, text) = halves(&rt, row);
+        assert_equal_at(&rt, read_time(text), second.parse::<u32>().ok(), row);
     }
 }

@@ -71,28 +71,17 @@ fn padding(rt: HostRuntime) {
     assert_equal(&rt, datagram(&frame), Ok(REQUEST));
 }
 
-/// The request of `V1` behind one VLAN tag, with 4 bytes of padding, or behind two.
-fn tagged(twice: bool) -> [u8; 98] {
-    let mut frame = [0; 98];
-    frame[..12].copy_from_slice(&V1[40..52]);
-    frame[12..16].copy_from_slice(b"\x81\x00\x00\x05");
-    if twice {
-        frame[16..20].copy_from_slice(b"\x81\x00\x00\x05");
-        frame[20..].copy_from_slice(&V1[52..130]);
-    } else {
-        frame[16..94].copy_from_slice(&V1[52..130]);
-    }
-    frame
-}
-
+/// The request of `V1` behind one VLAN tag, with 4 bytes of padding, and behind two.
 #[test]
-fn one_tag(rt: HostRuntime) {
-    let frame = tagged(false);
-    assert_equal(&rt, datagram(&frame), Ok(REQUEST));
-    assert_equal(&rt, datagram(&frame[..16]), Err(Skip::Short));
-}
-
-#[test]
-fn two_tags(rt: HostRuntime) {
-    assert_equal(&rt, datagram(&tagged(true)), Err(Skip::OtherType));
+fn tags(rt: HostRuntime) {
+    let mut one = [0; 98];
+    one[..12].copy_from_slice(&V1[40..52]);
+    one[12..16].copy_from_slice(b"\x81\x00\x00\x05");
+    one[16..94].copy_from_slice(&V1[52..130]);
+    let mut two = one;
+    two[16..20].copy_from_slice(b"\x81\x00\x00\x05");
+    two[20..].copy_from_slice(&V1[52..130]);
+    assert_equal(&rt, datagram(&one), Ok(REQUEST));
+    assert_equal(&rt, datagram(&one[..16]), Err(Skip::Short));
+    assert_equal(&rt, datagram(&two), Err(Skip::OtherType));
 }

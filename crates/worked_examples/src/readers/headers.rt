@@ -17,72 +17,44 @@ const MIXED: [u8; 48] = [
     0xf0, 0xf3, 0xf6, 0xf9, 0xfc, 0xff, 0x02, 0x05, 0x08, 0x0b, 0x0e, 0x11, 0x14, 0x17, 0x1a, 0x1d,
 ];
 
-/// Every field of a header.
-#[derive(Clone, Copy, Debug, PartialEq, Eq)]
-struct Fields {
-    leap: u8,
-    version: u8,
-    mode: u8,
-    stratum: u8,
-    poll: i8,
-    precision: i8,
-    root_delay: u32,
-    root_dispersion: u32,
-    reference_id: [u8; 4],
-    reference: u64,
-    origin: u64,
-    receive: u64,
-    transmit: u64,
-}
+/// Leap indicator, version, mode and stratum; poll and precision; root delay and root dispersion;
+/// the reference identifier; and the reference, origin, receive and transmit timestamps.
+type Fields = ([u8; 4], [i8; 2], [u32; 2], [u8; 4], [u64; 4]);
 
-const REPLY_FIELDS: Fields = Fields {
-    leap: 0,
-    version: 4,
-    mode: 4,
-    stratum: 1,
-    poll: 6,
-    precision: -32,
-    root_delay: 0,
-    root_dispersion: 0,
-    reference_id: [0x47, 0x50, 0x53, 0x00],
-    reference: 0xbf45_4880_0000_0000,
-    origin: 0x1122_3344_5566_7788,
-    receive: 0xbf45_4880_028f_5c29,
-    transmit: 0xbf45_4880_028f_5c29,
-};
+const REPLY_FIELDS: Fields = (
+    [0, 4, 4, 1],
+    [6, -32],
+    [0, 0],
+    [0x47, 0x50, 0x53, 0x00],
+    [
+        0xbf45_4880_0000_0000,
+        0x1122_3344_5566_7788,
+        0xbf45_4880_028f_5c29,
+        0xbf45_4880_028f_5c29,
+    ],
+);
 
-const MIXED_FIELDS: Fields = Fields {
-    leap: 3,
-    version: 3,
-    mode: 1,
-    stratum: 147,
-    poll: -106,
-    precision: -103,
-    root_delay: 0x9c9f_a2a5,
-    root_dispersion: 0xa8ab_aeb1,
-    reference_id: [0xb4, 0xb7, 0xba, 0xbd],
-    reference: 0xc0c3_c6c9_cccf_d2d5,
-    origin: 0xd8db_dee1_e4e7_eaed,
-    receive: 0xf0f3_f6f9_fcff_0205,
-    transmit: 0x080b_0e11_1417_1a1d,
-};
+const MIXED_FIELDS: Fields = (
+    [3, 3, 1, 147],
+    [-106, -103],
+    [0x9c9f_a2a5, 0xa8ab_aeb1],
+    [0xb4, 0xb7, 0xba, 0xbd],
+    [
+        0xc0c3_c6c9_cccf_d2d5,
+        0xd8db_dee1_e4e7_eaed,
+        0xf0f3_f6f9_fcff_0205,
+        0x080b_0e11_1417_1a1d,
+    ],
+);
 
-fn fields_of(header: &NtpView<'_>) -> Fields {
-    Fields {
-        leap: header.leap(),
-        version: header.version(),
-        mode: header.mode(),
-        stratum: header.stratum(),
-        poll: header.poll(),
-        precision: header.precision(),
-        root_delay: header.root_delay(),
-        root_dispersion: header.root_dispersion(),
-        reference_id: header.reference_id(),
-        reference: header.reference(),
-        origin: header.origin(),
-        receive: header.receive(),
-        transmit: header.transmit(),
-    }
+fn fields_of(h: &NtpView<'_>) -> Fields {
+    (
+        [h.leap(), h.version(), h.mode(), h.stratum()],
+        [h.poll(), h.precision()],
+        [h.root_delay(), h.root_dispersion()],
+        h.reference_id(),
+        [h.reference(), h.origin(), h.receive(), h.transmit()],
+    )
 }
 
 #[test]
