@@ -14,7 +14,7 @@ mod envelope;
 mod find;
 mod refute;
 mod samples;
-mod seek;
+mod find_refutation;
 mod settle;
 
 use crate::evidence::Evidence;
@@ -25,7 +25,7 @@ pub use crate::question::envelope::Envelope;
 pub use crate::question::find::Find;
 pub use crate::question::refute::Refute;
 pub use crate::question::samples::Samples;
-pub use crate::question::seek::Seek;
+pub use crate::question::find_refutation::FindRefutation;
 pub use crate::question::settle::Settle;
 use crate::second::SecondInput;
 use line_writer::Style;

@@ -5,12 +5,12 @@ ghost use Rattle.std.specs.Fmt.{decimal};
 ghost use Rattle.line_writer.specs.declared.field.Style.{Style};
 ghost use Rattle.line_writer.specs.declared.field.Style.TheVariants.{Plain};
 ghost use Rattle.line_writer.specs.declared.line.TheConstants.{CAPACITY};
-ghost use Rattle.pairing.specs.Held.{held_data};
+ghost use Rattle.pairing.specs.Compact.{compact_data};
 ghost use Rattle.audit_text.specs.CountsLine.{counts_line};
 ghost use Rattle.audit_text.specs.Line.{most_line};
 
 use line_writer::Line;
-use pairing::Held;
+use pairing::CompactCollection;
 use std::alloc::AllocError;
 
 /// Writes a count, a blank before it, and its name before that.
@@ -26,9 +26,9 @@ fn put_count(line: &mut Line, name: &str, count: u64)
 
 /// Writes the line of counts, for a program, in place of what `line` held: at most 400 bytes.
 #[tactic(auto, unfolding(crate::specs::CountsLine::counts_line))]
-pub fn write_counts_line(line: &mut Line, held: &Held)
-    ensures text { line.new ≡ counts_line Plain (held_data held.now).counts
-        (length (held_data held.now).exchanges) }
+pub fn write_counts_line(line: &mut Line, held: &CompactCollection)
+    ensures text { line.new ≡ counts_line Plain (compact_data held.now).counts
+        (length (compact_data held.now).exchanges) }
     ensures at_most { length line.new ≤ most_line }
 {
     let counts = &held.counts;
@@ -49,7 +49,7 @@ pub fn write_counts_line(line: &mut Line, held: &Held)
 }
 
 /// Adds the line of counts, which is the same in every style.
-pub(crate) fn add_counts(text: &mut Vec<u8>, held: &Held) -> Result<(), AllocError>
+pub(crate) fn add_counts(text: &mut Vec<u8>, held: &CompactCollection) -> Result<(), AllocError>
     ensures { IfOk result (λ _. (style : Style) → text.new.items ≡ text.old.items ++
         counts_line style held.now.counts (length held.now.exchanges.items)) }
 {

@@ -4,7 +4,7 @@ pub mod Exchange
 pub mod Counting
 pub mod Cover
 pub mod Test
-pub mod Kept
+pub mod NoOverflow
 pub mod FirstFault
 pub mod VerdictPieces
 pub mod PieceVerdict

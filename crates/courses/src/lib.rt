@@ -46,7 +46,7 @@ mod refutation;
 mod refutation_laws;
 mod sorted_marks;
 mod table;
-mod told;
+mod shown_conflicts;
 
 pub use conflicts::Conflicts;
 pub use contradiction::{Contradiction, first_contradiction};
@@ -56,4 +56,4 @@ pub use group_refutation::check_refutation_by_conflicts;
 pub use groups::Groups;
 pub use refutation::check_refutation_with_drift;
 pub use table::conflicts_of;
-pub use told::{Conflict, first_contradictions};
+pub use shown_conflicts::{Conflict, first_contradictions};

@@ -8,7 +8,7 @@ use Rattle.in_memory.specs.Answer.{HaveNotFailed, IsAnsweredFor}
 use Rattle.in_memory.specs.Holding.{Feeds, feed_of}
 
 -- what a run over these feeds came to, which are feeds of these bytes
-pub record Told {T F : Type 0} (asked : AskedData) (c s f : List ℕ) (sink err err' : SinkState) (ended : RunState)
+pub record Concluded {T F : Type 0} (asked : AskedData) (c s f : List ℕ) (sink err err' : SinkState) (ended : RunState)
     (second second' : T) (capture capture' : F) (status : ℕ) : Type 0 where
   pub feeds : Feeds
   pub claim_is : feeds.claim ≡ feed_of c
@@ -21,7 +21,7 @@ pub record Told {T F : Type 0} (asked : AskedData) (c s f : List ℕ) (sink err 
 
 module _ {T F : Type 0} {asked : AskedData} {c s f : List ℕ} {sink err err' : SinkState} {ended : RunState}
     {second second' : T} {capture capture' : F} {status : ℕ}
-    (told : Told asked c s f sink err err' ended second second' capture capture' status) where
+    (told : Concluded asked c s f sink err err' ended second second' capture capture' status) where
   -- what holds of the feeds holds of memory
   of_memory : (P : FeedState → FeedState → FeedState → Type 0) →
       P told.feeds.claim told.feeds.second told.feeds.capture → P (feed_of c) (feed_of s) (feed_of f)
@@ -43,7 +43,7 @@ module _ {T F : Type 0} {asked : AskedData} {c s f : List ℕ} {sink err err' : 
         answers = record {
           answer = answers.answer;
           promise = answers.promise.runs.reports;
-          tells = answers.tells;
+          concludes = answers.concludes;
           status_is = answers.status_is;
         };
         shows = of_memory (λ x y z. ShowsAt status asked.question x y z) told.shows;

@@ -65,7 +65,7 @@ pub(crate) enum Request {
     /// Look for a certificate.
     Find(Find),
     /// Look for a refutation.
-    Seek,
+    FindRefutation,
     /// Show how far off the clock may have been.
     Envelope(Envelope),
 }

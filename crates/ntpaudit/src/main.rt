@@ -34,7 +34,7 @@ use audit::Outputs;
 use byte_stream::{Sink, WriteSink};
 use fault_words::KeptSink;
 use listing::answer_list;
-use report::{Input, RunFault, refuse, refuse_time, show, tell};
+use report::{Input, RunFault, refuse, refuse_time, show, conclude};
 use std::alloc::AllocError;
 use std::hash::{BuildHasher, BuildHasherDefault, FoldHasher, RandomState};
 use std::process::ExitCode;
@@ -47,7 +47,7 @@ fn list<S: Sink, E: Sink>(rt: &HostRuntime, listed: &Listed, to: &mut Outputs<S,
 {
     match open(rt, listed.operand(), Input::Capture) {
         Ok(capture) => answer_list(rt.alloc(), capture, &mut to.out, &mut to.err).1,
-        Err(fault) => tell(&Err(fault), &mut to.err),
+        Err(fault) => conclude(&Err(fault), &mut to.err),
     }
 }
 
@@ -65,7 +65,7 @@ fn ask_of_files<S: Sink, E: Sink, H: BuildHasher + Drop>(
 {
     match open_evidence(rt, paths) {
         Ok((inputs, sums)) => ask(rt.alloc(), request, paths.style, inputs, sums, to, hasher),
-        Err(fault) => tell(&Err(fault), &mut to.err),
+        Err(fault) => conclude(&Err(fault), &mut to.err),
     }
 }
 
@@ -86,7 +86,7 @@ fn judge_files<S: Sink, E: Sink, H: BuildHasher + Drop>(
             let style = paths.evidence.style;
             judge(rt.alloc(), judgement, style, inputs, sums, to, hasher)
         }
-        Err(fault) => tell(&Err(fault), &mut to.err),
+        Err(fault) => conclude(&Err(fault), &mut to.err),
     }
 }
 
@@ -138,7 +138,7 @@ fn main(rt: HostRuntime) -> ExitCode {
             }
         },
         Err(AllocError) => {
-            let code = tell(&Err(RunFault::Memory), &mut outputs.err);
+            let code = conclude(&Err(RunFault::Memory), &mut outputs.err);
             (code, Asked::Nothing)
         }
     };

@@ -12,6 +12,6 @@ pub mod Servers
 pub mod Windows
 pub mod Words
 pub mod Keys
-pub mod Kept
+pub mod LookUps
 pub mod Parts
 pub mod SourceSteps

@@ -278,9 +278,9 @@ module _ (laws : Laws) where
     exchanges-among given =
         let requests = requests_of claim records in
         let replies = replies_of claim records in
-        let Kept = λ (o : Result Exchange Refusal). IfSome (result_ok o) (IsExchangeAmong claim records) in
+        let IsAmong = λ (o : Result Exchange Refusal). IfSome (result_ok o) (IsExchangeAmong claim records) in
         All-filter_map result_ok (IsExchangeAmong claim records) (map (outcome_of requests) replies)
-        (All-map Kept (outcome_of requests) replies
+        (All-map IsAmong (outcome_of requests) replies
         (λ k d below. outcome-among requests (get_or replies k d) (requests-among claim records given)
         (replies-listed claim records given k d below)))
 

@@ -11,18 +11,18 @@ use Rattle.std.proofs.lemmas.List.FromFn.{sum_by-map-range_with_len_more}
 use Rattle.std.proofs.lemmas.List.Folds.{list_all-map, list_any_more}
 use Rattle.std.proofs.lemmas.Grind.{get_or-set_at}
 use Rattle.claim_file.specs.Group.{servers_of}
-use Rattle.pairing.specs.declared.held.HeldExchange.{HeldExchange}
-use Rattle.pairing.specs.Held.{exchange_shown}
+use Rattle.pairing.specs.declared.compact.CompactExchange.{CompactExchange}
+use Rattle.pairing.specs.Compact.{exchange_shown}
 use Rattle.pairing.specs.Sources.{common_reference, is_source}
 
 -- whether an exchange that is held is with a server
-pub shown_source : (xs : List HeldExchange) (server : ℕ) →
+pub shown_source : (xs : List CompactExchange) (server : ℕ) →
     list_any (λ x. (exchange_shown x).server == server) xs ≡ is_source (map exchange_shown xs) server
 shown_source [] server = refl
 shown_source (x ∷ xs) server = ap (λ b. ((exchange_shown x).server == server) || b) (shown_source xs server)
 
 -- the reference of the first, if all others are compared with it
-pub first_reference : (held : List HeldExchange) (d : HeldExchange) (reference : List ℕ) → 1 ≤ length held →
+pub first_reference : (held : List CompactExchange) (d : CompactExchange) (reference : List ℕ) → 1 ≤ length held →
     reference ≡ (exchange_shown (get_or held 0 d)).reference → (same : Bool) →
     same ≡ list_all (λ y. bytes_eq (exchange_shown y).reference reference) (take (length held - 1) (drop 1 held)) →
     then_some same reference ≡ common_reference (map exchange_shown held)
@@ -62,7 +62,7 @@ counted_more p n count byte seen is passes so_far = (
     value : byte ≡ cond (p n) 1 0
     value = is ∙ as_cond seen ∙ ap (λ b. cond b 1 0) passes
 
-module _ (held : List HeldExchange) (i : ℕ) (d : HeldExchange) (within : i < length held) where
+module _ (held : List CompactExchange) (i : ℕ) (d : CompactExchange) (within : i < length held) where
   -- one more exchange
   source_more : (s : ℕ) → is_source (map exchange_shown (take (i + 1) held)) s
       ≡ (is_source (map exchange_shown (take i held)) s || ((exchange_shown (get_or held i d)).server == s))

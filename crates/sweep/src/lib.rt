@@ -40,16 +40,16 @@
 #![tactic(auto)]
 
 mod choice;
-mod crest;
+mod leader;
 mod duration;
 mod extreme;
 mod passage;
-mod peak;
+mod prefix_maximum;
 mod pieces;
 mod places;
 mod queue;
 mod rise;
-mod stretch;
+mod unsigned_stretch;
 mod table;
 mod tick;
 mod top;

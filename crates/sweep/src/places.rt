@@ -1,12 +1,12 @@
 //! Where look-ups in the tables ended.
 
-/// More than any list of peaks has.
+/// More than any list of maxima has.
 const NOWHERE: usize = usize::MAX;
 
 /// Zero, counted from the origin: most levels lie close to it.
 const ZERO: u128 = 1 << 75;
 
-/// Where the last look-ups ended in the peaks of one kind of end.
+/// Where the last look-ups ended in the maxima of one kind of end.
 #[derive(Clone, Copy)]
 pub struct Near {
     pub early: usize,

@@ -17,7 +17,7 @@ const COMMANDS: [(Command, Outcome); 7] = [
     (Command::Check, Outcome::Yes),
     (Command::Find(64), Outcome::Yes),
     (Command::Refute, Outcome::No),
-    (Command::Seek, Outcome::No),
+    (Command::FindRefutation, Outcome::No),
     (Command::Envelope(64, true, false), Outcome::Yes),
 ];
 

@@ -3,7 +3,7 @@
 use crate::engines::inputs::{REFUTATION, edited, first_of, padded};
 use crate::engines::trial::{Command, Inputs, gives};
 use crate::expectation::assert_ok;
-use Command::{At, Check, Envelope, Find, List, Refute, Samples, Seek};
+use Command::{At, Check, Envelope, Find, List, Refute, Samples, FindRefutation};
 use certificate::{CertificateFault, RefutationFault};
 use claim_file::ClaimFault;
 use pcap_reader::CaptureFault;
@@ -20,7 +20,7 @@ const COMMANDS: [(Command, &str); 8] = [
     (Check, K1),
     (Find(64), K1),
     (Refute, REFUTATION),
-    (Seek, K1),
+    (FindRefutation, K1),
     (Envelope(64, true, false), K1),
 ];
 
@@ -91,7 +91,7 @@ const FIRST: [(Command, &str, &str, RunFault); 11] = [
     (Check, "[", "{}", NO_JSON),
     (Samples, "{}", "{}", NO_CLIENT),
     (Refute, "[", "{}", NO_JSON),
-    (Seek, "{}", "{}", NO_CLIENT),
+    (FindRefutation, "{}", "{}", NO_CLIENT),
     (Envelope(64, true, false), "{}", "{}", NO_CLIENT),
     (
         Check,

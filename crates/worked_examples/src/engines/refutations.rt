@@ -3,7 +3,7 @@
 use crate::engines::inputs::{REFUTATION, claim_of, edited};
 use crate::engines::trial::{Command, Inputs, gives};
 use crate::expectation::assert_ok;
-use Command::{Refute, Seek};
+use Command::{Refute, FindRefutation};
 use report::Outcome;
 use std::alloc::Global;
 use std::process::Abort;
@@ -80,7 +80,7 @@ fn turned(rt: HostRuntime) {
 }
 
 /// What is sought in a capture, under a claim like `C1`: whether it's found, and these lines.
-fn seeks(
+fn finds_refutation(
     rt: &impl Abort,
     alloc: Global,
     edit: (&str, &str),
@@ -94,7 +94,7 @@ fn seeks(
         second: b"",
         capture,
     };
-    gives(rt, alloc, Seek, inputs, Ok(outcome), lines);
+    gives(rt, alloc, FindRefutation, inputs, Ok(outcome), lines);
 }
 
 const ZERO: (&str, &str) = ("\"bound_ns\":10001001", "\"bound_ns\":0");
@@ -110,20 +110,20 @@ const SOUGHT: [((&str, &str), Outcome, &[&str]); 4] = [
 ];
 
 #[test]
-fn sought(rt: HostRuntime) {
+fn refutation_found(rt: HostRuntime) {
     for (edit, outcome, lines) in SOUGHT {
-        seeks(&rt, rt.alloc(), edit, &V1, outcome, lines);
+        finds_refutation(&rt, rt.alloc(), edit, &V1, outcome, lines);
     }
 }
 
 /// Replies from a second before and after.
 #[test]
-fn sought_aside(rt: HostRuntime) {
+fn refutation_found_aside(rt: HostRuntime) {
     let behind = edited(&[(220, b"\xbf\x45\x48\x7f"), (228, b"\xbf\x45\x48\x7f")]);
     let ahead = edited(&[(220, b"\xbf\x45\x48\x81"), (228, b"\xbf\x45\x48\x81")]);
     let fast = "{\"error\":4252017622,\"false\":[],\"reading\":4294967296000000000}\n";
     let slow = "{\"error\":-4252013327,\"false\":[],\"reading\":4294967296000000000}\n";
     let alloc = rt.alloc();
-    seeks(&rt, alloc, BOUND, &behind, Outcome::Yes, &[fast]);
-    seeks(&rt, alloc, BOUND, &ahead, Outcome::Yes, &[slow]);
+    finds_refutation(&rt, alloc, BOUND, &behind, Outcome::Yes, &[fast]);
+    finds_refutation(&rt, alloc, BOUND, &ahead, Outcome::Yes, &[slow]);
 }

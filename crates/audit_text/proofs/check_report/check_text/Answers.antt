@@ -1,6 +1,6 @@
 use Rattle.std.proofs.Common.{append_assoc, refl}
 use Rattle.std.proofs.lemmas.List.{length-map}
-use Rattle.pairing.specs.Held.{exchange_shown}
+use Rattle.pairing.specs.Compact.{exchange_shown}
 use Rattle.audit_text.specs.CheckReport.{check_text}
 use Rattle.audit_text.proofs.check_report.check_text.Goals as goal
 

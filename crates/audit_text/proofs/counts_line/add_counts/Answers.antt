@@ -2,7 +2,7 @@ use Rattle.std.proofs.Common.{◌≡◌, ◌∙◌, ◌++◌, ℕ, List, ap, sym
 use Rattle.std.proofs.lemmas.List.{length-map}
 use Rattle.std.proofs.lemmas.Result.{IfOk-weaker}
 use Rattle.std.specs.Result.{IfOk}
-use Rattle.pairing.specs.Held.{exchange_shown}
+use Rattle.pairing.specs.Compact.{exchange_shown}
 use Rattle.audit_text.proofs.PlainLines.{counts_in_any_style}
 use Rattle.audit_text.proofs.counts_line.add_counts.Goals as goal
 

@@ -1,6 +1,6 @@
 use Rattle.std.proofs.Common.{◌≡◌, [], ◌∷◌, codes, length, rules}
 use Rattle.std.proofs.lemmas.List.{length-map}
-use Rattle.pairing.specs.Held.{exchange_shown}
+use Rattle.pairing.specs.Compact.{exchange_shown}
 use Rattle.line_writer.specs.Field.{Named}
 use Rattle.audit_text.specs.CountsLine.{counts_line}
 use Rattle.audit_text.proofs.PlainLines.{line_written}

@@ -3,7 +3,7 @@ use Rattle.std.proofs.lemmas.Int.{to_z-of_z}
 use mir.Syntax.{w128}
 use Rattle.sample_interval.specs.OnWire.{delay_of}
 use Rattle.sample_interval.specs.Window.{request_start, request_end, reply_start, reply_end}
-use Rattle.sample_interval.proofs.Kept.{kept_tick, kept_stamp, stamp_is, end_is}
+use Rattle.sample_interval.proofs.NoOverflow.{kept_tick, kept_stamp, stamp_is, end_is}
 use Rattle.sample_interval.proofs.on_wire.delay.Goals as goal
 
 pub request_window-request-requires-clause-exchange : goal.request_window-request-requires-clause-exchange

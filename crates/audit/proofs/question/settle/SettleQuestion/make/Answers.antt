@@ -5,7 +5,7 @@ use Rattle.audit.specs.Question.{ShowsOf}
 use Rattle.audit.specs.Second.{no_second, nothing_said}
 use Rattle.audit.specs.Settle.{IsSettledBy, settle}
 use Rattle.audit.proofs.SettlementShowing.{fault_found, refused_made, settled_of}
-use Rattle.audit.proofs.Showing.{BytesLaws, of_inputs, settled_from, told_shows}
+use Rattle.audit.proofs.Showing.{BytesLaws, of_inputs, settled_from, outcome_shows}
 use Rattle.audit.proofs.SettlementText.{text_made}
 use Rattle.audit.proofs.question.settle.SettleQuestion.make.Goals as goal
 
@@ -18,7 +18,7 @@ returns-in-Ok-clause-made c =
     (c.samples_of_exchanges_keep_limits.ensures.listed e.claim e.collection.exchanges
     c.requires.evidence.exchanges.each)) (settled_data c.in-Ok.settled) settles.settled in
     text_made e (settled_data c.in-Ok.settled) holds c.args.style c.text_for.result (λ t. t.items)
-    c.outcome_of.result c.told.result c.outcome_of.ensures c.told.ensures.made c.text_for.ensures
+    c.outcome_of.result c.made_whole.result c.outcome_of.ensures c.made_whole.ensures.made c.text_for.ensures
 
 pub returns-in-Ok-clause-shows : goal.returns-in-Ok-clause-shows
 returns-in-Ok-clause-shows c =
@@ -33,12 +33,12 @@ returns-in-Ok-clause-shows c =
       headline = c.yes_shows_the_headline.ensures;
       contested = c.course_beyond_the_bound_contests_the_claim.ensures;
     } in
-    told_shows c.told.result c.outcome_of.result (ShowsOf settle no_second nothing_said e)
+    outcome_shows c.made_whole.result c.outcome_of.result (ShowsOf settle no_second nothing_said e)
     (of_inputs e (IsSettledBy c.outcome_of.result) (λ b f is. record {
       settled = settled_data c.in-Ok.settled;
       outcome_is = c.outcome_of.ensures;
       holds = settled_from laws b f e is (settled_data c.in-Ok.settled) holds;
-    })) c.told.ensures.outcome
+    })) c.made_whole.ensures.outcome
 
 pub returns-clause-made : goal.returns-clause-made
 returns-clause-made c =
