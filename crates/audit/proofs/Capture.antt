@@ -43,7 +43,7 @@ module _ (claim : ClaimData) where
   -- they couldn't be
   pub capture_unread : (known : Option (List ℕ)) (remaining : Option Coming) (fault : PairFault) →
       IfSome known (λ bytes. AllRemains bytes remaining) →
-          IfSome remaining (IsAnswerTo compact_data claim (Err fault)) →
+      IfSome remaining (IsAnswerTo compact_data claim (Err fault)) →
       IfSome known (λ bytes. Reads compact_data (capture_read claim bytes) (Err (pair_run_fault_of fault)))
   capture_unread None remaining fault all exact = tt
   capture_unread (Some bytes) None fault (coming, is, same) exact = cc

@@ -68,7 +68,7 @@ module _ (laws : Laws) (e : EvidenceData) (limits : Limits e) where
   -- what the outcome of what was found shows
   pub search_shows : (found : Option Refutation) (outcome : Outcome) →
       outcome ≡ found_refutation_outcome (option_map refutation_data found) → IsNearestOf e found
-          → IsFindRefutationOf e outcome
+      → IsFindRefutationOf e outcome
   search_shows found outcome is nearest = subst (IsFindRefutationOf e) (sym is) (shown found nearest)
 
 -- the bytes of any inputs that give the evidence show the same

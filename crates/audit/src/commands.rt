@@ -16,7 +16,7 @@ ghost use Rattle.audit.specs.Second.{certificate_second, refutation_second};
 ghost use Rattle.audit.specs.FindRefutation.{IsIrrefutable, IsRefutable, find_refutation};
 
 use crate::engine::{Outputs, answer, run};
-use crate::question::{At, Check, Find, Refute, Samples, FindRefutation};
+use crate::question::{At, Check, Find, FindRefutation, Refute, Samples};
 use crate::step::Step;
 use byte_stream::{Feed, Sink};
 use line_writer::Style;

@@ -33,7 +33,7 @@ use crate::second::SecondSource;
 use byte_stream::{Feed, Sink};
 use claim_file::Claim;
 use line_writer::Style;
-use report::{Outcome, RunFault, read_claim_from, conclude};
+use report::{Outcome, RunFault, conclude, read_claim_from};
 use std::alloc::Global;
 use std::hash::BuildHasher;
 

@@ -44,8 +44,7 @@ pub fn samples_text(
     held: &CompactCollection,
 ) -> Result<Vec<u8>, AllocError>
     requires lawful { IsLawful (data_of claim.now) }
-    requires exchanges
-    { AreLawful (length claim.now.servers.items) (compact_data held.now).exchanges }
+    requires exchanges { AreLawful (length claim.now.servers.items) (compact_data held.now).exchanges }
     ensures { IfOk result (λ text.
         text.items ≡ spec.samples_text style (data_of claim.now) (compact_data held.now)) }
 {

@@ -83,7 +83,7 @@ collection-fault claim records fault is =
 left_as_it_was : (old new : SourceState) (fault : PairFault) → LeavesSource {X = Unit {0}} old (Ok tt) new →
     MayAnswer fault → device_failed {X = CompactCollection} (Err fault) ≡ false →
     capture_failed {X = CompactCollection} (Err fault) ≡ false
-        → LeavesSource {X = CompactCollection} old (Err fault) new
+    → LeavesSource {X = CompactCollection} old (Err fault) new
 left_as_it_was old new fault leaves may device capture = record {
   may_answer = may;
   counts_fault = rw device leaves.counts_fault;
@@ -94,7 +94,7 @@ left_as_it_was old new fault leaves may device capture = record {
 -- what is joined leaves the source alone
 pub leaves-whole : (claim : ClaimData) (records : List Record) (old new : SourceState)
     (r : Result CompactCollection PairFault) → LeavesSource {X = Unit {0}} old (Ok tt) new →
-        IsCollected claim records r →
+    IsCollected claim records r →
     LeavesSource old r new
 leaves-whole claim records old new (Ok held) leaves exact = record {
   may_answer = tt;

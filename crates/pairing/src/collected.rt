@@ -4,9 +4,9 @@ ghost use Rattle.std.specs.Prelude.{◌≡◌, IfOk};
 ghost use Rattle.pairing.specs.Compact.{compact_data};
 ghost use Rattle.pairing.specs.Pairing.{data_of};
 
+use crate::compact::CompactCollection;
 use crate::counts::Counts;
 use crate::exchange::Exchange;
-use crate::compact::CompactCollection;
 use crate::to_exchange::ToExchange;
 use std::alloc::{AllocError, Global};
 

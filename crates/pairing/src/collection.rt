@@ -10,10 +10,10 @@ ghost use Rattle.pairing.specs.Pairing.{data_of as collection_data};
 ghost use Rattle.pairing.specs.Reading.{GathersAll};
 
 use crate::collected::Collected;
+use crate::compact::CompactCollection;
 use crate::fault::PairFault;
 use crate::gathering::Gathering;
 use crate::hashing::KeyHasher;
-use crate::compact::CompactCollection;
 use crate::laws::exchanges_keep_their_limits;
 use crate::message::read_message;
 use claim_file::Claim;

@@ -7,10 +7,10 @@ ghost use Rattle.pairing.specs.Compact.{exchange_shown, exchange_with, compact_o
 ghost use Rattle.pairing.specs.Message.{reply_from};
 ghost use Rattle.pairing.specs.Pairing.{distance_of};
 
+use crate::compact_window::CompactWindow;
 use crate::counts::Counts;
 use crate::exchange::Exchange;
 use crate::to_exchange::ToExchange;
-use crate::compact_window::CompactWindow;
 use era_unfold::unfold;
 use ntp_packet::kinds::Packet;
 use pcap_reader::RecordHead;

@@ -3,10 +3,10 @@
 ghost use Rattle.std.specs.Prelude.{◌≡◌, ◌^◌, ◌<◌, [], ◌++◌, ◌⊎◌, List, length, Ok, Err, OnOk, MatchResult, vec_len};
 ghost use Rattle.era_unfold.specs.Window.{per_second};
 
+use crate::compact::{CompactCollection, CompactExchange};
 use crate::counts::Counts;
 use crate::fault::PairFault;
 use crate::hashing::KeyHasher;
-use crate::compact::{CompactCollection, CompactExchange};
 use crate::index::{Index, IndexedRequest};
 use crate::join::join;
 use crate::message::Message;
@@ -76,7 +76,11 @@ impl Gathering {
     }
 
     /// What is collected, once the whole capture is gathered.
-    pub(crate) fn finish(mut self, alloc: Global, hasher: KeyHasher) -> Result<CompactCollection, PairFault>
+    pub(crate) fn finish(
+        mut self,
+        alloc: Global,
+        hasher: KeyHasher,
+    ) -> Result<CompactCollection, PairFault>
         requires { HasRoom self.counts (vec_len self.exchanges) }
         ensures { (claim : ClaimData) (records : List Record) →
             IsGatheredFrom claim records self.requests.items

@@ -6,8 +6,8 @@ ghost use Rattle.era_unfold.specs.Window.{per_second};
 ghost use Rattle.pairing.specs.Index.{Finds, indexed_of, request_at, same_key};
 ghost use Rattle.pairing.specs.declared.index.IndexedRequest.{IndexedRequest as Request};
 
-use crate::hashing::KeyHasher;
 use crate::compact_window::CompactWindow;
+use crate::hashing::KeyHasher;
 use indexmap::IndexMap;
 use pcap_reader::RecordHead;
 use std::alloc::{AllocError, Global};

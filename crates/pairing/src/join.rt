@@ -10,9 +10,9 @@ ghost use Rattle.pairing.specs.Compact.{exchange_shown};
 ghost use Rattle.pairing.specs.Index.{same_key};
 ghost use Rattle.pairing.specs.Join.{outcomes_by, request_by};
 
+use crate::compact::{CompactExchange, CompactRequest};
 use crate::counts::Counts;
 use crate::fault::PairFault;
-use crate::compact::{CompactExchange, CompactRequest};
 use crate::index::{Index, Key, Place};
 use crate::refusal::Refusal;
 

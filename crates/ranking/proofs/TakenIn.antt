@@ -87,7 +87,7 @@ module _ (held : List (Option ℤ)) (number : ℕ) (value greatest : ℤ) (somet
   pub old_leads : (leader : Leader) → IsLeader held leader → value ≤ℤ greatest → (runner_up : ℤ) →
       leader.runner_up ≤ℤ runner_up →
       (number < leader.number → value ≤ℤ runner_up)
-          → IsLeader after (record { number = leader.number; runner_up = runner_up })
+      → IsLeader after (record { number = leader.number; runner_up = runner_up })
   old_leads leader is_leader below runner_up more follows =
       let top = bound.reached (omega (arith, ints)) in
       let reaches = is_leader.most top.reached.0 greatest top.reached.1 in

@@ -6,9 +6,9 @@ ghost use Rattle.report.specs.Reports.{whole_text};
 ghost use Rattle.report.specs.Run.{bare_state};
 ghost use Rattle.report.specs.Conclusion.{Answers};
 
+use crate::conclusion::conclude;
 use crate::fault::Outcome;
 use crate::publication::{Made, publish};
-use crate::conclusion::conclude;
 use byte_stream::Sink;
 
 /// Shows a text on `out`. The result is the exit status.

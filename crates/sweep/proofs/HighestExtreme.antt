@@ -126,7 +126,7 @@ module _ (widens : (ppb distance : ℕ) → ppb < billion → IsWidening ppb dis
     (slow : IsRate ppb) (extremes : List Extreme) (lawful : All IsLawfulExtreme extremes)
     (stretches : List UnsignedStretch) (lawful_stretches : All IsLawfulStretch stretches) (k : ℕ)
     (within : k < length stretches) (stretch : UnsignedStretch) (here : slice_get stretches k ≡ Some stretch)
-        (index : ℕ)
+    (index : ℕ)
     (highest : IsHighest ppb extremes stretch index) where
   highest_top : IsTop (IsAtLeast ppb extremes stretch) (record { level = highest.level; index = index })
   highest_top =

@@ -150,7 +150,7 @@ module _ (ppb : ℕ) (extremes : List Extreme) (queue : List Arrival) (are : IsQ
           (λ le.
           let empty : length leaders ≡ 0 = omega arith in
           let less = first leader (sym (ap (slice_get (leaders ++ leader ∷ [])) empty) ∙ slice_get-last leaders leader)
-              in
+          in
           omega (arith, begins))
           (cases_lt 0 (length leaders)))
 

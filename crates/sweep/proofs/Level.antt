@@ -102,28 +102,28 @@ level_of_best x y end wide best_end best_wide level a b reached no_more most =
 module _ (side : Side) (samples : List Sample) (server : ℕ) (extremes : List Extreme)
     (are : AreExtremesOf side samples server extremes) where
   module _ (p q : ℤ) (ppb : ℕ) (stretch : UnsignedStretch) (at : IsStretchOf p q stretch) (s : IsLawfulStretch stretch)
-      where
-    pub level_counted : (level : ℕ) → IsLevelOver ppb extremes stretch level → (number : ℕ) →
-        (best : IsFirstBest (λ t. merit side t p q ppb) samples server number) →
-        merit side best.sample p q ppb +ℤ pos (2 ^ 75) ≡ pos level
-    level_counted level is number best =
-        let extreme : Extreme = is.reached.extreme in
-        let own = are.each is.index extreme is.reached.stands in
-        let came = are.all number best.sample best.stands best.of_server in
-        let other = are.each came.0 came.1 came.2 in
-        let same : other.sample ≡ best.sample =
-        same_Some other.sample best.sample (sym other.stands ∙ ap (slice_get samples) came.3 ∙ best.stands) in
-        let counted : merit side best.sample p q ppb +ℤ pos (2 ^ 75)
-        ≡ pos came.1.end -ℤ pos (widening ppb (distance came.1 stretch)) =
-        subst (λ (t : Sample). merit side t p q ppb +ℤ pos (2 ^ 75)
-        ≡ pos came.1.end -ℤ pos (widening ppb (distance came.1 stretch))) same
-        (merit_is side p q ppb other.sample came.1 stretch other.is other.lawful at s) in
-        level_of_best (merit side own.sample p q ppb) (merit side best.sample p q ppb) extreme.end
-        (widening ppb (distance extreme stretch)) came.1.end (widening ppb (distance came.1 stretch)) level
-        (merit_is side p q ppb own.sample extreme stretch own.is own.lawful at s) counted is.reached.at_least
-        (best.greatest extreme.number own.sample own.stands own.of_server)
-        (λ le. is.highest came.0 (came.1.end - widening ppb (distance came.1 stretch))
-        (record { extreme = came.1; stands = came.2; at_least = omega arith }))
+    where
+      pub level_counted : (level : ℕ) → IsLevelOver ppb extremes stretch level → (number : ℕ) →
+          (best : IsFirstBest (λ t. merit side t p q ppb) samples server number) →
+          merit side best.sample p q ppb +ℤ pos (2 ^ 75) ≡ pos level
+      level_counted level is number best =
+          let extreme : Extreme = is.reached.extreme in
+          let own = are.each is.index extreme is.reached.stands in
+          let came = are.all number best.sample best.stands best.of_server in
+          let other = are.each came.0 came.1 came.2 in
+          let same : other.sample ≡ best.sample =
+          same_Some other.sample best.sample (sym other.stands ∙ ap (slice_get samples) came.3 ∙ best.stands) in
+          let counted : merit side best.sample p q ppb +ℤ pos (2 ^ 75)
+          ≡ pos came.1.end -ℤ pos (widening ppb (distance came.1 stretch)) =
+          subst (λ (t : Sample). merit side t p q ppb +ℤ pos (2 ^ 75)
+          ≡ pos came.1.end -ℤ pos (widening ppb (distance came.1 stretch))) same
+          (merit_is side p q ppb other.sample came.1 stretch other.is other.lawful at s) in
+          level_of_best (merit side own.sample p q ppb) (merit side best.sample p q ppb) extreme.end
+          (widening ppb (distance extreme stretch)) came.1.end (widening ppb (distance came.1 stretch)) level
+          (merit_is side p q ppb own.sample extreme stretch own.is own.lawful at s) counted is.reached.at_least
+          (best.greatest extreme.number own.sample own.stands own.of_server)
+          (λ le. is.highest came.0 (came.1.end - widening ppb (distance came.1 stretch))
+          (record { extreme = came.1; stands = came.2; at_least = omega arith }))
 
 -- ---- the part of a table
 

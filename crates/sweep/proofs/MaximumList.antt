@@ -83,76 +83,76 @@ module _ (ppb : ℕ) (extremes : List Extreme) (queue : List Arrival) (are : IsQ
     -- an arrival that is
     module _ (maximum : PrefixMaximum) (place : maximum.place ≡ a.at) (height_is : maximum.height ≡ a.height)
         (above : (last : PrefixMaximum) → slice_get maxima (length maxima - 1) ≡ Some last → last.height < a.height)
-            where
-      each : (i : ℕ) (x : PrefixMaximum) → slice_get (maxima ++ maximum ∷ []) i ≡ Some x → IsFromArrival queue (n + 1) x
-      each i x is = ⊎_elim
-          (λ old. one_later queue n x (so_far.each i x old))
-          (λ new. subst (IsFromArrival queue (n + 1)) (sym new.1) (record {
-            turn = n;
-            arrival = a;
-            before = omega arith;
-            stands = here;
-            place = place;
-            height = height_is;
-          }))
-          (pushed_cases maxima maximum x i is)
+      where
+        each : (i : ℕ) (x : PrefixMaximum) → slice_get (maxima ++ maximum ∷ []) i ≡ Some x → IsFromArrival queue (n + 1) x
+        each i x is = ⊎_elim
+            (λ old. one_later queue n x (so_far.each i x old))
+            (λ new. subst (IsFromArrival queue (n + 1)) (sym new.1) (record {
+              turn = n;
+              arrival = a;
+              before = omega arith;
+              stands = here;
+              place = place;
+              height = height_is;
+            }))
+            (pushed_cases maxima maximum x i is)
 
-      all : (k : ℕ) (x : Arrival) → k < n + 1 → slice_get queue k ≡ Some x →
-          IsTopped (maxima ++ maximum ∷ []) x.at x.height
-      all k x less at = ⊎_elim
-          (λ old.
-          let top = so_far.all k x old at in
-          let within = slice_get_within maxima top.index top.maximum top.stands in
-          record {
-            index = top.index;
-            maximum = top.maximum;
-            stands = slice_get-front maxima maximum top.index within ∙ top.stands;
-            no_later = top.no_later;
-            no_lower = top.no_lower;
-          })
-          (λ le.
-          let same : n ≡ k = omega arith in
-          let one : a ≡ x = same_Some a x (sym here ∙ ap (slice_get queue) same ∙ at) in
-          subst (λ (y : Arrival). IsTopped (maxima ++ maximum ∷ []) y.at y.height) one (record {
-            index = length maxima;
-            maximum = maximum;
-            stands = slice_get-last maxima maximum;
-            no_later = omega (arith, place);
-            no_lower = omega (arith, height_is);
-          }))
-          (cases_lt k n)
+        all : (k : ℕ) (x : Arrival) → k < n + 1 → slice_get queue k ≡ Some x →
+            IsTopped (maxima ++ maximum ∷ []) x.at x.height
+        all k x less at = ⊎_elim
+            (λ old.
+            let top = so_far.all k x old at in
+            let within = slice_get_within maxima top.index top.maximum top.stands in
+            record {
+              index = top.index;
+              maximum = top.maximum;
+              stands = slice_get-front maxima maximum top.index within ∙ top.stands;
+              no_later = top.no_later;
+              no_lower = top.no_lower;
+            })
+            (λ le.
+            let same : n ≡ k = omega arith in
+            let one : a ≡ x = same_Some a x (sym here ∙ ap (slice_get queue) same ∙ at) in
+            subst (λ (y : Arrival). IsTopped (maxima ++ maximum ∷ []) y.at y.height) one (record {
+              index = length maxima;
+              maximum = maximum;
+              stands = slice_get-last maxima maximum;
+              no_later = omega (arith, place);
+              no_lower = omega (arith, height_is);
+            }))
+            (cases_lt k n)
 
-      -- an old maximum and the new one
-      under_new : (i : ℕ) (x : PrefixMaximum) → slice_get maxima i ≡ Some x → (x.place ≤ maximum.place)
-          × (x.height ≤ maximum.height)
-      under_new i x at =
-          let within = slice_get_within maxima i x at in
-          let last = there maxima (length maxima - 1) (omega arith) in
-          let lower = so_far.rise i (length maxima - 1) x last.0 (omega arith) at last.1 in
-          let less = above last.0 last.1 in
-          let low = lower.1 in
-          let early = no_later x (so_far.each i x at) in
-          (omega (arith, place), omega (arith, height_is))
+        -- an old maximum and the new one
+        under_new : (i : ℕ) (x : PrefixMaximum) → slice_get maxima i ≡ Some x → (x.place ≤ maximum.place)
+            × (x.height ≤ maximum.height)
+        under_new i x at =
+            let within = slice_get_within maxima i x at in
+            let last = there maxima (length maxima - 1) (omega arith) in
+            let lower = so_far.rise i (length maxima - 1) x last.0 (omega arith) at last.1 in
+            let less = above last.0 last.1 in
+            let low = lower.1 in
+            let early = no_later x (so_far.each i x at) in
+            (omega (arith, place), omega (arith, height_is))
 
-      rise : MaximaRise (maxima ++ maximum ∷ [])
-      rise i j x y le at_i at_j = ⊎_elim
-          (λ old_j. ⊎_elim
-          (λ old_i. so_far.rise i j x y le old_i old_j)
-          (λ new_i.
-          let within = slice_get_within maxima j y old_j in
-          absurd (omega (arith, new_i.0)))
-          (pushed_cases maxima maximum x i at_i))
-          (λ new_j. ⊎_elim
-          (λ old_i. subst (λ (z : PrefixMaximum). (x.place ≤ z.place) × (x.height ≤ z.height)) (sym new_j.1)
-          (under_new i x old_i))
-          (λ new_i.
-          let same : x ≡ y = new_i.1 ∙ sym new_j.1 in
-          subst (λ (z : PrefixMaximum). (x.place ≤ z.place) × (x.height ≤ z.height)) same (omega arith, omega arith))
-          (pushed_cases maxima maximum x i at_i))
-          (pushed_cases maxima maximum y j at_j)
+        rise : MaximaRise (maxima ++ maximum ∷ [])
+        rise i j x y le at_i at_j = ⊎_elim
+            (λ old_j. ⊎_elim
+            (λ old_i. so_far.rise i j x y le old_i old_j)
+            (λ new_i.
+            let within = slice_get_within maxima j y old_j in
+            absurd (omega (arith, new_i.0)))
+            (pushed_cases maxima maximum x i at_i))
+            (λ new_j. ⊎_elim
+            (λ old_i. subst (λ (z : PrefixMaximum). (x.place ≤ z.place) × (x.height ≤ z.height)) (sym new_j.1)
+            (under_new i x old_i))
+            (λ new_i.
+            let same : x ≡ y = new_i.1 ∙ sym new_j.1 in
+            subst (λ (z : PrefixMaximum). (x.place ≤ z.place) × (x.height ≤ z.height)) same (omega arith, omega arith))
+            (pushed_cases maxima maximum x i at_i))
+            (pushed_cases maxima maximum y j at_j)
 
-      pub MaximaSoFar-more : MaximaSoFar queue (n + 1) (maxima ++ maximum ∷ [])
-      MaximaSoFar-more = record { each = each; all = all; rise = rise }
+        pub MaximaSoFar-more : MaximaSoFar queue (n + 1) (maxima ++ maximum ∷ [])
+        MaximaSoFar-more = record { each = each; all = all; rise = rise }
 
   -- all of them
   pub AreMaximaOf-all : (n : ℕ) (maxima : List PrefixMaximum) → length queue ≤ n → MaximaSoFar queue n maxima →

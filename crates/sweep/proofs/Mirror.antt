@@ -60,7 +60,7 @@ MiddlesRise-mirrored stretches all rise i j a b le at_a at_b =
     (all_at IsLawfulStretch stretches _ from_b.0 all from_b.1) less in
     subst (λ (x : UnsignedStretch). a.begin + a.end ≤ x.begin + x.end) (sym from_b.2)
     (subst (λ (x : UnsignedStretch). x.begin + x.end ≤ (mirrored_stretch from_b.0).begin
-        + (mirrored_stretch from_b.0).end)
+    + (mirrored_stretch from_b.0).end)
     (sym from_a.2) turned)
 
 pub AreLateTops-mirrored : (ppb : ℕ) (extremes : List Extreme) (stretches : List UnsignedStretch)

@@ -6,12 +6,12 @@ ghost use Rattle.sweep.specs.Extreme.{IsLawfulExtreme, number_at};
 ghost use Rattle.sweep.specs.UnsignedStretch.{IsLawfulStretch, MiddlesRise};
 ghost use Rattle.sweep.specs.Top.{AreLateTops, AreTopNumbers};
 
-use crate::leader::{count_upto, leaders_of};
 use crate::extreme::{Extreme, mirrored_extremes};
+use crate::leader::{count_upto, leaders_of};
 use crate::passage::early_tops;
 use crate::rise::{highest_index, rise_over};
-use crate::unsigned_stretch::{UnsignedStretch, mirrored_stretch, mirrored_stretches};
 use crate::top::{Top, higher};
+use crate::unsigned_stretch::{UnsignedStretch, mirrored_stretch, mirrored_stretches};
 use sample_interval::laws::widening_is_one_number;
 use std::alloc::{AllocError, Global};
 

@@ -8,8 +8,8 @@
 ghost use Rattle.std.specs.Prelude.{◌≤◌, ◌^◌, length};
 ghost use Rattle.sample_interval.specs.Widening.{IsRate};
 
-use crate::prefix_maximum::{PrefixMaximum, count_upto};
 use crate::places::{Near, Places};
+use crate::prefix_maximum::{PrefixMaximum, count_upto};
 use crate::table::{BestTable, Maxima};
 use crate::tick::{from_origin, mirrored_tick};
 use arrayvec::ArrayVec;

@@ -10,8 +10,8 @@ ghost use Rattle.sweep.specs.declared.queue.Arrival.{Arrival};
 
 use crate::extreme::Extreme;
 use crate::queue::{Arrival, queue_of};
-use crate::unsigned_stretch::UnsignedStretch;
 use crate::top::{Top, top_of};
+use crate::unsigned_stretch::UnsignedStretch;
 use ranking::Ranking;
 use std::alloc::{AllocError, Global};
 

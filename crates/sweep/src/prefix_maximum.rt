@@ -113,7 +113,12 @@ fn height_upto(maxima: &[PrefixMaximum], place: u128, near: &mut usize) -> u128
 
 /// How far the highest early extreme stands above what it falls by a stretch's end, 0 if none does.
 /// The level that it reaches there is this over 10^9 less the rate.
-pub fn early_rise(maxima: &[PrefixMaximum], near: &mut usize, stretch: UnsignedStretch, drift_ppb: u32) -> u128
+pub fn early_rise(
+    maxima: &[PrefixMaximum],
+    near: &mut usize,
+    stretch: UnsignedStretch,
+    drift_ppb: u32,
+) -> u128
     requires stretch { IsLawfulStretch stretch }
     requires rate { IsRate drift_ppb }
     ensures { (extremes : List TheExtreme) → AreMaximaOf drift_ppb extremes maxima.now →

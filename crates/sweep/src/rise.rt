@@ -9,8 +9,8 @@ ghost use Rattle.sweep.specs.declared.extreme.Extreme.{Extreme};
 ghost use Rattle.sweep.specs.declared.unsigned_stretch.UnsignedStretch.{UnsignedStretch as TheStretch};
 
 use crate::leader::Leader;
-use crate::unsigned_stretch::UnsignedStretch;
 use crate::top::{Top, higher};
+use crate::unsigned_stretch::UnsignedStretch;
 use sample_interval::PARTS;
 
 /// How far the highest extreme rises.
@@ -26,7 +26,12 @@ pub struct Rise {
 }
 
 /// The rise of the first `count` leaders over a stretch, if a level is reached.
-pub fn rise_over(leaders: &[Leader], count: usize, stretch: UnsignedStretch, drift_ppb: u32) -> Option<Rise>
+pub fn rise_over(
+    leaders: &[Leader],
+    count: usize,
+    stretch: UnsignedStretch,
+    drift_ppb: u32,
+) -> Option<Rise>
     requires count { CountsUpto leaders.now (stretch.begin + stretch.end) count }
     requires stretch { IsLawfulStretch stretch }
     requires rate { IsRate drift_ppb }

@@ -14,10 +14,10 @@ ghost use Rattle.sweep.specs.Table.{IsTableOf, AreTablesOf};
 ghost use Rattle.sweep.specs.declared.extreme.Extreme.{Extreme as TheExtreme};
 
 use crate::extreme::{Extreme, extremes_of, servers_of};
-use crate::prefix_maximum::{PrefixMaximum, early_rise, maxima_of};
 use crate::places::{Near, NearTable, Places};
-use crate::unsigned_stretch::UnsignedStretch;
+use crate::prefix_maximum::{PrefixMaximum, early_rise, maxima_of};
 use crate::tick::{from_origin, from_zero, mirrored_tick};
+use crate::unsigned_stretch::UnsignedStretch;
 use arrayvec::ArrayVec;
 use era_unfold::TICKS_PER_SECOND;
 use intersection::kinds::Interval;

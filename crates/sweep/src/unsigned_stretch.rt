@@ -17,7 +17,11 @@ pub struct UnsignedStretch {
 }
 
 /// The pieces that end at `ends`, the first of which begins at `first`.
-pub fn stretches_of(alloc: Global, first: i128, ends: &[i128]) -> Result<Vec<UnsignedStretch>, AllocError>
+pub fn stretches_of(
+    alloc: Global,
+    first: i128,
+    ends: &[i128],
+) -> Result<Vec<UnsignedStretch>, AllocError>
     requires { ArePieces first ends.now }
     ensures { IfOk result (λ stretches. AreStretchesOf first ends.now stretches.items) }
 {
@@ -46,7 +50,10 @@ pub fn mirrored_stretch(stretch: UnsignedStretch) -> UnsignedStretch
 }
 
 /// The same pieces with time running backwards: the last comes first.
-pub fn mirrored_stretches(alloc: Global, stretches: &[UnsignedStretch]) -> Result<Vec<UnsignedStretch>, AllocError>
+pub fn mirrored_stretches(
+    alloc: Global,
+    stretches: &[UnsignedStretch],
+) -> Result<Vec<UnsignedStretch>, AllocError>
     requires { All IsLawfulStretch stretches.now }
     ensures { IfOk result (λ mirrored.
         mirrored.items ≡ reverse (map mirrored_stretch stretches.now)) }

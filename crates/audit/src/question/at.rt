@@ -75,6 +75,9 @@ impl Question for At {
 
     fn make(self, alloc: Global, style: Style, _second: &(), evidence: Evidence) -> Making {
         hulls_hold_the_error();
-        made_whole(at_text(alloc, style, self.unix_second, &evidence), Outcome::Yes)
+        made_whole(
+            at_text(alloc, style, self.unix_second, &evidence),
+            Outcome::Yes,
+        )
     }
 }

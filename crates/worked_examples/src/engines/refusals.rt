@@ -3,7 +3,7 @@
 use crate::engines::inputs::{REFUTATION, edited, first_of, padded};
 use crate::engines::trial::{Command, Inputs, gives};
 use crate::expectation::assert_ok;
-use Command::{At, Check, Envelope, Find, List, Refute, Samples, FindRefutation};
+use Command::{At, Check, Envelope, Find, FindRefutation, List, Refute, Samples};
 use certificate::{CertificateFault, RefutationFault};
 use claim_file::ClaimFault;
 use pcap_reader::CaptureFault;

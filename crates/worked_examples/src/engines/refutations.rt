@@ -3,7 +3,7 @@
 use crate::engines::inputs::{REFUTATION, claim_of, edited};
 use crate::engines::trial::{Command, Inputs, gives};
 use crate::expectation::assert_ok;
-use Command::{Refute, FindRefutation};
+use Command::{FindRefutation, Refute};
 use report::Outcome;
 use std::alloc::Global;
 use std::process::Abort;

@@ -3,7 +3,7 @@
 ghost use Rattle.byte_stream.specs.State.{IsWritable};
 
 use crate::expectation::{assert_equal, assert_equal_at, assert_ok};
-use audit::{At, Check, Envelope, Find, Refute, Samples, FindRefutation, Step, Style};
+use audit::{At, Check, Envelope, Find, FindRefutation, Refute, Samples, Step, Style};
 use byte_stream::{Cut, Feed, Sink, TestFeed, TestSink};
 use listing::run_list;
 use report::{Outcome, RunFault};
@@ -93,7 +93,9 @@ pub(crate) fn run<'a>(
         Command::List => run_list(alloc, capture, out),
         Command::Samples => audit::run(alloc, Samples, style, first, none, capture, out, hasher),
         Command::At(second) => {
-            let at = At { unix_second: second };
+            let at = At {
+                unix_second: second,
+            };
             audit::run(alloc, at, style, first, none, capture, out, hasher)
         }
         Command::Check => {
@@ -127,7 +129,16 @@ pub(crate) fn run<'a>(
                 hasher,
             )
         }
-        Command::FindRefutation => audit::run(alloc, FindRefutation, style, first, none, capture, out, hasher),
+        Command::FindRefutation => audit::run(
+            alloc,
+            FindRefutation,
+            style,
+            first,
+            none,
+            capture,
+            out,
+            hasher,
+        ),
         Command::Envelope(seconds, servers, least) => {
             let envelope = Envelope {
                 step: step_of(seconds),

@@ -57,6 +57,6 @@ returns c =
     let claim = claim_data c.args.claim.now in
     λ xs grounds listed.
     row_listed claim xs c.args.a c.loop-b.b (map conflict_data c.loop-b.listed.items)
-        (c.loop-b.invariant xs grounds listed)
+    (c.loop-b.invariant xs grounds listed)
     (λ b among. within_end b _ _ _ (listed_in_range claim xs c.requires.claim grounds.each c.args.a b among).1
     (c.groups-b-end.ensures.groups ∙ c.requires.groups) c.loop-b-test.false)

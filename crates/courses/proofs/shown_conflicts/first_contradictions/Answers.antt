@@ -13,7 +13,7 @@ loop-a-init g c =
     let claim = claim_data c.args.claim.now in
     let xs = map g.X.ToExchange.shown c.args.exchanges.now in
     subst (λ (listed : List Conflict). AreListedUpto claim xs 0 0 (map conflict_data listed))
-        (sym c.new-listed.ensures.items)
+    (sym c.new-listed.ensures.items)
     (nothing_listed claim xs)
 
 pub loop-a-preserved : goal.loop-a-preserved

@@ -34,7 +34,7 @@ returns c =
     (λ tops early.
     AreLateTops-mirrored c.args.drift_ppb c.args.extremes.now c.args.stretches.now tops.items
     (subst (λ (s : List UnsignedStretch). AreEarlyTops c.args.drift_ppb (map mirrored_extreme c.args.extremes.now) s
-        tops.items)
+    tops.items)
     (c.as_slice-2.ensures.value ∙ c.in_ok-stretches.ensures)
     (subst (λ (b : List Extreme). AreEarlyTops c.args.drift_ppb b c.as_slice-2.result.now tops.items)
     (c.as_slice.ensures.value ∙ c.in_ok-extremes.ensures) early)))

@@ -34,5 +34,5 @@ returns-else-greatest-value c held free bound is_leader =
     let below : c.args.value ≤ℤ c.args.greatest = grind (arith, ints) in
     let later : leader.number ≤ c.args.number = omega arith in
     old_leads held c.args.number c.args.value c.args.greatest c.requires free bound leader is_leader below
-        leader.runner_up
+    leader.runner_up
     (omega (arith, ints)) (λ earlier. absurd (omega arith))

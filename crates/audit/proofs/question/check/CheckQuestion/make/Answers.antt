@@ -20,7 +20,7 @@ returns-clause-shows c =
     let certificate = certificate_data c.args.second.now in
     let e = evidence_data c.args.evidence in
     outcome_shows c.made_whole.result c.outcome_of.result
-        (ShowsOf check certificate_second (certificate_said certificate) e)
+    (ShowsOf check certificate_second (certificate_said certificate) e)
     (verdict_shown certificate e c.bounds_of_bytes_hold_in_nanoseconds.ensures c.yes_shows_the_headline.ensures
     c.outcome_of.result (verdict_shows certificate e findings.result.verdict c.outcome_of.result c.outcome_of.ensures
     findings.ensures.verdict)) c.made_whole.ensures.outcome
