@@ -41,27 +41,3 @@ module _ (value : Data) (found : Members) (parts : TopParts) (known : parts ≡ 
       (ap (λ o. option_map pieces_in (option_and_then as_array o))
       (get_member-put_other (codes "pieces") name value found (λ same. other (sym same)))
       ∙ sym (ap (λ p. p.pieces) known)))
-
-after_asked : {A B : Type 0} (few : CertificateFault) (fits : Bool) (read : Result A CertificateFault) (more : A → B) →
-    after (asked few fits read) (λ a. Ok (more a)) ≡ asked few fits (after read (λ a. Ok (more a)))
-after_asked few false read more = refl
-after_asked few true read more = refl
-
-same_certificate : (members : Members) (is_known : Bool) (items : Option Items) →
-    certificate_of_parts (whole is_known (option_map pieces_in items))
-    ≡ (given Top (option_and_then (λ _. items) (if is_known then Some members else None)) λ items.
-    asked TooManyPieces (nat_le (items_len items) max_pieces) (
-    after (pieces_from 0 items) λ pieces.
-    Ok (record { pieces = pieces })))
-same_certificate ms false items = refl
-same_certificate ms true None = refl
-same_certificate ms true (Some items) =
-    after_asked TooManyPieces (nat_le (items_len items) max_pieces) (pieces_from 0 items)
-    (λ pieces. record { pieces = pieces })
-
--- the certificate of an object is that of its parts
-pub certificate_of_parts-members : (members : Members) →
-    certificate_of_parts (top_parts_of members) ≡ certificate_from (object members)
-certificate_of_parts-members members =
-    same_certificate members (has_only top_names members)
-    (option_and_then as_array (get_member (codes "pieces") members))

@@ -135,18 +135,3 @@ module _ (groups : List ℕ) (group server read : ℕ) (below : server < length 
   isnt_inside apart = ap not (ap (λ (n : ℕ). n == group) read_is ∙ other_number read group apart)
 
 -- ---- a list of what is made of each exchange
-
-pub one_more_made : (f : Exchange → Mark) (whole : List Mark) (x : Exchange) (rest left : List Exchange) (ms items : List Mark)
-    → left ≡ x ∷ rest → whole ≡ ms ++ map f left → items ≡ ms ++ f x ∷ [] → whole ≡ items ++ map f rest
-one_more_made f whole x rest left ms items split before is =
-    before ∙ ap (λ (ys : List Exchange). ms ++ map f ys) split ∙ sym (append_snoc ms (f x) (map f rest))
-    ∙ ap (λ (ns : List Mark). ns ++ map f rest) (sym is)
-
-append_nil : (ms : List Mark) → ms ++ [] ≡ ms
-append_nil [] = refl
-append_nil (m ∷ ms) = ap (λ (ns : List Mark). m ∷ ns) (append_nil ms)
-
-pub all_made : (f : Exchange → Mark) (xs : List Exchange) (k : ℕ) (whole items : List Mark) → length xs ≤ k
-    → whole ≡ items ++ map f (drop k xs) → items ≡ whole
-all_made f xs k whole items past is =
-    sym (is ∙ ap (λ (ys : List Exchange). items ++ map f ys) (drop_of_length-le xs past) ∙ append_nil items)

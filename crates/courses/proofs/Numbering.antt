@@ -33,10 +33,6 @@ as_many ms ms' m ns ns' n is is' same =
     let long' = ap length is' ∙ length-append ns (n ∷ []) in
     omega (arith, long, long')
 
-append_nil : {X : Type 0} (xs : List X) → xs ++ [] ≡ xs
-append_nil [] = refl
-append_nil (x ∷ xs) = ap (λ (ys : List _). x ∷ ys) (append_nil xs)
-
 module _ (claim : ClaimData) (group : ℕ) (xs : List Exchange) where
   abbrev is_of : Exchange → Bool
   is_of x = group_of claim x == group
@@ -89,20 +85,6 @@ module _ (claim : ClaimData) (group : ℕ) (xs : List Exchange) where
   -- at the end
   module _ (k : ℕ) (numbers : List ℕ) (lows highs : List Mark) (past : length xs ≤ k)
       (all : IsNumbering claim group xs k numbers lows highs) where
-    none_left : drop k xs ≡ []
-    none_left = drop_of_length-le xs past
-
-    pub all_numbers : numbers ≡ group_numbers claim xs group
-    all_numbers = sym (all.numbers_are ∙ ap (λ (ys : List Exchange). numbers ++ numbers_from is_of k ys) none_left
-        ∙ append_nil numbers)
-
-    pub all_lows : lows ≡ group_lows claim xs group
-    all_lows = sym (all.lows_are ∙ ap (λ (ys : List Exchange). lows ++ group_lows claim ys group) none_left
-        ∙ append_nil lows)
-
-    pub all_highs : highs ≡ group_highs claim xs group
-    all_highs = sym (all.highs_are ∙ ap (λ (ys : List Exchange). highs ++ group_highs claim ys group) none_left
-        ∙ append_nil highs)
 
 -- ---- a list for each group, one group after another
 

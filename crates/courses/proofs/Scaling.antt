@@ -20,10 +20,6 @@ cancel a b n some h = by_lt_z b a
     absurd (omega (arith, ints, scaled, sum)))
     (λ no_less. no_less)
 
--- how far one number is beyond another
-pub beyond : (a b : ℤ) → a ≤ℤ b → (d : ℕ) × (b ≡ a +ℤ pos d)
-beyond a b h = (unsigned_abs (b -ℤ a), omega (arith, ints))
-
 pub scaled_beyond : (a b : ℤ) (d n : ℕ) → b ≡ a +ℤ pos d → (b *ℤ pos n) ≡ (a *ℤ pos n) +ℤ pos (d * n)
 scaled_beyond a b d n e = times-add b a (pos d) n e
 

@@ -64,13 +64,6 @@ module _ (rate ppb : ℕ) (is_rate : IsRate ppb) (same : rate ≡ ppb) where
   pub parts_left : 0 < 1000000000 - rate
   parts_left = omega arith
 
-pub product_fits : (rate abs ppb : ℕ) (distance : ℤ) → IsRate ppb → pos 0 ≤ℤ distance → distance ≤ℤ pos (2 ^ 80) →
-    rate ≡ ppb → abs ≡ unsigned_abs distance → Fits w128 (rate * abs)
-product_fits rate abs ppb distance is_rate from to same value =
-    let le : abs ≤ 2 ^ 80 = omega (arith, ints) in
-    let most : rate * abs ≤ rate * 2 ^ 80 = mul-le-mul_left rate le in
-    record { fits = omega arith }
-
 pub within_a_word : (n : ℕ) (distance : ℤ) → pos 0 ≤ℤ distance → distance ≤ℤ pos (2 ^ 80) → n ≤ unsigned_abs distance →
     n < 2 ^ 127
 within_a_word n distance from to le = omega (arith, ints)
