@@ -1,17 +1,12 @@
 -- The members of the whole, read one after another.
-use Rattle.std.proofs.Common.{◌≡◌, ℕ, List, [], ◌∷◌, Bool, true, false, Option, Some, None, if◌then◌else◌, option_map, option_and_then, Result, Ok, nat_le, refl, sym, ap, ◌∙◌}
+use Rattle.std.proofs.Common.{◌≡◌, ℕ, List, [], ◌∷◌, Bool, false, Option, option_map, option_and_then, Result, refl, sym, ap, ◌∙◌}
 use Rattle.std.specs.Prelude.{codes}
 use Rattle.serde_json.proofs.Views.{get_member-put, get_member-put_other}
-use Rattle.serde_json.specs.Data.{Data, Items, Members, put, object}
-use Rattle.serde_json.specs.Events.{items_len}
-use Rattle.serde_json.specs.Find.{as_array, get_member}
-use Rattle.json_text.specs.Member.{has_only}
-use Rattle.json_text.specs.Step.{given, asked, after}
+use Rattle.serde_json.specs.Data.{Data, Members, put}
+use Rattle.serde_json.specs.Find.{as_array}
 use Rattle.certificate.specs.declared.fault.CertificateFault.{CertificateFault}
-use Rattle.certificate.specs.declared.fault.CertificateFault.TheVariants.{Top, TooManyPieces}
-use Rattle.certificate.specs.Certificate.{PieceData, max_pieces}
-use Rattle.certificate.specs.Parts.{TopParts, pieces_in, top_parts_of, certificate_of_parts}
-use Rattle.certificate.specs.Reading.{pieces_from, certificate_from}
+use Rattle.certificate.specs.Certificate.{PieceData}
+use Rattle.certificate.specs.Parts.{TopParts, pieces_in, top_parts_of}
 use Rattle.certificate.proofs.PartsRead.{has_only-put, not_same}
 
 abbrev pub whole : Bool → Option (Result (List PieceData) CertificateFault) → TopParts
