@@ -25,7 +25,7 @@ use Rattle.courses.specs.DriftSettlement.{SettlesWithDrift}
 use Rattle.courses.specs.Evidence.{IsNoEvidence, count_with_exchange}
 use Rattle.finder.specs.Fewest.{AreLongest, IsStuck, end_after}
 use Rattle.finder.specs.FewestAnswer.{FindsFewest}
-use Rattle.finder.specs.Leeway.{AreTriedInVain}
+use Rattle.finder.specs.Leeway.{AreCoversTriedInVain}
 use Rattle.finder.specs.Settlement.{IsContestedBy, IsFitted, IsFittedByNone, IsHeard, IsLeftOpen, IsShownBy, IsUnheard}
 use Rattle.finder.specs.declared.fewest.Fewest.TheVariants as found
 use Rattle.finder.proofs.LongestPiece.{end_kept, fits_64}
@@ -170,7 +170,7 @@ module _ (claim : ClaimData) (xs : List Exchange) where
   -- as some course fits, the samples don't contradict each other there, and so no certificate is accepted
   pub left_open : (begin end : ℤ) (hull : Hull) → begin ≤ℤ end → IsHeard claim xs → IsFitted claim xs
       → FindsFewest (samples_of xs claim) claim (Ok (found.Nothing begin end hull))
-      → AreTriedInVain claim xs (unsigned_abs begin ∷ unsigned_abs end ∷ [])
+      → AreCoversTriedInVain claim xs (unsigned_abs begin ∷ unsigned_abs end ∷ [])
       → IsLeftOpen claim xs begin end hull
   left_open begin end hull forward is_heard courses finds all_tried = record {
     heard = is_heard;

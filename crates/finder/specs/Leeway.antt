@@ -133,7 +133,7 @@ IsTriedAtAll claim xs readings cover =
     All (λ reading. (side : Side) → IsTriedInVain claim xs (holds cover) reading side) readings
 
 -- so it is with each of the least covers
-pub record AreTriedInVain (claim : ClaimData) (xs : List Exchange) (readings : List ℕ)
+pub record AreCoversTriedInVain (claim : ClaimData) (xs : List Exchange) (readings : List ℕ)
     : Type 0 where
   pub covers : List Groups
   pub least : AreLeastCovers claim xs covers

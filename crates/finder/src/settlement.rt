@@ -8,7 +8,7 @@ ghost use Rattle.courses.specs.ConflictTable.{IsConflictTable};
 ghost use Rattle.courses.specs.ConflictsView.{data_of};
 ghost use Rattle.courses.specs.DriftSettlement.{SettlesWithDrift};
 ghost use Rattle.courses.specs.Evidence.{count_with_exchange};
-ghost use Rattle.finder.specs.Leeway.{AreTriedInVain};
+ghost use Rattle.finder.specs.Leeway.{AreCoversTriedInVain};
 ghost use Rattle.finder.specs.Reach.{IsTabled};
 ghost use Rattle.finder.specs.Samples.{AreSamplesOf};
 ghost use Rattle.finder.specs.Settlement.{Settles};
@@ -112,7 +112,7 @@ fn refutation_of<X: ToExchange>(
     ensures settles { IfOk result (λ result. IfSome result (λ found. SettlesWithDrift
         (claim_data claim.now) (map X.shown exchanges.now) (refutation_data found) true)) }
     ensures all_tried { IfOk result (λ result. IfNone result
-        (AreTriedInVain (claim_data claim.now) (map X.shown exchanges.now) readings.now)) }
+        (AreCoversTriedInVain (claim_data claim.now) (map X.shown exchanges.now) readings.now)) }
 {
     tables_settle_covers();
     let least = conflicts.covers(claim.false_max);
