@@ -21,6 +21,6 @@ pub mod Order
 pub mod Separation
 pub mod Narrow
 pub mod Span
-mod RefutationTests
-mod RefutationCourse
+pub mod RefutationTests
+pub mod RefutationCourse
 mod RefutationStamp
