@@ -11,7 +11,8 @@ use Rattle.courses.specs.TrueMarks.{AreAllCompatible}
 use Rattle.courses.specs.Cover.{group_of, HasImpossible, Contradicts, IsBroken, DoConflict}
 use Rattle.courses.specs.GroupMarks.{group_exchanges, group_lows, group_highs, IsSound, DoGroupsAgree}
 use Rattle.courses.specs.ConflictTable.{IsConflictTable}
-use Rattle.courses.proofs.TrueExchanges.{by_test, at_passing, All-unmap}
+use Rattle.checker.proofs.Part.{by_test}
+use Rattle.courses.proofs.TrueExchanges.{at_passing, All-unmap}
 use Rattle.courses.proofs.Covers.{is_possible_or_not, are_compatible_or_not}
 
 -- ---- a search among the elements that pass

@@ -128,7 +128,6 @@ no_more true = refl
 no_more false = refl
 
 module _ (claim : ClaimData) (xs : List Exchange) where
-
   pub one_more_heard : (x : Exchange) (left rest : List Exchange) (is_in is_now : ℕ → Bool) (own : ℕ)
       → left ≡ x ∷ rest → own ≡ group_of claim x → ((group : ℕ) → is_now group ≡ ((group == own) || is_in group))
       → AreHeardTo claim xs left is_in → AreHeardTo claim xs rest is_now

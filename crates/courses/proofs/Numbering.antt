@@ -1,7 +1,7 @@
 -- The numbers and marks of a group, as they are gathered.
-use Rattle.std.proofs.Common.{◌≡◌, ℕ, ◌+◌, ◌<◌, ◌≤◌, ◌⊎◌, ⊎_elim, List, [], ◌∷◌, ◌++◌, drop, length, map, Bool, true, false, refl, sym, ap, ◌∙◌, subst, get_or, arith}
+use Rattle.std.proofs.Common.{◌≡◌, ℕ, ◌+◌, ◌<◌, ◌⊎◌, ⊎_elim, List, [], ◌∷◌, ◌++◌, drop, length, map, Bool, true, false, refl, sym, ap, ◌∙◌, subst, get_or, arith}
 use Rattle.std.specs.Prelude.{All, ◌==◌, filter}
-use Rattle.std.proofs.Math.ListN.{drop_of_length-le, get_or-append, length-append}
+use Rattle.std.proofs.Math.ListN.{get_or-append, length-append}
 use Rattle.std.proofs.Math.Seq.{append_snoc, get_or-append_seam}
 use Rattle.claim_file.specs.Claim.{ClaimData}
 use Rattle.marks.specs.Mark.{low_mark, high_mark}
@@ -81,10 +81,6 @@ module _ (claim : ClaimData) (group : ℕ) (xs : List Exchange) where
         low_range = with_last lows (low_mark claim.reading x) lows' lows_grow before.low_range low;
         high_range = with_last highs (high_mark claim.reading x) highs' highs_grow before.high_range high;
       }
-
-  -- at the end
-  module _ (k : ℕ) (numbers : List ℕ) (lows highs : List Mark) (past : length xs ≤ k)
-      (all : IsNumbering claim group xs k numbers lows highs) where
 
 -- ---- a list for each group, one group after another
 
