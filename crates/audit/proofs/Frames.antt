@@ -43,7 +43,7 @@ module _ (unit : TimeUnit) where
         record {
           lawful = record {
             number = omega (arith, few);
-            sec = first.second;
+            sec = first.seconds;
             sub = first.part;
             captured = first.captured_length;
             original = first.wire_length;

@@ -109,9 +109,9 @@ module _ (laws : Laws) where
   time_same value name s t x y =
       let text = string_same x.text y.text
       (some_same (get name value) (string x.text) (string y.text) x.stands y.stands) in
-      let second = some_same (time_of y.text) x.second y.second
-      (subst (λ (l : List ℕ). time_of l ≡ Some x.second) text ((laws.time x.text x.second).1 x.is_time))
-      ((laws.time y.text y.second).1 y.is_time) in
+      let second = some_same (time_of y.text) x.unix_second y.unix_second
+      (subst (λ (l : List ℕ). time_of l ≡ Some x.unix_second) text ((laws.time x.text x.unix_second).1 x.is_time))
+      ((laws.time y.text y.unix_second).1 y.is_time) in
       x.in_ticks ∙ ap (λ (n : ℕ). pos (n * ticks_per_second)) second ∙ sym y.in_ticks
 
   -- two claims that one value says
