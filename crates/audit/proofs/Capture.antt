@@ -7,11 +7,11 @@ use Rattle.pcap_reader.specs.Remaining.{Coming, capture_of}
 use Rattle.pcap_reader.specs.Refusal.{IsRefusal}
 use Rattle.pcap_reader.specs.Source.{AllRemains}
 use Rattle.claim_file.specs.Claim.{ClaimData}
-use Rattle.pairing.specs.declared.held.Held.{Held}
+use Rattle.pairing.specs.declared.compact.CompactCollection.{CompactCollection}
 use Rattle.pairing.specs.declared.fault.PairFault.{PairFault}
 use Rattle.pairing.specs.declared.fault.PairFault.TheVariants as pairs
 use Rattle.pairing.specs.Answer.{IsAnswerTo, IsFromOutside as is_pair_from_outside}
-use Rattle.pairing.specs.Held.{held_data}
+use Rattle.pairing.specs.Compact.{compact_data}
 use Rattle.pairing.specs.Pairing.{Collection}
 use Rattle.report.specs.Fault.{run_fault_of}
 use Rattle.report.specs.Reading.{IsFromOutside, Reads}
@@ -25,9 +25,9 @@ module _ (claim : ClaimData) where
   of_capture bytes c is = ap (collection_read claim) is
 
   -- the exchanges were collected
-  pub capture_is_read : (known : Option (List ℕ)) (remaining : Option Coming) (held : Held) →
-      IfSome known (λ bytes. AllRemains bytes remaining) → IfSome remaining (IsAnswerTo held_data claim (Ok held)) →
-      IfSome known (λ bytes. Reads held_data (capture_read claim bytes) (Ok held))
+  pub capture_is_read : (known : Option (List ℕ)) (remaining : Option Coming) (held : CompactCollection) →
+      IfSome known (λ bytes. AllRemains bytes remaining) → IfSome remaining (IsAnswerTo compact_data claim (Ok held)) →
+      IfSome known (λ bytes. Reads compact_data (capture_read claim bytes) (Ok held))
   capture_is_read None remaining held all exact = tt
   capture_is_read (Some bytes) None held (coming, is, same) exact = cc
   capture_is_read (Some bytes) (Some now) held (coming, is, same) exact =
@@ -42,8 +42,9 @@ module _ (claim : ClaimData) where
 
   -- they couldn't be
   pub capture_unread : (known : Option (List ℕ)) (remaining : Option Coming) (fault : PairFault) →
-      IfSome known (λ bytes. AllRemains bytes remaining) → IfSome remaining (IsAnswerTo held_data claim (Err fault)) →
-      IfSome known (λ bytes. Reads held_data (capture_read claim bytes) (Err (pair_run_fault_of fault)))
+      IfSome known (λ bytes. AllRemains bytes remaining) →
+      IfSome remaining (IsAnswerTo compact_data claim (Err fault)) →
+      IfSome known (λ bytes. Reads compact_data (capture_read claim bytes) (Err (pair_run_fault_of fault)))
   capture_unread None remaining fault all exact = tt
   capture_unread (Some bytes) None fault (coming, is, same) exact = cc
   capture_unread (Some bytes) (Some now) fault (coming, is, same) (inl h) = inl (outside fault h)
@@ -53,7 +54,7 @@ module _ (claim : ClaimData) where
 
   -- the capture's header is refused
   pub capture_refused : (known : Option (List ℕ)) (fault : CaptureFault) → IsRefusal known fault →
-      IfSome known (λ bytes. Reads held_data (capture_read claim bytes) (Err (run_fault_of fault)))
+      IfSome known (λ bytes. Reads compact_data (capture_read claim bytes) (Err (run_fault_of fault)))
   capture_refused None fault refusal = tt
   capture_refused (Some bytes) captures.Read refusal = inl tt
   capture_refused (Some bytes) captures.Memory refusal = inl tt
@@ -67,9 +68,9 @@ lawful_header claim (Ok coming) collection is = refl
 lawful_header claim (Err fault) collection is = cc
 
 -- a capture that was read has a lawful header
-pub header_was_read : (claim : ClaimData) (known : Option (List ℕ)) (held : Held) →
-    IfSome known (λ bytes. Reads held_data (capture_read claim bytes) (Ok held)) → HasLawfulHeader known
+pub header_was_read : (claim : ClaimData) (known : Option (List ℕ)) (held : CompactCollection) →
+    IfSome known (λ bytes. Reads compact_data (capture_read claim bytes) (Ok held)) → HasLawfulHeader known
 header_was_read claim None held reads = tt
 header_was_read claim (Some bytes) held reads =
-    lawful_header claim (capture_of bytes) (held_data held)
+    lawful_header claim (capture_of bytes) (compact_data held)
     (sym (of_capture claim bytes (capture_of bytes) refl) ∙ reads)

@@ -225,14 +225,14 @@ module _ (laws : Laws) where
         false_max = whole_at (codes "false_max") f.false_max parts.2;
         first = record {
           text = f.begin;
-          second = n.first;
+          unix_second = n.first;
           stands = member_is as_str string string_is (get (codes "from") value) f.begin parts.3;
           is_time = (laws.time f.begin n.first).0 (names.2);
           in_ticks = refl;
         };
         last = record {
           text = f.end;
-          second = n.last;
+          unix_second = n.last;
           stands = member_is as_str string string_is (get (codes "to") value) f.end parts.4;
           is_time = (laws.time f.end n.last).0 (names.3);
           in_ticks = refl;

@@ -19,7 +19,7 @@ use Rattle.pairing.specs.Pair.{IsPair}
 use Rattle.pairing.specs.Pairing.{requests_of, replies_of, answers, exchange_of, exchanges_of, low_of, high_of}
 use Rattle.checker.proofs.Part.{by_test}
 use Rattle.audit.specs.Captured.{CapturedFrame, frame_of}
-use Rattle.audit.specs.Held.{HoldsPacket, packet_with}
+use Rattle.audit.specs.FramedPacket.{HoldsPacket, packet_with}
 use Rattle.audit.specs.Exchanged.{HoldsRequest, IsWindowOf, IsExchangeIn, SameExchange, IsAmong}
 use Rattle.audit.proofs.RecordFrames.{SaidBy, frame_at, said_by}
 use Rattle.audit.proofs.ExchangeRecords.{Laws, AreInPlace, request_at, gives_request, three_pass, distance_is, moved, window_at}

@@ -33,7 +33,7 @@ use Rattle.sample_interval.specs.Sample.{sample_of}
 use Rattle.sample_interval.specs.declared.kinds.Sample.{Sample}
 use Rattle.checker.specs.Traceability.{samples_of}
 use Rattle.audit.specs.Captured.{CapturedFrame, frame_of}
-use Rattle.audit.specs.Held.{HoldsPacket, HoldsShown, packet_with}
+use Rattle.audit.specs.FramedPacket.{HoldsPacket, HoldsShown, packet_with}
 use Rattle.audit.specs.Exchanged.{HoldsRequest, IsUsable, IsWindowOf, IsExchangeIn}
 use Rattle.audit.proofs.RecordFrames.{each_record, frame_at, mapped, said_by}
 
@@ -175,7 +175,7 @@ some_units Nano = omega arith
 
 module _ (laws : Laws) where
   window_of : (unit : TimeUnit) (head : RecordHead) → head.unit ≡ unit → (frame : CapturedFrame)
-      → frame.second ≡ head.sec → frame.part ≡ head.sub → IsWindowOf unit frame (low_of head) (high_of head)
+      → frame.seconds ≡ head.sec → frame.part ≡ head.sub → IsWindowOf unit frame (low_of head) (high_of head)
   unfolding window_low window_high
   window_of unit head is frame second part =
       let units = laws.down ((head.sec * per_second head.unit + head.sub) * ticks_per_second) (per_second head.unit)

@@ -18,7 +18,7 @@ record_of unit number place frame = record {
   head = record {
     place = place;
     number = number;
-    sec = frame.second;
+    sec = frame.seconds;
     sub = frame.part;
     unit = unit;
     captured = length frame.bytes;
@@ -43,7 +43,7 @@ module _ (unit : TimeUnit) where
         record {
           lawful = record {
             number = omega (arith, few);
-            sec = first.second;
+            sec = first.seconds;
             sub = first.part;
             captured = first.captured_length;
             original = first.wire_length;

@@ -23,4 +23,4 @@ pub mod Showing
 pub mod VerdictShowing
 pub mod SearchShowing
 pub mod RefutationShowing
-pub mod SeekShowing
+pub mod FindRefutationShowing

@@ -13,7 +13,7 @@ use Rattle.ntp_packet.specs.Packet.{Packet, packet_of, is_ntp, ntp_port}
 use Rattle.pairing.specs.Refusal.{refusal_of, has_zero_stamp, is_synchronized_stratum}
 use Rattle.std.proofs.lemmas.Bool.{cond-false}
 use Rattle.checker.proofs.Part.{by_test}
-use Rattle.audit.specs.Held.{HoldsPacket, HoldsShown, packet_with}
+use Rattle.audit.specs.FramedPacket.{HoldsPacket, HoldsShown, packet_with}
 use Rattle.audit.specs.Exchanged.{IsUsable}
 
 -- ---- packets

@@ -41,7 +41,7 @@ module _ (unit : TimeUnit) (records : List Record) (are : AreRecordsFrom unit 0 
 
   range_of : (k : ℕ) (r : Record) → IsNumbered unit k r → IsLawfulFrame unit (frame_of r)
   range_of k r (place, is) = record {
-    second = is.lawful.sec;
+    seconds = is.lawful.sec;
     part = subst (λ (u : TimeUnit). r.head.sub < per_second u) is.unit_is is.lawful.sub;
     wire_length = is.lawful.original;
     captured_length = (let most = is.lawful.captured in let whole = is.whole in omega (arith, most, whole));

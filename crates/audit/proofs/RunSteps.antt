@@ -14,8 +14,8 @@ use Rattle.report.specs.declared.fault.RunFault.{RunFault}
 use Rattle.report.specs.declared.fault.RunFault.TheVariants as faults
 use Rattle.claim_file.specs.declared.claim.Claim.{Claim}
 use Rattle.claim_file.specs.Claim.{ClaimData, data_of as claim_data}
-use Rattle.pairing.specs.declared.held.Held.{Held}
-use Rattle.pairing.specs.Held.{held_data}
+use Rattle.pairing.specs.declared.compact.CompactCollection.{CompactCollection}
+use Rattle.pairing.specs.Compact.{compact_data}
 use Rattle.pairing.specs.Pairing.{Collection}
 use Rattle.report.specs.CertificateInput.{max_certificate}
 use Rattle.report.specs.ClaimInput.{IsOfClaim, claim_read, max_claim}
@@ -261,7 +261,7 @@ module _ (asked : AskedData) (finding : Finding) (fault : RunFault) (of : IsOfCl
   claim_refusal (Ok known) (inr is) = absurd cc
 
 module _ (asked : AskedData) (finding : Finding) (claim : ClaimData) (fault : RunFault) (of : IsOfCapture fault) where
-  refused_after : (said : SecondData) (read : Result Collection RunFault) → Reads held_data read (Err fault) →
+  refused_after : (said : SecondData) (read : Result Collection RunFault) → Reads compact_data read (Err fault) →
       IsMadeFor (after_capture asked finding said claim read) (Err fault)
   refused_after said read (inl outside) = made_outside (after_capture asked finding said claim read) fault outside
   refused_after said read (inr is) =
@@ -272,7 +272,7 @@ module _ (asked : AskedData) (finding : Finding) (claim : ClaimData) (fault : Ru
   pub capture_refusal : {V : Type 0} (said : V → SecondData) (value : V)
       (second : Option (Result SecondData RunFault)) (capture : Option (List ℕ)) →
       IfSome second (λ expected. Reads said expected (Ok value)) →
-      IfSome capture (λ bytes. Reads held_data (capture_read claim bytes) (Err fault)) →
+      IfSome capture (λ bytes. Reads compact_data (capture_read claim bytes) (Err fault)) →
       IfSome (after_second asked finding claim second capture) (λ report. IsMadeFor report (Err fault))
   capture_refusal said value None capture read refused = tt
   capture_refusal said value (Some (Err other)) capture read refused = absurd cc
@@ -283,12 +283,12 @@ module _ (asked : AskedData) (finding : Finding) (claim : ClaimData) (fault : Ru
 -- ---- no input is refused
 
 module _ {V : Type 0} (said : V → SecondData) (asked : AskedData) (finding : Finding) (claim : ClaimData) (value : V)
-    (held : Held) (made : Result Ready RunFault) where
+    (held : CompactCollection) (made : Result Ready RunFault) where
   -- what was made of the evidence is what the bytes of the inputs call for
   pub evidence_made : (second : Option (Result SecondData RunFault)) (capture : Option (List ℕ)) →
       IfSome second (λ expected. Reads said expected (Ok value)) →
-      IfSome capture (λ bytes. Reads held_data (capture_read claim bytes) (Ok held)) →
-      IsMadeFor (asked.question.report asked.style finding (said value) (evidence_of claim (held_data held))) made →
+      IfSome capture (λ bytes. Reads compact_data (capture_read claim bytes) (Ok held)) →
+      IsMadeFor (asked.question.report asked.style finding (said value) (evidence_of claim (compact_data held))) made →
       IfSome (after_second asked finding claim second capture) (λ report. IsMadeFor report made)
   evidence_made None capture read collected is = tt
   evidence_made (Some (Err other)) capture read collected is = absurd cc

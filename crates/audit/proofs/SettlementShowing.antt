@@ -10,7 +10,7 @@ use Rattle.checker.specs.Traceability.{IsVerdictOn}
 use Rattle.claim_file.specs.Claim.{ClaimData}
 use Rattle.courses.specs.Contradiction.{AreAllConflicts, IsFirstContradiction, ShownConflict}
 use Rattle.courses.specs.PairMarks.{conflict_data}
-use Rattle.courses.specs.declared.told.Conflict.{Conflict}
+use Rattle.courses.specs.declared.shown_conflicts.Conflict.{Conflict}
 use Rattle.finder.specs.declared.fault.FindFault.{FindFault}
 use Rattle.finder.specs.declared.fault.FindFault.TheVariants as finds
 use Rattle.finder.specs.Settlement as settles

@@ -220,13 +220,13 @@ pub unfound : {question : QuestionData} {style : Style} {said : SecondData} {e :
     IsMadeOf question style said e made
 unfound is = record { finding = no_finding; found = record { settled = tt; least = tt }; is_made = is }
 
-pub told_made : {T E : Type 0} (text : Result T E) (items : T → List ℕ) (outcome : Outcome)
+pub made_whole_is : {T E : Type 0} (text : Result T E) (items : T → List ℕ) (outcome : Outcome)
     (made : Result Ready RunFault) (expected : List ℕ) →
     MatchResult text (λ t. made ≡ Ok (record { text = items t; outcome = outcome })) (λ e. made ≡ Err faults.Memory) → IfOk text (λ t. items t ≡ expected) → IsMadeFor (whole_text expected outcome) made
-told_made (Ok t) items outcome made expected is same = rw is (sym same, refl)
-told_made (Err e) items outcome made expected is same = rw is tt
+made_whole_is (Ok t) items outcome made expected is same = rw is (sym same, refl)
+made_whole_is (Err e) items outcome made expected is same = rw is tt
 
-pub told_shows : (made : Result Ready RunFault) (outcome : Outcome) (P : Outcome → Type 0) → P outcome →
+pub outcome_shows : (made : Result Ready RunFault) (outcome : Outcome) (P : Outcome → Type 0) → P outcome →
     IfOk made (λ m. m.outcome ≡ outcome) → IfOk made (λ m. P m.outcome)
-told_shows (Ok m) outcome P holds is = subst P (sym is) holds
-told_shows (Err fault) outcome P holds is = tt
+outcome_shows (Ok m) outcome P holds is = subst P (sym is) holds
+outcome_shows (Err fault) outcome P holds is = tt

@@ -21,14 +21,14 @@ same_outcome No No same = refl
 same_outcome a o same = absurd (omega arith)
 
 -- an answer with the status of an outcome is that outcome
-pub outcome_told : (answer : Result Outcome RunFault) (outcome : Outcome) →
+pub outcome_is : (answer : Result Outcome RunFault) (outcome : Outcome) →
     status_of answer ≡ status_of (Ok outcome) → answer ≡ Ok outcome
-outcome_told (Ok a) outcome same = ap (λ o. Ok o) (same_outcome a outcome same)
-outcome_told (Err fault) outcome same =
+outcome_is (Ok a) outcome same = ap (λ o. Ok o) (same_outcome a outcome same)
+outcome_is (Err fault) outcome same =
     absurd (omega (arith, fault_status fault, outcome_status outcome))
 
 -- what an outcome shows, by its status
 pub shown_by_status : (P : Outcome → Type 0) (answer : Result Outcome RunFault) (status : ℕ) →
     status ≡ status_of answer → IfOk answer P → (outcome : Outcome) → status ≡ status_of (Ok outcome) → P outcome
 shown_by_status P answer status is shows outcome told =
-    subst (λ (a : Result Outcome RunFault). IfOk a P) (outcome_told answer outcome (sym is ∙ told)) shows
+    subst (λ (a : Result Outcome RunFault). IfOk a P) (outcome_is answer outcome (sym is ∙ told)) shows

@@ -83,8 +83,8 @@ module _ (laws : Laws) where
   time_same : (value : Data) (name : List ℕ) (s t : ℤ) → IsTimeAt value name s → IsTimeAt value name t → s ≡ t
   time_same value name s t x y =
       let text : x.text ≡ y.text = cc (x.stands, y.stands) in
-      let second : x.second ≡ y.second =
-      cc (text, (laws.time x.text x.second).1 x.is_time, (laws.time y.text y.second).1 y.is_time) in
+      let second : x.unix_second ≡ y.unix_second =
+      cc (text, (laws.time x.text x.unix_second).1 x.is_time, (laws.time y.text y.unix_second).1 y.is_time) in
       x.in_ticks ∙ ap (λ (n : ℕ). pos (n * ticks_per_second)) second ∙ sym y.in_ticks
 
   -- two claims that one value says

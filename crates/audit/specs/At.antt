@@ -18,7 +18,7 @@ use Rattle.audit.specs.Question.{QuestionData}
 
 -- the tick of 2^-32 s at which a Unix second begins
 abbrev pub tick_of : ℕ → ℤ
-tick_of second = pos (second * 2 ^ 32)
+tick_of unix_second = pos (unix_second * 2 ^ 32)
 
 -- the text for what these servers say, with the hull over the groups
 abbrev pub hull_text : Style → ClaimData → List Part → List ℕ
@@ -27,35 +27,38 @@ hull_text style claim parts =
 
 -- the whole text for a Unix second
 abbrev pub at_text : Style → ℕ → EvidenceData → List ℕ
-at_text style second e =
-    hull_text style e.claim (best_parts (samples_in e) e.claim (tick_of second))
+at_text style unix_second e =
+    hull_text style e.claim (best_parts (samples_in e) e.claim (tick_of unix_second))
 
 -- the report of `at` on a claim and the exchanges of a capture
 abbrev pub at_report : Style → ℕ → EvidenceData → Report
-at_report style second e = whole_text (at_text style second e) Yes
+at_report style unix_second e = whole_text (at_text style unix_second e) Yes
 
 -- a Unix second's first tick, as a stretch of readings
 abbrev pub stretch_at : ℕ → Stretch
-stretch_at second = record { begin = tick_of second; end = tick_of second }
+stretch_at unix_second = record { begin = tick_of unix_second; end = tick_of unix_second }
 
 -- the hull that is shown
 abbrev pub hull_at : ℕ → EvidenceData → Hull
-hull_at second e =
-    piece_hull e.claim.groups e.claim.false_max (best_parts (samples_in e) e.claim (tick_of second))
+hull_at unix_second e =
+    piece_hull e.claim.groups e.claim.false_max
+    (best_parts (samples_in e) e.claim (tick_of unix_second))
 
 -- In every course of events that fits the exchanges, the error lies in that hull at every moment
 -- at which the clock reads the second's first tick. An unbounded hull says nothing, and an empty
 -- one that no course that fits has such a moment.
-abbrev pub IsHeldAt : ℕ → EvidenceData → Type 0
-IsHeldAt second e = HoldsError e.claim (samples_in e) (stretch_at second) (hull_at second e)
+abbrev pub HullHoldsErrorAt : ℕ → EvidenceData → Type 0
+HullHoldsErrorAt unix_second e =
+    HoldsError e.claim (samples_in e) (stretch_at unix_second) (hull_at unix_second e)
 
 -- The bytes of claim and capture give evidence for which that holds, if they are known.
-abbrev pub IsHeld : ℕ → FeedState → FeedState → Type 0
-IsHeld second claim capture = OfClaimAndCapture claim capture (GiveEvidence (IsHeldAt second))
+abbrev pub HullHoldsError : ℕ → FeedState → FeedState → Type 0
+HullHoldsError unix_second claim capture =
+    OfClaimAndCapture claim capture (GiveEvidence (HullHoldsErrorAt unix_second))
 
 -- what does each server say about the clock at a Unix second?
 abbrev pub at : ℕ → QuestionData
 at unix_second = record {
   report = λ style finding said e. at_report style unix_second e;
-  Shows = λ claim second capture outcome. IsHeld unix_second claim capture;
+  Shows = λ claim second capture outcome. HullHoldsError unix_second claim capture;
 }

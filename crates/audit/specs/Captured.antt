@@ -10,14 +10,14 @@ use Rattle.pcap_reader.specs.Field.{spelled}
 -- a captured frame: when, as a second from 1970-01-01T00:00:00Z on and the part of it in units; how
 -- many bytes it had on the wire, which is ignored; and the bytes that were captured
 pub record CapturedFrame : Type 0 where
-  pub second : ℕ
+  pub seconds : ℕ
   pub part : ℕ
   pub wire_length : ℕ
   pub bytes : List ℕ
 
 -- the numbers of its record are in range
 pub record IsLawfulFrame (unit : TimeUnit) (frame : CapturedFrame) : Type 0 where
-  pub second : frame.second < 2 ^ 32
+  pub seconds : frame.seconds < 2 ^ 32
   pub part : frame.part < per_second unit
   pub wire_length : frame.wire_length < 2 ^ 32
   pub captured_length : length frame.bytes ≤ 262144
@@ -25,7 +25,7 @@ pub record IsLawfulFrame (unit : TimeUnit) (frame : CapturedFrame) : Type 0 wher
 -- its record: four numbers of four bytes each, and the frame
 abbrev pub record_bytes : Endian → CapturedFrame → List ℕ
 record_bytes order frame =
-    spelled order 4 frame.second ++ spelled order 4 frame.part
+    spelled order 4 frame.seconds ++ spelled order 4 frame.part
     ++ spelled order 4 (length frame.bytes) ++ spelled order 4 frame.wire_length ++ frame.bytes
 
 -- The bytes are a classic capture of these frames (pcap-savefile(5)): a header of version 2.4 with
@@ -42,7 +42,7 @@ pub record IsCaptureOf (bytes : List ℕ) (order : Endian) (unit : TimeUnit)
 -- what a record says
 abbrev pub frame_of : Record → CapturedFrame
 frame_of r = record {
-  second = r.head.sec;
+  seconds = r.head.sec;
   part = r.head.sub;
   wire_length = r.head.original;
   bytes = r.bytes;

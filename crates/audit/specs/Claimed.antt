@@ -20,10 +20,10 @@ numbers_value ns = array (items_of (map (λ n. number (unsigned n)) ns))
 -- a member is a text that writes a time, which is this tick
 pub record IsTimeAt (value : Data) (name : List ℕ) (tick : ℤ) : Type 0 where
   pub text : List ℕ
-  pub second : ℕ
+  pub unix_second : ℕ
   pub stands : get name value ≡ Some (string text)
-  pub is_time : IsTime text second
-  pub in_ticks : tick ≡ pos (second * ticks_per_second)
+  pub is_time : IsTime text unix_second
+  pub in_ticks : tick ≡ pos (unix_second * ticks_per_second)
 
 -- The text is JSON, and its members say this claim. Times and addresses are written as RFC 3339 and
 -- the dotted form have them; the bound is rounded down to ticks, the allowance up.

@@ -3,7 +3,7 @@ use Rattle.std.specs.Prelude.{◌≡◌, ℕ, List, length, Ok, IfSome}
 use Rattle.byte_stream.specs.State.{FeedState}
 use Rattle.claim_file.specs.Claim.{ClaimData, IsLawful, data_of as claim_data}
 use Rattle.pairing.specs.Exchange.{AreLawful}
-use Rattle.pairing.specs.Held.{held_data}
+use Rattle.pairing.specs.Compact.{compact_data}
 use Rattle.pairing.specs.Pairing.{Collection}
 use Rattle.sample_interval.specs.declared.kinds.Sample.{Sample}
 use Rattle.checker.specs.Traceability.{samples_of}
@@ -21,12 +21,12 @@ evidence_of claim collection = record { claim = claim; collection = collection }
 
 -- what a value of the program says
 abbrev pub evidence_data : Evidence → EvidenceData
-evidence_data e = evidence_of (claim_data e.claim) (held_data e.held)
+evidence_data e = evidence_of (claim_data e.claim) (compact_data e.held)
 
 -- the claim and the exchanges keep their limits
 pub record IsLawfulEvidence (e : Evidence) : Type 0 where
   pub claim : IsLawful (claim_data e.claim)
-  pub exchanges : AreLawful (length e.claim.servers.items) (held_data e.held).exchanges
+  pub exchanges : AreLawful (length e.claim.servers.items) (compact_data e.held).exchanges
 
 -- what its exchanges say, with the claimed allowance
 abbrev pub samples_in : EvidenceData → List Sample

@@ -13,7 +13,7 @@ use Rattle.ntp_packet.specs.Packet.{ntp_port}
 use Rattle.claim_file.specs.Claim.{ClaimData}
 use Rattle.pairing.specs.declared.exchange.Exchange.{Exchange}
 use Rattle.audit.specs.Captured.{CapturedFrame}
-use Rattle.audit.specs.Held.{HoldsPacket}
+use Rattle.audit.specs.FramedPacket.{HoldsPacket}
 
 -- the frame holds a request, which is in mode 3, from this client and port to this server, with
 -- this transmit timestamp
@@ -42,9 +42,9 @@ pub record IsWindowOf (unit : TimeUnit) (frame : CapturedFrame) (low high : ℤ)
   pub high_tick : ℕ
   pub low_is : low ≡ pos low_tick
   pub high_is : high ≡ pos high_tick
-  pub floor : IsFloor ((frame.second * per_second unit + frame.part) * ticks_per_second)
+  pub floor : IsFloor ((frame.seconds * per_second unit + frame.part) * ticks_per_second)
       (per_second unit) low_tick
-  pub ceiling : IsCeiling ((frame.second * per_second unit + frame.part + 1) * ticks_per_second)
+  pub ceiling : IsCeiling ((frame.seconds * per_second unit + frame.part + 1) * ticks_per_second)
       (per_second unit) high_tick
 
 -- an exchange of these frames

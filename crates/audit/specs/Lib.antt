@@ -9,14 +9,14 @@ pub mod Find
 pub mod Least
 pub mod Envelope
 pub mod Refute
-pub mod Seek
+pub mod FindRefutation
 pub mod Settle
 pub mod Finding
 pub mod Question
 pub mod Report
 pub mod Nanoseconds
 pub mod Run
-pub mod Held
+pub mod FramedPacket
 pub mod Exchanged
 pub mod Captured
 pub mod Claimed

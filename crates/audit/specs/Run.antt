@@ -6,7 +6,7 @@ use Rattle.report.specs.declared.fault.Outcome.{Outcome}
 use Rattle.report.specs.declared.fault.RunFault.{RunFault}
 use Rattle.report.specs.Run.{RunState}
 use Rattle.report.specs.Runs.{Runs}
-use Rattle.report.specs.Telling.{IsTold}
+use Rattle.report.specs.Conclusion.{IsConcluded}
 use Rattle.audit.specs.Question.{AskedData, Finding, QuestionData, plainly}
 use Rattle.audit.specs.Second.{HasSecond, most_second, no_second}
 use Rattle.audit.specs.Report.{run_report}
@@ -41,7 +41,7 @@ RunsAlone question before after capture capture' answer =
 abbrev pub AnswersFor : {T F : Type 0} → AskedData → RunState → RunState → T → T → F → F →
     SinkState → SinkState → ℕ → Type 0
 AnswersFor asked before after second second' capture capture' err err' status =
-    IsTold (RunsFor asked before after second second' capture capture') err err' status
+    IsConcluded (RunsFor asked before after second second' capture capture') err err' status
 
 -- what the exit status of a run shows, by the outcome that it reports
 abbrev pub ShowsAt : ℕ → QuestionData → FeedState → FeedState → FeedState → Type 0

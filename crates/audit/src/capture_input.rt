@@ -7,7 +7,7 @@ ghost use Rattle.byte_stream.specs.State.{IsReadable};
 ghost use Rattle.pcap_reader.specs.Limit.{most_taken};
 ghost use Rattle.claim_file.specs.Claim.{IsLawful, data_of};
 ghost use Rattle.pairing.specs.Exchange.{AreLawful};
-ghost use Rattle.pairing.specs.Held.{held_data};
+ghost use Rattle.pairing.specs.Compact.{compact_data};
 ghost use Rattle.report.specs.Reading.{Reads};
 ghost use Rattle.report.specs.Reports.{is_capture, is_device};
 ghost use Rattle.report.specs.Runs.{HasLawfulHeader};
@@ -15,7 +15,7 @@ ghost use Rattle.audit.specs.CaptureInput.{IsOfCapture, capture_read, pair_run_f
 
 use byte_stream::Feed;
 use claim_file::Claim;
-use pairing::{Held, PairFault, collect_held};
+use pairing::{CompactCollection, PairFault, collect_compact};
 use pcap_reader::Capture;
 use report::RunFault;
 use std::alloc::Global;
@@ -43,13 +43,13 @@ pub(crate) fn read_capture_from<F: Feed, H: BuildHasher + Drop>(
     feed: F,
     claim: &Claim,
     hasher: H,
-) -> (F, Result<Held, RunFault>)
+) -> (F, Result<CompactCollection, RunFault>)
     requires claim { IsLawful (data_of claim.now) }
     requires feed { IsReadable (F.state feed) }
     ensures known { IfSome (F.state feed).remaining (λ bytes.
-        Reads held_data (capture_read (data_of claim.now) bytes) result.1) }
+        Reads compact_data (capture_read (data_of claim.now) bytes) result.1) }
     ensures lawful { IfOk result.1 (λ held.
-        AreLawful (length claim.now.servers.items) (held_data held).exchanges) }
+        AreLawful (length claim.now.servers.items) (compact_data held).exchanges) }
     ensures fault { IfErr result.1 IsOfCapture }
     ensures counts_fault { CountsFault (is_device is_capture result.1)
         (F.state feed).faults (F.state result.0).faults }
@@ -60,7 +60,7 @@ pub(crate) fn read_capture_from<F: Feed, H: BuildHasher + Drop>(
 {
     match Capture::begin(alloc, feed) {
         Ok(mut source) => {
-            let collected = collect_held(alloc, &mut source, claim, hasher);
+            let collected = collect_compact(alloc, &mut source, claim, hasher);
             let feed = source.into_feed();
             match collected {
                 Ok(held) => (feed, Ok(held)),

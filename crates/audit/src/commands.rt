@@ -5,7 +5,7 @@ ghost use Rattle.std.specs.Prelude.{◌≡◌, ◌≤◌, Ok, IfOk, true, false}
 ghost use Rattle.byte_stream.specs.State.{IsWritable};
 ghost use Rattle.finder.specs.Piece.{IsStep};
 ghost use Rattle.report.specs.Run.{no_feed, run_state};
-ghost use Rattle.audit.specs.At.{IsHeld, at};
+ghost use Rattle.audit.specs.At.{HullHoldsError, at};
 ghost use Rattle.audit.specs.Check.{IsNotTraced, IsTraced, check};
 ghost use Rattle.audit.specs.Find.{IsFound, IsNotFound, find};
 ghost use Rattle.audit.specs.Question.{asked_of, plainly};
@@ -13,10 +13,10 @@ ghost use Rattle.audit.specs.Refute.{IsContested, IsUncontested, refute};
 ghost use Rattle.audit.specs.Run.{AnswersFor, MayRun, RunsAlone, RunsFor, ShowsAt};
 ghost use Rattle.audit.specs.Samples.{samples};
 ghost use Rattle.audit.specs.Second.{certificate_second, refutation_second};
-ghost use Rattle.audit.specs.Seek.{IsIrrefutable, IsRefutable, seek};
+ghost use Rattle.audit.specs.FindRefutation.{IsIrrefutable, IsRefutable, find_refutation};
 
 use crate::engine::{Outputs, answer, run};
-use crate::question::{At, Check, Find, Refute, Samples, Seek};
+use crate::question::{At, Check, Find, FindRefutation, Refute, Samples};
 use crate::step::Step;
 use byte_stream::{Feed, Sink};
 use line_writer::Style;
@@ -82,24 +82,24 @@ pub fn run_samples<C: Feed, F: Feed, S: Sink>(
 
 /// Shows what each server says about the clock of the claim's client at one moment, by its best
 /// samples, and what is known about the clock's error then, if as many groups of servers may be
-/// false as the claim grants. `second` is a time of the clock in Unix seconds; it may lie outside
-/// the claimed span.
+/// false as the claim grants. `unix_second` is a time of the clock in Unix seconds; it may lie
+/// outside the claimed span.
 pub fn run_at<C: Feed, F: Feed, S: Sink>(
     alloc: Global,
     claim: &mut C,
     capture: F,
-    second: u32,
+    unix_second: u32,
     out: &mut S,
 ) -> (F, Result<Outcome, RunFault>)
     requires { MayRun (run_state (C.state claim.old) no_feed (F.state capture) (S.state out.old)) }
-    ensures runs { RunsAlone (at second)
+    ensures runs { RunsAlone (at unix_second)
         (run_state (C.state claim.old) no_feed (F.state capture) (S.state out.old))
         (run_state (C.state claim.new) no_feed (F.state result.0) (S.state out.new))
         capture result.0 result.1 }
-    ensures held { IfOk result.1 (λ outcome.
-        IsHeld second (C.state claim.old) (F.state capture)) }
+    ensures in_hull { IfOk result.1 (λ outcome.
+        HullHoldsError unix_second (C.state claim.old) (F.state capture)) }
 {
-    let (asked, style, fixed) = (At { second }, Style::Plain, fixed_hasher());
+    let (asked, style, fixed) = (At { unix_second }, Style::Plain, fixed_hasher());
     run(alloc, asked, style, claim, &mut (), capture, out, fixed)
 }
 
@@ -122,7 +122,7 @@ pub fn run_check<C: Feed, F: Feed, T: Feed, S: Sink>(
         certificate.old certificate.new capture result.0 result.1 }
     ensures traceable { result.1 ≡ Ok Outcome.Yes →
         IsTraced (C.state claim.old) (T.state certificate.old) (F.state capture) }
-    ensures contradiction { result.1 ≡ Ok Outcome.No →
+    ensures not_traced { result.1 ≡ Ok Outcome.No →
         IsNotTraced (C.state claim.old) (T.state certificate.old) (F.state capture) }
 {
     let (asked, style, fixed) = (Check, Style::Plain, fixed_hasher());
@@ -177,7 +177,7 @@ pub fn run_find<C: Feed, F: Feed, S: Sink>(
         capture result.0 result.1 }
     ensures accepted { result.1 ≡ Ok Outcome.Yes →
         IsFound step_s (C.state claim.old) (F.state capture) }
-    ensures empty { result.1 ≡ Ok Outcome.No →
+    ensures not_found { result.1 ≡ Ok Outcome.No →
         IsNotFound step_s (C.state claim.old) (F.state capture) }
 {
     let step = Step { seconds: step_s };
@@ -194,7 +194,7 @@ pub fn run_seek<C: Feed, F: Feed, S: Sink>(
     out: &mut S,
 ) -> (F, Result<Outcome, RunFault>)
     requires { MayRun (run_state (C.state claim.old) no_feed (F.state capture) (S.state out.old)) }
-    ensures runs { RunsAlone seek
+    ensures runs { RunsAlone find_refutation
         (run_state (C.state claim.old) no_feed (F.state capture) (S.state out.old))
         (run_state (C.state claim.new) no_feed (F.state result.0) (S.state out.new))
         capture result.0 result.1 }
@@ -203,6 +203,6 @@ pub fn run_seek<C: Feed, F: Feed, S: Sink>(
     ensures none { result.1 ≡ Ok Outcome.No →
         IsIrrefutable (C.state claim.old) (F.state capture) }
 {
-    let (asked, style, fixed) = (Seek, Style::Plain, fixed_hasher());
+    let (asked, style, fixed) = (FindRefutation, Style::Plain, fixed_hasher());
     run(alloc, asked, style, claim, &mut (), capture, out, fixed)
 }

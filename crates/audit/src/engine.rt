@@ -33,7 +33,7 @@ use crate::second::SecondSource;
 use byte_stream::{Feed, Sink};
 use claim_file::Claim;
 use line_writer::Style;
-use report::{Outcome, RunFault, read_claim_from, tell};
+use report::{Outcome, RunFault, conclude, read_claim_from};
 use std::alloc::Global;
 use std::hash::BuildHasher;
 
@@ -188,5 +188,5 @@ pub fn answer<
         &mut to.out,
         hasher,
     );
-    (capture, tell(&answer, &mut to.err))
+    (capture, conclude(&answer, &mut to.err))
 }

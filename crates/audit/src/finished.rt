@@ -16,7 +16,7 @@ use std::marker::Model;
 
 /// How a text is kept until it goes out.
 #[derive(Drop)]
-enum Kept {
+enum Unwritten {
     /// It was made whole.
     Whole(Made),
     /// It shows these samples, for a program: each line is made on its way out.
@@ -31,7 +31,7 @@ enum Kept {
 /// A text that is ready to go out, and its outcome. No more memory is needed for it.
 #[derive(Drop)]
 pub struct Finished {
-    kept: Kept,
+    unwritten: Unwritten,
 }
 
 // Clauses see the text, however it is kept.
@@ -42,9 +42,9 @@ impl Model for Finished {
 
     ghost use Rattle.audit.specs.Finished.{CanGoOut, ready_of};
 
-    ghost view = { λ finished. ready_of finished.kept };
+    ghost view = { λ finished. ready_of finished.unwritten };
 
-    ghost invariant = { λ finished. CanGoOut finished.kept };
+    ghost invariant = { λ finished. CanGoOut finished.unwritten };
 }
 
 impl Finished {
@@ -56,7 +56,7 @@ impl Finished {
     {
         let buffer = output_buffer(alloc)?;
         Ok(Finished {
-            kept: Kept::Samples { evidence, buffer },
+            unwritten: Unwritten::Samples { evidence, buffer },
         })
     }
 }
@@ -65,7 +65,7 @@ impl Finished {
 pub type Making = Result<Finished, RunFault>;
 
 /// A text that was made whole, with its outcome; or it wasn't, for want of memory.
-pub(crate) fn told(text: Result<Vec<u8>, AllocError>, outcome: Outcome) -> Making
+pub(crate) fn made_whole(text: Result<Vec<u8>, AllocError>, outcome: Outcome) -> Making
     ensures made { MatchResult text
         (λ t. result ≡ Ok (record { text = t.items; outcome = outcome }))
         (λ e. result ≡ Err RunFault.Memory) }
@@ -74,7 +74,7 @@ pub(crate) fn told(text: Result<Vec<u8>, AllocError>, outcome: Outcome) -> Makin
 {
     match text {
         Ok(text) => Ok(Finished {
-            kept: Kept::Whole(Made { text, outcome }),
+            unwritten: Unwritten::Whole(Made { text, outcome }),
         }),
         Err(AllocError) => Err(RunFault::Memory),
     }
@@ -93,9 +93,9 @@ pub(crate) fn publish_finished<S: Sink>(
     ensures { Publishes (S.state out.old) (S.state out.new) finished result }
 {
     match finished {
-        Ok(finished) => match finished.kept {
-            Kept::Whole(made) => publish(out, &Ok(made)),
-            Kept::Samples {
+        Ok(finished) => match finished.unwritten {
+            Unwritten::Whole(made) => publish(out, &Ok(made)),
+            Unwritten::Samples {
                 evidence,
                 mut buffer,
             } => publish_samples(out, &evidence, &mut buffer),

@@ -19,7 +19,7 @@ ghost use Rattle.audit.specs.Contested.{CourseContests, NeverBoth, RefutationCon
 ghost use Rattle.audit.specs.Claimed.{IsClaimText};
 ghost use Rattle.audit.specs.Exchanged.{IsUsable, IsExchangeIn, IsAmong};
 ghost use Rattle.audit.specs.Captured.{CapturedFrame, IsCaptureOf, frame_of};
-ghost use Rattle.audit.specs.Held.{HoldsPacket, HoldsShown, packet_with};
+ghost use Rattle.audit.specs.FramedPacket.{HoldsPacket, HoldsShown, packet_with};
 ghost use Rattle.audit.specs.Nanoseconds.{GivesNanoseconds};
 
 use checker::laws::{

@@ -7,13 +7,13 @@ ghost use Rattle.audit.specs.Evidence.{IsLawfulEvidence, evidence_data, samples_
 
 use crate::evidence::Evidence;
 use finder::exchange_samples;
-use pairing::HeldExchange;
+use pairing::CompactExchange;
 use sample_interval::{ExchangeSamples, SampleSource};
 
 /// The samples of the exchanges, in their order, with the claimed allowance.
-pub(crate) fn samples_of<'a>(evidence: &'a Evidence) -> ExchangeSamples<'a, HeldExchange>
+pub(crate) fn samples_of<'a>(evidence: &'a Evidence) -> ExchangeSamples<'a, CompactExchange>
     requires { IsLawfulEvidence evidence.now }
-    ensures samples { ⟦<ExchangeSamples<'a, HeldExchange> as SampleSource>⟧.samples result
+    ensures samples { ⟦<ExchangeSamples<'a, CompactExchange> as SampleSource>⟧.samples result
         ≡ samples_in (evidence_data evidence.now) }
     ensures of_claim { AreSamplesOf (data_of evidence.now.claim)
         (samples_in (evidence_data evidence.now)) }

@@ -4,7 +4,7 @@ ghost use Rattle.std.specs.Prelude.{◌≡◌, ◌≤◌, ◌++◌, IfOk, length
 ghost use Rattle.line_writer.specs.Field.{field_data};
 ghost use Rattle.claim_file.specs.Claim.{IsLawful, data_of};
 ghost use Rattle.pairing.specs.Exchange.{most_exchanges};
-ghost use Rattle.pairing.specs.Held.{held_data};
+ghost use Rattle.pairing.specs.Compact.{compact_data};
 ghost use Rattle.audit_text.specs.CheckReport as spec;
 ghost use Rattle.audit_text.specs.CheckReport.{client_line, groups_field, pieces_line, reference_advice};
 ghost use Rattle.audit_text.specs.CheckReport.{sources_advice, span_line, verdict_line, why_word};
@@ -15,7 +15,7 @@ use crate::table::word_for;
 use checker::{Verdict, Why};
 use claim_file::Claim;
 use line_writer::{Field, Style, add_line};
-use pairing::Held;
+use pairing::CompactCollection;
 use std::alloc::{AllocError, Global};
 
 /// The fewest servers with which one false one can be told from the others.
@@ -172,13 +172,13 @@ pub fn check_text(
     alloc: Global,
     style: Style,
     claim: &Claim,
-    held: &Held,
+    held: &CompactCollection,
     findings: &Findings,
 ) -> Result<Vec<u8>, AllocError>
     requires lawful { IsLawful (data_of claim.now) }
     requires few { length held.now.exchanges.items ≤ most_exchanges }
     ensures { IfOk result (λ text. text.items ≡
-        spec.check_text style (data_of claim.now) (held_data held.now) findings.now) }
+        spec.check_text style (data_of claim.now) (compact_data held.now) findings.now) }
 {
     let mut text = Vec::new(alloc);
     add_client(&mut text, style, claim, findings.groups)?;

@@ -1,19 +1,19 @@
 //! The line of counts.
 
 ghost use Rattle.std.specs.Prelude.{◌≡◌, ◌≤◌, ◌++◌, IfOk, length};
-ghost use Rattle.pairing.specs.Held.{held_data};
+ghost use Rattle.pairing.specs.Compact.{compact_data};
 ghost use Rattle.audit_text.specs.CountsLine.{counts_line};
 ghost use Rattle.audit_text.specs.Line.{most_line};
 
 use line_writer::{Field, Line, Style, put_fields};
-use pairing::Held;
+use pairing::CompactCollection;
 use std::alloc::AllocError;
 
 /// Writes the line of counts, for a program, in place of what `line` held: at most 400 bytes.
 #[tactic(auto, unfolding(crate::specs::CountsLine::counts_line))]
-pub fn write_counts_line(line: &mut Line, held: &Held)
+pub fn write_counts_line(line: &mut Line, held: &CompactCollection)
     ensures text { line.new ≡
-        counts_line (held_data held.now).counts (length (held_data held.now).exchanges) }
+        counts_line (compact_data held.now).counts (length (compact_data held.now).exchanges) }
     ensures at_most { length line.new ≤ most_line }
 {
     let counts = &held.counts;
@@ -37,9 +37,9 @@ pub fn write_counts_line(line: &mut Line, held: &Held)
 }
 
 /// Adds the line of counts.
-pub(crate) fn add_counts(text: &mut Vec<u8>, held: &Held) -> Result<(), AllocError>
+pub(crate) fn add_counts(text: &mut Vec<u8>, held: &CompactCollection) -> Result<(), AllocError>
     ensures { IfOk result (λ _. text.new.items ≡ text.old.items
-        ++ counts_line (held_data held.now).counts (length (held_data held.now).exchanges)) }
+        ++ counts_line (compact_data held.now).counts (length (compact_data held.now).exchanges)) }
 {
     let mut line = Line::new();
     write_counts_line(&mut line, held);

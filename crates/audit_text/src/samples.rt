@@ -3,7 +3,7 @@
 ghost use Rattle.std.specs.Prelude.{◌≡◌, ◌++◌, IfOk, length, map};
 ghost use Rattle.claim_file.specs.Claim.{IsLawful, data_of};
 ghost use Rattle.pairing.specs.Exchange.{AreLawful};
-ghost use Rattle.pairing.specs.Held.{exchange_shown, held_data};
+ghost use Rattle.pairing.specs.Compact.{exchange_shown, compact_data};
 ghost use Rattle.audit_text.specs.Samples as spec;
 ghost use Rattle.audit_text.specs.SampleLine.{sample_line};
 ghost use Rattle.audit_text.specs.Table.{rows_from};
@@ -13,7 +13,7 @@ use crate::sample_line::{COLUMNS, add_sample};
 use crate::table::add_heading;
 use claim_file::Claim;
 use line_writer::Style;
-use pairing::{Held, HeldExchange, ToExchange};
+use pairing::{CompactCollection, CompactExchange, ToExchange};
 use std::alloc::{AllocError, Global};
 
 /// The line of each sample, in the order of the exchanges.
@@ -21,7 +21,7 @@ fn add_samples(
     text: &mut Vec<u8>,
     style: Style,
     claim: &Claim,
-    exchanges: &[HeldExchange],
+    exchanges: &[CompactExchange],
 ) -> Result<(), AllocError>
     requires lawful { IsLawful (data_of claim.now) }
     requires exchanges { AreLawful (length claim.now.servers.items)
@@ -42,12 +42,12 @@ pub fn samples_text(
     alloc: Global,
     style: Style,
     claim: &Claim,
-    held: &Held,
+    held: &CompactCollection,
 ) -> Result<Vec<u8>, AllocError>
     requires lawful { IsLawful (data_of claim.now) }
-    requires exchanges { AreLawful (length claim.now.servers.items) (held_data held.now).exchanges }
+    requires exchanges { AreLawful (length claim.now.servers.items) (compact_data held.now).exchanges }
     ensures { IfOk result (λ text.
-        text.items ≡ spec.samples_text style (data_of claim.now) (held_data held.now)) }
+        text.items ≡ spec.samples_text style (data_of claim.now) (compact_data held.now)) }
 {
     let mut text = Vec::new(alloc);
     add_heading(&mut text, style, &COLUMNS)?;

@@ -11,7 +11,6 @@ use Rattle.json_text.specs.Step.{given, asked}
 use Rattle.certificate.specs.declared.fault.CertificateFault.{CertificateFault}
 use Rattle.certificate.specs.declared.fault.CertificateFault.TheVariants.{Shape, TooManyEntries}
 use Rattle.certificate.specs.Certificate.{max_entries}
-use Rattle.certificate.specs.Parts.{entries_in}
 use Rattle.certificate.specs.Reading.{entry_of, entries_of}
 
 -- the entries that were read, unless an element was none
@@ -29,16 +28,6 @@ abbrev pub entries_after : ℕ → ℕ → Option (List (ℕ × ℕ)) → Items 
 entries_after number count found items =
     asked (TooManyEntries number) (nat_le (count + items_len items) max_entries) (
     given (Shape number) (and_more found (entries_of items)) Ok)
-
-none_before : (more : Option (List (ℕ × ℕ))) → more ≡ and_more (Some []) more
-none_before None = refl
-none_before (Some es) = refl
-
-pub entries_first : (number : ℕ) (items : Items) → entries_in number items ≡ entries_after number 0 (Some []) items
-entries_first number items =
-    let same : items_len items ≡ 0 + items_len items = omega arith in
-    ap₂ (λ n more. asked (TooManyEntries number) (nat_le n max_entries) (given (Shape number) more Ok)) same
-    (none_before (entries_of items))
 
 one_more : (found : Option (List (ℕ × ℕ))) (entry : Option (ℕ × ℕ)) (more : Option (List (ℕ × ℕ))) →
     and_more found (option_and_then (λ first. option_map (λ others. first ∷ others) more) entry)

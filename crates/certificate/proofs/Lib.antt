@@ -1,4 +1,3 @@
-pub mod ArrayRead
 pub mod Ascii
 pub mod CompactRead
 pub mod Digits
@@ -10,9 +9,7 @@ pub mod PairRead
 pub mod PartsRead
 pub mod PiecesRead
 pub mod ReadBack
-pub mod Refusals
 pub mod RefutationText
-pub mod SampleRead
 pub mod TextRead
 pub mod Texts
 pub mod WholeRead

@@ -11,7 +11,7 @@ use Rattle.json_text.specs.Step.{asked, after}
 use Rattle.certificate.specs.declared.fault.CertificateFault.{CertificateFault}
 use Rattle.certificate.specs.declared.fault.CertificateFault.TheVariants.{TooManyPieces}
 use Rattle.certificate.specs.Certificate.{PieceData, max_pieces}
-use Rattle.certificate.specs.Parts.{pieces_in, pieces_and}
+use Rattle.certificate.specs.Parts.{pieces_and}
 use Rattle.certificate.specs.Reading.{piece_of, pieces_from}
 
 abbrev Pieces : Type 0
@@ -25,15 +25,6 @@ abbrev pub pieces_after : ℕ → Result (List PieceData) CertificateFault → I
     Result (List PieceData) CertificateFault
 pieces_after count found items =
     asked TooManyPieces (nat_le (count + items_len items) max_pieces) (and_more found (pieces_from count items))
-
-none_before : (more : Pieces) → more ≡ and_more (Ok []) more
-none_before (Ok pieces) = refl
-none_before (Err fault) = refl
-
-pub pieces_first : (items : Items) → pieces_in items ≡ pieces_after 0 (Ok []) items
-pieces_first items =
-    let same : items_len items ≡ 0 + items_len items = omega arith in
-    ap₂ (λ n more. asked TooManyPieces (nat_le n max_pieces) more) same (none_before (pieces_from 0 items))
 
 one_more : (found : Pieces) (piece : Result PieceData CertificateFault) (more : Pieces) →
     and_more found (after piece λ first. after more λ others. Ok (first ∷ others))

@@ -1,17 +1,12 @@
 -- The members of the whole, read one after another.
-use Rattle.std.proofs.Common.{◌≡◌, ℕ, List, [], ◌∷◌, Bool, true, false, Option, Some, None, if◌then◌else◌, option_map, option_and_then, Result, Ok, nat_le, refl, sym, ap, ◌∙◌}
+use Rattle.std.proofs.Common.{◌≡◌, ℕ, List, [], ◌∷◌, Bool, false, Option, option_map, option_and_then, Result, refl, sym, ap, ◌∙◌}
 use Rattle.std.specs.Prelude.{codes}
 use Rattle.serde_json.proofs.Views.{get_member-put, get_member-put_other}
-use Rattle.serde_json.specs.Data.{Data, Items, Members, put, object}
-use Rattle.serde_json.specs.Events.{items_len}
-use Rattle.serde_json.specs.Find.{as_array, get_member}
-use Rattle.json_text.specs.Member.{has_only}
-use Rattle.json_text.specs.Step.{given, asked, after}
+use Rattle.serde_json.specs.Data.{Data, Members, put}
+use Rattle.serde_json.specs.Find.{as_array}
 use Rattle.certificate.specs.declared.fault.CertificateFault.{CertificateFault}
-use Rattle.certificate.specs.declared.fault.CertificateFault.TheVariants.{Top, TooManyPieces}
-use Rattle.certificate.specs.Certificate.{PieceData, max_pieces}
-use Rattle.certificate.specs.Parts.{TopParts, pieces_in, top_parts_of, certificate_of_parts}
-use Rattle.certificate.specs.Reading.{pieces_from, certificate_from}
+use Rattle.certificate.specs.Certificate.{PieceData}
+use Rattle.certificate.specs.Parts.{TopParts, pieces_in, top_parts_of}
 use Rattle.certificate.proofs.PartsRead.{has_only-put, not_same}
 
 abbrev pub whole : Bool → Option (Result (List PieceData) CertificateFault) → TopParts
@@ -41,27 +36,3 @@ module _ (value : Data) (found : Members) (parts : TopParts) (known : parts ≡ 
       (ap (λ o. option_map pieces_in (option_and_then as_array o))
       (get_member-put_other (codes "pieces") name value found (λ same. other (sym same)))
       ∙ sym (ap (λ p. p.pieces) known)))
-
-after_asked : {A B : Type 0} (few : CertificateFault) (fits : Bool) (read : Result A CertificateFault) (more : A → B) →
-    after (asked few fits read) (λ a. Ok (more a)) ≡ asked few fits (after read (λ a. Ok (more a)))
-after_asked few false read more = refl
-after_asked few true read more = refl
-
-same_certificate : (members : Members) (is_known : Bool) (items : Option Items) →
-    certificate_of_parts (whole is_known (option_map pieces_in items))
-    ≡ (given Top (option_and_then (λ _. items) (if is_known then Some members else None)) λ items.
-    asked TooManyPieces (nat_le (items_len items) max_pieces) (
-    after (pieces_from 0 items) λ pieces.
-    Ok (record { pieces = pieces })))
-same_certificate ms false items = refl
-same_certificate ms true None = refl
-same_certificate ms true (Some items) =
-    after_asked TooManyPieces (nat_le (items_len items) max_pieces) (pieces_from 0 items)
-    (λ pieces. record { pieces = pieces })
-
--- the certificate of an object is that of its parts
-pub certificate_of_parts-members : (members : Members) →
-    certificate_of_parts (top_parts_of members) ≡ certificate_from (object members)
-certificate_of_parts-members members =
-    same_certificate members (has_only top_names members)
-    (option_and_then as_array (get_member (codes "pieces") members))

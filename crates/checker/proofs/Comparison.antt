@@ -132,9 +132,6 @@ module _ (hulls : EveryHull) (bound wider : ℤ) (list other : List Interval) (f
 
 -- ---- a wider bound, and fewer false groups
 
-no_fault : {P : Type 0} (why : Why) → Some why ≡ None → P
-no_fault why e = absurd cc
-
 parts_narrow : (hulls : EveryHull) (claim other : ClaimData) (said : Result (List Part) Why)
     → claim.bound ≤ℤ other.bound → claim.groups ≡ other.groups → other.false_max ≤ claim.false_max
     → parts_fault claim said ≡ None

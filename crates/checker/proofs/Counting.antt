@@ -21,7 +21,7 @@ either_fails : (a b : Bool) → (a || b) ≡ false → (a ≡ false) × (b ≡ f
 either_fails true b h = absurd cc
 either_fails false b h = (refl, h)
 
-second_fails : (a b : Bool) → (a && b) ≡ false → a ≡ true → b ≡ false
+pub second_fails : (a b : Bool) → (a && b) ≡ false → a ≡ true → b ≡ false
 second_fails true b h yes' = h
 second_fails false b h yes' = absurd cc
 
@@ -75,7 +75,7 @@ module _ (e : ℤ) (n : ℕ) where
 
 -- ---- counts
 
-counted : (r : ℕ → Bool) (g : ℕ) (gs : List ℕ) → count_by r (g ∷ gs) ≡ cond (r g) 1 0 + count_by r gs
+pub counted : (r : ℕ → Bool) (g : ℕ) (gs : List ℕ) → count_by r (g ∷ gs) ≡ cond (r g) 1 0 + count_by r gs
 counted r g gs = sum_by-cons _ g gs
 
 module _ (h : ℕ → Option Interval) (q : Interval → Bool) (r : ℕ → Bool)

@@ -4,7 +4,7 @@ pub mod Exchange
 pub mod Counting
 pub mod Cover
 pub mod Test
-pub mod Kept
+pub mod NoOverflow
 pub mod FirstFault
 pub mod VerdictPieces
 pub mod PieceVerdict
@@ -21,6 +21,6 @@ pub mod Order
 pub mod Separation
 pub mod Narrow
 pub mod Span
-mod RefutationTests
-mod RefutationCourse
+pub mod RefutationTests
+pub mod RefutationCourse
 mod RefutationStamp

@@ -32,7 +32,7 @@ no_later a b u p q = omega (arith, ints, clamps)
 shifted : (a b e : ℤ) → a ≤ℤ b → (a -ℤ e) ≤ℤ (b -ℤ e)
 shifted a b e h = omega (arith, ints)
 
-around : (stamp distance : ℤ) → pos 0 ≤ℤ distance → (stamp -ℤ distance) ≤ℤ (stamp +ℤ distance)
+pub around : (stamp distance : ℤ) → pos 0 ≤ℤ distance → (stamp -ℤ distance) ≤ℤ (stamp +ℤ distance)
 around stamp distance some = omega (arith, ints)
 
 within : (stamp distance time : ℤ) → (stamp -ℤ distance) ≤ℤ time → time ≤ℤ (stamp +ℤ distance)
@@ -91,7 +91,7 @@ at_start start end forward = (omega (arith, ints), omega (arith, ints))
 at_end : (start end : ℤ) → start ≤ℤ end → IsInWindow 1 start end end
 at_end start end forward = (omega (arith, ints), omega (arith, ints))
 
-widened : (low high allowance : ℤ) → low ≤ℤ high → pos 0 ≤ℤ allowance → (low -ℤ allowance) ≤ℤ (high +ℤ allowance)
+pub widened : (low high allowance : ℤ) → low ≤ℤ high → pos 0 ≤ℤ allowance → (low -ℤ allowance) ≤ℤ (high +ℤ allowance)
 widened low high allowance forward some = omega (arith, ints)
 
 -- ---- elements of a list
@@ -109,7 +109,7 @@ module _ {X : Type 0} where
 
 module _ (xs : List Exchange) (agree : AllPairs SameRequest xs) where
   -- exchanges of one request agree in when it was sent
-  one_start : (i j : ℕ) (x y : Exchange) → slice_get xs i ≡ Some x → slice_get xs j ≡ Some y
+  pub one_start : (i j : ℕ) (x y : Exchange) → slice_get xs i ≡ Some x → slice_get xs j ≡ Some y
       → x.request ≡ y.request → x.t1_low ≡ y.t1_low
   one_start i j x y at_i at_j same =
       by_test (nat_lt i j)

@@ -30,7 +30,7 @@ both_pass a b t same passes = rw (same, passes) (grind (arith, nat_tests))
 
 -- ---- the tests of a refutation
 
-both_true : (a b : Bool) → (a && b) ≡ true → (a ≡ true) × (b ≡ true)
+pub both_true : (a b : Bool) → (a && b) ≡ true → (a ≡ true) × (b ≡ true)
 both_true true b e = (refl, e)
 both_true false b e = absurd cc
 
@@ -46,10 +46,10 @@ either_true : (a b : Bool) → (a || b) ≡ true → a ≡ false → b ≡ true
 either_true true b e fails = absurd cc
 either_true false b e fails = e
 
-le_from : (a b : ℤ) → int_le a b ≡ true → a ≤ℤ b
+pub le_from : (a b : ℤ) → int_le a b ≡ true → a ≤ℤ b
 le_from a b e = grind (arith, ints)
 
-le_to : (a b : ℤ) → a ≤ℤ b → int_le a b ≡ true
+pub le_to : (a b : ℤ) → a ≤ℤ b → int_le a b ≡ true
 le_to a b h = grind (arith, ints)
 
 lt_from : (a b : ℤ) → int_lt a b ≡ true → a <ℤ b

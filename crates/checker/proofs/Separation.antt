@@ -34,7 +34,7 @@ use Rattle.checker.proofs.Order.{meet_turned}
 
 -- ---- counts of the numbers below n
 
-count_push : (q : ℕ → Bool) (n : ℕ)
+pub count_push : (q : ℕ → Bool) (n : ℕ)
     → count_by q (numbers_below (suc n)) ≡ count_by q (numbers_below n) + cond (q n) 1 0
 count_push q n =
     let split = sum_by-append (λ k. cond (q k) 1 0) (numbers_below n) (n ∷ []) in

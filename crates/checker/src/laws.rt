@@ -49,7 +49,7 @@ ghost use Rattle.checker.specs.declared.verdict.Verdict.TheVariants.{Yes, No};
 ghost use Rattle.checker.specs.declared.verdict.Why.{Why};
 
 pub use crate::refutation_laws::{
-    accepted_refutations_have_a_course, bound_plays_no_part_in_fitting,
+    accepted_refutations_have_a_course, courses_fit_whatever_the_bound,
     courses_of_refutations_break_the_claim, narrower_bounds_are_refuted_too,
     other_worked_refutations_fall, refutations_with_a_course_are_accepted,
     test_is_passed_where_refuted, test_is_passed_where_room_is_left, worked_refutations_stand,

@@ -66,7 +66,7 @@ pub fn yes_and_refutation_never_meet()
 /// Whether a course fits doesn't depend on the bound. So a refutation of the same claim with
 /// another bound, as with none, shows that a course fits the claim itself with a reading of its
 /// span, so that a yes for it says something.
-pub fn bound_plays_no_part_in_fitting()
+pub fn courses_fit_whatever_the_bound()
     ensures fits { (claim : ClaimData) (bound : ℤ) (bound_ns : ℕ) (xs : List Exchange)
         (course : Course) →
         Fits (record claim { bound = bound; bound_ns = bound_ns }) xs course →

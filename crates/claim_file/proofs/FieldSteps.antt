@@ -2,39 +2,15 @@
 use Rattle.std.proofs.Common.{◌≡◌, Option, Some, None, Result, Ok, Err, option_map, refl, sym, ap, ◌∙◌, inl, inr}
 use Rattle.std.specs.Option.{ok_or}
 use Rattle.std.specs.Result.{IsErr, IsErrAnd}
-use Rattle.json_text.specs.Step.{given, Gives}
+use Rattle.json_text.specs.Step.{given}
 use Rattle.claim_file.specs.declared.fault.ClaimFault.{ClaimFault}
 use Rattle.claim_file.specs.declared.fault.ClaimFault.TheVariants.{Memory}
 use Rattle.claim_file.specs.Fault.{Answers}
-
--- a value that was found, and one that wasn't
-found_value : {A E : Type 0} (fault : E) (found : Option A) {x : A} → Ok x ≡ ok_or found fault → found ≡ Some x
-found_value fault None is = cc
-found_value fault (Some y) {x} is = let same : y ≡ x = cc in ap Some same
 
 none_found : {A E : Type 0} (fault : E) (found : Option A) {e : E} → Err e ≡ ok_or found fault →
     (found ≡ None) × (fault ≡ e)
 none_found fault None {e} is = (refl, cc)
 none_found fault (Some y) is = cc
-
--- what was found lets the reading go on
-pub past : {A B E : Type 0} (fault : E) {found defined : Option A} (rest : A → Result B E) {x : A} →
-    found ≡ defined → Ok x ≡ ok_or found fault → given fault defined rest ≡ rest x
-past fault {found} rest kept is = ap (λ o. given fault o rest) (sym kept ∙ found_value fault found is)
-
--- the same of a value that is shown as another
-pub past_shown : {A B C E : Type 0} (fault : E) (shown : A → B) (found : Option A) {defined : Option B}
-    (rest : B → Result C E) {x : A} →
-    option_map shown found ≡ defined → Ok x ≡ ok_or found fault → given fault defined rest ≡ rest (shown x)
-past_shown fault shown found rest kept is =
-    ap (λ o. given fault o rest) (sym kept ∙ ap (option_map shown) (found_value fault found is))
-
--- what wasn't found gives its fault
-pub stops : {A B E : Type 0} (fault : E) {e : E} {found defined : Option A} (rest : A → Result B E) →
-    found ≡ defined → Err e ≡ ok_or found fault → given fault defined rest ≡ Err e
-stops fault {found = found} rest kept is =
-    let (none, same) = none_found fault found is in
-    ap (λ o. given fault o rest) (sym kept ∙ none) ∙ ap Err same
 
 pub stops_shown : {A B C E : Type 0} (fault : E) {e : E} (shown : A → B) (found : Option A) {defined : Option B}
     (rest : B → Result C E) →
@@ -49,12 +25,6 @@ pub answers_fault : {A B : Type 0} (shown : A → B) {defined : Result B ClaimFa
     Answers answer shown defined
 answers_fault shown (Ok x) (err, is) stopped = cc
 answers_fault shown (Err f) (err, is) stopped = inr (stopped ∙ ap Err (sym is))
-
-pub gives_fault : {A B : Type 0} (shown : A → B) {defined : Result B ClaimFault} {e : ClaimFault}
-    (answer : Result A ClaimFault) → IsErr answer × IsErrAnd answer (λ f. f ≡ e) → defined ≡ Err e →
-    Gives answer shown defined
-gives_fault shown (Ok x) (err, is) stopped = cc
-gives_fault shown (Err f) (err, is) stopped = stopped ∙ ap Err (sym is)
 
 pub answers_memory : {A B : Type 0} (shown : A → B) (defined : Result B ClaimFault) (answer : Result A ClaimFault) →
     IsErr answer × IsErrAnd answer (λ f. f ≡ Memory) → Answers answer shown defined

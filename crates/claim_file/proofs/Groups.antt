@@ -1,8 +1,7 @@
 -- Lists of server numbers, and groups as they are read.
 use Rattle.std.proofs.Common.{◌≡◌, ℕ, zero, suc, ◌+◌, ◌-◌, ◌<◌, ◌≤◌, ◌==◌, ◌&&◌, nat_lt, Bool, true, false, not, cond, List, [], ◌∷◌, ◌++◌, length, map, Vec, Global, refl, sym, ap, ◌∙◌, arith, length-append, append_assoc}
-use Rattle.std.proofs.Common.{Some, get_or, drop, drop-cons, add-one, append-nil}
+use Rattle.std.proofs.Common.{Some, get_or, drop, drop-cons, add-one}
 use Rattle.std.proofs.lemmas.Bool.Decides.{nat_tests}
-use Rattle.std.proofs.lemmas.List.{at_drop_all}
 use Rattle.std.proofs.lemmas.List.FromFn.{get_or-range_with_len, length-range_with_len}
 use Rattle.std.proofs.lemmas.List.Sums.{AllPass-from_list_all, sum_by-cons}
 use Rattle.std.specs.List.{concat, list_all, list_any, position_from, range_with_len}
@@ -28,26 +27,6 @@ pub group_at : (server : ℕ) (groups : List (Vec ℕ Global)) (k : ℕ) (group 
     (position_from (λ g. list_any (λ s. s == server) g) (k + 1) (map (λ list. list.items) (drop (k + 1) groups)))
 group_at server groups k group is less =
     rw (drop-cons groups k group less, add-one k, ← is) refl
-
--- the numbers of one more group, at the end of what was listed, and of no more
-pub listed_more : (groups : List (Vec ℕ Global)) (k : ℕ) (group : Vec ℕ Global) (front : List ℕ) {grown : List ℕ} →
-    concat (map (λ list. list.items) groups) ≡ front ++ concat (map (λ list. list.items) (drop k groups)) →
-    group ≡ get_or groups k group → k < length groups → grown ≡ front ++ group.items →
-    concat (map (λ list. list.items) groups) ≡ grown ++ concat (map (λ list. list.items) (drop (k + 1) groups))
-listed_more groups k group front known is less pushed =
-    let rest = concat (map (λ (list : Vec ℕ Global). list.items) (drop (k + 1) groups)) in
-    let split : concat (map (λ (list : Vec ℕ Global). list.items) (drop k groups)) ≡ group.items ++ rest =
-    rw (drop-cons groups k group less, add-one k, ← is) refl in
-    known ∙ ap (λ r. front ++ r) split ∙ sym (append_assoc front group.items rest) ∙ ap (λ f. f ++ rest) (sym pushed)
-
-pub listed_all : (groups : List (Vec ℕ Global)) (k : ℕ) (front : List ℕ) →
-    concat (map (λ list. list.items) groups) ≡ front ++ concat (map (λ list. list.items) (drop k groups)) →
-    length groups ≤ k → front ≡ concat (map (λ list. list.items) groups)
-listed_all groups k front known past =
-    sym (known
-    ∙ ap (λ r. front ++ r)
-    (at_drop_all (λ (gs : List (Vec ℕ Global)). concat (map (λ list. list.items) gs)) groups k past)
-    ∙ append-nil front)
 
 length_items : (groups : List (Vec ℕ Global)) → length (map (λ list. list.items) groups) ≡ length groups
 length_items [] = refl

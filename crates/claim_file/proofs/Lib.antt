@@ -1,12 +1,9 @@
 pub mod Addresses
-pub mod DayNumber
 pub mod FieldSteps
-pub mod Gathering
 pub mod Groupings
 pub mod Groups
 pub mod Lawful
 pub mod Times
 pub mod Made
-pub mod Scalars
 pub mod WorkedClaim
 pub mod Spelled

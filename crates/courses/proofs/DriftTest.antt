@@ -1,5 +1,5 @@
 -- The test of a refutation with drift is true exactly if it is accepted.
-use Rattle.std.proofs.Common.{◌≡◌, ℕ, zero, suc, ◌-◌, ℤ, pos, ◌-ℤ◌, ◌*ℤ◌, ◌≤ℤ◌, ◌<ℤ◌, Bool, true, false, true≢false, ◌&&◌, List, ◌∷◌, refl, sym, ◌∙◌, arith}
+use Rattle.std.proofs.Common.{◌≡◌, ℕ, zero, suc, ◌-◌, ℤ, pos, ◌-ℤ◌, ◌*ℤ◌, ◌≤ℤ◌, ◌<ℤ◌, Bool, true, false, true≢false, List, ◌∷◌, refl, sym, ◌∙◌, arith}
 use Rattle.std.specs.Prelude.{int_le, All, if◌then◌else◌, IsTrue, ◌↔◌}
 use Rattle.std.specs.List.{list_all, slice_index_or}
 use Rattle.std.proofs.lemmas.Int.{ints}
@@ -15,18 +15,9 @@ use Rattle.marks.specs.Mark.{IsPossible, AreCompatible}
 use Rattle.marks.specs.declared.mark.Mark.{Mark}
 use Rattle.pairing.specs.declared.exchange.Exchange.{Exchange}
 use Rattle.sample_interval.specs.Widening.{billion}
+use Rattle.checker.proofs.RefutationTests.{both_true, le_from, le_to}
 
 -- ---- tests
-
-pub both_true : (a b : Bool) → (a && b) ≡ true → (a ≡ true) × (b ≡ true)
-both_true true b e = (refl, e)
-both_true false b e = absurd cc
-
-le_from : (a b : ℤ) → int_le a b ≡ true → a ≤ℤ b
-le_from a b e = grind (arith, ints)
-
-le_to : (a b : ℤ) → a ≤ℤ b → int_le a b ≡ true
-le_to a b h = grind (arith, ints)
 
 le_fails : (a b : ℤ) → b <ℤ a → int_le a b ≡ false
 le_fails a b h = grind (arith, ints)

@@ -1,5 +1,5 @@
 -- The first marks of two groups that aren't compatible are of the first two exchanges that contradict each other.
-use Rattle.std.proofs.Common.{◌≡◌, ◌≢◌, ℕ, ◌+◌, ◌<◌, ◌≤◌, ◌⊎◌, inl, inr, ⊎_elim, Bool, true, false, true≢false, List, Option, None, Some, length, map, get_or, slice_get, pos, refl, sym, ap, ◌∙◌, subst, arith}
+use Rattle.std.proofs.Common.{◌≡◌, ◌≢◌, ℕ, ◌+◌, ◌<◌, ◌≤◌, ◌⊎◌, inl, inr, ⊎_elim, Bool, true, false, List, Option, None, Some, length, map, get_or, slice_get, pos, refl, sym, ap, ◌∙◌, subst, arith}
 use Rattle.std.specs.Prelude.{◌==◌, slice_index, MatchOption}
 use Rattle.std.proofs.lemmas.Bool.{cond-true, cond-false, cases_lt}
 use Rattle.std.proofs.lemmas.Bool.Decides.{nat_tests}
@@ -8,7 +8,7 @@ use Rattle.std.proofs.lemmas.Option.{get_or_from_slice_get, slice_get_within}
 use Rattle.claim_file.specs.Claim.{ClaimData}
 use Rattle.marks.specs.Compatible.{AllCompatible}
 use Rattle.marks.specs.Conflict.{IsFirstConflict}
-use Rattle.marks.specs.Mark.{low_mark, high_mark, IsPossible, AreCompatible}
+use Rattle.marks.specs.Mark.{low_mark, high_mark, AreCompatible}
 use Rattle.marks.specs.declared.mark.Mark.{Mark}
 use Rattle.pairing.specs.declared.exchange.Exchange.{Exchange}
 use Rattle.courses.specs.Contradiction.{Pair, IsContradiction, IsNoLater}
@@ -18,9 +18,9 @@ use Rattle.courses.specs.NumberedMarks.{group_numbers, IsFirstApart, AreNumbered
 use Rattle.courses.specs.PairMarks.{IsImpossibleAt, IsFirstImpossible, pair_of, is_no_later, earlier, twice}
 use Rattle.courses.specs.declared.contradiction.Contradiction.{Contradiction}
 use Rattle.courses.specs.declared.numbered_marks.NumberedMarks.{NumberedMarks}
+use Rattle.checker.proofs.Part.{by_test}
 use Rattle.courses.proofs.GroupMarks.{equal_from, equal_to, never_both}
 use Rattle.courses.proofs.PassingNumbers.{Found, exchange_at, found, no_less, one_there, placed, rising}
-use Rattle.courses.proofs.TrueExchanges.{by_test}
 
 -- ---- pairs, in their order
 

@@ -11,7 +11,8 @@ use Rattle.courses.specs.TrueMarks.{AreAllCompatible}
 use Rattle.courses.specs.Cover.{group_of, HasImpossible, Contradicts, IsBroken, DoConflict}
 use Rattle.courses.specs.GroupMarks.{group_exchanges, group_lows, group_highs, IsSound, DoGroupsAgree}
 use Rattle.courses.specs.ConflictTable.{IsConflictTable}
-use Rattle.courses.proofs.TrueExchanges.{by_test, at_passing, All-unmap}
+use Rattle.checker.proofs.Part.{by_test}
+use Rattle.courses.proofs.TrueExchanges.{at_passing, All-unmap}
 use Rattle.courses.proofs.Covers.{is_possible_or_not, are_compatible_or_not}
 
 -- ---- a search among the elements that pass
@@ -161,12 +162,12 @@ module _ (claim : ClaimData) (xs : List Exchange) where
       (sound : (group : ℕ) → group < length claim.groups
       → (is_broken group ≡ false → IsSound claim xs group) × (IsSound claim xs group → is_broken group ≡ false))
       (silent : (a b : ℕ) → DoGroupsAgree claim xs a b → is_edge a b ≡ false)
-      (told : (a b : ℕ) → a ≢ b → is_broken a ≡ false → is_broken b ≡ false → is_edge a b ≡ false
+      (decided : (a b : ℕ) → a ≢ b → is_broken a ≡ false → is_broken b ≡ false → is_edge a b ≡ false
       → DoGroupsAgree claim xs a b) where
     pub table_by_tests : IsConflictTable claim xs is_broken is_edge
     table_by_tests = record {
       broken = λ group below. let both = sound group below in broken_by_test group (is_broken group) both.0 both.1;
       true_edges = λ a b is. edge_by_test a b (is_edge a b) (silent a b) is;
       all_edges = λ a b differ right_a right_b h.
-          all_by_test a b (is_edge a b) (λ isnt. told a b differ right_a right_b isnt) h;
+          all_by_test a b (is_edge a b) (λ isnt. decided a b differ right_a right_b isnt) h;
     }

@@ -20,10 +20,12 @@ use Rattle.marks.specs.declared.mark.Mark.{Mark}
 use Rattle.pairing.specs.Exchange.{IsLawful as IsLawfulExchange}
 use Rattle.pairing.specs.declared.exchange.Exchange.{Exchange}
 use Rattle.span_cover.specs.Group.{numbers_below}
+use Rattle.checker.proofs.Part.{by_test}
+use Rattle.checker.proofs.Counting.{fails_below}
 use Rattle.courses.proofs.ConflictTables.{by_table, from_table}
-use Rattle.courses.proofs.Covers.{agree_outside, cover_by_agreement, fails_below}
+use Rattle.courses.proofs.Covers.{agree_outside, cover_by_agreement}
 use Rattle.courses.proofs.TableCovers.{from_table as to_conflicts, to_table}
-use Rattle.courses.proofs.TrueExchanges.{All-unmap, all_true, by_test}
+use Rattle.courses.proofs.TrueExchanges.{All-unmap, all_true}
 
 -- ---- the servers of groups
 

@@ -128,10 +128,6 @@ no_more true = refl
 no_more false = refl
 
 module _ (claim : ClaimData) (xs : List Exchange) where
-  pub none_heard : (is_in : ℕ → Bool) → ((group : ℕ) → is_in group ≡ false) → AreHeardTo claim xs xs is_in
-  none_heard is_in none =
-      record { all = λ group. ap (λ (b : Bool). b || has_exchange claim xs group) (sym (none group)) }
-
   pub one_more_heard : (x : Exchange) (left rest : List Exchange) (is_in is_now : ℕ → Bool) (own : ℕ)
       → left ≡ x ∷ rest → own ≡ group_of claim x → ((group : ℕ) → is_now group ≡ ((group == own) || is_in group))
       → AreHeardTo claim xs left is_in → AreHeardTo claim xs rest is_now

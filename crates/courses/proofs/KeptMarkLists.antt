@@ -1,5 +1,5 @@
 -- Lists of kept marks, as they are gathered.
-use Rattle.std.proofs.Common.{◌≡◌, ℕ, ◌+◌, ◌<◌, ◌≤◌, suc, drop, length, Some, subst, ℤ, Bool, true, false, not, List, [], ◌∷◌, ◌++◌, map, refl, sym, ap, ap₂, ◌∙◌, arith}
+use Rattle.std.proofs.Common.{◌≡◌, ℕ, ◌+◌, ◌<◌, suc, drop, length, Some, subst, ℤ, Bool, true, false, not, List, [], ◌∷◌, ◌++◌, map, refl, sym, ap, ap₂, ◌∙◌, arith}
 use Rattle.std.specs.Prelude.{All, slice_get, slice_index, ◌==◌}
 use Rattle.std.proofs.lemmas.Bool.Decides.{nat_tests}
 use Rattle.std.proofs.lemmas.Grind.{get_or_default_zero}
@@ -7,7 +7,6 @@ use Rattle.courses.specs.GroupMarks.{is_outside}
 use Rattle.std.specs.List.{list_all, slice_index_or}
 use Rattle.std.proofs.lemmas.Bool.{cond-true, cond-false}
 use Rattle.std.proofs.lemmas.List.Elements.{All-append, All-cons, All-nil}
-use Rattle.std.proofs.Math.ListN.{drop_of_length-le}
 use Rattle.std.proofs.Math.Seq.{append_snoc, drop-cons}
 use Rattle.std.proofs.lemmas.Option.{get_or_from_slice_get, slice_get-get_or, slice_get_within}
 use Rattle.std.proofs.lemmas.List.{get_or-map, length-map}
@@ -133,20 +132,3 @@ module _ (groups : List ℕ) (group server read : ℕ) (below : server < length 
 
   pub isnt_inside : (read ≡ group → ⊥) → is_outside groups group server ≡ true
   isnt_inside apart = ap not (ap (λ (n : ℕ). n == group) read_is ∙ other_number read group apart)
-
--- ---- a list of what is made of each exchange
-
-pub one_more_made : (f : Exchange → Mark) (whole : List Mark) (x : Exchange) (rest left : List Exchange) (ms items : List Mark)
-    → left ≡ x ∷ rest → whole ≡ ms ++ map f left → items ≡ ms ++ f x ∷ [] → whole ≡ items ++ map f rest
-one_more_made f whole x rest left ms items split before is =
-    before ∙ ap (λ (ys : List Exchange). ms ++ map f ys) split ∙ sym (append_snoc ms (f x) (map f rest))
-    ∙ ap (λ (ns : List Mark). ns ++ map f rest) (sym is)
-
-append_nil : (ms : List Mark) → ms ++ [] ≡ ms
-append_nil [] = refl
-append_nil (m ∷ ms) = ap (λ (ns : List Mark). m ∷ ns) (append_nil ms)
-
-pub all_made : (f : Exchange → Mark) (xs : List Exchange) (k : ℕ) (whole items : List Mark) → length xs ≤ k
-    → whole ≡ items ++ map f (drop k xs) → items ≡ whole
-all_made f xs k whole items past is =
-    sym (is ∙ ap (λ (ys : List Exchange). items ++ map f ys) (drop_of_length-le xs past) ∙ append_nil items)

@@ -1,11 +1,8 @@
 -- The lowest course fits: the servers that aren't false receive and answer in time.
-use Rattle.std.proofs.Common.{◌≡◌, ℕ, ◌+◌, ◌-◌, ◌*◌, ◌<◌, ◌≤◌, ℤ, pos, ◌+ℤ◌, ◌-ℤ◌, ◌*ℤ◌, ◌≤ℤ◌, Bool, false, ⊎_elim, List, Some, length, refl, sym, ap, ◌∙◌, subst, arith}
-use Rattle.std.specs.Prelude.{All, AllPairs, slice_get, nat_lt}
+use Rattle.std.proofs.Common.{◌≡◌, ℕ, ◌+◌, ◌-◌, ◌*◌, ◌<◌, ◌≤◌, ℤ, pos, ◌+ℤ◌, ◌-ℤ◌, ◌*ℤ◌, ◌≤ℤ◌, Bool, false, ⊎_elim, List, Some, length, refl, ap, arith}
+use Rattle.std.specs.Prelude.{All, AllPairs, slice_get}
 use Rattle.std.specs.Int.{int_max, int_min}
-use Rattle.std.specs.List.{slice_index_or}
 use Rattle.std.proofs.lemmas.Int.{ints, clamps}
-use Rattle.std.proofs.lemmas.Bool.Decides.{nat_tests}
-use Rattle.std.proofs.lemmas.Option.{get_or_from_slice_get, slice_get_within}
 use Rattle.std.proofs.Math.Nat.{mul-le-mul_left}
 use Rattle.intersection.specs.Fineness.{times_le, times-add}
 use Rattle.claim_file.specs.Claim.{ClaimData, IsLawful}
@@ -22,8 +19,9 @@ use Rattle.checker.specs.Refutation.{SharesRequests}
 use Rattle.courses.specs.Keeping.{KeepsLow, KeepsHigh}
 use Rattle.courses.specs.TrueMarks.{low_marks, high_marks, DoAgree}
 use Rattle.courses.specs.LowestCourse.{fineness_of, lowest_moment, of_exchange, lowest_course}
+use Rattle.checker.proofs.RefutationCourse.{around, widened, one_start}
 use Rattle.courses.proofs.Scaling.{times-sub}
-use Rattle.courses.proofs.TrueExchanges.{by_test, each_at, true_at, marks_at, all_marks, pair_at}
+use Rattle.courses.proofs.TrueExchanges.{each_at, true_at, marks_at, all_marks, pair_at}
 use Rattle.courses.proofs.LowestError.{lowest_drifts, lowest_time_goes_on}
 use Rattle.courses.proofs.LowestMarks.{keeps_others, keeps_high}
 
@@ -80,12 +78,6 @@ near n stamp distance time between =
     let most = times-add (stamp +ℤ distance) stamp distance n refl in
     omega (arith, ints, least, most, between)
 
-around : (stamp distance : ℤ) → pos 0 ≤ℤ distance → (stamp -ℤ distance) ≤ℤ (stamp +ℤ distance)
-around stamp distance some = omega (arith, ints)
-
-widened : (low high allowance : ℤ) → low ≤ℤ high → pos 0 ≤ℤ allowance → (low -ℤ allowance) ≤ℤ (high +ℤ allowance)
-widened low high allowance forward some = omega (arith, ints)
-
 same_le : (a : ℤ) → a ≤ℤ a
 same_le a = omega (arith, ints)
 
@@ -93,29 +85,6 @@ some_product : (g s : ℕ) → 0 < g → 0 < s → 0 < g * s
 some_product g s some_g some_s =
     let one : g * 1 ≤ g * s = mul-le-mul_left g some_s in
     omega arith
-
--- ---- elements of a list
-
-module _ {X : Type 0} where
-  module _ (R : X → X → Type 0) (xs : List X) (all : AllPairs R xs) where
-    two_at : (i j : ℕ) (x y : X) → i < j → slice_get xs i ≡ Some x → slice_get xs j ≡ Some y → R x y
-    two_at i j x y before at_i at_j =
-        let found = all i j x before (slice_get_within xs j y at_j) in
-        subst (λ (b : X). R x b) (get_or_from_slice_get xs j y x at_j)
-        (subst (λ (a : X). R a (slice_index_or xs j x)) (get_or_from_slice_get xs i x x at_i) found)
-
-module _ (xs : List Exchange) (agree : AllPairs SameRequest xs) where
-  -- exchanges of one request agree in when it was sent
-  one_start : (i j : ℕ) (x y : Exchange) → slice_get xs i ≡ Some x → slice_get xs j ≡ Some y
-      → x.request ≡ y.request → x.t1_low ≡ y.t1_low
-  one_start i j x y at_i at_j same =
-      by_test (nat_lt i j)
-      (λ before. (two_at SameRequest xs agree i j x y (grind (arith, nat_tests)) at_i at_j same).0)
-      (λ after. by_test (nat_lt j i)
-      (λ before. sym (two_at SameRequest xs agree j i y x (grind (arith, nat_tests)) at_j at_i (sym same)).0)
-      (λ neither. let equal : i ≡ j = grind (arith, nat_tests) in
-      let is : Some x ≡ Some y = sym at_i ∙ ap (slice_get xs) equal ∙ at_j in
-      let one : x ≡ y = cc in ap (λ (z : Exchange). z.t1_low) one))
 
 -- ---- the course
 

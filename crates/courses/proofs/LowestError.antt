@@ -27,9 +27,6 @@ both_below a b c p q = omega (arith, ints, clamps)
 same_below : (a : ℤ) → a ≤ℤ a
 same_below a = omega (arith, ints)
 
-pub below : (a b c : ℤ) → a ≤ℤ b → b ≤ℤ c → a ≤ℤ c
-below a b c p q = omega (arith, ints)
-
 module _ {X : Type 0} (f : X → ℤ) where
   -- it is no less than the first
   pub first_at_most : (a : ℤ) (xs : List X) → a ≤ℤ fold (λ c x. int_max c (f x)) a xs

@@ -1,7 +1,7 @@
 -- The numbers and marks of a group, as they are gathered.
-use Rattle.std.proofs.Common.{◌≡◌, ℕ, ◌+◌, ◌<◌, ◌≤◌, ◌⊎◌, ⊎_elim, List, [], ◌∷◌, ◌++◌, drop, length, map, Bool, true, false, refl, sym, ap, ◌∙◌, subst, get_or, arith}
+use Rattle.std.proofs.Common.{◌≡◌, ℕ, ◌+◌, ◌<◌, ◌⊎◌, ⊎_elim, List, [], ◌∷◌, ◌++◌, drop, length, map, Bool, true, false, refl, sym, ap, ◌∙◌, subst, get_or, arith}
 use Rattle.std.specs.Prelude.{All, ◌==◌, filter}
-use Rattle.std.proofs.Math.ListN.{drop_of_length-le, get_or-append, length-append}
+use Rattle.std.proofs.Math.ListN.{get_or-append, length-append}
 use Rattle.std.proofs.Math.Seq.{append_snoc, get_or-append_seam}
 use Rattle.claim_file.specs.Claim.{ClaimData}
 use Rattle.marks.specs.Mark.{low_mark, high_mark}
@@ -32,10 +32,6 @@ as_many ms ms' m ns ns' n is is' same =
     let long = ap length is ∙ length-append ms (m ∷ []) in
     let long' = ap length is' ∙ length-append ns (n ∷ []) in
     omega (arith, long, long')
-
-append_nil : {X : Type 0} (xs : List X) → xs ++ [] ≡ xs
-append_nil [] = refl
-append_nil (x ∷ xs) = ap (λ (ys : List _). x ∷ ys) (append_nil xs)
 
 module _ (claim : ClaimData) (group : ℕ) (xs : List Exchange) where
   abbrev is_of : Exchange → Bool
@@ -85,24 +81,6 @@ module _ (claim : ClaimData) (group : ℕ) (xs : List Exchange) where
         low_range = with_last lows (low_mark claim.reading x) lows' lows_grow before.low_range low;
         high_range = with_last highs (high_mark claim.reading x) highs' highs_grow before.high_range high;
       }
-
-  -- at the end
-  module _ (k : ℕ) (numbers : List ℕ) (lows highs : List Mark) (past : length xs ≤ k)
-      (all : IsNumbering claim group xs k numbers lows highs) where
-    none_left : drop k xs ≡ []
-    none_left = drop_of_length-le xs past
-
-    pub all_numbers : numbers ≡ group_numbers claim xs group
-    all_numbers = sym (all.numbers_are ∙ ap (λ (ys : List Exchange). numbers ++ numbers_from is_of k ys) none_left
-        ∙ append_nil numbers)
-
-    pub all_lows : lows ≡ group_lows claim xs group
-    all_lows = sym (all.lows_are ∙ ap (λ (ys : List Exchange). lows ++ group_lows claim ys group) none_left
-        ∙ append_nil lows)
-
-    pub all_highs : highs ≡ group_highs claim xs group
-    all_highs = sym (all.highs_are ∙ ap (λ (ys : List Exchange). highs ++ group_highs claim ys group) none_left
-        ∙ append_nil highs)
 
 -- ---- a list for each group, one group after another
 

@@ -3,7 +3,7 @@ use Rattle.std.proofs.Common.{◌≡◌, ℕ, zero, suc, ◌+◌, ◌<◌, ◌�
 use Rattle.std.specs.Prelude.{filter}
 use Rattle.std.proofs.lemmas.Bool.{cond-true, cond-false, cases_lt}
 use Rattle.courses.specs.NumberedMarks.{numbers_from}
-use Rattle.courses.proofs.TrueExchanges.{by_test}
+use Rattle.checker.proofs.Part.{by_test}
 
 pub exchange_at : {X : Type 0} (xs : List X) (k : ℕ) → k < length xs → (x : X) × (slice_get xs k ≡ Some x)
 exchange_at [] k below = absurd (omega arith)

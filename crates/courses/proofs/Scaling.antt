@@ -1,5 +1,5 @@
 -- Whole numbers of ticks times a natural number, and their order.
-use Rattle.std.proofs.Common.{◌≡◌, ℕ, ◌*◌, ◌<◌, ◌≤◌, ℤ, pos, negsuc, ◌+ℤ◌, ◌-ℤ◌, ◌*ℤ◌, ◌≤ℤ◌, unsigned_abs, refl, arith}
+use Rattle.std.proofs.Common.{◌≡◌, ℕ, ◌*◌, ◌<◌, ◌≤◌, ℤ, pos, negsuc, ◌+ℤ◌, ◌-ℤ◌, ◌*ℤ◌, ◌≤ℤ◌, refl, arith}
 use Rattle.std.proofs.lemmas.Int.{ints, by_lt_z}
 use Rattle.intersection.specs.Fineness.{times_le, times-add}
 
@@ -19,10 +19,6 @@ cancel a b n some h = by_lt_z b a
     let sum = times-add (b +ℤ pos 1) b (pos 1) n refl in
     absurd (omega (arith, ints, scaled, sum)))
     (λ no_less. no_less)
-
--- how far one number is beyond another
-pub beyond : (a b : ℤ) → a ≤ℤ b → (d : ℕ) × (b ≡ a +ℤ pos d)
-beyond a b h = (unsigned_abs (b -ℤ a), omega (arith, ints))
 
 pub scaled_beyond : (a b : ℤ) (d n : ℕ) → b ≡ a +ℤ pos d → (b *ℤ pos n) ≡ (a *ℤ pos n) +ℤ pos (d * n)
 scaled_beyond a b d n e = times-add b a (pos d) n e

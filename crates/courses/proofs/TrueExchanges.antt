@@ -8,10 +8,7 @@ use Rattle.pairing.specs.declared.exchange.Exchange.{Exchange}
 use Rattle.marks.specs.declared.mark.Mark.{Mark}
 use Rattle.marks.specs.Mark.{low_mark, high_mark, AreCompatible}
 use Rattle.courses.specs.TrueMarks.{true_exchanges, low_marks, high_marks, AreAllCompatible}
-
-pub by_test : {P : Type 0} (b : Bool) → (b ≡ true → P) → (b ≡ false → P) → P
-by_test true f g = f refl
-by_test false f g = g refl
+use Rattle.checker.proofs.Part.{by_test}
 
 -- what holds of each holds of the one at a place
 pub each_at : {X : Type 0} (P : X → Type 0) (xs : List X) (k : ℕ) (x : X) → All P xs → slice_get xs k ≡ Some x → P x

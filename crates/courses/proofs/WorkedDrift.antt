@@ -12,12 +12,10 @@ use Rattle.marks.specs.Mark.{low_mark, high_mark, IsPossible, AreCompatible}
 use Rattle.courses.specs.DriftRefutation.{mark_of, IsRefutedWithDrift}
 use Rattle.courses.specs.Cover.{Contradicts, SomeCourse}
 use Rattle.courses.specs.WorkedDrift.{later_exchange, both_exchanges, drifting_claim}
+use Rattle.checker.proofs.RefutationTests.{le_from}
 use Rattle.courses.proofs.Covers.{small_cover}
 
 -- ---- compatible by a test
-
-le_from : (a b : ℤ) → int_le a b ≡ true → a ≤ℤ b
-le_from a b e = grind (arith, ints)
 
 not_le_from : (a b : ℤ) → int_le a b ≡ false → b <ℤ a
 not_le_from a b e = grind (arith, ints)

@@ -54,8 +54,8 @@ HasContradiction claim xs a b = (pair : Pair) × IsContradiction claim xs a b pa
 
 -- a broken group, under its own number twice, or two groups that conflict, of which neither is
 -- broken and the lesser number comes first
-abbrev pub AreToTell : ClaimData → List Exchange → ℕ → ℕ → Type 0
-AreToTell claim xs a b = ((a ≡ b) × IsBroken claim xs a)
+abbrev pub AreListed : ClaimData → List Exchange → ℕ → ℕ → Type 0
+AreListed claim xs a b = ((a ≡ b) × IsBroken claim xs a)
     ⊎ ((a < b) × ¬ (IsBroken claim xs a) × ¬ (IsBroken claim xs b) × DoConflict claim xs a b)
 
 -- such groups, and the pair that shows it
@@ -68,21 +68,21 @@ pub record ShownConflict : Type 0 where
 abbrev pub IsBefore : ShownConflict → ShownConflict → Type 0
 IsBefore one other = (one.a < other.a) ⊎ ((one.a ≡ other.a) × (one.b < other.b))
 
--- these are all the conflicts to tell, each with its first pair, in the order of their groups
-pub record AreAllConflicts (claim : ClaimData) (xs : List Exchange) (told : List ShownConflict)
+-- these are all the conflicts to list, each with its first pair, in the order of their groups
+pub record AreAllConflicts (claim : ClaimData) (xs : List Exchange) (listed : List ShownConflict)
     : Type 0 where
-  pub each : All (λ conflict. AreToTell claim xs conflict.a conflict.b) told
+  pub each : All (λ conflict. AreListed claim xs conflict.a conflict.b) listed
   pub first : All (λ conflict.
-      IsFirstContradiction claim xs conflict.a conflict.b conflict.pair) told
-  pub all : (a b : ℕ) → AreToTell claim xs a b
-      → Any (λ conflict. (conflict.a ≡ a) × (conflict.b ≡ b)) told
-  pub order : AllPairs IsBefore told
+      IsFirstContradiction claim xs conflict.a conflict.b conflict.pair) listed
+  pub all : (a b : ℕ) → AreListed claim xs a b
+      → Any (λ conflict. (conflict.a ≡ a) × (conflict.b ≡ b)) listed
+  pub order : AllPairs IsBefore listed
 
 -- a set of groups has an end of each
 abbrev pub HoldsAnEnd : (ℕ → Bool) → List ShownConflict → Type 0
-HoldsAnEnd is_in told = All (λ conflict. (is_in conflict.a || is_in conflict.b) ≡ true) told
+HoldsAnEnd is_in listed = All (λ conflict. (is_in conflict.a || is_in conflict.b) ≡ true) listed
 
 -- no set of as few groups as may be false has
 abbrev pub NoFewHoldAnEnd : ClaimData → List ShownConflict → Type 0
-NoFewHoldAnEnd claim told =
-    (is_in : ℕ → Bool) → size_of claim is_in ≤ claim.false_max → ¬ (HoldsAnEnd is_in told)
+NoFewHoldAnEnd claim listed =
+    (is_in : ℕ → Bool) → size_of claim is_in ≤ claim.false_max → ¬ (HoldsAnEnd is_in listed)

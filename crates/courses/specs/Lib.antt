@@ -17,7 +17,7 @@ pub mod ConflictsView
 pub mod SortedMarks
 pub mod PartialTable
 pub mod PairMarks
-pub mod ToldConflicts
+pub mod ShownConflicts
 pub mod NumberedMarks
 pub mod Evidence
 pub mod LeastCovers

@@ -63,5 +63,5 @@ IsFirstIfAny claim xs a b found = MatchOption found (¬ (HasContradiction claim 
 pub record AreGrounds (claim : ClaimData) (xs : List Exchange) (table : ConflictData)
     (marks : List NumberedMarks) : Type 0 where
   pub each : All (IsLawfulExchange (length claim.servers)) xs
-  pub table_tells : IsConflictTable claim xs table.is_broken table.is_edge
+  pub table_decides : IsConflictTable claim xs table.is_broken table.is_edge
   pub in_order : AreNumberedInOrder claim xs marks

@@ -5,7 +5,7 @@ use Rattle.claim_file.specs.Claim.{ClaimData}
 use Rattle.courses.specs.Contradiction.{Pair, ShownConflict}
 use Rattle.courses.specs.Cover.{group_of}
 use Rattle.courses.specs.declared.contradiction.Contradiction.{Contradiction}
-use Rattle.courses.specs.declared.told.Conflict.{Conflict}
+use Rattle.courses.specs.declared.shown_conflicts.Conflict.{Conflict}
 use Rattle.marks.specs.Mark.{IsPossible}
 use Rattle.pairing.specs.declared.exchange.Exchange.{Exchange}
 

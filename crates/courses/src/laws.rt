@@ -29,8 +29,8 @@ ghost use Rattle.sample_interval.specs.Moment.{Moment, error_of, DriftsWithin};
 ghost use Rattle.sample_interval.specs.Widening.{billion, IsRate};
 
 pub use crate::conflict_laws::{
-    ends_of_all_conflicts_are_a_cover, first_contradiction_is_one, marks_of_groups_tell_conflicts,
-    pairs_show_conflicts, tests_of_marks_make_a_table,
+    ends_of_all_conflicts_are_a_cover, first_contradiction_is_one,
+    marks_of_groups_decide_conflicts, pairs_show_conflicts, tests_of_marks_make_a_table,
 };
 pub use crate::evidence_laws::{few_groups_are_no_evidence, no_evidence_gives_no_yes};
 pub use crate::refutation_laws::{

@@ -44,9 +44,9 @@ mod members;
 mod numbered_marks;
 mod refutation;
 mod refutation_laws;
+mod shown_conflicts;
 mod sorted_marks;
 mod table;
-mod told;
 
 pub use conflicts::Conflicts;
 pub use contradiction::{Contradiction, first_contradiction};
@@ -55,5 +55,5 @@ pub use fits::course_fits;
 pub use group_refutation::check_refutation_by_conflicts;
 pub use groups::Groups;
 pub use refutation::check_refutation_with_drift;
+pub use shown_conflicts::{Conflict, first_contradictions};
 pub use table::conflicts_of;
-pub use told::{Conflict, first_contradictions};

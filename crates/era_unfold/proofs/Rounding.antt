@@ -1,9 +1,8 @@
 -- The floor and the ceiling of a ratio.
-use Rattle.std.proofs.Common.{◌≡◌, ℕ, suc, ℤ, pos, negsuc, ◌*ℤ◌, ◌≤ℤ◌, ◌+◌, ◌-◌, ◌*◌, ◌/◌, ◌%◌, ◌<◌, ◌≤◌, min, add_comm, sym, ap, ◌∙◌, ⊎_elim, arith}
+use Rattle.std.proofs.Common.{◌≡◌, ℕ, suc, ℤ, pos, negsuc, ◌*ℤ◌, ◌≤ℤ◌, ◌+◌, ◌-◌, ◌*◌, ◌/◌, ◌<◌, ◌≤◌, add_comm, ap, ◌∙◌, ⊎_elim, arith}
 use Rattle.std.proofs.Math.Nat.{add-mul-div_right, div-mul-le_self, mul-le-mul_right}
 use Rattle.std.proofs.lemmas.Bool.{cases_lt}
-use Rattle.std.proofs.lemmas.Grind.{div_ceil_times}
-use Rattle.std.proofs.lemmas.Nat.{div-add-mod', mod_below, le-div, div_below, div-mul-add}
+use Rattle.std.proofs.lemmas.Nat.{div-add-mod', mod_below, le-div, div_below}
 use Rattle.std.proofs.lemmas.Int.{ints}
 use Rattle.era_unfold.specs.Ratio.{IsFloor, IsCeiling, IsSignedFloor, IsSignedCeiling, floor_of, ceiling_of}
 
@@ -55,15 +54,6 @@ pub div-whole_and_part_up : (a b d t : ℕ) → 0 < d → ((a * d + b) * t + (d 
 div-whole_and_part_up a b d t h =
     let parts : (a * d + b) * t + (d - 1) ≡ b * t + (d - 1) + a * t * d = omega arith in
     ap (λ x. x / d) parts ∙ add-mul-div_right (b * t + (d - 1)) (a * t) h ∙ add_comm ((b * t + (d - 1)) / d) (a * t)
-
--- a quotient that is rounded up by its remainder
-pub div_ceil-is : (n d : ℕ) → 0 < d → n / d + min 1 (n % d) ≡ (n + (d - 1)) / d
-div_ceil-is n d h =
-    let bounds = div_ceil_times n d h in
-    let q : ℕ = n / d + min 1 (n % d) in
-    let rest : n + (d - 1) - q * d < d = omega (arith, bounds.0, bounds.1) in
-    let parts : n + (d - 1) ≡ q * d + (n + (d - 1) - q * d) = omega (arith, bounds.0, bounds.1) in
-    sym (ap (λ x. x / d) parts ∙ div-mul-add q d (n + (d - 1) - q * d) rest)
 
 -- an order of products by one number
 pub lt_of_products : (a b d : ℕ) → a * d < b * d → a < b

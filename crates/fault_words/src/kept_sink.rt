@@ -9,13 +9,13 @@ const ROOM: usize = 256;
 
 /// Bytes, if they aren't more than a fault line has.
 #[derive(Debug, Drop)]
-struct Kept {
+struct Buffer {
     bytes: [u8; ROOM],
     /// How many were given.
     count: usize,
 }
 
-impl Kept {
+impl Buffer {
     /// Keeps these bytes behind the others.
     fn keep(&mut self, bytes: &[u8]) {
         for byte in bytes {
@@ -32,7 +32,7 @@ impl Kept {
 #[derive(Debug, Drop)]
 pub struct KeptSink<E> {
     sink: E,
-    kept: Kept,
+    kept: Buffer,
 }
 
 impl<E: Sink> KeptSink<E> {
@@ -41,7 +41,7 @@ impl<E: Sink> KeptSink<E> {
         ensures { ⟦<KeptSink<E> as Sink>⟧.state result ≡ E.state sink }
     {
         let bytes = [0; ROOM];
-        let kept = Kept { bytes, count: 0 };
+        let kept = Buffer { bytes, count: 0 };
         KeptSink { sink, kept }
     }
 

@@ -6,7 +6,7 @@ use Rattle.std.proofs.Math.Dec.{T}
 use mir.Syntax.{w128}
 use mir.Val.{SFits}
 use Rattle.claim_file.specs.Claim.{ClaimData, IsLawful}
-use Rattle.finder.proofs.Kept.{kept, kept_difference}
+use Rattle.finder.proofs.NoOverflow.{kept, kept_difference}
 
 module _ (claim : ClaimData) (lawful : IsLawful claim) where
   pub first_kept : to_z w128 (of_z w128 claim.first) ≡ claim.first

@@ -12,7 +12,7 @@ use Rattle.sample_interval.specs.Window.{request_start, reply_end}
 use Rattle.checker.specs.Refutation.{Admits}
 use Rattle.checker.specs.RefutationTest.{admits}
 use Rattle.finder.specs.Room.{IsNear}
-use Rattle.finder.proofs.Kept.{kept}
+use Rattle.finder.proofs.NoOverflow.{kept}
 use Rattle.finder.proofs.List.{by_test}
 
 neither : (a b : Bool) → a ≡ false → b ≡ false → (a || b) ≡ false

@@ -17,7 +17,7 @@ use Rattle.sample_interval.specs.Widening.{billion}
 use Rattle.finder.specs.declared.side.Side.{Side}
 use Rattle.finder.specs.declared.side.Side.TheVariants.{Below}
 use Rattle.finder.specs.Leeway.{Lets, DoLet, AreLeeways, IsNarrowed, IsTightest, IsUnlimited, leeway_in, mark_at, no_limit, turned}
-use Rattle.finder.proofs.Kept.{kept}
+use Rattle.finder.proofs.NoOverflow.{kept}
 use Rattle.finder.proofs.List.{by_test}
 
 -- ---- the greatest error under one mark

@@ -20,7 +20,7 @@ use Rattle.span_cover.specs.Group.{numbers_below}
 use Rattle.checker.specs.Refutation.{Admits, IsRefuted, is_liar}
 use Rattle.checker.specs.RefutationTest.{admits}
 use Rattle.finder.specs.Room.{refuses}
-use Rattle.finder.specs.Sought.{is_possible, refutation_at}
+use Rattle.finder.specs.NearestRefutation.{is_possible, refutation_at}
 use Rattle.finder.proofs.Group.{as_many_groups, both_to, both_true, found_below, no_more_groups}
 use Rattle.finder.proofs.List.{by_test}
 use Rattle.finder.proofs.Nearest.{at_most_from, at_most_to}

@@ -1,4 +1,4 @@
-pub mod Kept
+pub mod NoOverflow
 pub mod Claim
 pub mod List
 pub mod Best
@@ -29,7 +29,7 @@ pub mod ErrorRoom
 pub mod Group
 pub mod Rooms
 pub mod RefutationSearch
-pub mod HeldExchange
+pub mod CompactExchange
 pub mod Liar
 pub mod RefutationFinding
 pub mod GroupLeeway

@@ -16,7 +16,7 @@ use Rattle.finder.specs.Fewest.{AreLongest, IsLongest, end_after, next_tick, pie
 use Rattle.finder.specs.Samples.{AreSamplesOf}
 use Rattle.finder.proofs.Claim.{first_kept, last_kept}
 use Rattle.finder.proofs.FewestPieces.{InSpan, Laws, end_in_span, longest_forward, piece_to, shown_before}
-use Rattle.finder.proofs.Kept.{kept}
+use Rattle.finder.proofs.NoOverflow.{kept}
 use Rattle.finder.proofs.List.{by_test}
 use Rattle.finder.proofs.Verdict.{from_zero_kept}
 

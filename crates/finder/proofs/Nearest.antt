@@ -6,7 +6,7 @@ use Rattle.std.proofs.lemmas.Int.{ints}
 use Rattle.claim_file.specs.Claim.{ClaimData}
 use Rattle.intersection.specs.declared.kinds.Interval.{Interval}
 use Rattle.finder.specs.Room.{room_at, refused_by, possible_by}
-use Rattle.finder.specs.Sought.{IsFirstBeyond}
+use Rattle.finder.specs.NearestRefutation.{IsFirstBeyond}
 use Rattle.finder.proofs.Group.{no_more_groups}
 use Rattle.finder.proofs.List.{by_test}
 

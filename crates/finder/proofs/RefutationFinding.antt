@@ -11,7 +11,7 @@ use Rattle.pairing.specs.declared.exchange.Exchange.{Exchange}
 use Rattle.intersection.specs.declared.kinds.Interval.{Interval}
 use Rattle.span_cover.specs.Group.{numbers_below}
 use Rattle.finder.specs.Room.{AreRooms, refused_by, refuses}
-use Rattle.finder.specs.Sought.{IsErrorOf64Bits, IsFirstBeyond, IsNearest, IsSought, NoneIsRefuted, after, greatest_error, is_possible, least_error_below, nearest, refutation_at, sought_error}
+use Rattle.finder.specs.NearestRefutation.{IsErrorOf64Bits, IsFirstBeyond, IsNearest, IsNearestRefutation, NoneIsRefuted, after, greatest_error, is_possible, least_error_below, nearest, refutation_at, nearest_error}
 use Rattle.finder.proofs.Liar.{possible_of, refuted_at, same_passing_test}
 use Rattle.finder.proofs.List.{find_is_first, find_is_none}
 use Rattle.finder.proofs.Nearest.{int_cases}
@@ -88,7 +88,7 @@ module _ (law : RoomLaw) (claim : ClaimData) (lawful : IsLawful claim) (xs : Lis
       → is_possible claim xs (neg_ℤ other) ≡ false
 
   found_above : (error : ℤ) → IsFirstBeyond above claim.bound greatest_error error
-      → IsSought claim xs (refutation_at claim xs error)
+      → IsNearestRefutation claim xs (refutation_at claim xs error)
   found_above error is =
       let from = lawful.bound_not_negative in
       let beyond = is.beyond in
@@ -106,7 +106,7 @@ module _ (law : RoomLaw) (claim : ClaimData) (lawful : IsLawful claim) (xs : Lis
       }
 
   found_below : NoneAbove → (number : ℤ) → IsFirstBeyond below claim.bound least_error_below number
-      → IsSought claim xs (refutation_at claim xs (neg_ℤ number))
+      → IsNearestRefutation claim xs (refutation_at claim xs (neg_ℤ number))
   found_below none number is =
       let from = lawful.bound_not_negative in
       let beyond = is.beyond in
@@ -150,7 +150,7 @@ module _ (law : RoomLaw) (claim : ClaimData) (lawful : IsLawful claim) (xs : Lis
 
   -- what is said by what was sought
   abbrev Says : Option ℤ → Type 0
-  Says (Some error) = IsSought claim xs (refutation_at claim xs error)
+  Says (Some error) = IsNearestRefutation claim xs (refutation_at claim xs error)
   Says None = NoneIsRefuted claim xs
 
   says_of : (a b : Option ℤ) → IsNearest above claim.bound greatest_error a
@@ -159,16 +159,16 @@ module _ (law : RoomLaw) (claim : ClaimData) (lawful : IsLawful claim) (xs : Lis
   says_of None (Some number) is_a is_b = found_below is_a number is_b
   says_of None None is_a is_b = none_found is_a is_b
 
-  says : Says (sought_error claim xs)
-  unfolding sought_error
+  says : Says (nearest_error claim xs)
+  unfolding nearest_error
   says = says_of up down (nearest_is above claim.bound greatest_error some_above)
       (nearest_is below claim.bound least_error_below some_below)
 
-  pub says_some : (error : ℤ) → sought_error claim xs ≡ Some error
-      → IsSought claim xs (refutation_at claim xs error)
+  pub says_some : (error : ℤ) → nearest_error claim xs ≡ Some error
+      → IsNearestRefutation claim xs (refutation_at claim xs error)
   says_some error is = subst Says is says
 
-  pub says_none : sought_error claim xs ≡ None → NoneIsRefuted claim xs
+  pub says_none : nearest_error claim xs ≡ None → NoneIsRefuted claim xs
   says_none is = subst Says is says
 
   -- the code makes this refutation of it

@@ -7,7 +7,7 @@ use Rattle.claim_file.specs.Claim.{ClaimData, IsLawful}
 use Rattle.pairing.specs.declared.exchange.Exchange.{Exchange}
 use Rattle.intersection.specs.declared.kinds.Interval.{Interval}
 use Rattle.finder.specs.Room.{AreMirrored, AreRooms, IsNear, possible_by, refused_by, refuses, room_at}
-use Rattle.finder.specs.Sought.{IsFirstBeyond, after, greatest_error, is_possible, least_error_below, nearest, sought_error}
+use Rattle.finder.specs.NearestRefutation.{IsFirstBeyond, after, greatest_error, is_possible, least_error_below, nearest, nearest_error}
 use Rattle.finder.proofs.Claim.{few_groups}
 use Rattle.finder.proofs.Group.{as_many_groups}
 use Rattle.finder.proofs.List.{by_test, find_first, find_none}
@@ -109,19 +109,19 @@ module _ (claim : ClaimData) (lawful : IsLawful claim) (rooms : List Interval) (
       sym (same other (near other above le)) ∙ fails other above le)
 
 module _ (claim : ClaimData) (xs : List Exchange) where
-  pub sought_above : (error : ℤ) → nearest (is_possible claim xs) claim.bound greatest_error ≡ Some error
-      → sought_error claim xs ≡ Some error
-  unfolding sought_error
-  sought_above error is = rw is refl
+  pub nearest_above : (error : ℤ) → nearest (is_possible claim xs) claim.bound greatest_error ≡ Some error
+      → nearest_error claim xs ≡ Some error
+  unfolding nearest_error
+  nearest_above error is = rw is refl
 
-  pub sought_below : (error : ℤ) → nearest (is_possible claim xs) claim.bound greatest_error ≡ None
+  pub nearest_below : (error : ℤ) → nearest (is_possible claim xs) claim.bound greatest_error ≡ None
       → nearest (λ e. is_possible claim xs (neg_ℤ e)) claim.bound least_error_below ≡ Some error
-      → sought_error claim xs ≡ Some (neg_ℤ error)
-  unfolding sought_error
-  sought_below error none is = rw (none, is) refl
+      → nearest_error claim xs ≡ Some (neg_ℤ error)
+  unfolding nearest_error
+  nearest_below error none is = rw (none, is) refl
 
-  pub none_sought : nearest (is_possible claim xs) claim.bound greatest_error ≡ None
+  pub none_nearest : nearest (is_possible claim xs) claim.bound greatest_error ≡ None
       → nearest (λ e. is_possible claim xs (neg_ℤ e)) claim.bound least_error_below ≡ None
-      → sought_error claim xs ≡ None
-  unfolding sought_error
-  none_sought none is = rw (none, is) refl
+      → nearest_error claim xs ≡ None
+  unfolding nearest_error
+  none_nearest none is = rw (none, is) refl

@@ -12,7 +12,7 @@ use Rattle.pairing.specs.Exchange.{IsLawful}
 use Rattle.pairing.specs.declared.exchange.Exchange.{Exchange}
 use Rattle.checker.specs.RefutationTest.{admits}
 use Rattle.finder.specs.Room.{AreRooms, IsNear, IsRoom, refuses, room_at}
-use Rattle.finder.proofs.Kept.{kept}
+use Rattle.finder.proofs.NoOverflow.{kept}
 use Rattle.finder.proofs.List.{by_test}
 use Rattle.finder.proofs.ErrorRoom.{bits}
 

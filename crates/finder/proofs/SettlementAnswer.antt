@@ -25,7 +25,7 @@ use Rattle.courses.specs.DriftSettlement.{SettlesWithDrift}
 use Rattle.courses.specs.Evidence.{IsNoEvidence, count_with_exchange}
 use Rattle.finder.specs.Fewest.{AreLongest, IsStuck, end_after}
 use Rattle.finder.specs.FewestAnswer.{FindsFewest}
-use Rattle.finder.specs.Leeway.{IsSoughtInVain}
+use Rattle.finder.specs.Leeway.{AreCoversTriedInVain}
 use Rattle.finder.specs.Settlement.{IsContestedBy, IsFitted, IsFittedByNone, IsHeard, IsLeftOpen, IsShownBy, IsUnheard}
 use Rattle.finder.specs.declared.fewest.Fewest.TheVariants as found
 use Rattle.finder.proofs.LongestPiece.{end_kept, fits_64}
@@ -108,10 +108,10 @@ fits_not has isnt (has_cover, back) (to, from) = λ course. true≢false (sym (b
 
 module _ (claim : ClaimData) (xs : List Exchange) where
   -- no course fits, and all conflicts are told
-  pub none_fits : (told : List ShownConflict) → AreAllConflicts claim xs told → ¬ (SomeCourse claim xs)
+  pub none_fits : (listed : List ShownConflict) → AreAllConflicts claim xs listed → ¬ (SomeCourse claim xs)
       → (SomeCourse claim xs ↔ HasSmallCover claim xs)
-      → ((is_in : ℕ → Bool) → HoldsAnEnd is_in told → IsCover claim xs is_in) → IsFittedByNone claim xs told
-  none_fits told all no_course (to, from) covers = record {
+      → ((is_in : ℕ → Bool) → HoldsAnEnd is_in listed → IsCover claim xs is_in) → IsFittedByNone claim xs listed
+  none_fits listed all no_course (to, from) covers = record {
     no_course = no_course;
     all = all;
     unaccounted = λ is_in small ends. no_course (from (is_in, covers is_in ends, small));
@@ -170,7 +170,7 @@ module _ (claim : ClaimData) (xs : List Exchange) where
   -- as some course fits, the samples don't contradict each other there, and so no certificate is accepted
   pub left_open : (begin end : ℤ) (hull : Hull) → begin ≤ℤ end → IsHeard claim xs → IsFitted claim xs
       → FindsFewest (samples_of xs claim) claim (Ok (found.Nothing begin end hull))
-      → IsSoughtInVain claim xs (unsigned_abs begin ∷ unsigned_abs end ∷ [])
+      → AreCoversTriedInVain claim xs (unsigned_abs begin ∷ unsigned_abs end ∷ [])
       → IsLeftOpen claim xs begin end hull
   left_open begin end hull forward is_heard courses finds all_tried = record {
     heard = is_heard;

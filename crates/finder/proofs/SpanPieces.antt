@@ -18,7 +18,7 @@ use Rattle.era_unfold.specs.Window.{ticks_per_second}
 use Rattle.span_cover.specs.Piece.{IsPiece}
 use Rattle.span_cover.specs.Step.{piece_end_of}
 use Rattle.finder.proofs.Claim.{first_kept, last_kept}
-use Rattle.finder.proofs.Kept.{kept}
+use Rattle.finder.proofs.NoOverflow.{kept}
 use Rattle.span_cover.specs.declared.stretch.Stretch.{Stretch}
 use Rattle.finder.specs.Piece.{IsPieceCount, piece_count_of, piece_begin_of, ends_of, stretch_at}
 

@@ -12,7 +12,7 @@ use Rattle.courses.specs.LeastCovers.{AreLeastCovers}
 use Rattle.courses.specs.declared.groups.Groups.{Groups}
 use Rattle.span_cover.specs.Group.{numbers_below}
 use Rattle.finder.specs.Leeway.{AreLeeways, DoOthersLet, IsCandidate, IsLimit, IsMade, IsNothingSaid, IsTriedInVain, IsUnlimited, leeway_in, no_limit, turned}
-use Rattle.finder.specs.Sought.{IsErrorOf64Bits}
+use Rattle.finder.specs.NearestRefutation.{IsErrorOf64Bits}
 use Rattle.finder.specs.declared.drift_refutation.Place.{Place}
 use Rattle.finder.specs.declared.side.Side.{Side}
 use Rattle.finder.specs.declared.side.Side.TheVariants.{Above, Below}

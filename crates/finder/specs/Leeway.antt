@@ -19,7 +19,7 @@ use Rattle.marks.specs.Mark.{low_mark, high_mark, AreCompatible}
 use Rattle.marks.specs.declared.mark.Mark.{Mark}
 use Rattle.pairing.specs.declared.exchange.Exchange.{Exchange}
 use Rattle.span_cover.specs.Group.{numbers_below}
-use Rattle.finder.specs.Sought.{IsErrorOf64Bits}
+use Rattle.finder.specs.NearestRefutation.{IsErrorOf64Bits}
 use Rattle.finder.specs.declared.drift_refutation.Place.{Place}
 use Rattle.finder.specs.declared.side.Side.{Side}
 use Rattle.finder.specs.declared.side.Side.TheVariants.{Above, Below}
@@ -133,7 +133,7 @@ IsTriedAtAll claim xs readings cover =
     All (λ reading. (side : Side) → IsTriedInVain claim xs (holds cover) reading side) readings
 
 -- so it is with each of the least covers
-pub record IsSoughtInVain (claim : ClaimData) (xs : List Exchange) (readings : List ℕ)
+pub record AreCoversTriedInVain (claim : ClaimData) (xs : List Exchange) (readings : List ℕ)
     : Type 0 where
   pub covers : List Groups
   pub least : AreLeastCovers claim xs covers

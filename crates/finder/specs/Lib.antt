@@ -13,5 +13,5 @@ pub mod FewestAnswer
 pub mod Carried
 pub mod Settlement
 pub mod Room
-pub mod Sought
+pub mod NearestRefutation
 pub mod Leeway

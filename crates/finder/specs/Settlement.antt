@@ -20,7 +20,7 @@ use Rattle.courses.specs.DriftRefutation.{IsRefutedWithDrift, HasDriftCourse}
 use Rattle.courses.specs.Evidence.{IsNoEvidence, count_with_exchange}
 use Rattle.courses.specs.PairMarks.{conflict_data}
 use Rattle.finder.specs.Fewest.{HasFewest, IsOfLongest, IsStuck, IsTooLong, NoneIsAccepted, NoneOfFewIsAccepted, stretch_over}
-use Rattle.finder.specs.Leeway.{IsSoughtInVain}
+use Rattle.finder.specs.Leeway.{AreCoversTriedInVain}
 use Rattle.finder.specs.declared.fault.FindFault.{FindFault}
 use Rattle.finder.specs.declared.fault.FindFault.TheVariants.{TooManyPieces, Memory}
 use Rattle.finder.specs.declared.settlement.Settled.{Settled}
@@ -92,7 +92,7 @@ module _ (claim : ClaimData) (xs : List Exchange) where
     pub stuck : IsStuck (samples_of xs claim) claim begin end hull
     pub none_accepted : NoneIsAccepted (samples_of xs claim) claim
     pub held : HoldsError claim (samples_of xs claim) (stretch_over begin end) hull
-    pub all_tried : IsSoughtInVain claim xs (unsigned_abs begin ∷ unsigned_abs end ∷ [])
+    pub all_tried : AreCoversTriedInVain claim xs (unsigned_abs begin ∷ unsigned_abs end ∷ [])
 
   abbrev pub IsSettledAs : SettledData → Type 0
   IsSettledAs (shown certificate) = IsShownBy certificate

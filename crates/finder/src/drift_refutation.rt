@@ -22,7 +22,7 @@ use pairing::ToExchange;
 use std::alloc::{AllocError, Global};
 
 /// The greatest error that is looked for, in ticks, to either side of zero.
-const GREATEST_ERROR: i128 = 1 << 63;
+const GREATEST_ERROR_EITHER_SIDE: i128 = 1 << 63;
 
 /// Where a refutation is looked for.
 #[derive(Clone, Copy)]
@@ -52,13 +52,13 @@ pub fn find_refutation_with_drift<X: ToExchange>(
     requires claim { IsLawful (claim_data claim.now) }
     requires exchanges { All (IsLawfulExchange (length claim.now.servers.items))
         (map X.shown exchanges.now) }
-    ensures found { IfOk result (λ sought. IfSome sought (λ found. IsRefutedWithDrift
+    ensures found { IfOk result (λ result. IfSome result (λ found. IsRefutedWithDrift
         (claim_data claim.now) (map X.shown exchanges.now) (refutation_data found))) }
-    ensures settles { IfOk result (λ sought. IfSome sought (λ found. SettlesWithDrift
+    ensures settles { IfOk result (λ result. IfSome result (λ found. SettlesWithDrift
         (claim_data claim.now) (map X.shown exchanges.now) (refutation_data found) true)) }
 
     // None is found only if none of the errors that it tries refutes the claim.
-    ensures all_tried { IfOk result (λ sought. IfNone sought
+    ensures all_tried { IfOk result (λ result. IfNone result
         (AreTriedInVain (claim_data claim.now) (map X.shown exchanges.now) places.now)) }
 {
     let conflicts = conflicts_of(alloc, exchanges, claim)?;
@@ -200,7 +200,7 @@ fn error_beyond(claim: &Claim, side: Side, most: i128) -> Option<i64>
     ensures { MatchOption result (¬ (IsSayable claim.now.bound side most))
         (λ error. error ≡ turned side most) }
 {
-    if claim.bound < most && most <= GREATEST_ERROR {
+    if claim.bound < most && most <= GREATEST_ERROR_EITHER_SIDE {
         i64::try_from(side.turned(most)).ok()
     } else {
         None

@@ -339,7 +339,7 @@ fn count_with(
 /// How many pieces the claim's bound takes, if they are no more than `most`. Where lengths are
 /// likely right most pieces aren't looked at. After pieces of one length as many as have been
 /// skipped before and as many again are taken to have it too, if the piece behind them has; but if
-/// the bound `is_near` the least one, only after many, and where the same peaks decide.
+/// the bound `is_near` the least one, only after many, and where the same maxima decide.
 fn count_of(tables: &[BestTable], claim: &Claim, most: u64, is_near: bool) -> Count
     requires claim { IsLawful (claim_data claim.now) }
     requires tables { IsTabled (claim_data claim.now) tables.now }

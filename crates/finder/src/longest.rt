@@ -208,7 +208,7 @@ pub(crate) fn likely_end(
 }
 
 /// Whether the longest piece from `begin` likely has so many ticks, and ends before the span; if it
-/// `is_near`, only where the same peaks decide as did over the last piece.
+/// `is_near`, only where the same maxima decide as did over the last piece.
 pub(crate) fn is_as_long(
     tables: &[BestTable],
     pace: &mut Pace,
@@ -228,11 +228,11 @@ pub(crate) fn is_as_long(
     let before = pace.places;
     is_shown(tables, &mut pace.places, claim, begin, end)
         && !is_shown(tables, &mut pace.places, claim, begin, end + 1)
-        && (!is_near || have_same_peaks(&before, &pace.places))
+        && (!is_near || have_same_maxima(&before, &pace.places))
 }
 
-/// Whether the same peaks decided in all tables, at whatever levels.
-fn have_same_peaks(one: &Places, other: &Places) -> bool {
+/// Whether the same maxima decided in all tables, at whatever levels.
+fn have_same_maxima(one: &Places, other: &Places) -> bool {
     for index in 0..32 {
         let mut levelled = other.near[index];
         levelled.lows.level = one.near[index].lows.level;

@@ -8,7 +8,7 @@ ghost use Rattle.courses.specs.ConflictTable.{IsConflictTable};
 ghost use Rattle.courses.specs.ConflictsView.{data_of};
 ghost use Rattle.courses.specs.DriftSettlement.{SettlesWithDrift};
 ghost use Rattle.courses.specs.Evidence.{count_with_exchange};
-ghost use Rattle.finder.specs.Leeway.{IsSoughtInVain};
+ghost use Rattle.finder.specs.Leeway.{AreCoversTriedInVain};
 ghost use Rattle.finder.specs.Reach.{IsTabled};
 ghost use Rattle.finder.specs.Samples.{AreSamplesOf};
 ghost use Rattle.finder.specs.Settlement.{Settles};
@@ -109,10 +109,10 @@ fn refutation_of<X: ToExchange>(
     requires table { IsConflictTable (claim_data claim.now) (map X.shown exchanges.now)
         (data_of conflicts.now).is_broken (data_of conflicts.now).is_edge }
     requires tables { IsTabled (claim_data claim.now) tables.now }
-    ensures settles { IfOk result (λ sought. IfSome sought (λ found. SettlesWithDrift
+    ensures settles { IfOk result (λ result. IfSome result (λ found. SettlesWithDrift
         (claim_data claim.now) (map X.shown exchanges.now) (refutation_data found) true)) }
-    ensures all_tried { IfOk result (λ sought. IfNone sought
-        (IsSoughtInVain (claim_data claim.now) (map X.shown exchanges.now) readings.now)) }
+    ensures all_tried { IfOk result (λ result. IfNone result
+        (AreCoversTriedInVain (claim_data claim.now) (map X.shown exchanges.now) readings.now)) }
 {
     tables_settle_covers();
     let least = conflicts.covers(claim.false_max);
@@ -161,8 +161,8 @@ pub fn settle<X: ToExchange>(
     no_evidence_gives_no_yes();
     let conflicts = conflicts_of(alloc, exchanges, claim)?;
     if !conflicts.has_cover(claim.false_max) {
-        let told = first_contradictions(alloc, exchanges, claim, &conflicts)?;
-        return Ok(Settled::NothingFits(told));
+        let listed = first_contradictions(alloc, exchanges, claim, &conflicts)?;
+        return Ok(Settled::NothingFits(listed));
     }
     let groups = groups_heard(exchanges, claim);
     if groups <= claim.false_max {

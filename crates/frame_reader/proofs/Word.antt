@@ -52,8 +52,3 @@ drop-word xs i j bytes at long =
 pub word-append : (xs ys : List ℕ) (n i : ℕ) → length xs ≡ n → word (xs ++ ys) (n + i) ≡ word ys i
 unfolding word
 word-append xs ys n i len = rw (← len) (ap (λ (t : List ℕ). big_number 2 t) (drop-append-add xs ys i))
-
--- the two bytes of a number are read as that number
-pub word-big_bytes : (n : ℕ) (ys : List ℕ) → n < 2 ^ 16 → word (big_bytes 2 n ++ ys) 0 ≡ n
-unfolding word
-word-big_bytes n ys fits = omega arith

@@ -27,7 +27,7 @@ of_memory {c} {s} {f} feeds are P h =
     (subst (λ (x : FeedState). P x feeds.second feeds.capture) are.claim_is h))
 
 -- what a run over these feeds came to, which are feeds of these bytes
-pub record Told {T F : Type 0} (asked : AskedData) (c s f : List ℕ) (sink err err' : SinkState) (ended : RunState)
+pub record Concluded {T F : Type 0} (asked : AskedData) (c s f : List ℕ) (sink err err' : SinkState) (ended : RunState)
     (second second' : T) (capture capture' : F) (status : ℕ) : Type 0 where
   pub feeds : Feeds
   pub are : AreFeedsOf c s f feeds
@@ -38,7 +38,7 @@ pub record Told {T F : Type 0} (asked : AskedData) (c s f : List ℕ) (sink err 
 
 module _ {T F : Type 0} {asked : AskedData} {c s f : List ℕ} {sink err err' : SinkState} {ended : RunState}
     {second second' : T} {capture capture' : F} {status : ℕ}
-    (told : Told asked c s f sink err err' ended second second' capture capture' status) where
+    (told : Concluded asked c s f sink err err' ended second second' capture capture' status) where
   pub answered : IsAnsweredFor asked c s f sink ended.sink err err' status
   answered =
       let answers = of_memory told.feeds told.are (λ x y z. AnswersFor asked (run_state x y z sink) ended
@@ -52,7 +52,7 @@ module _ {T F : Type 0} {asked : AskedData} {c s f : List ℕ} {sink err err' : 
         answers = record {
           answer = answers.answer;
           promise = answers.promise.runs.reports;
-          tells = answers.tells;
+          concludes = answers.concludes;
           status_is = answers.status_is;
         };
         shows = of_memory told.feeds told.are (λ x y z. ShowsAt status asked.question x y z) told.shows;

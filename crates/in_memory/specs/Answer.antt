@@ -5,7 +5,7 @@ use Rattle.std.specs.Io.KnownBytes.{Keeps}
 use Rattle.byte_stream.specs.State.{SinkState}
 use Rattle.report.specs.ExitStatus.{status_of}
 use Rattle.report.specs.Run.{RunState, run_state}
-use Rattle.report.specs.Telling.{Answers, Tells}
+use Rattle.report.specs.Conclusion.{Answers, Concludes}
 use Rattle.report.specs.declared.fault.Outcome.{Outcome}
 use Rattle.report.specs.declared.fault.RunFault.{RunFault}
 use Rattle.audit.specs.Finding.{ShowsFinding}
@@ -71,7 +71,7 @@ pub record IsUnjudged (kind : SecondKind) (sums : SumsData) (before after : RunS
   pub fault_is : IsUnjudgedFor kind sums (feeds_of before) (feeds_of after) fault
   pub unwritten : Keeps before.sink.contents after.sink.contents
   pub closed : after.sink.is_open ≡ false
-  pub tells : Tells (Err fault) err err'
+  pub concludes : Concludes (Err fault) err err'
   pub status_is : status ≡ status_of (Err fault)
   pub counts_faults : CountFaults {A = Outcome} (Err fault) (feeds_of before) (feeds_of after)
 

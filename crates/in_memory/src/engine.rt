@@ -16,7 +16,7 @@ use crate::named_feed::NamedFeed;
 use crate::second::SummedSource;
 use audit::{Outputs, Question, Style, answer};
 use byte_stream::Sink;
-use report::tell;
+use report::conclude;
 use std::alloc::Global;
 use std::hash::BuildHasher;
 
@@ -88,7 +88,7 @@ pub fn answer_by_sums<
         Ok(held) => judge::<Q, T, S, E, H>(alloc, question, style, held, to, hasher),
         Err(fault) => {
             let _ = to.out.finish();
-            tell(&Err(fault), &mut to.err)
+            conclude(&Err(fault), &mut to.err)
         }
     }
 }

@@ -2,7 +2,6 @@
 use Rattle.std.proofs.Common.{◌≡◌, ℕ, zero, suc, ◌*◌, ◌/◌, ◌<◌, ◌≤◌, ℤ, pos, negsuc, ◌+ℤ◌, ◌*ℤ◌, ◌<ℤ◌, ◌≤ℤ◌, neg_ℤ, Bool, true, false, cond, List, refl, arith, count_by}
 use Rattle.std.proofs.lemmas.Int.{ints, by_lt_z}
 use Rattle.std.proofs.lemmas.List.Sums.{sum_by-le-sum_by}
-use Rattle.std.proofs.Math.Nat.{mul-le-mul_right}
 use Rattle.intersection.specs.Fineness.{times_le}
 use Rattle.intersection.specs.Interval.{leaves_out}
 use Rattle.intersection.specs.Hull.{count_leaving_out, IsAdmissible, IsHull}
@@ -11,9 +10,6 @@ use Rattle.intersection.specs.Fraction.{HoldsFraction, leaves_fraction_out, IsAd
 use Rattle.intersection.specs.declared.kinds.Interval.{Interval}
 use Rattle.intersection.specs.declared.kinds.Hull.{Hull}
 use Rattle.intersection.specs.declared.kinds.Hull.TheVariants.{Unbounded, Empty, Bounded}
-
-times : (m n k : ℕ) → m ≤ n → m * k ≤ n * k
-times m n k h = mul-le-mul_right k h
 
 next_times : (a next : ℤ) (n : ℕ) → next ≡ a +ℤ pos 1 → (next *ℤ pos n) ≡ (a *ℤ pos n) +ℤ pos n
 next_times (pos x) (pos y) n h = let is : y ≡ suc x = omega (arith, ints) in rw is (omega (arith, ints))

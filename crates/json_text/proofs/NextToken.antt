@@ -58,10 +58,6 @@ module _ {B : Type 0} (m : Items → B) (depth : ℕ) (ts : List Token) where
         ap (parse_map m) (item_read depth ts r v going read) ∙ mapped_twice (item v) m (next_items depth r),
       )
 
-  pub elements_passed : (r : List Token) → rest_after (next_items depth ts) ≡ Some r →
-      (items : Items) × (parse_map m (next_items depth ts) ≡ Some (m items, r))
-  elements_passed r is = let found = left_some (next_items depth ts) r is in (found.0, ap (parse_map m) found.1)
-
   -- an array that goes on has an element
   pub goes_on : (r : List Token) → after_end_array ts ≡ None → rest_after (next_items depth ts) ≡ Some r →
       (v : Data) × (rest : Items) × (parse_map m (next_items depth ts) ≡ Some (m (item v rest), r))

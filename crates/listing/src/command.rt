@@ -5,12 +5,12 @@ ghost use Rattle.byte_stream.specs.Intake.{TakesAtMost};
 ghost use Rattle.byte_stream.specs.State.{IsReadable, IsWritable};
 ghost use Rattle.pcap_reader.specs.Limit.{most_taken};
 ghost use Rattle.report.specs.Run.{capture_state};
-ghost use Rattle.report.specs.Telling.{Answers};
+ghost use Rattle.report.specs.Conclusion.{Answers};
 ghost use Rattle.listing.specs.Listing.{list_report};
 
 use crate::run::run_list;
 use byte_stream::{Feed, Sink};
-use report::tell;
+use report::conclude;
 use std::alloc::Global;
 
 /// Lists a capture on `out` as `run_list` does, and reports a fault on `err`. Beside the feed
@@ -31,5 +31,5 @@ pub fn answer_list<F: Feed, S: Sink, E: Sink>(
     ensures at_most { TakesAtMost most_taken (F.state capture) (F.state result.0) }
 {
     let (capture, answer) = run_list(alloc, capture, out);
-    (capture, tell(&answer, err))
+    (capture, conclude(&answer, err))
 }

@@ -7,7 +7,7 @@ use Rattle.std.proofs.lemmas.Int.{ints, clamps}
 use Rattle.pairing.specs.Exchange.{IsInRange}
 use Rattle.pairing.specs.declared.exchange.Exchange.{Exchange}
 use Rattle.sample_interval.specs.Exchange.{IsOfSomeClaim}
-use Rattle.sample_interval.proofs.Kept.{kept, stamp_is, kept_sum, kept_difference}
+use Rattle.sample_interval.proofs.NoOverflow.{kept, stamp_is, kept_sum, kept_difference}
 use Rattle.marks.specs.Mark.{low_mark, high_mark, IsPossible}
 use Rattle.marks.specs.Range.{IsWithinRange}
 use Rattle.marks.proofs.MarkPair.{le_from_test, lt_from_test, tests, not_both}

@@ -4,7 +4,7 @@ use mir.Syntax.{w128}
 use Rattle.std.proofs.lemmas.Int.{ints, unsigned_abs-mul, fits_signed_from_abs}
 use Rattle.std.proofs.Math.Nat.{mul-le-mul_left}
 use Rattle.sample_interval.specs.Widening.{billion, IsRate}
-use Rattle.sample_interval.proofs.Kept.{kept}
+use Rattle.sample_interval.proofs.NoOverflow.{kept}
 use Rattle.marks.specs.Line.{falling_line, rising_line}
 use Rattle.marks.specs.Range.{IsWithinRange}
 use Rattle.marks.specs.declared.mark.Mark.{Mark}

@@ -5,7 +5,7 @@ use mir.Syntax.{w128}
 use lib.Signed.{le_z}
 use Rattle.std.proofs.lemmas.Int.{ints}
 use Rattle.sample_interval.specs.Widening.{billion}
-use Rattle.sample_interval.proofs.Kept.{kept}
+use Rattle.sample_interval.proofs.NoOverflow.{kept}
 use Rattle.marks.specs.Line.{falling_line, rising_line}
 use Rattle.marks.specs.Mark.{AreCompatible}
 use Rattle.marks.specs.Range.{IsWithinRange}

@@ -55,9 +55,9 @@ pub record IsListed (rows : List Row) (listed : Listed) : Type 0 where
   pub path : option_map string_bytes listed.path ≡ first_of (codes "CAPTURE") rows
 
 -- A person is told of the operand TIME.
-pub record IsToldTime (rows : List Row) (told : Option (String Global)) : Type 0 where
-  pub human : IsFlag (codes "human") rows (is_some told)
-  pub time : IfSome told (λ text. string_bytes text ≡ operand (codes "TIME") rows)
+pub record IsShownTime (rows : List Row) (shown : Option (String Global)) : Type 0 where
+  pub human : IsFlag (codes "human") rows (is_some shown)
+  pub time : IfSome shown (λ text. string_bytes text ≡ operand (codes "TIME") rows)
 
 -- The claim, the capture, the file of sums, the output and the style are those of the words.
 pub record AreNamed (rows : List Row) (paths : Paths) : Type 0 where
@@ -93,11 +93,12 @@ IsRefusable name =
 abbrev pub IsRequest : Text → List Row → Request → Type 0
 IsRequest name rows requests.Samples = name ≡ codes "samples"
 IsRequest name rows (requests.At at) =
-    (name ≡ codes "at") × (time_given rows ≡ Some at.second)
+    (name ≡ codes "at") × (time_given rows ≡ Some at.unix_second)
 IsRequest name rows requests.Settle = name ≡ codes "settle"
 IsRequest name rows (requests.Find find) =
     (name ≡ codes "find") × IsFlag (codes "refutation") rows false × HasStep rows find.step
-IsRequest name rows requests.Seek = (name ≡ codes "find") × IsFlag (codes "refutation") rows true
+IsRequest name rows requests.FindRefutation = (name ≡ codes "find")
+    × IsFlag (codes "refutation") rows true
 IsRequest name rows (requests.Envelope envelope) = (name ≡ codes "envelope")
     × IsFlag (codes "servers") rows envelope.servers × IsFlag (codes "least") rows envelope.least
     × HasStep rows envelope.step
@@ -127,8 +128,8 @@ IsCalled name rows (calls.List listed) = (name ≡ codes "list") × IsListed row
 IsCalled name rows (calls.Ask request paths) = IsRequest name rows request × AreNamed rows paths
 IsCalled name rows (calls.Judge judgement paths) = IsJudgement name rows judgement
     × AreJudgedNamed (second_operand judgement) rows paths
-IsCalled name rows (calls.RefuseTime told) =
-    (name ≡ codes "at") × (time_given rows ≡ None) × IsToldTime rows told
+IsCalled name rows (calls.RefuseTime shown) =
+    (name ≡ codes "at") × (time_given rows ≡ None) × IsShownTime rows shown
 IsCalled name rows (calls.Refuse text) = IsRefusable name
 IsCalled name rows (calls.Show text) = ⊥
 

@@ -8,7 +8,7 @@ use Rattle.report.specs.ExitStatus.{refused_status, status_of}
 use Rattle.report.specs.Input.{IsInputFault, read_failed}
 use Rattle.report.specs.Reports.{whole_text}
 use Rattle.report.specs.Run.{bare_state}
-use Rattle.report.specs.Telling.{Answers, Tells}
+use Rattle.report.specs.Conclusion.{Answers, Concludes}
 use Rattle.report.specs.declared.fault.Input.TheVariants.{Sums}
 use Rattle.report.specs.declared.fault.Outcome.{Outcome}
 use Rattle.report.specs.declared.fault.Outcome.TheVariants.{Yes}
@@ -23,7 +23,7 @@ use Rattle.audit.specs.Refute.{refute}
 use Rattle.audit.specs.Run.{AnswersFor, ShowsAt}
 use Rattle.audit.specs.Samples.{samples}
 use Rattle.audit.specs.Second.{no_second, certificate_second, refutation_second}
-use Rattle.audit.specs.Seek.{seek}
+use Rattle.audit.specs.FindRefutation.{find_refutation}
 use Rattle.audit.specs.Settle.{settle}
 use Rattle.in_memory.specs.Answer.{JudgesBySums}
 use Rattle.ntpaudit.specs.Reading.{Reading, run_of, sums_of}
@@ -38,10 +38,10 @@ use Rattle.ntpaudit.specs.declared.invocation.Request.TheVariants as requests
 -- the question of a request
 abbrev pub question_of : Request → QuestionData
 question_of requests.Samples = samples
-question_of (requests.At asked) = at asked.second
+question_of (requests.At asked) = at asked.unix_second
 question_of requests.Settle = settle
 question_of (requests.Find asked) = find asked.step.seconds
-question_of requests.Seek = seek
+question_of requests.FindRefutation = find_refutation
 question_of (requests.Envelope asked) = envelope asked.step.seconds asked.servers asked.least
 
 -- what the engine is asked
@@ -72,7 +72,7 @@ pub record IsUnread {U : Type 0} (state : U → FeedState) (sums : U)
   pub counts_fault : CountsFault (read_failed {X = Outcome} (Err fault))
       (state sums).faults (state after).faults
   pub untouched : sink' ≡ sink
-  pub tells : Tells (Err fault) err err'
+  pub concludes : Concludes (Err fault) err err'
   pub status_is : status ≡ status_of (Err fault)
 
 -- The file of sums was read whole, and its device didn't fail.
@@ -113,6 +113,6 @@ SaysAlone (calls.Show text) sink sink' err err' status =
     err err' status
 SaysAlone (calls.Refuse text) sink sink' err err' status =
     (sink' ≡ sink) × IsDelivered (string_bytes text) err err' × (status ≡ refused_status)
-SaysAlone (calls.RefuseTime told) sink sink' err err' status =
+SaysAlone (calls.RefuseTime shown) sink sink' err err' status =
     (sink' ≡ sink) × IsDelivered (codes "ntpaudit: time\n") err err' × (status ≡ refused_status)
 SaysAlone _ sink sink' err err' status = Unit {0}

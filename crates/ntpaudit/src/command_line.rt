@@ -11,7 +11,7 @@ use std::env;
 use std::io::ErrorKind;
 
 /// What a refusal of the command line, or a call for help, asks for.
-fn told(alloc: Global, words: &[String], error: &Error) -> Result<Invocation, AllocError> {
+fn explained(alloc: Global, words: &[String], error: &Error) -> Result<Invocation, AllocError> {
     if error.kind() == error::ErrorKind::OutOfMemory {
         return Err(AllocError);
     }
@@ -28,7 +28,7 @@ fn read_words(alloc: Global, words: &[String]) -> Result<Invocation, AllocError>
     let words = &words[..counted(words)];
     match program(alloc)?.try_get_matches_from(words) {
         Ok(matches) => read_once(alloc, invocation_of(alloc, &matches)?),
-        Err(error) => told(alloc, words, &error),
+        Err(error) => explained(alloc, words, &error),
     }
 }
 

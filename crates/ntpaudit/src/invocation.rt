@@ -67,7 +67,7 @@ pub(crate) enum Request {
     /// Look for a certificate.
     Find(Find),
     /// Look for a refutation.
-    Seek,
+    FindRefutation,
     /// Show how far off the clock may have been.
     Envelope(Envelope),
 }

@@ -38,7 +38,7 @@ use audit::Outputs;
 use byte_stream::{Sink, WriteSink};
 use fault_words::{KeptSink, Obstacle};
 use listing::answer_list;
-use report::{Input, Outcome, RunFault, refuse, refuse_time, show, tell};
+use report::{Input, Outcome, RunFault, refuse, refuse_time, show, conclude};
 use std::alloc::AllocError;
 use std::hash::{BuildHasher, BuildHasherDefault, FoldHasher, RandomState};
 use std::process::ExitCode;
@@ -51,7 +51,7 @@ fn list<S: Sink, E: Sink>(rt: &HostRuntime, listed: &Listed, to: &mut Outputs<S,
 {
     match open(rt, listed.operand(), Input::Capture) {
         Ok(capture) => answer_list(rt.alloc(), capture, &mut to.out, &mut to.err).1,
-        Err(fault) => tell(&Err(fault), &mut to.err),
+        Err(fault) => conclude(&Err(fault), &mut to.err),
     }
 }
 
@@ -69,7 +69,7 @@ fn ask_of_files<S: Sink, E: Sink, H: BuildHasher + Drop>(
 {
     match open_evidence(rt, paths) {
         Ok((inputs, sums)) => ask(rt.alloc(), request, paths.style, inputs, sums, to, hasher),
-        Err(fault) => tell(&Err(fault), &mut to.err),
+        Err(fault) => conclude(&Err(fault), &mut to.err),
     }
 }
 
@@ -141,7 +141,7 @@ fn ask_for_file<S: Sink, E: Sink, H: BuildHasher + Copy + Drop>(
     ensures closed { (E.state to.new.err).is_open ≡ false }
 {
     let (answer, hindrance) = write_file(rt, request, paths, path, &mut to.out, hasher);
-    (tell(&answer, &mut to.err), hindrance)
+    (conclude(&answer, &mut to.err), hindrance)
 }
 
 /// Judges a certificate or a refutation, once its files are opened. The result is the exit status.
@@ -161,7 +161,7 @@ fn judge_files<S: Sink, E: Sink, H: BuildHasher + Drop>(
             let style = paths.evidence.style;
             judge(rt.alloc(), judgement, style, inputs, sums, to, hasher)
         }
-        Err(fault) => tell(&Err(fault), &mut to.err),
+        Err(fault) => conclude(&Err(fault), &mut to.err),
     }
 }
 
@@ -216,7 +216,7 @@ fn main(rt: HostRuntime) -> ExitCode {
             }
         },
         Err(AllocError) => {
-            let code = tell(&Err(RunFault::Memory), &mut outputs.err);
+            let code = conclude(&Err(RunFault::Memory), &mut outputs.err);
             (code, Asked::Nothing, None)
         }
     };

@@ -13,10 +13,12 @@ ghost use Rattle.ntpaudit.specs.Response.{judged_of, request_of};
 
 use crate::files::Inputs;
 use crate::invocation::{Judgement, Request};
-use audit::{Check, Outputs, Question, Samples, Seek, Settle, Style, answer, answer_check};
+use audit::{
+    Check, FindRefutation, Outputs, Question, Samples, Settle, Style, answer, answer_check,
+};
 use byte_stream::{Feed, Sink};
 use in_memory::{MAX_SUMS, NamedFeed, SummedSource, answer_by_sums};
-use report::{Input, read_input, tell};
+use report::{Input, conclude, read_input};
 use std::alloc::Global;
 use std::hash::BuildHasher;
 
@@ -155,7 +157,7 @@ fn answer_by_file<
             let text = text.as_slice();
             answer_by_text(alloc, question, style, text, inputs, to, hasher)
         }
-        Err(fault) => tell(&Err(fault), &mut to.err),
+        Err(fault) => conclude(&Err(fault), &mut to.err),
     }
 }
 
@@ -227,7 +229,15 @@ pub(crate) fn ask<
         Request::At(at) => answer_one(alloc, at, style, inputs, sums, to, hasher),
         Request::Settle => answer_one(alloc, Settle, style, inputs, sums, to, hasher),
         Request::Find(find) => answer_one(alloc, find, style, inputs, sums, to, hasher),
-        Request::Seek => answer_one(alloc, Seek, style, inputs, sums, to, hasher),
+        Request::FindRefutation => answer_one(
+            alloc,
+            FindRefutation,
+            style,
+            inputs,
+            sums,
+            to,
+            hasher,
+        ),
         Request::Envelope(envelope) => {
             answer_one(alloc, envelope, style, inputs, sums, to, hasher)
         }

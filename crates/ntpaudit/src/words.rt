@@ -4,7 +4,7 @@ ghost use Rattle.std.specs.Prelude.{◌≡◌, IfOk, IfSome, Some, codes, option
 ghost use Rattle.clap.specs.Words.{first_of, found_of, rows_of, subcommand_rows_of};
 ghost use Rattle.ntpaudit.specs.Invocation as spec;
 ghost use Rattle.ntpaudit.specs.Invocation.{AreJudgedNamed, AreNamed, HasStep, IsAsking, IsCalled};
-ghost use Rattle.ntpaudit.specs.Invocation.{IsCalledBy, IsFlag, IsListed, IsRefusal, IsToldTime};
+ghost use Rattle.ntpaudit.specs.Invocation.{IsCalledBy, IsFlag, IsListed, IsRefusal, IsShownTime};
 ghost use Rattle.ntpaudit.specs.Invocation.{is_human, step_given};
 
 use crate::invocation::{Invocation, JudgedPaths, Judgement, Listed, Paths, Request};
@@ -114,8 +114,8 @@ fn time_of(matches: &ArgMatches) -> Option<u32>
 }
 
 /// The TIME that is refused, if a person is told of it.
-fn told_time(alloc: Global, matches: &ArgMatches) -> Result<Option<String>, AllocError>
-    ensures { IfOk result (IsToldTime (rows_of (found_of matches.now))) }
+fn shown_time(alloc: Global, matches: &ArgMatches) -> Result<Option<String>, AllocError>
+    ensures { IfOk result (IsShownTime (rows_of (found_of matches.now))) }
 {
     if flag(matches, "human") {
         Ok(Some(operand(alloc, matches, "TIME")?))
@@ -129,8 +129,8 @@ fn at(alloc: Global, matches: &ArgMatches) -> Result<Invocation, AllocError>
     ensures { IfOk result (IsCalled (codes "at") (rows_of (found_of matches.now))) }
 {
     match time_of(matches) {
-        Some(second) => ask(alloc, Request::At(At { second }), matches),
-        None => Ok(Invocation::RefuseTime(told_time(alloc, matches)?)),
+        Some(unix_second) => ask(alloc, Request::At(At { unix_second }), matches),
+        None => Ok(Invocation::RefuseTime(shown_time(alloc, matches)?)),
     }
 }
 
@@ -165,7 +165,7 @@ fn find(alloc: Global, matches: &ArgMatches) -> Result<Invocation, AllocError>
         return refusal(alloc, "no step\n");
     };
     let request = if flag(matches, "refutation") {
-        Request::Seek
+        Request::FindRefutation
     } else {
         Request::Find(Find { step })
     };

@@ -12,14 +12,14 @@ use Rattle.pairing.specs.declared.counts.Counts.{Counts}
 use Rattle.pairing.specs.declared.exchange.Exchange.{Exchange}
 use Rattle.pairing.specs.declared.fault.PairFault.{PairFault}
 use Rattle.pairing.specs.declared.fault.PairFault.TheVariants.{Memory, TooManyExchanges}
-use Rattle.pairing.specs.declared.held.HeldExchange.{HeldExchange}
-use Rattle.pairing.specs.declared.held.Held.{Held}
-use Rattle.pairing.specs.declared.index.Kept.{Kept}
+use Rattle.pairing.specs.declared.compact.CompactExchange.{CompactExchange}
+use Rattle.pairing.specs.declared.compact.CompactCollection.{CompactCollection}
+use Rattle.pairing.specs.declared.index.IndexedRequest.{IndexedRequest}
 use Rattle.pairing.specs.Answer.{IsAnswerTo, IsFromOutside, LeavesSource, MayAnswer, answer_of, capture_failed, device_failed}
 use Rattle.pairing.specs.Exchange.{AreLawful, most_exchanges}
 use Rattle.pairing.specs.Gathering.{IsGatheredFrom, is_accepted}
 use Rattle.pairing.specs.Counts.{HasRoom}
-use Rattle.pairing.specs.Held.{held_data, held_of}
+use Rattle.pairing.specs.Compact.{compact_data, compact_of}
 use Rattle.pairing.specs.Message.{reply_of}
 use Rattle.pairing.specs.Pairing.{Collection, collection_of, counts_of, exchanges_of, replies_of}
 use Rattle.pairing.specs.Reading.{IsWhole}
@@ -27,8 +27,8 @@ use Rattle.pairing.proofs.JoinSteps.{length-filter_map}
 use Rattle.pairing.proofs.ReadingSteps.{HasRoom-weaker, gathered-room}
 
 -- what is gathered leaves room to count what becomes of each reply
-pub joining-room : (claim : ClaimData) (records : List Record) (kept : List Kept)
-    (held : List HeldExchange) (counts : Counts) →
+pub joining-room : (claim : ClaimData) (records : List Record) (kept : List IndexedRequest)
+    (held : List CompactExchange) (counts : Counts) →
     length records ≤ most_records → IsGatheredFrom claim records kept held counts →
     HasRoom counts (length held)
 unfolding replies_of
@@ -38,7 +38,7 @@ joining-room claim records kept held counts few g =
     omega (
       arith,
       ap length g.holds,
-      length-map (filter is_accepted replies) held_of,
+      length-map (filter is_accepted replies) compact_of,
       length-filter is_accepted replies,
       count_by-le-length is_accepted replies,
       length-filter_map (reply_of claim) records,
@@ -47,15 +47,15 @@ joining-room claim records kept held counts few g =
     (gathered-room claim records kept held counts g few)
 
 -- what is joined of the records of a whole capture is what is collected of them
-abbrev IsCollected : ClaimData → List Record → Result Held PairFault → Type 0
+abbrev IsCollected : ClaimData → List Record → Result CompactCollection PairFault → Type 0
 IsCollected claim records r =
-    MatchResult r (λ held. collection_of claim records ≡ Ok (held_data held)) (λ fault.
+    MatchResult r (λ held. collection_of claim records ≡ Ok (compact_data held)) (λ fault.
     (fault ≡ Memory) ⊎ (collection_of claim records ≡ Err fault))
 
 -- the answer to a whole source is what is collected of its records
 pub answer-whole : (claim : ClaimData) (remaining : Option Coming) (records : List Record)
-    (r : Result Held PairFault) → IfSome remaining (IsWhole records) → IsCollected claim records r →
-    IfSome remaining (IsAnswerTo held_data claim r)
+    (r : Result CompactCollection PairFault) → IfSome remaining (IsWhole records) → IsCollected claim records r →
+    IfSome remaining (IsAnswerTo compact_data claim r)
 unfolding answer_of
 answer-whole claim None records r whole exact = tt
 answer-whole claim (Some coming) records (Ok held) (are, ends) exact = rw (ends, are) exact
@@ -81,8 +81,9 @@ collection-fault claim records fault is =
 
 -- a fault that is no device's and none of the capture's
 left_as_it_was : (old new : SourceState) (fault : PairFault) → LeavesSource {X = Unit {0}} old (Ok tt) new →
-    MayAnswer fault → device_failed {X = Held} (Err fault) ≡ false →
-    capture_failed {X = Held} (Err fault) ≡ false → LeavesSource {X = Held} old (Err fault) new
+    MayAnswer fault → device_failed {X = CompactCollection} (Err fault) ≡ false →
+    capture_failed {X = CompactCollection} (Err fault) ≡ false
+    → LeavesSource {X = CompactCollection} old (Err fault) new
 left_as_it_was old new fault leaves may device capture = record {
   may_answer = may;
   counts_fault = rw device leaves.counts_fault;
@@ -92,7 +93,8 @@ left_as_it_was old new fault leaves may device capture = record {
 
 -- what is joined leaves the source alone
 pub leaves-whole : (claim : ClaimData) (records : List Record) (old new : SourceState)
-    (r : Result Held PairFault) → LeavesSource {X = Unit {0}} old (Ok tt) new → IsCollected claim records r →
+    (r : Result CompactCollection PairFault) → LeavesSource {X = Unit {0}} old (Ok tt) new →
+    IsCollected claim records r →
     LeavesSource old r new
 leaves-whole claim records old new (Ok held) leaves exact = record {
   may_answer = tt;
@@ -127,12 +129,12 @@ limited-parts xs counts c is = parts (nat_lt most_exchanges (length xs)) refl is
         let same : made ≡ c = cc in
         (ap (λ (d : Collection). d.exchanges) (sym same), not_above most_exchanges (length xs) h)
 
-pub lawful-whole : (claim : ClaimData) (records : List Record) (r : Result Held PairFault) →
+pub lawful-whole : (claim : ClaimData) (records : List Record) (r : Result CompactCollection PairFault) →
     (length (exchanges_of claim records) ≤ most_exchanges →
     AreLawful (length claim.servers) (exchanges_of claim records)) → IsCollected claim records r →
-    IfOk r (λ held. AreLawful (length claim.servers) (held_data held).exchanges)
+    IfOk r (λ held. AreLawful (length claim.servers) (compact_data held).exchanges)
 unfolding collection_of
 lawful-whole claim records (Ok held) lawful exact =
-    let parts = limited-parts (exchanges_of claim records) (counts_of claim records) (held_data held) exact in
+    let parts = limited-parts (exchanges_of claim records) (counts_of claim records) (compact_data held) exact in
     subst (AreLawful (length claim.servers)) (sym parts.0) (lawful parts.1)
 lawful-whole claim records (Err fault) lawful exact = tt

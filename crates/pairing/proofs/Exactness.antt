@@ -12,8 +12,8 @@ use Rattle.pairing.specs.declared.counts.Counts.{Counts}
 use Rattle.pairing.specs.declared.exchange.Exchange.{Exchange}
 use Rattle.pairing.specs.declared.fault.PairFault.{PairFault}
 use Rattle.pairing.specs.declared.fault.PairFault.TheVariants.{TooManyExchanges}
-use Rattle.pairing.specs.declared.held.HeldExchange.{HeldExchange}
-use Rattle.pairing.specs.declared.index.Kept.{Kept}
+use Rattle.pairing.specs.declared.compact.CompactExchange.{CompactExchange}
+use Rattle.pairing.specs.declared.index.IndexedRequest.{IndexedRequest}
 use Rattle.pairing.specs.declared.index.Key.{Key}
 use Rattle.pairing.specs.declared.index.Place.{Place}
 use Rattle.pairing.specs.declared.refusal.Refusal.{Refusal}
@@ -21,13 +21,13 @@ use Rattle.pairing.specs.declared.refusal.Refusal.TheVariants.{Version, Leap, St
 use Rattle.pairing.specs.Counts.{count_for, IsJoined}
 use Rattle.pairing.specs.Exchange.{most_exchanges}
 use Rattle.pairing.specs.Gathering.{IsGatheredFrom, is_accepted, is_early, is_for}
-use Rattle.pairing.specs.Held.{held_of}
+use Rattle.pairing.specs.Compact.{compact_of}
 use Rattle.pairing.specs.Index.{Indexes, found_in, place_of}
 use Rattle.pairing.specs.Join.{exchange_by, outcome_by, outcomes_by, request_at}
 use Rattle.pairing.specs.Message.{Request, Reply}
 use Rattle.pairing.specs.Pairing.{Collection, collection_of, requests_of, replies_of, requests_for, outcome_of, outcomes_of, paired, unless_refused, distance_of, exchange_of, is_refused, refused_for, is_warning, exchanges_of, counts_of}
 use Rattle.pairing.specs.Refusal.{refusal_of}
-use Rattle.pairing.proofs.Kept.{kept_indexes}
+use Rattle.pairing.proofs.LookUps.{indexed_as_found}
 use Rattle.pairing.proofs.Windows.{last_tick}
 
 -- the first counts apart
@@ -51,7 +51,7 @@ distance-kept header =
 
 -- the place of the requests that a reply may be one to says what becomes of it
 by_place : (reply : Reply) (requests : List Request) →
-    exchange_by (held_of reply) (request_at (place_of requests)) ≡ paired reply requests
+    exchange_by (compact_of reply) (request_at (place_of requests)) ≡ paired reply requests
 by_place reply [] = refl
 by_place reply (q ∷ []) = λ i. Ok (record (exchange_of q reply) {
   t1_high = last_tick q.head i;
@@ -62,12 +62,12 @@ by_place reply (q ∷ other ∷ others) = refl
 
 module _ (requests : List Request) (look_up : Key → Option Place) (indexed : Indexes look_up requests) where
   -- what becomes of a reply that is held
-  abbrev found : HeldExchange → Result Exchange Refusal
+  abbrev found : CompactExchange → Result Exchange Refusal
   found = outcome_by look_up
 
-  found-held_of : (reply : Reply) → found (held_of reply) ≡ paired reply (requests_for reply requests)
-  found-held_of reply =
-      ap (λ (p : Option Place). exchange_by (held_of reply) (request_at p)) (indexed (record {
+  found-compact_of : (reply : Reply) → found (compact_of reply) ≡ paired reply (requests_for reply requests)
+  found-compact_of reply =
+      ap (λ (p : Option Place). exchange_by (compact_of reply) (request_at p)) (indexed (record {
         server = reply.server;
         port = reply.port;
         stamp = origin_of reply.header;
@@ -75,45 +75,45 @@ module _ (requests : List Request) (look_up : Key → Option Place) (indexed : I
       ∙ by_place reply (requests_for reply requests)
 
   exchanges-head : (reply : Reply) (accepted : List Reply) (o : Option Refusal) (xs : List Exchange) →
-      xs ≡ filter_map result_ok (map found (map held_of accepted)) →
+      xs ≡ filter_map result_ok (map found (map compact_of accepted)) →
       cons_option (result_ok (unless_refused o (paired reply (requests_for reply requests)))) xs
-      ≡ filter_map result_ok (map found (map held_of (if is_none o then reply ∷ accepted else accepted)))
+      ≡ filter_map result_ok (map found (map compact_of (if is_none o then reply ∷ accepted else accepted)))
   exchanges-head reply accepted None xs is =
-      ap (λ (p : Result Exchange Refusal). cons_option (result_ok p) xs) (sym (found-held_of reply))
-      ∙ ap (cons_option (result_ok (found (held_of reply)))) is
+      ap (λ (p : Result Exchange Refusal). cons_option (result_ok p) xs) (sym (found-compact_of reply))
+      ∙ ap (cons_option (result_ok (found (compact_of reply)))) is
   exchanges-head reply accepted (Some refusal) xs is = is
 
   -- the exchanges of the replies are those of the replies that are held
   pub exchanges-held : (replies : List Reply) →
       filter_map result_ok (map (outcome_of requests) replies)
-      ≡ filter_map result_ok (map found (map held_of (filter is_accepted replies)))
+      ≡ filter_map result_ok (map found (map compact_of (filter is_accepted replies)))
   exchanges-held [] = refl
   exchanges-held (reply ∷ replies) =
       exchanges-head reply (filter is_accepted replies) (refusal_of reply.header) (filter_map result_ok (map
       (outcome_of requests) replies)) (exchanges-held replies)
 
   refused-head : (reason : Refusal) (reply : Reply) (accepted : List Reply) (o : Option Refusal) (others early : ℕ) →
-      others ≡ early + count_by (is_refused reason) (map found (map held_of accepted)) →
+      others ≡ early + count_by (is_refused reason) (map found (map compact_of accepted)) →
       (if is_refused reason (unless_refused o (paired reply (requests_for reply requests))) then 1 else 0) + others
       ≡ ((if is_for reason o then 1 else 0) + early)
-      + count_by (is_refused reason) (map found (map held_of (if is_none o then reply ∷ accepted else accepted)))
+      + count_by (is_refused reason) (map found (map compact_of (if is_none o then reply ∷ accepted else accepted)))
   refused-head reason reply accepted None others early is =
-      let one : ◌≡◌ {A = ℕ} (if is_refused reason (found (held_of reply)) then 1 else 0) (if is_refused reason
+      let one : ◌≡◌ {A = ℕ} (if is_refused reason (found (compact_of reply)) then 1 else 0) (if is_refused reason
       (paired reply (requests_for reply requests)) then 1 else 0) =
-      ap (λ (p : Result Exchange Refusal). if is_refused reason p then 1 else 0) (found-held_of reply) in
+      ap (λ (p : Result Exchange Refusal). if is_refused reason p then 1 else 0) (found-compact_of reply) in
       omega (
         arith,
         one,
         is,
-        count_by-cons (is_refused reason) (found (held_of reply)) (map found
-            (map held_of accepted)),
+        count_by-cons (is_refused reason) (found (compact_of reply)) (map found
+            (map compact_of accepted)),
       )
   refused-head reason reply accepted (Some refusal) others early is = omega (arith, is)
 
   -- the refused replies are those that their own headers refuse, and those among the replies that are held
   pub refused-held : (reason : Refusal) (replies : List Reply) →
       refused_for reason (map (outcome_of requests) replies)
-      ≡ count_by (is_early reason) replies + refused_for reason (map found (map held_of
+      ≡ count_by (is_early reason) replies + refused_for reason (map found (map compact_of
       (filter is_accepted replies)))
   refused-held reason [] = refl
   refused-held reason (reply ∷ replies) =
@@ -162,17 +162,18 @@ count_for-counts_of claim records ZeroStamp = refl
 count_for-counts_of claim records NoRequest = refl
 count_for-counts_of claim records Ambiguous = refl
 
-pub held-exchanges : (claim : ClaimData) (records : List Record) {kept : List Kept} {held : List HeldExchange}
+pub held-exchanges : (claim : ClaimData) (records : List Record) {kept : List IndexedRequest}
+    {held : List CompactExchange}
     {counts : Counts} →
     IsGatheredFrom claim records kept held counts →
     filter_map result_ok (outcomes_by (found_in kept) held) ≡ exchanges_of claim records
 unfolding exchanges_of
 held-exchanges claim records {kept} {held} {counts} g =
-    ap (λ (hs : List HeldExchange). filter_map result_ok (outcomes_by (found_in kept) hs)) g.holds
+    ap (λ (hs : List CompactExchange). filter_map result_ok (outcomes_by (found_in kept) hs)) g.holds
     ∙ sym (exchanges-held (requests_of claim records) (found_in kept)
-    (kept_indexes (requests_of claim records) kept g.keeps) (replies_of claim records))
+    (indexed_as_found (requests_of claim records) kept g.keeps) (replies_of claim records))
 
-module _ (claim : ClaimData) (records : List Record) {kept : List Kept} {held : List HeldExchange}
+module _ (claim : ClaimData) (records : List Record) {kept : List IndexedRequest} {held : List CompactExchange}
     {counts joined : Counts} {exchanges : List Exchange}
     (g : IsGatheredFrom claim records kept held counts) (j : IsJoined counts
     (outcomes_by (found_in kept) held) exchanges joined) where
@@ -182,16 +183,16 @@ module _ (claim : ClaimData) (records : List Record) {kept : List Kept} {held : 
   collected-refused : (reason : Refusal) → count_for reason joined ≡ refused_for reason (outcomes_of claim records)
   collected-refused reason =
       let waits : refused_for reason (outcomes_by (found_in kept) held)
-      ≡ refused_for reason (outcomes_by (found_in kept) (map held_of (filter is_accepted
+      ≡ refused_for reason (outcomes_by (found_in kept) (map compact_of (filter is_accepted
       (replies_of claim records)))) =
-      ap (λ (hs : List HeldExchange). refused_for reason (outcomes_by (found_in kept) hs)) g.holds in
+      ap (λ (hs : List CompactExchange). refused_for reason (outcomes_by (found_in kept) hs)) g.holds in
       omega (
         arith,
         j.refused reason,
         g.refused reason,
         waits,
         refused-held (requests_of claim records) (found_in kept)
-            (kept_indexes (requests_of claim records) kept g.keeps) reason (replies_of claim records),
+            (indexed_as_found (requests_of claim records) kept g.keeps) reason (replies_of claim records),
       )
 
   collected-warnings : joined.warnings ≡ count_by is_warning (exchanges_of claim records)
@@ -245,7 +246,7 @@ too_large xs counts more =
     })) (below most_exchanges (length xs) more)
 
 -- what is joined of all that was gathered
-module _ (claim : ClaimData) (records : List Record) {kept : List Kept} {held : List HeldExchange}
+module _ (claim : ClaimData) (records : List Record) {kept : List IndexedRequest} {held : List CompactExchange}
     {counts : Counts} (g : IsGatheredFrom claim records kept held counts) where
   pub collection-few : {joined : Counts} {exchanges : List Exchange} →
       IsJoined counts (outcomes_by (found_in kept) held) exchanges joined → length exchanges ≤ most_exchanges →

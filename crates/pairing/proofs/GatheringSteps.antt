@@ -13,17 +13,17 @@ use Rattle.ntp_packet.specs.Header.{mode_of, version_of}
 use Rattle.ntp_packet.specs.Packet.{Packet, packet_of, ntp_port}
 use Rattle.claim_file.specs.Claim.{ClaimData}
 use Rattle.pairing.specs.declared.counts.Counts.{Counts}
-use Rattle.pairing.specs.declared.held.HeldExchange.{HeldExchange}
-use Rattle.pairing.specs.declared.index.Kept.{Kept}
+use Rattle.pairing.specs.declared.compact.CompactExchange.{CompactExchange}
+use Rattle.pairing.specs.declared.index.IndexedRequest.{IndexedRequest}
 use Rattle.pairing.specs.declared.index.Key.{Key}
 use Rattle.pairing.specs.declared.message.Message.{Message}
 use Rattle.pairing.specs.declared.message.Message.TheVariants.{Request as Asks, Refused, Reply as Waits}
 use Rattle.pairing.specs.declared.refusal.Refusal.{Refusal}
 use Rattle.pairing.specs.declared.refusal.Refusal.TheVariants.{Version, Leap, Stratum, Precision, ZeroStamp, NoRequest, Ambiguous}
 use Rattle.pairing.specs.Counts.{zero_counts, count_for}
-use Rattle.pairing.specs.Gathering.{IsGathered, IsGatheredFrom, counts_with, is_accepted, is_early, is_for, kept_in, held_in}
-use Rattle.pairing.specs.Held.{held_of}
-use Rattle.pairing.specs.Index.{key_of, kept_of, request_at}
+use Rattle.pairing.specs.Gathering.{IsGathered, IsGatheredFrom, counts_with, is_accepted, is_early, is_for, indexed_in, compact_in}
+use Rattle.pairing.specs.Compact.{compact_of}
+use Rattle.pairing.specs.Index.{key_of, indexed_of, request_at}
 use Rattle.pairing.specs.Message.{Request, Reply, is_request, is_reply, server_at, requested_server, replying_server, request_to, reply_from, request_in, reply_in, request_of, reply_of}
 use Rattle.pairing.specs.Pairing.{requests_of, replies_of}
 use Rattle.pairing.specs.Refusal.{refusal_of}
@@ -59,7 +59,7 @@ pub data Says (head : RecordHead) : Option Message → List Request → List Rep
   refused : (reply : Reply) (refusal : Refusal) → refusal_of reply.header ≡ Some refusal →
       Says head (Some (Refused refusal)) [] (reply ∷ [])
   accepted : (reply : Reply) → refusal_of reply.header ≡ None →
-      Says head (Some (Waits (held_of reply))) [] (reply ∷ [])
+      Says head (Some (Waits (compact_of reply))) [] (reply ∷ [])
 
 says_judged : (head : RecordHead) (reply : Reply) (o : Option Refusal) → refusal_of reply.header ≡ o →
     Says head (Some (judged reply)) [] (reply ∷ [])
@@ -130,22 +130,22 @@ count_for-renumbered Ambiguous records requests replies counts = refl
 
 -- one more reply that its own header accepts, or refuses
 holds-accepted : (replies : List Reply) (reply : Reply) → refusal_of reply.header ≡ None →
-    map held_of (filter is_accepted (replies ++ reply ∷ []))
-    ≡ map held_of (filter is_accepted replies) ++ held_of reply ∷ []
+    map compact_of (filter is_accepted (replies ++ reply ∷ []))
+    ≡ map compact_of (filter is_accepted replies) ++ compact_of reply ∷ []
 holds-accepted replies reply is =
-    ap (map held_of) (filter-append is_accepted replies (reply ∷ []))
-    ∙ map-append held_of (filter is_accepted replies) (filter is_accepted (reply ∷ []))
-    ∙ ap (λ (o : Option Refusal). map held_of (filter is_accepted replies) ++ map held_of
+    ap (map compact_of) (filter-append is_accepted replies (reply ∷ []))
+    ∙ map-append compact_of (filter is_accepted replies) (filter is_accepted (reply ∷ []))
+    ∙ ap (λ (o : Option Refusal). map compact_of (filter is_accepted replies) ++ map compact_of
     (if is_none o then reply ∷ [] else [])) is
 
 holds-refused : (replies : List Reply) (reply : Reply) (refusal : Refusal) → refusal_of reply.header ≡ Some refusal →
-    map held_of (filter is_accepted (replies ++ reply ∷ [])) ≡ map held_of (filter is_accepted replies)
+    map compact_of (filter is_accepted (replies ++ reply ∷ [])) ≡ map compact_of (filter is_accepted replies)
 holds-refused replies reply refusal is =
-    ap (map held_of) (filter-append is_accepted replies (reply ∷ []))
-    ∙ map-append held_of (filter is_accepted replies) (filter is_accepted (reply ∷ []))
-    ∙ ap (λ (o : Option Refusal). map held_of (filter is_accepted replies) ++ map held_of
+    ap (map compact_of) (filter-append is_accepted replies (reply ∷ []))
+    ∙ map-append compact_of (filter is_accepted replies) (filter is_accepted (reply ∷ []))
+    ∙ ap (λ (o : Option Refusal). map compact_of (filter is_accepted replies) ++ map compact_of
     (if is_none o then reply ∷ [] else [])) is
-    ∙ append-nil (map held_of (filter is_accepted replies))
+    ∙ append-nil (map compact_of (filter is_accepted replies))
 
 early-push : (reason : Refusal) (replies : List Reply) (reply : Reply) (o : Option Refusal) →
     refusal_of reply.header ≡ o →
@@ -155,12 +155,12 @@ early-push reason replies reply o is =
     count_by-push (is_early reason) replies reply
     ∙ ap (λ (o : Option Refusal). count_by (is_early reason) replies + (if is_for reason o then 1 else 0)) is
 
-module _ {n : ℕ} {requests : List Request} {replies : List Reply} {kept : List Kept}
-    {held : List HeldExchange} {counts : Counts}
+module _ {n : ℕ} {requests : List Request} {replies : List Reply} {kept : List IndexedRequest}
+    {held : List CompactExchange} {counts : Counts}
     (g : IsGathered n requests replies kept held counts) where
   pub step : (head : RecordHead) (m : Option Message) (asked : List Request) (answered : List Reply) →
       Says head m asked answered →
-      IsGathered (n + 1) (requests ++ asked) (replies ++ answered) (kept ++ kept_in m head) (held ++ held_in m)
+      IsGathered (n + 1) (requests ++ asked) (replies ++ answered) (kept ++ indexed_in m head) (held ++ compact_in m)
       (counts_with m counts)
   step head m asked answered silent = record {
     keeps = rw (append-nil kept, append-nil requests) g.keeps;
@@ -173,8 +173,8 @@ module _ {n : ℕ} {requests : List Request} {replies : List Reply} {kept : List
     warned = g.warned;
   }
   step head m asked answered (asks key) = record {
-    keeps = ap (λ ks. ks ++ kept_of (request_at key head) ∷ []) g.keeps
-        ∙ sym (map-append kept_of requests (request_at key head ∷ []));
+    keeps = ap (λ ks. ks ++ indexed_of (request_at key head) ∷ []) g.keeps
+        ∙ sym (map-append indexed_of requests (request_at key head ∷ []));
     holds = rw (append-nil held, append-nil replies) g.holds;
     all_records = ap (λ k. k + 1) g.all_records;
     all_requests = omega (arith, g.all_requests, length-append requests (request_at key head ∷ []));
@@ -203,7 +203,7 @@ module _ {n : ℕ} {requests : List Request} {replies : List Reply} {kept : List
       }
   step head m asked answered (accepted reply is) = record {
     keeps = rw (append-nil kept, append-nil requests) g.keeps;
-    holds = ap (λ hs. hs ++ held_of reply ∷ []) g.holds ∙ sym (holds-accepted replies reply is);
+    holds = ap (λ hs. hs ++ compact_of reply ∷ []) g.holds ∙ sym (holds-accepted replies reply is);
     all_records = ap (λ k. k + 1) g.all_records;
     all_requests = rw (append-nil requests) g.all_requests;
     all_replies = omega (arith, g.all_replies, length-append replies (reply ∷ []));
@@ -217,11 +217,11 @@ module _ {n : ℕ} {requests : List Request} {replies : List Reply} {kept : List
   }
 
 -- one more record
-pub gathered-push : (claim : ClaimData) (done : List Record) (r : Record) (kept : List Kept)
-    (held : List HeldExchange) (counts : Counts) →
+pub gathered-push : (claim : ClaimData) (done : List Record) (r : Record) (kept : List IndexedRequest)
+    (held : List CompactExchange) (counts : Counts) →
     IsGatheredFrom claim done kept held counts →
-    IsGatheredFrom claim (done ++ r ∷ []) (kept ++ kept_in (message_of claim r) r.head)
-    (held ++ held_in (message_of claim r)) (counts_with (message_of claim r) counts)
+    IsGatheredFrom claim (done ++ r ∷ []) (kept ++ indexed_in (message_of claim r) r.head)
+    (held ++ compact_in (message_of claim r)) (counts_with (message_of claim r) counts)
 unfolding requests_of replies_of
 gathered-push claim done r kept held counts g =
     rw (

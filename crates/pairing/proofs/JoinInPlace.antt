@@ -7,33 +7,33 @@ use Rattle.std.specs.Result.{result_ok}
 use Rattle.std.proofs.lemmas.List.{get_or-drop, length-map, map-append, take_more_set}
 use Rattle.pairing.specs.declared.counts.Counts.{Counts}
 use Rattle.pairing.specs.declared.exchange.Exchange.{Exchange}
-use Rattle.pairing.specs.declared.held.HeldExchange.{HeldExchange}
-use Rattle.pairing.specs.declared.held.HeldRequest.{HeldRequest}
-use Rattle.pairing.specs.declared.held.HeldRequest.TheVariants.{Named, Found}
+use Rattle.pairing.specs.declared.compact.CompactExchange.{CompactExchange}
+use Rattle.pairing.specs.declared.compact.CompactRequest.{CompactRequest}
+use Rattle.pairing.specs.declared.compact.CompactRequest.TheVariants.{Named, Found}
 use Rattle.pairing.specs.declared.index.Key.{Key}
 use Rattle.pairing.specs.declared.index.Place.{Place}
 use Rattle.pairing.specs.declared.refusal.Refusal.{Refusal}
 use Rattle.pairing.specs.Counts.{IsJoined, with_leap, with_outcome, with_refusal}
-use Rattle.pairing.specs.Held.{exchange_shown, shown_with}
+use Rattle.pairing.specs.Compact.{exchange_shown, shown_with}
 use Rattle.pairing.specs.Join.{exchange_by, outcome_by, outcomes_by, request_by}
 use Rattle.pairing.proofs.JoinSteps.{joined-push, outcomes-more, too_many}
 
 -- with this request in place of what is known of it
-abbrev pub with_request : HeldExchange → HeldRequest → HeldExchange
+abbrev pub with_request : CompactExchange → CompactRequest → CompactExchange
 with_request x request = record x { request = request }
 
-exchange_shown-with_request : (x : HeldExchange) (request : HeldRequest) →
+exchange_shown-with_request : (x : CompactExchange) (request : CompactRequest) →
     exchange_shown (with_request x request) ≡ shown_with request x
 unfolding exchange_shown
 exchange_shown-with_request x (Named port stamp) = refl
 exchange_shown-with_request x (Found width number low) = refl
 
-leap-shown_with : (x : HeldExchange) (request : HeldRequest) → (shown_with request x).leap ≡ x.leap
+leap-shown_with : (x : CompactExchange) (request : CompactRequest) → (shown_with request x).leap ≡ x.leap
 leap-shown_with x (Named port stamp) = refl
 leap-shown_with x (Found width number low) = refl
 
 -- what stands past the end of a list of replies
-abbrev pub blank : HeldExchange
+abbrev pub blank : CompactExchange
 blank = record {
   server = 0;
   leap = 0;
@@ -50,11 +50,11 @@ blank = record {
 
 -- Of these replies the first ones were joined: those with a request stand at the front of the list,
 -- and the others are as they were.
-module _ (look_up : Key → Option Place) (start counts : Counts) (xs ys : List HeldExchange) (number kept : ℕ)
+module _ (look_up : Key → Option Place) (start counts : Counts) (xs ys : List CompactExchange) (number kept : ℕ)
     (joined : IsJoined start (outcomes_by look_up (take number xs)) (map exchange_shown (take kept ys)) counts)
     (rest : drop number ys ≡ drop number xs) (more : number < length xs) where
   -- the reply that is next
-  abbrev reply : HeldExchange
+  abbrev reply : CompactExchange
   reply = get_or ys number blank
 
   same_reply : get_or xs number blank ≡ reply
@@ -76,7 +76,7 @@ module _ (look_up : Key → Option Place) (start counts : Counts) (xs ys : List 
       let given = next (Err refusal) (ap (exchange_by reply) (sym is)) in
       rw append-nil at given
 
-  pub joined-found : (request : HeldRequest) → Ok request ≡ request_by look_up reply.server reply.request →
+  pub joined-found : (request : CompactRequest) → Ok request ≡ request_by look_up reply.server reply.request →
       kept < length ys →
       IsJoined start (outcomes_by look_up (take (number + 1) xs)) (map exchange_shown
       (take (kept + 1) (set ys kept (with_request reply request)))) (with_leap reply.leap counts)
@@ -92,7 +92,7 @@ module _ (look_up : Key → Option Place) (start counts : Counts) (xs ys : List 
       (ap (exchange_by reply) (sym is)))
 
   -- one more would be too many
-  pub found_beyond : (request : HeldRequest) → Ok request ≡ request_by look_up reply.server reply.request →
+  pub found_beyond : (request : CompactRequest) → Ok request ≡ request_by look_up reply.server reply.request →
       kept < length ys → (most : ℕ) → kept ≡ most →
       most < length (filter_map result_ok (outcomes_by look_up xs))
   found_beyond request is free most full =

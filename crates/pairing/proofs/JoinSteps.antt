@@ -1,16 +1,16 @@
 -- One more reply joined with its request.
-use Rattle.std.proofs.Common.{◌≡◌, ◌∙◌, ℕ, suc, ◌+◌, ◌≤◌, ◌<◌, List, [], ◌∷◌, ◌++◌, Bool, Result, Ok, Err, refl, sym, ap, length, arith, add-zero, zero-add, append-nil, Option, Some, None, map, take, drop, get_or, length-append, take-append-drop, true≢false}
+use Rattle.std.proofs.Common.{◌≡◌, ◌∙◌, ℕ, suc, ◌+◌, ◌≤◌, ◌<◌, List, [], ◌∷◌, ◌++◌, Bool, Result, Ok, Err, refl, sym, ap, length, arith, zero-add, append-nil, Option, Some, None, map, take, drop, get_or, length-append, take-append-drop, true≢false}
 use Rattle.std.specs.Prelude.{count_by, IsOk, if◌then◌else◌}
 use Rattle.std.specs.List.{filter_map, cons_option}
 use Rattle.std.specs.Result.{result_ok}
 use Rattle.std.proofs.lemmas.List.Elements.{filter_map-append}
 use Rattle.std.proofs.lemmas.List.{map-append, take_more}
-use Rattle.std.proofs.lemmas.List.Sums.{sum_by-append, count_by-le-length}
+use Rattle.std.proofs.lemmas.List.Sums.{sum_by-append}
 use Rattle.pairing.specs.declared.counts.Counts.{Counts}
 use Rattle.pairing.specs.declared.exchange.Exchange.{Exchange}
 use Rattle.pairing.specs.declared.refusal.Refusal.{Refusal}
 use Rattle.pairing.specs.declared.refusal.Refusal.TheVariants.{Version, Leap, Stratum, Precision, ZeroStamp, NoRequest, Ambiguous}
-use Rattle.pairing.specs.Counts.{count_for, with_refusal, with_outcome, IsJoined, HasRoom}
+use Rattle.pairing.specs.Counts.{count_for, with_refusal, with_outcome, IsJoined}
 use Rattle.pairing.specs.Pairing.{is_refused, is_warning}
 use Rattle.pairing.specs.Refusal.{same_refusal}
 
@@ -44,16 +44,6 @@ pub count_by-push : {X : Type 0} (p : X → Bool) (xs : List X) (x : X) →
 count_by-push p xs x =
     let f = λ (y : _). if p y then 1 else 0 in
     sum_by-append f xs (x ∷ []) ∙ ap (λ n. count_by p xs + n) (zero-add (f x))
-
-pub joined-start : (counts : Counts) → IsJoined counts [] [] counts
-joined-start counts = record {
-  exchanges_are = refl;
-  refused = λ reason. sym (add-zero _);
-  warned = sym (add-zero _);
-  same_records = refl;
-  same_requests = refl;
-  same_replies = refl;
-}
 
 -- a refusal leaves the other counts
 pub record KeepsOthers (before after : Counts) : Type 0 where
@@ -151,24 +141,6 @@ joined-push start counts outcomes exchanges (Err refusal) j =
       same_requests = others.same_requests ∙ j.same_requests;
       same_replies = others.same_replies ∙ j.same_replies;
     }
-
--- what was counted of some outcomes leaves room for the others
-pub joined-room : (start counts : Counts) (outcomes : List Outcome) (exchanges : List Exchange) (all : ℕ) →
-    IsJoined start outcomes exchanges counts → HasRoom start all → length outcomes < all → HasRoom counts 1
-joined-room start counts outcomes exchanges all j room more = record {
-  records = omega (arith, j.same_records, room.records);
-  requests = omega (arith, j.same_requests, room.requests);
-  replies = omega (arith, j.same_replies, room.replies);
-  refused = λ reason. omega (
-    arith,
-    j.refused reason,
-    count_by-le-length (is_refused reason) outcomes,
-    room.refused reason,
-  );
-  warned =
-      let fewer : length exchanges ≤ length outcomes = rw j.exchanges_are (length-filter_map result_ok outcomes) in
-      omega (arith, j.warned, count_by-le-length is_warning exchanges, room.warned);
-}
 
 ok_given : (o : Outcome) → IsOk o → length (filter_map result_ok (o ∷ [])) ≡ 1
 ok_given (Ok x) h = refl

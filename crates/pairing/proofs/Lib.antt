@@ -11,7 +11,6 @@ pub mod Pairs
 pub mod Servers
 pub mod Windows
 pub mod Words
-pub mod Keys
-pub mod Kept
+pub mod LookUps
 pub mod Parts
 pub mod SourceSteps

@@ -114,22 +114,6 @@ answered_in claim head None lawful bytes = tt
 answered_in claim head (Some p) lawful bytes = answered_by claim head p (replying_server claim p) lawful bytes
     (replying-within claim p)
 
--- a reply has its record's head
-lawful_by : (claim : ClaimData) (head : RecordHead) (p : Packet) (server : Option ℕ) → IsLawfulHead head →
-    IfSome (option_map (reply_from head p) server) (λ reply. IsLawfulHead reply.head)
-lawful_by claim head p None lawful = tt
-lawful_by claim head p (Some server) lawful = lawful
-
-lawful_in : (claim : ClaimData) (head : RecordHead) (o : Option Packet) → IsLawfulHead head →
-    IfSome (option_and_then (reply_in claim head) o) (λ reply. IsLawfulHead reply.head)
-lawful_in claim head None lawful = tt
-lawful_in claim head (Some p) lawful = lawful_by claim head p (replying_server claim p) lawful
-
-reply_of-lawful : (claim : ClaimData) (r : Record) → IsLawfulHead r.head →
-    IfSome (reply_of claim r) (λ reply. IsLawfulHead reply.head)
-unfolding reply_of
-reply_of-lawful claim r lawful = lawful_in claim r.head (packet_of r.bytes) lawful
-
 module _ (claim : ClaimData) (records : List Record) (given : AreGiven records) where
   pub requests-among : All (IsRequestAmong records) (requests_of claim records)
   unfolding requests_of
@@ -137,12 +121,6 @@ module _ (claim : ClaimData) (records : List Record) (given : AreGiven records) 
       All-filter_map (request_of claim) (IsRequestAmong records) records
       (λ k d below. request_of-among claim records (get_or records k d) (given.each k d below).head
       (given.numbered k d below))
-
-  pub replies-lawful : All (λ reply. IsLawfulHead reply.head) (replies_of claim records)
-  unfolding replies_of
-  replies-lawful =
-      All-filter_map (reply_of claim) (λ reply. IsLawfulHead reply.head) records
-      (λ k d below. reply_of-lawful claim (get_or records k d) (given.each k d below).head)
 
 -- ---- exchanges
 
@@ -278,9 +256,9 @@ module _ (laws : Laws) where
     exchanges-among given =
         let requests = requests_of claim records in
         let replies = replies_of claim records in
-        let Kept = λ (o : Result Exchange Refusal). IfSome (result_ok o) (IsExchangeAmong claim records) in
+        let IsAmong = λ (o : Result Exchange Refusal). IfSome (result_ok o) (IsExchangeAmong claim records) in
         All-filter_map result_ok (IsExchangeAmong claim records) (map (outcome_of requests) replies)
-        (All-map Kept (outcome_of requests) replies
+        (All-map IsAmong (outcome_of requests) replies
         (λ k d below. outcome-among requests (get_or replies k d) (requests-among claim records given)
         (replies-listed claim records given k d below)))
 

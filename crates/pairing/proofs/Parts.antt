@@ -1,22 +1,22 @@
 -- What an exchange that is held shares with the exchange that it says.
 use Rattle.std.proofs.Common.{◌≡◌, refl}
-use Rattle.pairing.specs.declared.held.HeldExchange.{HeldExchange}
-use Rattle.pairing.specs.declared.held.HeldRequest.{HeldRequest}
-use Rattle.pairing.specs.declared.held.HeldRequest.TheVariants.{Named, Found}
-use Rattle.pairing.specs.Held.{exchange_shown, shown_with}
+use Rattle.pairing.specs.declared.compact.CompactExchange.{CompactExchange}
+use Rattle.pairing.specs.declared.compact.CompactRequest.{CompactRequest}
+use Rattle.pairing.specs.declared.compact.CompactRequest.TheVariants.{Named, Found}
+use Rattle.pairing.specs.Compact.{exchange_shown, shown_with}
 
-server_with : (request : HeldRequest) (x : HeldExchange) → x.server ≡ (shown_with request x).server
+server_with : (request : CompactRequest) (x : CompactExchange) → x.server ≡ (shown_with request x).server
 server_with (Named port stamp) x = refl
 server_with (Found width number low) x = refl
 
-reference_with : (request : HeldRequest) (x : HeldExchange) → x.reference ≡ (shown_with request x).reference
+reference_with : (request : CompactRequest) (x : CompactExchange) → x.reference ≡ (shown_with request x).reference
 reference_with (Named port stamp) x = refl
 reference_with (Found width number low) x = refl
 
-pub server_is : (x : HeldExchange) → x.server ≡ (exchange_shown x).server
+pub server_is : (x : CompactExchange) → x.server ≡ (exchange_shown x).server
 unfolding exchange_shown
 server_is x = server_with x.request x
 
-pub reference_is : (x : HeldExchange) → x.reference ≡ (exchange_shown x).reference
+pub reference_is : (x : CompactExchange) → x.reference ≡ (exchange_shown x).reference
 unfolding exchange_shown
 reference_is x = reference_with x.request x

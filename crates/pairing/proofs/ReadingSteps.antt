@@ -16,8 +16,8 @@ use Rattle.claim_file.specs.Claim.{ClaimData}
 use Rattle.pairing.specs.declared.counts.Counts.{Counts}
 use Rattle.pairing.specs.declared.fault.PairFault.{PairFault}
 use Rattle.pairing.specs.declared.fault.PairFault.TheVariants.{Capture}
-use Rattle.pairing.specs.declared.held.HeldExchange.{HeldExchange}
-use Rattle.pairing.specs.declared.index.Kept.{Kept}
+use Rattle.pairing.specs.declared.compact.CompactExchange.{CompactExchange}
+use Rattle.pairing.specs.declared.index.IndexedRequest.{IndexedRequest}
 use Rattle.pairing.specs.Answer.{AreGiven, IsFromOutside, IsGiven, LeavesSource, MayAnswer, answer_of, capture_failed, device_failed}
 use Rattle.pairing.specs.Counts.{HasRoom}
 use Rattle.pairing.specs.Gathering.{IsGatheredFrom, is_early}
@@ -172,8 +172,8 @@ refused-exact claim start before now done fault read step =
     (not_failed start before now done fault read step)
 
 -- the counts of up to `most_records` records leave room
-pub gathered-room : (claim : ClaimData) (done : List Record) (kept : List Kept)
-    (held : List HeldExchange) (counts : Counts) →
+pub gathered-room : (claim : ClaimData) (done : List Record) (kept : List IndexedRequest)
+    (held : List CompactExchange) (counts : Counts) →
     IsGatheredFrom claim done kept held counts → length done ≤ most_records → HasRoom counts most_records
 unfolding requests_of replies_of
 gathered-room claim done kept held counts g few =

@@ -1,28 +1,19 @@
 -- Which servers the exchanges are with, one exchange and one server after another.
-use Rattle.std.proofs.Common.{◌≡◌, ◌∙◌, ◌+◌, ◌-◌, ◌<◌, ◌≤◌, ◌==◌, ◌||◌, if◌then◌else◌, cond, slice_set, Bool, true, false, ℕ, List, [], ◌∷◌, map, take, drop, length, length-drop, get_or, refl, ap, sym, arith, Some, None}
-use Rattle.std.specs.List.{list_all, list_any, count_by}
+use Rattle.std.proofs.Common.{◌≡◌, ◌∙◌, ◌+◌, ◌-◌, ◌≤◌, if◌then◌else◌, cond, Bool, true, false, ℕ, List, [], ◌∷◌, map, take, drop, length, length-drop, get_or, refl, ap, sym, arith, Some, None}
+use Rattle.std.specs.List.{list_all, count_by}
 use Rattle.std.specs.Bool.{then_some}
 use Rattle.std.specs.Str.{bytes_eq}
 use mir.Val.{bool_byte}
-use Rattle.std.proofs.lemmas.Bool.{eqb-true}
-use Rattle.std.proofs.lemmas.Bool.Decides.{nat_tests}
-use Rattle.std.proofs.lemmas.List.{get_or-set_other, map-id, take_all}
+use Rattle.std.proofs.lemmas.List.{map-id, take_all}
 use Rattle.std.proofs.lemmas.List.FromFn.{sum_by-map-range_with_len_more}
-use Rattle.std.proofs.lemmas.List.Folds.{list_all-map, list_any_more}
-use Rattle.std.proofs.lemmas.Grind.{get_or-set_at}
+use Rattle.std.proofs.lemmas.List.Folds.{list_all-map}
 use Rattle.claim_file.specs.Group.{servers_of}
-use Rattle.pairing.specs.declared.held.HeldExchange.{HeldExchange}
-use Rattle.pairing.specs.Held.{exchange_shown}
-use Rattle.pairing.specs.Sources.{common_reference, is_source}
-
--- whether an exchange that is held is with a server
-pub shown_source : (xs : List HeldExchange) (server : ℕ) →
-    list_any (λ x. (exchange_shown x).server == server) xs ≡ is_source (map exchange_shown xs) server
-shown_source [] server = refl
-shown_source (x ∷ xs) server = ap (λ b. ((exchange_shown x).server == server) || b) (shown_source xs server)
+use Rattle.pairing.specs.declared.compact.CompactExchange.{CompactExchange}
+use Rattle.pairing.specs.Compact.{exchange_shown}
+use Rattle.pairing.specs.Sources.{common_reference}
 
 -- the reference of the first, if all others are compared with it
-pub first_reference : (held : List HeldExchange) (d : HeldExchange) (reference : List ℕ) → 1 ≤ length held →
+pub first_reference : (held : List CompactExchange) (d : CompactExchange) (reference : List ℕ) → 1 ≤ length held →
     reference ≡ (exchange_shown (get_or held 0 d)).reference → (same : Bool) →
     same ≡ list_all (λ y. bytes_eq (exchange_shown y).reference reference) (take (length held - 1) (drop 1 held)) →
     then_some same reference ≡ common_reference (map exchange_shown held)
@@ -61,39 +52,3 @@ counted_more p n count byte seen is passes so_far = (
 
     value : byte ≡ cond (p n) 1 0
     value = is ∙ as_cond seen ∙ ap (λ b. cond b 1 0) passes
-
-module _ (held : List HeldExchange) (i : ℕ) (d : HeldExchange) (within : i < length held) where
-  -- one more exchange
-  source_more : (s : ℕ) → is_source (map exchange_shown (take (i + 1) held)) s
-      ≡ (is_source (map exchange_shown (take i held)) s || ((exchange_shown (get_or held i d)).server == s))
-  source_more s =
-      sym (shown_source (take (i + 1) held) s)
-      ∙ list_any_more (λ x. (exchange_shown x).server == s) held i d within
-      ∙ ap (λ b. b || ((exchange_shown (get_or held i d)).server == s)) (shown_source (take i held) s)
-
-  -- its server is noted, and the others stay as they were
-  pub noted_more : (seen : List Bool) (number : ℕ) → number < length seen →
-      number ≡ (exchange_shown (get_or held i d)).server → (s : ℕ) →
-      get_or seen s false ≡ is_source (map exchange_shown (take i held)) s →
-      get_or (slice_set seen number true) s false ≡ is_source (map exchange_shown (take (i + 1) held)) s
-  noted_more seen number inside is s before =
-      by (number == s) refl
-      ∙ sym (source_more s ∙ ap (λ n. is_source (map exchange_shown (take i held)) s || (n == s)) (sym is))
-    where
-      with_true : (b : Bool) → (b || true) ≡ true
-      with_true true = refl
-      with_true false = refl
-
-      with_false : (b : Bool) → (b || false) ≡ b
-      with_false true = refl
-      with_false false = refl
-
-      by : (b : Bool) → (number == s) ≡ b → get_or (slice_set seen number true) s false
-          ≡ (is_source (map exchange_shown (take i held)) s || (number == s))
-      by true e =
-          get_or-set_at seen number s true false (sym (eqb-true number s e)) inside
-          ∙ sym (ap (λ b. is_source (map exchange_shown (take i held)) s || b) e ∙ with_true _)
-      by false e =
-          get_or-set_other seen number s true false (grind (arith, nat_tests))
-          ∙ before
-          ∙ sym (ap (λ b. is_source (map exchange_shown (take i held)) s || b) e ∙ with_false _)

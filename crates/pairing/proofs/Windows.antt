@@ -5,7 +5,7 @@ use Rattle.era_unfold.specs.Ratio.{floor_of, ceiling_of}
 use Rattle.era_unfold.specs.Window.{window_low, window_high}
 use Rattle.pcap_reader.specs.declared.format.RecordHead.{RecordHead}
 use Rattle.pairing.specs.Pairing.{high_of}
-use Rattle.pairing.specs.Window.{tick_of, width_of}
+use Rattle.pairing.specs.CompactWindow.{tick_of, width_of}
 use Rattle.era_unfold.specs.declared.unit.Unit.{Unit as SubsecondUnit}
 use Rattle.era_unfold.specs.declared.unit.Unit.TheVariants.{Micro, Nano}
 

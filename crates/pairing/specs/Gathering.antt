@@ -4,14 +4,14 @@ use Rattle.pcap_reader.specs.declared.format.RecordHead.{RecordHead}
 use Rattle.pcap_reader.specs.Capture.{Record}
 use Rattle.claim_file.specs.Claim.{ClaimData}
 use Rattle.pairing.specs.declared.counts.Counts.{Counts}
-use Rattle.pairing.specs.declared.held.HeldExchange.{HeldExchange}
-use Rattle.pairing.specs.declared.index.Kept.{Kept}
+use Rattle.pairing.specs.declared.compact.CompactExchange.{CompactExchange}
+use Rattle.pairing.specs.declared.index.IndexedRequest.{IndexedRequest}
 use Rattle.pairing.specs.declared.message.Message.{Message}
 use Rattle.pairing.specs.declared.message.Message.TheVariants.{Request as Asks, Refused, Reply as Waits}
 use Rattle.pairing.specs.declared.refusal.Refusal.{Refusal}
 use Rattle.pairing.specs.Counts.{count_for, with_refusal}
-use Rattle.pairing.specs.Held.{held_of}
-use Rattle.pairing.specs.Index.{kept_of, request_at}
+use Rattle.pairing.specs.Compact.{compact_of}
+use Rattle.pairing.specs.Index.{indexed_of, request_at}
 use Rattle.pairing.specs.Message.{Request, Reply}
 use Rattle.pairing.specs.Pairing.{requests_of, replies_of}
 use Rattle.pairing.specs.Refusal.{refusal_of, same_refusal}
@@ -28,14 +28,14 @@ counts_with (Some (Waits reply)) counts =
     record counts { records = counts.records + 1; replies = counts.replies + 1 }
 
 -- the request of a record that says this, as it is kept
-abbrev pub kept_in : Option Message → RecordHead → List Kept
-kept_in (Some (Asks key)) head = kept_of (request_at key head) ∷ []
-kept_in _ head = []
+abbrev pub indexed_in : Option Message → RecordHead → List IndexedRequest
+indexed_in (Some (Asks key)) head = indexed_of (request_at key head) ∷ []
+indexed_in _ head = []
 
 -- the reply of a record that says this, if it is held
-abbrev pub held_in : Option Message → List HeldExchange
-held_in (Some (Waits reply)) = reply ∷ []
-held_in _ = []
+abbrev pub compact_in : Option Message → List CompactExchange
+compact_in (Some (Waits reply)) = reply ∷ []
+compact_in _ = []
 
 -- whether a reply's own header refuses it for this reason
 abbrev pub is_for : Refusal → Option Refusal → Bool
@@ -52,9 +52,9 @@ is_accepted reply = is_none (refusal_of reply.header)
 -- Lists of requests that are kept and of replies that are held, and counts, are those of this many
 -- records with these requests and replies.
 pub record IsGathered (records : ℕ) (requests : List Request) (replies : List Reply)
-    (kept : List Kept) (held : List HeldExchange) (counts : Counts) : Type 0 where
-  pub keeps : kept ≡ map kept_of requests
-  pub holds : held ≡ map held_of (filter is_accepted replies)
+    (kept : List IndexedRequest) (held : List CompactExchange) (counts : Counts) : Type 0 where
+  pub keeps : kept ≡ map indexed_of requests
+  pub holds : held ≡ map compact_of (filter is_accepted replies)
   pub all_records : counts.records ≡ records
   pub all_requests : counts.requests ≡ length requests
   pub all_replies : counts.replies ≡ length replies
@@ -62,7 +62,7 @@ pub record IsGathered (records : ℕ) (requests : List Request) (replies : List 
   pub warned : counts.warnings ≡ 0
 
 -- They are those of these records.
-abbrev pub IsGatheredFrom : ClaimData → List Record → List Kept → List HeldExchange →
+abbrev pub IsGatheredFrom : ClaimData → List Record → List IndexedRequest → List CompactExchange →
     Counts → Type 0
 IsGatheredFrom claim records kept held counts =
     IsGathered (length records) (requests_of claim records) (replies_of claim records)

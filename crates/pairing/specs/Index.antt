@@ -2,11 +2,11 @@
 use Rattle.std.specs.Prelude.{◌≡◌, ◌==◌, ◌&&◌, List, [], ◌∷◌, filter, Bool, Option, Some, None}
 use Rattle.pcap_reader.specs.declared.format.RecordHead.{RecordHead}
 use Rattle.pairing.specs.declared.index.Key.{Key}
-use Rattle.pairing.specs.declared.index.Kept.{Kept}
+use Rattle.pairing.specs.declared.index.IndexedRequest.{IndexedRequest}
 use Rattle.pairing.specs.declared.index.Place.{Place}
 use Rattle.pairing.specs.declared.index.Place.TheVariants.{One, Several}
 use Rattle.pairing.specs.Message.{Request}
-use Rattle.pairing.specs.Window.{tick_of, width_of}
+use Rattle.pairing.specs.CompactWindow.{tick_of, width_of}
 
 -- whether two keys are the same
 abbrev pub same_key : Key → Key → Bool
@@ -21,8 +21,8 @@ abbrev pub request_at : Key → RecordHead → Request
 request_at k head = record { server = k.server; port = k.port; stamp = k.stamp; head = head }
 
 -- what is kept of a request
-abbrev pub kept_of : Request → Kept
-kept_of q = record {
+abbrev pub indexed_of : Request → IndexedRequest
+indexed_of q = record {
   key = key_of q;
   width = width_of q.head;
   number = q.head.number;
@@ -44,19 +44,19 @@ abbrev pub Indexes : (Key → Option Place) → List Request → Type 0
 Indexes look_up requests = (k : Key) → look_up k ≡ place_of (having k requests)
 
 -- the requests with this key, as they are kept
-abbrev pub kept_with : Key → List Kept → List Kept
-kept_with k items = filter (λ x. same_key k x.key) items
+abbrev pub indexed_with : Key → List IndexedRequest → List IndexedRequest
+indexed_with k items = filter (λ x. same_key k x.key) items
 
 -- none, one or several of them
-abbrev pub place_at : List Kept → Option Place
+abbrev pub place_at : List IndexedRequest → Option Place
 place_at [] = None
 place_at (x ∷ []) = Some (One x.width x.number x.low)
 place_at (x ∷ other ∷ others) = Some Several
 
 -- the look-up among these
-abbrev pub found_in : List Kept → Key → Option Place
-found_in items k = place_at (kept_with k items)
+abbrev pub found_in : List IndexedRequest → Key → Option Place
+found_in items k = place_at (indexed_with k items)
 
 -- A look-up at any key is none, one or several as these have it.
-abbrev pub Finds : (Key → Option Place) → List Kept → Type 0
+abbrev pub Finds : (Key → Option Place) → List IndexedRequest → Type 0
 Finds look_up items = (k : Key) → look_up k ≡ found_in items k

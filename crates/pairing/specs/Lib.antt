@@ -4,7 +4,7 @@ pub mod Exchange
 pub mod Fault
 pub mod Gathering
 pub mod Hashing
-pub mod Held
+pub mod Compact
 pub mod Index
 pub mod Join
 pub mod Message
@@ -15,4 +15,4 @@ pub mod Reading
 pub mod Refusal
 pub mod Sources
 pub mod Statement
-pub mod Window
+pub mod CompactWindow

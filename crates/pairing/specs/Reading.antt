@@ -5,8 +5,8 @@ use Rattle.pcap_reader.specs.Remaining.{Coming}
 use Rattle.pcap_reader.specs.Source.{SourceState, TakesFrom}
 use Rattle.claim_file.specs.Claim.{ClaimData}
 use Rattle.pairing.specs.declared.counts.Counts.{Counts}
-use Rattle.pairing.specs.declared.held.HeldExchange.{HeldExchange}
-use Rattle.pairing.specs.declared.index.Kept.{Kept}
+use Rattle.pairing.specs.declared.compact.CompactExchange.{CompactExchange}
+use Rattle.pairing.specs.declared.index.IndexedRequest.{IndexedRequest}
 use Rattle.pairing.specs.Answer.{AreGiven}
 use Rattle.pairing.specs.Gathering.{IsGatheredFrom}
 
@@ -31,14 +31,14 @@ IsWhole records coming = (coming.records ≡ records) × (coming.fault ≡ None)
 
 -- So far some records were read, and are gathered.
 pub record Gathers (claim : ClaimData) (start now : SourceState)
-    (kept : List Kept) (held : List HeldExchange) (counts : Counts) : Type 0 where
+    (kept : List IndexedRequest) (held : List CompactExchange) (counts : Counts) : Type 0 where
   pub records : List Record
   pub read : IsRead start now records
   pub gathered : IsGatheredFrom claim records kept held counts
 
 -- A whole source was read, and is gathered.
 pub record GathersAll (claim : ClaimData) (remaining : Option Coming)
-    (kept : List Kept) (held : List HeldExchange) (counts : Counts) : Type 0 where
+    (kept : List IndexedRequest) (held : List CompactExchange) (counts : Counts) : Type 0 where
   pub records : List Record
   pub given : AreGiven records
   pub known : IfSome remaining (IsWhole records)

@@ -9,14 +9,14 @@ use Rattle.pcap_reader.specs.Capture.{Record}
 use Rattle.pairing.specs.declared.message.Message.{Message}
 use Rattle.pairing.specs.declared.message.Message.TheVariants.{Request as Asks, Refused, Reply as Waits}
 use Rattle.pairing.specs.declared.refusal.Refusal.{Refusal}
-use Rattle.pairing.specs.Held.{held_of}
+use Rattle.pairing.specs.Compact.{compact_of}
 use Rattle.pairing.specs.Index.{key_of}
 use Rattle.pairing.specs.Message.{Reply, request_in, reply_in}
 use Rattle.pairing.specs.Refusal.{refusal_of}
 
 -- a reply, if its header gives this reason to refuse it
 abbrev pub judged_by : Option Refusal → Reply → Message
-judged_by None reply = Waits (held_of reply)
+judged_by None reply = Waits (compact_of reply)
 judged_by (Some refusal) reply = Refused refusal
 
 abbrev pub judged : Reply → Message

@@ -1,12 +1,12 @@
 //! What is collected of a capture.
 
 ghost use Rattle.std.specs.Prelude.{◌≡◌, IfOk};
-ghost use Rattle.pairing.specs.Held.{held_data};
+ghost use Rattle.pairing.specs.Compact.{compact_data};
 ghost use Rattle.pairing.specs.Pairing.{data_of};
 
+use crate::compact::CompactCollection;
 use crate::counts::Counts;
 use crate::exchange::Exchange;
-use crate::held::Held;
 use crate::to_exchange::ToExchange;
 use std::alloc::{AllocError, Global};
 
@@ -21,8 +21,8 @@ pub struct Collected {
 
 impl Collected {
     /// The exchanges that are held, as they are given.
-    pub(crate) fn new(alloc: Global, held: &Held) -> Result<Collected, AllocError>
-        ensures { IfOk result (λ c. data_of c ≡ held_data held.now) }
+    pub(crate) fn new(alloc: Global, held: &CompactCollection) -> Result<Collected, AllocError>
+        ensures { IfOk result (λ c. data_of c ≡ compact_data held.now) }
     {
         let mut exchanges = Vec::with_capacity(alloc, held.exchanges.len())?;
         for exchange in &held.exchanges {

@@ -5,15 +5,15 @@ ghost use Rattle.pcap_reader.specs.Source.{IsFresh};
 ghost use Rattle.claim_file.specs.Claim.{IsLawful, data_of};
 ghost use Rattle.pairing.specs.Answer.{Collects, IsFromOutside, LeavesSource, answer_of};
 ghost use Rattle.pairing.specs.Gathering.{IsGatheredFrom};
-ghost use Rattle.pairing.specs.Held.{held_data};
+ghost use Rattle.pairing.specs.Compact.{compact_data};
 ghost use Rattle.pairing.specs.Pairing.{data_of as collection_data};
 ghost use Rattle.pairing.specs.Reading.{GathersAll};
 
 use crate::collected::Collected;
+use crate::compact::CompactCollection;
 use crate::fault::PairFault;
 use crate::gathering::Gathering;
 use crate::hashing::KeyHasher;
-use crate::held::Held;
 use crate::laws::exchanges_keep_their_limits;
 use crate::message::read_message;
 use claim_file::Claim;
@@ -59,16 +59,16 @@ fn gather<S: RecordSource>(
 /// The source has given nothing and answered no fault, and the claim keeps its limits. `Capture`
 /// comes if the source ends with a fault, `TooManyExchanges` if it ends whole with over 1,000,000
 /// exchanges, and `Memory` if no memory was left. After a fault the source is used no further.
-pub fn collect_held<S: RecordSource, H: BuildHasher + Drop>(
+pub fn collect_compact<S: RecordSource, H: BuildHasher + Drop>(
     alloc: Global,
     source: &mut S,
     claim: &Claim,
     hasher: H,
-) -> Result<Held, PairFault>
+) -> Result<CompactCollection, PairFault>
     requires claim { IsLawful (data_of claim.now) }
     requires fresh { IsFresh (S.state source.old) }
     requires room { (S.state source.old).fault_count < 2 ^ 64 - 1 }
-    ensures { Collects held_data (data_of claim.now) (S.state source.old) result
+    ensures { Collects compact_data (data_of claim.now) (S.state source.old) result
         (S.state source.new) }
 {
     exchanges_keep_their_limits();
@@ -77,8 +77,8 @@ pub fn collect_held<S: RecordSource, H: BuildHasher + Drop>(
     gathering.finish(alloc, KeyHasher::keyed_by(&hasher))
 }
 
-/// Collects the exchanges and counts of a whole capture, as `collect_held` does, with std's hasher
-/// of a fixed key, and gives the exchanges with all their fields, in 128 bytes each.
+/// Collects the exchanges and counts of a whole capture, as `collect_compact` does, with std's
+/// hasher of a fixed key, and gives the exchanges with all their fields, in 128 bytes each.
 pub fn collect<S: RecordSource>(
     alloc: Global,
     source: &mut S,
@@ -91,6 +91,6 @@ pub fn collect<S: RecordSource>(
         (S.state source.new) }
 {
     let hasher = BuildHasherDefault::<FoldHasher>::new();
-    let held = collect_held(alloc, source, claim, hasher)?;
+    let held = collect_compact(alloc, source, claim, hasher)?;
     Ok(Collected::new(alloc, &held)?)
 }

@@ -3,11 +3,11 @@
 ghost use Rattle.std.specs.Prelude.{◌≡◌, ◌^◌, ◌<◌, [], ◌++◌, ◌⊎◌, List, length, Ok, Err, OnOk, MatchResult, vec_len};
 ghost use Rattle.era_unfold.specs.Window.{per_second};
 
+use crate::compact::{CompactCollection, CompactExchange};
 use crate::counts::Counts;
 use crate::fault::PairFault;
 use crate::hashing::KeyHasher;
-use crate::held::{Held, HeldExchange};
-use crate::index::{Index, Kept};
+use crate::index::{Index, IndexedRequest};
 use crate::join::join;
 use crate::message::Message;
 use pcap_reader::RecordHead;
@@ -16,15 +16,15 @@ use std::alloc::{AllocError, Global};
 /// The requests, the replies that their own headers accept, and the counts.
 #[derive(Drop)]
 pub(crate) struct Gathering {
-    pub requests: Vec<Kept>,
-    pub exchanges: Vec<HeldExchange>,
+    pub requests: Vec<IndexedRequest>,
+    pub exchanges: Vec<CompactExchange>,
     pub counts: Counts,
 }
 
 impl Gathering {
     ghost use Rattle.pairing.specs.Counts.{HasRoom};
-    ghost use Rattle.pairing.specs.Gathering.{counts_with, held_in, kept_in, IsGatheredFrom};
-    ghost use Rattle.pairing.specs.Held.{held_data};
+    ghost use Rattle.pairing.specs.Gathering.{counts_with, compact_in, indexed_in, IsGatheredFrom};
+    ghost use Rattle.pairing.specs.Compact.{compact_data};
     ghost use Rattle.pairing.specs.Pairing.{collection_of};
     ghost use Rattle.claim_file.specs.Claim.{ClaimData};
     ghost use Rattle.pcap_reader.specs.Capture.{Record};
@@ -51,16 +51,16 @@ impl Gathering {
         requires room { HasRoom self.old.counts 1 }
         requires part_of_a_second { head.now.sub < per_second head.now.unit }
         ensures keeps { OnOk result (self.new.requests.items
-            ≡ self.old.requests.items ++ kept_in message head.now) }
+            ≡ self.old.requests.items ++ indexed_in message head.now) }
         ensures holds { OnOk result (self.new.exchanges.items
-            ≡ self.old.exchanges.items ++ held_in message) }
+            ≡ self.old.exchanges.items ++ compact_in message) }
         ensures counted { OnOk result (self.new.counts ≡ counts_with message self.old.counts) }
     {
         match message {
             None => {}
             Some(Message::Request(key)) => {
                 self.counts.requests += 1;
-                self.requests.push(Kept::new(key, head))?;
+                self.requests.push(IndexedRequest::new(key, head))?;
             }
             Some(Message::Refused(refusal)) => {
                 self.counts.replies += 1;
@@ -76,19 +76,23 @@ impl Gathering {
     }
 
     /// What is collected, once the whole capture is gathered.
-    pub(crate) fn finish(mut self, alloc: Global, hasher: KeyHasher) -> Result<Held, PairFault>
+    pub(crate) fn finish(
+        mut self,
+        alloc: Global,
+        hasher: KeyHasher,
+    ) -> Result<CompactCollection, PairFault>
         requires { HasRoom self.counts (vec_len self.exchanges) }
         ensures { (claim : ClaimData) (records : List Record) →
             IsGatheredFrom claim records self.requests.items
             self.exchanges.items self.counts →
             MatchResult result
-            (λ held. collection_of claim records ≡ Ok (held_data held))
+            (λ held. collection_of claim records ≡ Ok (compact_data held))
             (λ fault. (fault ≡ PairFault.Memory) ⊎ (collection_of claim records ≡ Err fault)) }
     {
         let index = Index::new(alloc, &self.requests, hasher)?;
         let kept = join(&index, &mut self.exchanges, &mut self.counts)?;
         self.exchanges.truncate(kept);
-        Ok(Held {
+        Ok(CompactCollection {
             exchanges: self.exchanges,
             counts: self.counts,
         })

@@ -3,11 +3,11 @@
 ghost use Rattle.std.specs.Prelude.{◌≡◌, ◌<◌, [], ◌∷◌, ◌++◌, List, IfOk, OnOk};
 ghost use Rattle.indexmap.specs.IndexMap.{get};
 ghost use Rattle.era_unfold.specs.Window.{per_second};
-ghost use Rattle.pairing.specs.Index.{Finds, kept_of, request_at, same_key};
-ghost use Rattle.pairing.specs.declared.index.Kept.{Kept as Request};
+ghost use Rattle.pairing.specs.Index.{Finds, indexed_of, request_at, same_key};
+ghost use Rattle.pairing.specs.declared.index.IndexedRequest.{IndexedRequest as Request};
 
+use crate::compact_window::CompactWindow;
 use crate::hashing::KeyHasher;
-use crate::window::Window;
 use indexmap::IndexMap;
 use pcap_reader::RecordHead;
 use std::alloc::{AllocError, Global};
@@ -25,7 +25,7 @@ pub(crate) struct Key {
 
 /// A request as it is kept, in 32 bytes.
 #[derive(Clone, Copy)]
-pub(crate) struct Kept {
+pub(crate) struct IndexedRequest {
     /// What its replies share.
     pub key: Key,
     /// How many ticks after the first one the record's window ends.
@@ -36,17 +36,17 @@ pub(crate) struct Kept {
     pub low: u64,
 }
 
-const _: () = prove!(size_of::<Kept>() == 32 && size_of::<Place>() == 16);
+const _: () = prove!(size_of::<IndexedRequest>() == 32 && size_of::<Place>() == 16);
 
-impl Kept {
+impl IndexedRequest {
     /// The request with this key that a record holds.
     #[inline(always)]
-    pub(crate) fn new(key: Key, head: &RecordHead) -> Kept
+    pub(crate) fn new(key: Key, head: &RecordHead) -> IndexedRequest
         requires { head.now.sub < per_second head.now.unit }
-        ensures { result ≡ kept_of (request_at key head.now) }
+        ensures { result ≡ indexed_of (request_at key head.now) }
     {
-        let Window { low, width } = Window::new(head);
-        Kept {
+        let CompactWindow { low, width } = CompactWindow::new(head);
+        IndexedRequest {
             key,
             width,
             number: head.number,
@@ -81,7 +81,7 @@ impl Index {
     /// The index of these requests. Its room is made once, so that it never grows.
     pub(crate) fn new(
         alloc: Global,
-        requests: &[Kept],
+        requests: &[IndexedRequest],
         hasher: KeyHasher,
     ) -> Result<Index, AllocError>
         ensures { IfOk result (λ index. Finds (get same_key index.places) requests.now) }
@@ -96,11 +96,11 @@ impl Index {
 
     /// Notes one more request.
     #[inline(always)]
-    fn note(&mut self, request: &Kept) -> Result<(), AllocError>
+    fn note(&mut self, request: &IndexedRequest) -> Result<(), AllocError>
         ensures { (before : List Request) → Finds (get same_key self.old.places) before →
             OnOk result (Finds (get same_key self.new.places) (before ++ request.now ∷ [])) }
     {
-        let Kept {
+        let IndexedRequest {
             key,
             width,
             number,

@@ -6,13 +6,13 @@ ghost use Rattle.std.specs.Result.{result_ok};
 ghost use Rattle.indexmap.specs.IndexMap.{get};
 ghost use Rattle.pairing.specs.Counts.{HasRoom, IsJoined};
 ghost use Rattle.pairing.specs.Exchange.{most_exchanges};
-ghost use Rattle.pairing.specs.Held.{exchange_shown};
+ghost use Rattle.pairing.specs.Compact.{exchange_shown};
 ghost use Rattle.pairing.specs.Index.{same_key};
 ghost use Rattle.pairing.specs.Join.{outcomes_by, request_by};
 
+use crate::compact::{CompactExchange, CompactRequest};
 use crate::counts::Counts;
 use crate::fault::PairFault;
-use crate::held::{HeldExchange, HeldRequest};
 use crate::index::{Index, Key, Place};
 use crate::refusal::Refusal;
 
@@ -25,12 +25,12 @@ const MOST_EXCHANGES: usize = 1_000_000;
 fn find_request(
     index: &Index,
     server: u8,
-    request: HeldRequest,
+    request: CompactRequest,
     guess: &mut usize,
-) -> Result<HeldRequest, Refusal>
+) -> Result<CompactRequest, Refusal>
     ensures { result ≡ request_by (get same_key index.now.places) server request }
 {
-    let HeldRequest::Named { port, stamp } = request else {
+    let CompactRequest::Named { port, stamp } = request else {
         return Ok(request);
     };
     match index.find_near(
@@ -42,7 +42,7 @@ fn find_request(
         guess,
     ) {
         None => Err(Refusal::NoRequest),
-        Some(Place::One { width, number, low }) => Ok(HeldRequest::Found { width, number, low }),
+        Some(Place::One { width, number, low }) => Ok(CompactRequest::Found { width, number, low }),
         Some(Place::Several) => Err(Refusal::Ambiguous),
     }
 }
@@ -53,7 +53,7 @@ fn find_request(
 /// `TooManyExchanges` comes if over 1,000,000 have a request.
 pub(crate) fn join(
     index: &Index,
-    exchanges: &mut [HeldExchange],
+    exchanges: &mut [CompactExchange],
     counts: &mut Counts,
 ) -> Result<usize, PairFault>
     requires { HasRoom counts.old (length exchanges.old) }
@@ -75,7 +75,7 @@ pub(crate) fn join(
                 if kept == MOST_EXCHANGES {
                     return Err(PairFault::TooManyExchanges);
                 }
-                exchanges[kept] = HeldExchange { request, ..reply };
+                exchanges[kept] = CompactExchange { request, ..reply };
                 kept += 1;
                 counts.accept(reply.leap);
             }

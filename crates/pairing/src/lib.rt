@@ -19,12 +19,13 @@
 
 mod collected;
 mod collection;
+mod compact;
+mod compact_window;
 mod counts;
 mod exchange;
 mod fault;
 mod gathering;
 mod hashing;
-mod held;
 mod index;
 mod join;
 pub mod laws;
@@ -32,13 +33,12 @@ mod message;
 mod refusal;
 mod sources;
 mod to_exchange;
-mod window;
 
 pub use collected::Collected;
-pub use collection::{collect, collect_held};
+pub use collection::{collect, collect_compact};
+pub use compact::{CompactCollection, CompactExchange};
 pub use counts::Counts;
 pub use exchange::Exchange;
 pub use fault::PairFault;
-pub use held::{Held, HeldExchange};
 pub use sources::{common_reference, source_count};
 pub use to_exchange::ToExchange;

@@ -9,7 +9,7 @@ ghost use Rattle.claim_file.specs.Claim.{IsLawful, data_of};
 ghost use Rattle.pairing.specs.Statement.{judged, message_in, message_of};
 ghost use Rattle.pairing.specs.Message.{reply_from, server_at, requested_server, replying_server};
 
-use crate::held::HeldExchange;
+use crate::compact::CompactExchange;
 use crate::index::Key;
 use crate::refusal::{Refusal, accepted_distance};
 use claim_file::Claim;
@@ -31,7 +31,7 @@ pub(crate) enum Message {
     /// A reply that its own header refuses.
     Refused(Refusal),
     /// A reply that its own header accepts. Its request may still come.
-    Reply(HeldExchange),
+    Reply(CompactExchange),
 }
 
 /// Whether two addresses are the same, each compared as one number.
@@ -104,7 +104,7 @@ fn judge(server: u8, head: &RecordHead, packet: &Packet<'_>) -> Message
     ensures { result ≡ judged (reply_from head.now (packet_shown packet.now) server) }
 {
     match accepted_distance(&packet.header) {
-        Ok(distance) => Message::Reply(HeldExchange::new(server, head, packet, distance)),
+        Ok(distance) => Message::Reply(CompactExchange::new(server, head, packet, distance)),
         Err(refusal) => Message::Refused(refusal),
     }
 }

@@ -3,13 +3,13 @@
 ghost use Rattle.std.specs.Prelude.{◌≡◌, ℕ, ◌<◌, false, get_or, map};
 ghost use Rattle.std.specs.List.{list_all};
 ghost use Rattle.std.specs.Str.{bytes_eq};
-ghost use Rattle.pairing.specs.Held.{exchange_shown};
+ghost use Rattle.pairing.specs.Compact.{exchange_shown};
 ghost use Rattle.pairing.specs.Sources.{common_reference, is_source, source_count};
 
-use crate::held::HeldExchange;
+use crate::compact::CompactExchange;
 
 /// For each number of a server, whether an exchange is with it.
-fn sources(exchanges: &[HeldExchange]) -> [bool; 256]
+fn sources(exchanges: &[CompactExchange]) -> [bool; 256]
     ensures { (server : ℕ) → server < 256 →
         get_or result server false ≡ is_source (map exchange_shown exchanges.now) server }
 {
@@ -21,7 +21,7 @@ fn sources(exchanges: &[HeldExchange]) -> [bool; 256]
 }
 
 /// How many of the servers whose numbers are below `servers` have an exchange.
-pub fn source_count(exchanges: &[HeldExchange], servers: u8) -> u8
+pub fn source_count(exchanges: &[CompactExchange], servers: u8) -> u8
     ensures exact { result ≡ source_count (map exchange_shown exchanges.now) servers }
 {
     let seen = sources(exchanges);
@@ -33,7 +33,7 @@ pub fn source_count(exchanges: &[HeldExchange], servers: u8) -> u8
 }
 
 /// Whether all these exchanges name this reference identifier.
-fn have_reference(exchanges: &[HeldExchange], reference: [u8; 4]) -> bool
+fn have_reference(exchanges: &[CompactExchange], reference: [u8; 4]) -> bool
     ensures { result
         ≡ list_all (λ x. bytes_eq (exchange_shown x).reference reference) exchanges.now }
 {
@@ -41,7 +41,7 @@ fn have_reference(exchanges: &[HeldExchange], reference: [u8; 4]) -> bool
 }
 
 /// The reference identifier that all exchanges name, if there is one.
-pub fn common_reference(exchanges: &[HeldExchange]) -> Option<[u8; 4]>
+pub fn common_reference(exchanges: &[CompactExchange]) -> Option<[u8; 4]>
     ensures exact { result ≡ common_reference (map exchange_shown exchanges.now) }
 {
     match exchanges {

@@ -1,6 +1,5 @@
 -- What the header at the front of a feed's bytes tells of all of them.
 use Rattle.std.proofs.Common.{◌≡◌, ◌-◌, ◌<◌, ◌≤◌, ℕ, List, [], ◌++◌, length, take, drop, Option, Some, None, Ok, Err, IfSome, refl, sym, ap, ◌∙◌, arith}
-use Rattle.std.specs.Option.{option_map}
 use Rattle.std.specs.Io.KnownBytes.{Keeps, IsAtEnd, prepend_known}
 use Rattle.std.proofs.lemmas.List.{drop-append-le}
 use Rattle.byte_stream.specs.Fault.{CountsFault}
@@ -15,9 +14,8 @@ use Rattle.pcap_reader.specs.Fault.{IsHeaderFault}
 use Rattle.pcap_reader.specs.Header.{header_of}
 use Rattle.pcap_reader.specs.Limit.{buffer_size}
 use Rattle.pcap_reader.specs.Refusal.{IsRefusal, most_refused}
-use Rattle.pcap_reader.specs.Remaining.{coming_from, capture_of}
-use Rattle.pcap_reader.specs.Source.{AllRemains, is_read}
-use Rattle.pcap_reader.proofs.Remaining.{capture_of_begun}
+use Rattle.pcap_reader.specs.Remaining.{capture_of}
+use Rattle.pcap_reader.specs.Source.{is_read}
 use Rattle.pcap_reader.proofs.Prefix.{header_front, header_fault}
 
 -- at first nothing is held
@@ -62,17 +60,6 @@ header_begun (Some x) (Some y) held rest f keeps long h rest_is =
       ap header_of (sym keeps) ∙ header_front held y short ∙ h,
       ap Some (ap (λ l. l ++ y) rest_is ∙ sym (drop-append-le 24 held y long) ∙ ap (drop 24) keeps),
     )
-
--- what a file that begins so gives
-pub begun : (all known : Option (List ℕ)) (f : Format) (p : ℕ) → p ≡ 24 →
-    IfSome all (λ bytes. (header_of bytes ≡ Ok f) × (known ≡ Some (drop 24 bytes))) →
-    IfSome all (λ bytes. AllRemains bytes (option_map (coming_from f 0 p) known))
-begun None known f p place h = tt
-begun (Some x) known f p place h = (
-  coming_from f 0 24 (drop 24 x),
-  capture_of_begun x f h.0,
-  ap (option_map (coming_from f 0 p)) h.1 ∙ ap (λ q. Some (coming_from f 0 q (drop 24 x))) place,
-)
 
 -- a header's fault is no failure of the device, and not that memory ran out
 pub header_fault_counts : (e : CaptureFault) (n m : ℕ) → IsHeaderFault e → m ≡ n → CountsFault (is_read e) n m

@@ -1,6 +1,6 @@
 -- Bytes that were pulled from a feed, after those that were held.
 use Rattle.std.proofs.Common.{◌≡◌, ◌+◌, ◌-◌, ◌≤◌, ℕ, List, Result, [], ◌++◌, length, Option, Some, None, sym, ap, ◌∙◌, arith, append_assoc, append-nil, length-append, take, drop, length-take, length-drop}
-use Rattle.std.proofs.KnownBytes.{Consumes-nil, Consumes-trans, Consumes-kept, Keeps-trans}
+use Rattle.std.proofs.KnownBytes.{Consumes-nil, Consumes-trans, Keeps-trans}
 use Rattle.std.specs.Io.KnownBytes.{Consumes, Keeps, prepend_known}
 use Rattle.byte_stream.specs.State.{FeedState}
 use Rattle.byte_stream.specs.declared.feed.FeedFault.{FeedFault}
@@ -28,17 +28,6 @@ Pulls-more a b c held held' held'' part p consumed counted joined =
       consumed = Consumes-trans a.remaining b.remaining c.remaining p.pulled part p.consumed consumed;
       joined = joined ∙ ap (λ l. l ++ part) p.joined ∙ append_assoc held p.pulled part;
       counted = omega (arith, length-append p.pulled part, p.counted);
-    }
-
--- and then nothing
-pub Pulls-kept : (a b c : FeedState) (held held' held'' : List ℕ) → Pulls a b held held' →
-    Keeps b.remaining c.remaining → c.taken ≡ b.taken → held'' ≡ held' → Pulls a c held held''
-Pulls-kept a b c held held' held'' p kept counted same =
-    record {
-      pulled = p.pulled;
-      consumed = Consumes-kept a.remaining b.remaining c.remaining p.pulled p.consumed kept;
-      joined = same ∙ p.joined;
-      counted = omega (arith, p.counted);
     }
 
 keeps : (a b : Option (List ℕ)) (pulled held held' : List ℕ) → Consumes a b pulled → held' ≡ held ++ pulled →

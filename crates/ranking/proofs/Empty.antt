@@ -6,9 +6,9 @@ use Rattle.std.proofs.lemmas.Int.{ints}
 use Rattle.std.proofs.lemmas.List.{get_or-replicate, get_or_past, length-replicate, drop-replicate}
 use Rattle.ranking.specs.declared.tree.TheConstants.{NOTHING}
 use Rattle.ranking.proofs.Entries.{leaf_of}
-use Rattle.ranking.specs.Lead.{IsLead}
+use Rattle.ranking.specs.Leader.{IsLeader}
 use Rattle.ranking.specs.Ranking.{HoldsNothing}
-use Rattle.ranking.specs.declared.lead.Lead.{Lead}
+use Rattle.ranking.specs.declared.leader.Leader.{Leader}
 use Rattle.ranking.specs.Tree.{IsFirstLeaf, IsTree, value_of, entry_of, entries_of}
 
 no_value : (n i : ℕ) → value_of (replicate n NOTHING) i ≡ NOTHING
@@ -43,8 +43,8 @@ pub empty_entries : (n leaves : ℕ) → entries_of (replicate n NOTHING) leaves
 empty_entries n leaves = ap (map entry_of) (drop-replicate leaves n NOTHING) ∙ no_entries (n - leaves)
 
 -- if nothing is held, any number may lead
-pub empty_lead : (n leaves : ℕ) (lead : Lead) → IsLead (entries_of (replicate n NOTHING) leaves) lead
-empty_lead n leaves lead =
+pub empty_leader : (n leaves : ℕ) (leader : Leader) → IsLeader (entries_of (replicate n NOTHING) leaves) leader
+empty_leader n leaves leader =
     record {
       most = λ number value held. absurd (none number value held);
       before = λ number value earlier held. absurd (none number value held);

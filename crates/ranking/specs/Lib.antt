@@ -1,3 +1,3 @@
 pub mod Ranking
 pub mod Tree
-pub mod Lead
+pub mod Leader

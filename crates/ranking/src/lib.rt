@@ -16,7 +16,7 @@
 #![tactic(auto)]
 
 pub mod laws;
-mod lead;
+mod leader;
 mod ranking;
 mod tree;
 

@@ -3,7 +3,7 @@
 ghost use Rattle.std.specs.Prelude.{◌≡◌, ◌⊎◌, ◌<ℤ◌, replicate, slice_set, Some, None, IfOk, IfNone, IfSome};
 ghost use Rattle.ranking.specs.Ranking.{IsFree, HoldsNothing, IsGreatest, HasBefore, AllBelow, IsLeastNumber};
 
-use crate::lead::Lead;
+use crate::leader::Leader;
 use crate::tree;
 use crate::tree::NOTHING;
 use std::alloc::{AllocError, Global};
@@ -19,19 +19,19 @@ pub struct Ranking {
     /// Where the leaves begin: the node of number 0.
     leaves: usize,
     /// The number that is asked for most often.
-    lead: Lead,
+    leader: Leader,
 }
 
 impl Model for Ranking {
     ghost use Rattle.std.specs.Prelude.{ℤ, List, Option};
-    ghost use Rattle.ranking.specs.Lead.{IsRanking};
+    ghost use Rattle.ranking.specs.Leader.{IsRanking};
     ghost use Rattle.ranking.specs.Tree.{entries_of};
 
     ghost Value = { List (Option ℤ) };
 
     ghost view = { λ r. entries_of r.nodes.items r.leaves };
 
-    ghost invariant = { λ r. IsRanking r.nodes.items r.leaves r.lead };
+    ghost invariant = { λ r. IsRanking r.nodes.items r.leaves r.leader };
 }
 
 impl Ranking {
@@ -41,14 +41,14 @@ impl Ranking {
     {
         let leaves = tree::first_leaf(size);
         let nodes = vec![in alloc; NOTHING; leaves + size as usize]?;
-        let lead = Lead {
+        let leader = Leader {
             number: 0,
-            rival: NOTHING,
+            runner_up: NOTHING,
         };
         Ok(Ranking {
             nodes,
             leaves,
-            lead,
+            leader,
         })
     }
 
@@ -60,7 +60,7 @@ impl Ranking {
         ensures { self.new ≡ slice_set self.old number (Some value) }
     {
         let greatest = tree::root(&self.nodes);
-        self.lead.take_in(number, value, greatest);
+        self.leader.take_in(number, value, greatest);
         tree::put(&mut self.nodes, self.leaves, number as usize, value);
     }
 
@@ -73,8 +73,8 @@ impl Ranking {
         ensures { (self.new ≡ slice_set self.old number (Some value))
             ⊎ ((self.new ≡ self.old) × HasBefore self.old value number) }
     {
-        // Mostly the lead comes before it and has as much.
-        if self.lead.number < number && value <= tree::root(&self.nodes) {
+        // Mostly the leader comes before it and has as much.
+        if self.leader.number < number && value <= tree::root(&self.nodes) {
             return;
         }
         self.put(number, value);
@@ -99,9 +99,10 @@ impl Ranking {
         if tree::root(&self.nodes) < at_least {
             return None;
         }
-        // Mostly no number before the lead has that much, and then the tree need not be gone down.
-        if self.lead.rival < at_least {
-            return Some(self.lead.number);
+        // Mostly no number before the leader has that much, and then the tree need not be gone
+        // down.
+        if self.leader.runner_up < at_least {
+            return Some(self.leader.number);
         }
         Some(tree::first_number(&self.nodes, self.leaves, at_least) as u32)
     }

@@ -214,39 +214,3 @@ closes_memory old after failed finishes = record {
       (failed, CountsFault-after failed before _ _ same finishes.counts);
   device = λ which. refl;
 }
-
--- a device failed, after some first lines
-pub closes_device : (old : OutputState) (after : SinkState) (input : Input) (failed : Bool) →
-    Finishes old.sink after failed → Closes old after (Err (Device input)) (Err (Device input))
-closes_device old after input failed finishes = record {
-  text = λ report before (first, others, lines, put).
-      let parted = lines ∙ ap (λ l. l ++ others) put.parts ∙ append_assoc put.gone put.kept others in
-      let went = appends_kept before old.sink.contents after.contents _ put.went finishes.kept in
-      (put.gone, put.kept ++ others, parted, went);
-  stays = refl;
-  closed = finishes.closed;
-  sink = λ before start.
-      let same : old.sink.faults ≡ before = omega (arith, start) in
-      (failed, CountsFault-after failed before _ _ same finishes.counts);
-  device = λ which. refl;
-}
-
--- the sink had failed already
-pub closes_write : (old : OutputState) (sent : ℕ) → old.sink.is_open ≡ false →
-    Closes old old.sink (Err (Write sent)) (Err (Write sent))
-closes_write old sent closed = record {
-  text = λ report before cut. (inl cut.short, cut.went);
-  stays = refl;
-  closed = closed;
-  sink = λ before start. start;
-  device = λ which. refl;
-}
-
--- any other fault is a refusal, after which the output may be used
-pub may_be_refused : (now : OutputState) (fault : RunFault) → ((input : Input) → fault ≡ Device input → ⊥) →
-    ((sent : ℕ) → fault ≡ Write sent → ⊥) → (fault ≡ Memory → ⊥) → CanClose now (Err fault) →
-    IsReady now × IsRefusal fault
-may_be_refused now (Device input) device write memory can = absurd (device input refl)
-may_be_refused now (Write sent) device write memory can = absurd (write sent refl)
-may_be_refused now Memory device write memory can = absurd (memory refl)
-may_be_refused now fault device write memory can = (can, tt)

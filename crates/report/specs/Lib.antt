@@ -14,4 +14,4 @@ pub mod RefutationInput
 pub mod Delivery
 pub mod Publication
 pub mod Runs
-pub mod Telling
+pub mod Conclusion

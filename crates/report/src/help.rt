@@ -4,11 +4,11 @@ ghost use Rattle.std.specs.Prelude.{Some, string_bytes};
 ghost use Rattle.byte_stream.specs.State.{IsWritable};
 ghost use Rattle.report.specs.Reports.{whole_text};
 ghost use Rattle.report.specs.Run.{bare_state};
-ghost use Rattle.report.specs.Telling.{Answers};
+ghost use Rattle.report.specs.Conclusion.{Answers};
 
+use crate::conclusion::conclude;
 use crate::fault::Outcome;
 use crate::publication::{Made, publish};
-use crate::telling::tell;
 use byte_stream::Sink;
 
 /// Shows a text on `out`. The result is the exit status.
@@ -24,5 +24,5 @@ pub fn show<S: Sink, E: Sink>(text: String, out: &mut S, err: &mut E) -> u8
         outcome: Outcome::Yes,
     });
     let answer = publish(out, &made);
-    tell(&answer, err)
+    conclude(&answer, err)
 }

@@ -22,6 +22,7 @@
 
 mod certificate_input;
 mod claim_input;
+mod conclusion;
 mod delivery;
 mod exit_status;
 mod fault;
@@ -33,10 +34,10 @@ mod output;
 mod publication;
 mod refusal;
 mod refutation_input;
-mod telling;
 
 pub use certificate_input::{MAX_CERTIFICATE, read_certificate_from};
 pub use claim_input::{MAX_CLAIM, read_claim_from};
+pub use conclusion::conclude;
 pub use delivery::deliver;
 pub use exit_status::status;
 pub use fault::{Input, Outcome, RunFault, SumsFault};
@@ -47,4 +48,3 @@ pub use output::{OUTPUT_CAPACITY, Output, output_buffer};
 pub use publication::{Made, publish};
 pub use refusal::{refuse, refuse_time};
 pub use refutation_input::{MAX_REFUTATION, read_refutation_from};
-pub use telling::tell;

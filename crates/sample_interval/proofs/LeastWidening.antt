@@ -1,6 +1,5 @@
 -- The widening as a least number, and the drift by the clock's own readings.
-use Rattle.std.proofs.Common.{◌≡◌, ℕ, zero, suc, ◌+◌, ◌-◌, ◌*◌, ◌^◌, ◌<◌, ◌≤◌, ℤ, pos, ◌-ℤ◌, ◌≤ℤ◌, unsigned_abs, Fits}
-use mir.Syntax.{w128}
+use Rattle.std.proofs.Common.{◌≡◌, ℕ, zero, suc, ◌+◌, ◌-◌, ◌*◌, ◌^◌, ◌<◌, ◌≤◌, ℤ, pos, ◌-ℤ◌, ◌≤ℤ◌, unsigned_abs}
 use Rattle.std.proofs.Common.{◌⊎◌, inl, inr, ⊎_elim, ◌↔◌, refl, sym, arith, subst}
 use Rattle.std.proofs.lemmas.Int.{ints}
 use Rattle.std.proofs.lemmas.Grind.{div_ceil_times}
@@ -63,13 +62,6 @@ module _ (rate ppb : ℕ) (is_rate : IsRate ppb) (same : rate ≡ ppb) where
 
   pub parts_left : 0 < 1000000000 - rate
   parts_left = omega arith
-
-pub product_fits : (rate abs ppb : ℕ) (distance : ℤ) → IsRate ppb → pos 0 ≤ℤ distance → distance ≤ℤ pos (2 ^ 80) →
-    rate ≡ ppb → abs ≡ unsigned_abs distance → Fits w128 (rate * abs)
-product_fits rate abs ppb distance is_rate from to same value =
-    let le : abs ≤ 2 ^ 80 = omega (arith, ints) in
-    let most : rate * abs ≤ rate * 2 ^ 80 = mul-le-mul_left rate le in
-    record { fits = omega arith }
 
 pub within_a_word : (n : ℕ) (distance : ℤ) → pos 0 ≤ℤ distance → distance ≤ℤ pos (2 ^ 80) → n ≤ unsigned_abs distance →
     n < 2 ^ 127

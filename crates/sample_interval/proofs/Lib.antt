@@ -1,4 +1,4 @@
-pub mod Kept
+pub mod NoOverflow
 pub mod Moment
 pub mod OnWire
 pub mod ExchangeSample

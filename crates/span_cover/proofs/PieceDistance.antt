@@ -144,20 +144,3 @@ module _ (widens : HaveWidenings) (n ppb : ℕ) (p q : ℤ) (observed : Moment) 
       no_more ((sample.high +ℤ pos w) *ℤ pos n) (sample.high *ℤ pos n) (error_of reply) (error_of observed) (w * n)
       parts most
       (change_of_error sample.high_from sample.high_to reply window drift)
-
--- ---- an end that a sample's doesn't pass
-
-not_above : (a b : ℤ) → le_z a b ≡ true → a ≤ℤ b
-not_above a b h = grind (arith, ints)
-
-pub low_stays : (low : ℤ) (sample : Sample) (p q : ℤ) (ppb : ℕ) → sample.low_from ≤ℤ sample.low_to → IsPiece p q →
-    le_z sample.low low ≡ true → low ≡ int_max low (moved_low sample p q ppb)
-unfolding moved_low
-low_stays low sample p q ppb window piece h =
-    omega (arith, ints, clamps, not_above sample.low low h)
-
-pub high_stays : (high : ℤ) (sample : Sample) (p q : ℤ) (ppb : ℕ) → sample.high_from ≤ℤ sample.high_to →
-    IsPiece p q → le_z high sample.high ≡ true → high ≡ int_min high (moved_high sample p q ppb)
-unfolding moved_high
-high_stays high sample p q ppb window piece h =
-    omega (arith, ints, clamps, not_above high sample.high h)

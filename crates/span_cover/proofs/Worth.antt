@@ -13,32 +13,6 @@ use Rattle.span_cover.proofs.PieceDistance.{kept}
 pub piece_kept : (p q : ℤ) → IsPiece p q → IsPiece (to_z w128 (of_z w128 p)) (to_z w128 (of_z w128 q))
 piece_kept p q piece = rw (kept p (omega (arith, ints)), kept q (omega (arith, ints))) piece
 
--- a number that is negated
-module _ (a : ℤ) (small : unsigned_abs a ≤ 2 ^ 72) where
-  pub negation_fits : FitsSigned w128 (pos 0 -ℤ to_z w128 (of_z w128 a))
-  negation_fits = rw (kept a (omega arith)) (fits_signed_from_abs w128 (pos 0 -ℤ a) (omega (arith, ints)))
-
-  negation_is : to_z w128 (of_z w128 (pos 0 -ℤ to_z w128 (of_z w128 a))) ≡ pos 0 -ℤ a
-  negation_is = rw (kept a (omega arith)) (kept (pos 0 -ℤ a) (omega (arith, ints)))
-
-lower : (a : ℤ) (w : ℕ) → (a -ℤ pos w) ≤ℤ a
-lower a w = omega (arith, ints)
-
-higher : (a : ℤ) (w : ℕ) → neg_ℤ (a +ℤ pos w) ≤ℤ (pos 0 -ℤ a)
-higher a w = omega (arith, ints)
-
--- to be moved only takes merit away
-module _ (side : Side) (sample : Sample) where
-  pub low_unmoved : side ≡ Low → unsigned_abs sample.low ≤ 2 ^ 72 → (p q : ℤ) (ppb : ℕ) →
-      merit side sample p q ppb ≤ℤ to_z w128 (of_z w128 sample.low)
-  unfolding moved_low
-  low_unmoved is small p q ppb = rw (is, kept sample.low (omega arith)) (lower sample.low _)
-
-  pub high_unmoved : side ≡ High → unsigned_abs sample.high ≤ 2 ^ 72 → (p q : ℤ) (ppb : ℕ) →
-      merit side sample p q ppb ≤ℤ to_z w128 (of_z w128 (pos 0 -ℤ to_z w128 (of_z w128 sample.high)))
-  unfolding moved_high
-  high_unmoved is small p q ppb = rw (is, negation_is sample.high small) (higher sample.high _)
-
 -- the number before another, of a few samples
 module _ (number all : ℕ) (some : 0 < number) (within : number ≤ all) where
   pub one_back : 1 ≤ number

@@ -9,18 +9,18 @@ use Rattle.std.proofs.lemmas.Option.{get_or_from_slice_get}
 use Rattle.sample_interval.specs.Widening.{IsRate, IsWidening, widening, billion}
 use Rattle.sweep.specs.Extreme.{IsLawfulExtreme, mirrored_extreme, number_at}
 use Rattle.sweep.specs.Rise.{IsHighest, ReachesEitherWay}
-use Rattle.sweep.specs.Stretch.{IsLawfulStretch, mirrored_stretch}
+use Rattle.sweep.specs.UnsignedStretch.{IsLawfulStretch, mirrored_stretch}
 use Rattle.sweep.specs.Top.{IsTop, IsTopOf, IsAtLeast, IsEarlyAtLeast, AreEarlyTops, AreLateTops, higher_of}
 use Rattle.sweep.specs.Top.{IsTopNumber}
 use Rattle.sweep.specs.declared.extreme.Extreme.{Extreme}
-use Rattle.sweep.specs.declared.stretch.Stretch.{Stretch}
+use Rattle.sweep.specs.declared.unsigned_stretch.UnsignedStretch.{UnsignedStretch}
 use Rattle.sweep.specs.declared.top.Top.{Top}
 use Rattle.sweep.proofs.List.{pushed_cases, all_at, map_at}
 use Rattle.sweep.proofs.Reach.{reaches_either, either_reaches, some_reaches}
 use Rattle.sweep.proofs.TopOrder.{Either, same_top, top-higher_of}
 
 module _ (widens : (ppb distance : ℕ) → ppb < billion → IsWidening ppb distance (widening ppb distance)) (ppb : ℕ)
-    (slow : IsRate ppb) (extremes : List Extreme) (lawful : All IsLawfulExtreme extremes) (stretch : Stretch)
+    (slow : IsRate ppb) (extremes : List Extreme) (lawful : All IsLawfulExtreme extremes) (stretch : UnsignedStretch)
     (lawful_stretch : IsLawfulStretch stretch) where
   -- the higher of the early top and the late one is the top
   pub top_here : (one other : Option Top) → IsTopOf (IsEarlyAtLeast ppb extremes stretch) one →
@@ -44,15 +44,16 @@ module _ (widens : (ppb distance : ℕ) → ppb < billion → IsWidening ppb dis
   top_is_some some (Some top) is = refl
 
 -- the numbers of the stretches below number k
-pub record NumbersSoFar (ppb : ℕ) (extremes : List Extreme) (stretches : List Stretch) (n : ℕ) (numbers : List ℕ)
+pub record NumbersSoFar (ppb : ℕ) (extremes : List Extreme) (stretches : List UnsignedStretch) (n : ℕ)
+    (numbers : List ℕ)
     : Type 0 where
   pub as_many : length numbers ≡ n
-  pub each : (k : ℕ) (stretch : Stretch) (number : ℕ) → slice_get stretches k ≡ Some stretch →
+  pub each : (k : ℕ) (stretch : UnsignedStretch) (number : ℕ) → slice_get stretches k ≡ Some stretch →
       slice_get numbers k ≡ Some number → IsTopNumber ppb extremes stretch number
 
-module _ (ppb : ℕ) (extremes : List Extreme) (stretches : List Stretch) (n : ℕ) (numbers : List ℕ)
+module _ (ppb : ℕ) (extremes : List Extreme) (stretches : List UnsignedStretch) (n : ℕ) (numbers : List ℕ)
     (so_far : NumbersSoFar ppb extremes stretches n numbers) where
-  pub NumbersSoFar-more : (stretch : Stretch) (number : ℕ) → slice_get stretches n ≡ Some stretch →
+  pub NumbersSoFar-more : (stretch : UnsignedStretch) (number : ℕ) → slice_get stretches n ≡ Some stretch →
       IsTopNumber ppb extremes stretch number → NumbersSoFar ppb extremes stretches (n + 1) (numbers ++ number ∷ [])
   NumbersSoFar-more stretch number here is = record {
     as_many = omega (arith, length-append numbers (number ∷ []), so_far.as_many);
@@ -62,20 +63,20 @@ module _ (ppb : ℕ) (extremes : List Extreme) (stretches : List Stretch) (n : �
         let same : n ≡ k = sym (new.0 ∙ so_far.as_many) in
         let one : stretch ≡ s = same_Some stretch s (sym here ∙ ap (slice_get stretches) same ∙ at) in
         subst (λ (x : ℕ). IsTopNumber ppb extremes s x) (sym new.1)
-        (subst (λ (x : Stretch). IsTopNumber ppb extremes x number) one is))
+        (subst (λ (x : UnsignedStretch). IsTopNumber ppb extremes x number) one is))
         (pushed_cases numbers number m k there);
   }
 
 -- ---- what the code reads and chooses at number k
 module _ (widens : (ppb distance : ℕ) → ppb < billion → IsWidening ppb distance (widening ppb distance)) (ppb : ℕ)
     (slow : IsRate ppb) (extremes : List Extreme) (lawful : All IsLawfulExtreme extremes)
-    (stretches : List Stretch)
+    (stretches : List UnsignedStretch)
     (lawful_stretches : All IsLawfulStretch stretches) (early late : List (Option Top))
     (are_early : AreEarlyTops ppb extremes stretches early)
     (are_late : AreLateTops ppb extremes stretches late) (k : ℕ) (within : k < length stretches)
     (one other : Option Top)
     (one_at : one ≡ get_or early k one) (other_at : other ≡ get_or late (length stretches - 1 - k) other) where
-  pub some_stretch : Stretch
+  pub some_stretch : UnsignedStretch
   some_stretch = get_or stretches k (record { begin = 0; end = 0 })
 
   here : slice_get stretches k ≡ Some some_stretch
@@ -113,7 +114,7 @@ module _ (widens : (ppb distance : ℕ) → ppb < billion → IsWidening ppb dis
         NumbersSoFar-more ppb extremes stretches k numbers so_far some_stretch extreme.number here
         (record { top = top; is_top = top_is; extreme = extreme; stands = stands; number = refl })
 
--- ---- the same of the highest by the crests, for the indices so far
+-- ---- the same of the highest by the leaders, for the indices so far
 number_there : (extremes : List Extreme) (index : ℕ) (extreme : Extreme) → slice_get extremes index ≡ Some extreme →
     extreme.number ≡ number_at extremes index
 number_there extremes index extreme stands =
@@ -123,8 +124,9 @@ number_there extremes index extreme stands =
 
 module _ (widens : (ppb distance : ℕ) → ppb < billion → IsWidening ppb distance (widening ppb distance)) (ppb : ℕ)
     (slow : IsRate ppb) (extremes : List Extreme) (lawful : All IsLawfulExtreme extremes)
-    (stretches : List Stretch) (lawful_stretches : All IsLawfulStretch stretches) (k : ℕ)
-    (within : k < length stretches) (stretch : Stretch) (here : slice_get stretches k ≡ Some stretch) (index : ℕ)
+    (stretches : List UnsignedStretch) (lawful_stretches : All IsLawfulStretch stretches) (k : ℕ)
+    (within : k < length stretches) (stretch : UnsignedStretch) (here : slice_get stretches k ≡ Some stretch)
+    (index : ℕ)
     (highest : IsHighest ppb extremes stretch index) where
   highest_top : IsTop (IsAtLeast ppb extremes stretch) (record { level = highest.level; index = index })
   highest_top =

@@ -18,12 +18,12 @@ use Rattle.span_cover.specs.Gathering.{best_interval, interval_between}
 use Rattle.span_cover.specs.Piece.{moved_low, moved_high}
 use Rattle.span_cover.specs.declared.part.Part.{Part}
 use Rattle.sweep.specs.Extreme.{IsLawfulExtreme, AreExtremesOf, mirrored_extreme}
-use Rattle.sweep.specs.Peak.{IsEarlyLevel}
-use Rattle.sweep.specs.Stretch.{IsStretchOf, IsLawfulStretch, mirrored_stretch}
+use Rattle.sweep.specs.PrefixMaximum.{IsEarlyLevel}
+use Rattle.sweep.specs.UnsignedStretch.{IsStretchOf, IsLawfulStretch, mirrored_stretch}
 use Rattle.sweep.specs.Table.{IsLevelOver, best_part, said_by}
 use Rattle.sweep.specs.Top.{IsAtLeast, distance}
 use Rattle.sweep.specs.declared.extreme.Extreme.{Extreme}
-use Rattle.sweep.specs.declared.stretch.Stretch.{Stretch}
+use Rattle.sweep.specs.declared.unsigned_stretch.UnsignedStretch.{UnsignedStretch}
 use Rattle.sweep.proofs.ExtremeList.{some_sample}
 use Rattle.sweep.proofs.Merit.{merit_is}
 use Rattle.sweep.proofs.Reach.{reaches_either, either_reaches, some_reaches}
@@ -50,7 +50,7 @@ higher_quotient a b m some = ⊎_elim
 -- ---- the higher of the levels of both ways
 
 module _ (widens : (ppb distance : ℕ) → ppb < billion → IsWidening ppb distance (widening ppb distance)) (ppb : ℕ)
-    (slow : IsRate ppb) (extremes : List Extreme) (stretch : Stretch) (all : All IsLawfulExtreme extremes)
+    (slow : IsRate ppb) (extremes : List Extreme) (stretch : UnsignedStretch) (all : All IsLawfulExtreme extremes)
     (s : IsLawfulStretch stretch) (some : 0 < length extremes) where
   -- an extreme reaches the level
   abbrev Reached : ℕ → Type 0
@@ -101,28 +101,29 @@ level_of_best x y end wide best_end best_wide level a b reached no_more most =
 
 module _ (side : Side) (samples : List Sample) (server : ℕ) (extremes : List Extreme)
     (are : AreExtremesOf side samples server extremes) where
-  module _ (p q : ℤ) (ppb : ℕ) (stretch : Stretch) (at : IsStretchOf p q stretch) (s : IsLawfulStretch stretch) where
-    pub level_counted : (level : ℕ) → IsLevelOver ppb extremes stretch level → (number : ℕ) →
-        (best : IsFirstBest (λ t. merit side t p q ppb) samples server number) →
-        merit side best.sample p q ppb +ℤ pos (2 ^ 75) ≡ pos level
-    level_counted level is number best =
-        let extreme : Extreme = is.reached.extreme in
-        let own = are.each is.index extreme is.reached.stands in
-        let came = are.all number best.sample best.stands best.of_server in
-        let other = are.each came.0 came.1 came.2 in
-        let same : other.sample ≡ best.sample =
-        same_Some other.sample best.sample (sym other.stands ∙ ap (slice_get samples) came.3 ∙ best.stands) in
-        let counted : merit side best.sample p q ppb +ℤ pos (2 ^ 75)
-        ≡ pos came.1.end -ℤ pos (widening ppb (distance came.1 stretch)) =
-        subst (λ (t : Sample). merit side t p q ppb +ℤ pos (2 ^ 75)
-        ≡ pos came.1.end -ℤ pos (widening ppb (distance came.1 stretch))) same
-        (merit_is side p q ppb other.sample came.1 stretch other.is other.lawful at s) in
-        level_of_best (merit side own.sample p q ppb) (merit side best.sample p q ppb) extreme.end
-        (widening ppb (distance extreme stretch)) came.1.end (widening ppb (distance came.1 stretch)) level
-        (merit_is side p q ppb own.sample extreme stretch own.is own.lawful at s) counted is.reached.at_least
-        (best.greatest extreme.number own.sample own.stands own.of_server)
-        (λ le. is.highest came.0 (came.1.end - widening ppb (distance came.1 stretch))
-        (record { extreme = came.1; stands = came.2; at_least = omega arith }))
+  module _ (p q : ℤ) (ppb : ℕ) (stretch : UnsignedStretch) (at : IsStretchOf p q stretch) (s : IsLawfulStretch stretch)
+    where
+      pub level_counted : (level : ℕ) → IsLevelOver ppb extremes stretch level → (number : ℕ) →
+          (best : IsFirstBest (λ t. merit side t p q ppb) samples server number) →
+          merit side best.sample p q ppb +ℤ pos (2 ^ 75) ≡ pos level
+      level_counted level is number best =
+          let extreme : Extreme = is.reached.extreme in
+          let own = are.each is.index extreme is.reached.stands in
+          let came = are.all number best.sample best.stands best.of_server in
+          let other = are.each came.0 came.1 came.2 in
+          let same : other.sample ≡ best.sample =
+          same_Some other.sample best.sample (sym other.stands ∙ ap (slice_get samples) came.3 ∙ best.stands) in
+          let counted : merit side best.sample p q ppb +ℤ pos (2 ^ 75)
+          ≡ pos came.1.end -ℤ pos (widening ppb (distance came.1 stretch)) =
+          subst (λ (t : Sample). merit side t p q ppb +ℤ pos (2 ^ 75)
+          ≡ pos came.1.end -ℤ pos (widening ppb (distance came.1 stretch))) same
+          (merit_is side p q ppb other.sample came.1 stretch other.is other.lawful at s) in
+          level_of_best (merit side own.sample p q ppb) (merit side best.sample p q ppb) extreme.end
+          (widening ppb (distance extreme stretch)) came.1.end (widening ppb (distance came.1 stretch)) level
+          (merit_is side p q ppb own.sample extreme stretch own.is own.lawful at s) counted is.reached.at_least
+          (best.greatest extreme.number own.sample own.stands own.of_server)
+          (λ le. is.highest came.0 (came.1.end - widening ppb (distance came.1 stretch))
+          (record { extreme = came.1; stands = came.2; at_least = omega arith }))
 
 -- ---- the part of a table
 
@@ -140,7 +141,7 @@ from_zero_high : (high : ℤ) (level : ℕ) (hi : ℤ) → neg_ℤ high +ℤ pos
     hi ≡ neg_ℤ (pos level -ℤ pos (2 ^ 75)) → high ≡ hi
 from_zero_high high level hi counted is = omega (arith, ints)
 
-module _ (law : BestLaw) (samples : List Sample) (server : ℕ) (p q : ℤ) (ppb : ℕ) (stretch : Stretch)
+module _ (law : BestLaw) (samples : List Sample) (server : ℕ) (p q : ℤ) (ppb : ℕ) (stretch : UnsignedStretch)
     (at : IsStretchOf p q stretch) (s : IsLawfulStretch stretch) where
   module _ (low high : ℕ) (interval : Interval) (lo : interval.lo ≡ pos low -ℤ pos (2 ^ 75))
       (hi : interval.hi ≡ neg_ℤ (pos high -ℤ pos (2 ^ 75))) where

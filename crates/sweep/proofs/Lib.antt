@@ -10,8 +10,8 @@ mod Mirror
 mod Reach
 mod HighestExtreme
 mod Merit
-mod PeakList
+mod MaximumList
 mod Level
 mod TableList
-mod CrestList
+mod LeaderList
 mod RiseOrder

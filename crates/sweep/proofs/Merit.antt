@@ -10,14 +10,14 @@ use Rattle.sample_interval.specs.declared.kinds.Sample.{Sample}
 use Rattle.span_cover.specs.Best.{IsFirstBest, merit}
 use Rattle.span_cover.specs.Piece.{farthest, moved_low, moved_high}
 use Rattle.sweep.specs.Extreme.{IsFromOrigin, IsExtremeOf, IsLawfulExtreme, IsOfServer, AreExtremesOf}
-use Rattle.sweep.specs.Stretch.{IsStretchOf, IsLawfulStretch}
+use Rattle.sweep.specs.UnsignedStretch.{IsStretchOf, IsLawfulStretch}
 use Rattle.sweep.specs.Top.{IsTopNumber, distance}
 use Rattle.sweep.specs.declared.extreme.Extreme.{Extreme}
 use Rattle.intersection.specs.declared.ends.Side.{Side}
 use Rattle.intersection.specs.declared.ends.Side.TheVariants.{Low, High}
-use Rattle.sweep.specs.declared.stretch.Stretch.{Stretch}
+use Rattle.sweep.specs.declared.unsigned_stretch.UnsignedStretch.{UnsignedStretch}
 
-distance_is : (start stop p q : ℤ) (extreme : Extreme) (stretch : Stretch) → IsFromOrigin start extreme.from →
+distance_is : (start stop p q : ℤ) (extreme : Extreme) (stretch : UnsignedStretch) → IsFromOrigin start extreme.from →
     IsFromOrigin stop extreme.to → IsStretchOf p q stretch → extreme.from ≤ extreme.to → stretch.begin ≤ stretch.end →
     unsigned_abs (farthest start stop p q) ≡ distance extreme stretch
 distance_is start stop p q extreme stretch a b is up on = omega (arith, ints, clamps, is.begin, is.end)
@@ -31,7 +31,7 @@ counted_up : (value : ℤ) (end wide apart : ℕ) → IsFromOrigin (neg_ℤ valu
 counted_up value end wide apart is same = omega (arith, ints)
 
 -- a sample's merit, counted from the origin, is its extreme's end moved down
-pub merit_is : (side : Side) (p q : ℤ) (ppb : ℕ) (sample : Sample) (extreme : Extreme) (stretch : Stretch) →
+pub merit_is : (side : Side) (p q : ℤ) (ppb : ℕ) (sample : Sample) (extreme : Extreme) (stretch : UnsignedStretch) →
     IsExtremeOf side sample extreme → IsLawfulExtreme extreme → IsStretchOf p q stretch → IsLawfulStretch stretch →
     merit side sample p q ppb +ℤ pos (2 ^ 75) ≡ pos extreme.end -ℤ pos (widening ppb (distance extreme stretch))
 unfolding moved_low moved_high
@@ -62,7 +62,7 @@ less x y end wide best_end best_wide level a b reached short = ⊎_elim
     (cases_lt end (level + wide))
 
 module _ (side : Side) (samples : List Sample) (server : ℕ) (extremes : List Extreme)
-    (are : AreExtremesOf side samples server extremes) (p q : ℤ) (ppb : ℕ) (stretch : Stretch)
+    (are : AreExtremesOf side samples server extremes) (p q : ℤ) (ppb : ℕ) (stretch : UnsignedStretch)
     (at : IsStretchOf p q stretch)
     (s : IsLawfulStretch stretch) (number : ℕ) (is : IsTopNumber ppb extremes stretch number) where
   module _ (i : ℕ) (sample : Sample) (stands : slice_get samples i ≡ Some sample) (of : sample.server ≡ server) where

@@ -6,10 +6,10 @@ use Rattle.std.proofs.lemmas.List.{length-map, length-reverse}
 use Rattle.std.proofs.lemmas.List.Elements.{All-map, All-weaker}
 use Rattle.std.proofs.lemmas.List.Sorted.{All-permutation, IsPermutation-reverse}
 use Rattle.sweep.specs.Extreme.{IsLawfulExtreme, mirrored_extreme}
-use Rattle.sweep.specs.Stretch.{IsLawfulStretch, MiddlesRise, mirrored_stretch}
+use Rattle.sweep.specs.UnsignedStretch.{IsLawfulStretch, MiddlesRise, mirrored_stretch}
 use Rattle.sweep.specs.Top.{AreEarlyTops, AreLateTops, distance}
 use Rattle.sweep.specs.declared.extreme.Extreme.{Extreme}
-use Rattle.sweep.specs.declared.stretch.Stretch.{Stretch}
+use Rattle.sweep.specs.declared.unsigned_stretch.UnsignedStretch.{UnsignedStretch}
 use Rattle.sweep.specs.declared.top.Top.{Top}
 use Rattle.sweep.proofs.List.{map_at, at_map, at_reverse, reverse_at, all_at}
 
@@ -22,7 +22,8 @@ lawful-mirrored_extreme extreme is = record {
   ends = omega (arith, is.begins);
 }
 
-pub lawful-mirrored_stretch : (stretch : Stretch) → IsLawfulStretch stretch → IsLawfulStretch (mirrored_stretch stretch)
+pub lawful-mirrored_stretch : (stretch : UnsignedStretch) → IsLawfulStretch stretch
+    → IsLawfulStretch (mirrored_stretch stretch)
 lawful-mirrored_stretch stretch is = record {
   begins = omega (arith, is.ends);
   in_order = omega (arith, is.in_order);
@@ -35,7 +36,7 @@ lawful-mirrored_extremes extremes all =
     All-map IsLawfulExtreme mirrored_extreme extremes
     (All-weaker IsLawfulExtreme (λ b. IsLawfulExtreme (mirrored_extreme b)) lawful-mirrored_extreme extremes all)
 
-pub lawful-mirrored_stretches : (stretches : List Stretch) → All IsLawfulStretch stretches →
+pub lawful-mirrored_stretches : (stretches : List UnsignedStretch) → All IsLawfulStretch stretches →
     All IsLawfulStretch (reverse (map mirrored_stretch stretches))
 lawful-mirrored_stretches stretches all =
     All-permutation IsLawfulStretch (map mirrored_stretch stretches) (reverse (map mirrored_stretch stretches))
@@ -43,11 +44,11 @@ lawful-mirrored_stretches stretches all =
     (All-map IsLawfulStretch mirrored_stretch stretches
     (All-weaker IsLawfulStretch (λ s. IsLawfulStretch (mirrored_stretch s)) lawful-mirrored_stretch stretches all))
 
-middles_turn : (a b : Stretch) → IsLawfulStretch a → IsLawfulStretch b → b.begin + b.end ≤ a.begin + a.end →
+middles_turn : (a b : UnsignedStretch) → IsLawfulStretch a → IsLawfulStretch b → b.begin + b.end ≤ a.begin + a.end →
     (2 ^ 76 - a.end) + (2 ^ 76 - a.begin) ≤ (2 ^ 76 - b.end) + (2 ^ 76 - b.begin)
 middles_turn a b is_a is_b le = omega (arith, is_a.ends, is_a.in_order, is_b.ends, is_b.in_order)
 
-pub MiddlesRise-mirrored : (stretches : List Stretch) → All IsLawfulStretch stretches → MiddlesRise stretches →
+pub MiddlesRise-mirrored : (stretches : List UnsignedStretch) → All IsLawfulStretch stretches → MiddlesRise stretches →
     MiddlesRise (reverse (map mirrored_stretch stretches))
 MiddlesRise-mirrored stretches all rise i j a b le at_a at_b =
     let back_a = at_reverse (map mirrored_stretch stretches) i a at_a in
@@ -57,11 +58,13 @@ MiddlesRise-mirrored stretches all rise i j a b le at_a at_b =
     let less = rise _ _ from_b.0 from_a.0 (omega arith) from_b.1 from_a.1 in
     let turned = middles_turn from_a.0 from_b.0 (all_at IsLawfulStretch stretches _ from_a.0 all from_a.1)
     (all_at IsLawfulStretch stretches _ from_b.0 all from_b.1) less in
-    subst (λ (x : Stretch). a.begin + a.end ≤ x.begin + x.end) (sym from_b.2)
-    (subst (λ (x : Stretch). x.begin + x.end ≤ (mirrored_stretch from_b.0).begin + (mirrored_stretch from_b.0).end)
+    subst (λ (x : UnsignedStretch). a.begin + a.end ≤ x.begin + x.end) (sym from_b.2)
+    (subst (λ (x : UnsignedStretch). x.begin + x.end ≤ (mirrored_stretch from_b.0).begin
+    + (mirrored_stretch from_b.0).end)
     (sym from_a.2) turned)
 
-pub AreLateTops-mirrored : (ppb : ℕ) (extremes : List Extreme) (stretches : List Stretch) (tops : List (Option Top)) →
+pub AreLateTops-mirrored : (ppb : ℕ) (extremes : List Extreme) (stretches : List UnsignedStretch)
+    (tops : List (Option Top)) →
     AreEarlyTops ppb (map mirrored_extreme extremes) (reverse (map mirrored_stretch stretches)) tops →
     AreLateTops ppb extremes stretches tops
 AreLateTops-mirrored ppb extremes stretches tops early = record {
@@ -77,6 +80,7 @@ AreLateTops-mirrored ppb extremes stretches tops early = record {
 }
 
 -- the distance is the same
-pub distance-mirrored : (extreme : Extreme) (stretch : Stretch) → IsLawfulExtreme extreme → IsLawfulStretch stretch →
+pub distance-mirrored : (extreme : Extreme) (stretch : UnsignedStretch) → IsLawfulExtreme extreme →
+    IsLawfulStretch stretch →
     distance (mirrored_extreme extreme) (mirrored_stretch stretch) ≡ distance extreme stretch
 distance-mirrored extreme stretch b s = omega (arith, b.begins, b.in_order, b.ends, s.begins, s.in_order, s.ends)

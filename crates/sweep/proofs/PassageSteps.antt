@@ -9,32 +9,33 @@ use Rattle.std.proofs.lemmas.List.{length-append, length-replicate}
 use Rattle.std.proofs.lemmas.Option.{slice_get-get_or, slice_get_within, same_Some, none-some}
 use Rattle.ranking.specs.Ranking.{IsHeld, IsFree}
 use Rattle.sweep.specs.Queue.{IsOneOfFirst, HoldsFirst, IsQueueOf}
-use Rattle.sweep.specs.Stretch.{MiddlesRise}
+use Rattle.sweep.specs.UnsignedStretch.{MiddlesRise}
 use Rattle.sweep.specs.Top.{IsTopOf, IsEarlyAtLeast, HasHeight, height}
 use Rattle.sweep.specs.declared.extreme.Extreme.{Extreme}
 use Rattle.sweep.specs.declared.queue.Arrival.{Arrival}
-use Rattle.sweep.specs.declared.stretch.Stretch.{Stretch}
+use Rattle.sweep.specs.declared.unsigned_stretch.UnsignedStretch.{UnsignedStretch}
 use Rattle.sweep.specs.declared.top.Top.{Top}
 use Rattle.sweep.proofs.List.{pushed_cases, slice_get-replicate}
 use Rattle.sweep.proofs.TopOrder.{covering_top}
 
 -- the first arrivals are early for every stretch from number k on
-abbrev pub AreEarlyFrom : List Arrival → List Stretch → ℕ → ℕ → Type 0
+abbrev pub AreEarlyFrom : List Arrival → List UnsignedStretch → ℕ → ℕ → Type 0
 AreEarlyFrom queue stretches next k =
-    (i : ℕ) (a : Arrival) (j : ℕ) (stretch : Stretch) → i < next → slice_get queue i ≡ Some a → k ≤ j →
+    (i : ℕ) (a : Arrival) (j : ℕ) (stretch : UnsignedStretch) → i < next → slice_get queue i ≡ Some a → k ≤ j →
     slice_get stretches j ≡ Some stretch → a.at ≤ stretch.begin + stretch.end
 
-pub record TopsSoFar (ppb : ℕ) (extremes : List Extreme) (stretches : List Stretch) (queue : List Arrival) (n next : ℕ)
+pub record TopsSoFar (ppb : ℕ) (extremes : List Extreme) (stretches : List UnsignedStretch) (queue : List Arrival)
+    (n next : ℕ)
     (held : List (Option ℤ)) (tops : List (Option Top)) : Type 0 where
   pub within : next ≤ length queue
   pub holds : HoldsFirst queue next held
   pub early : AreEarlyFrom queue stretches next n
   pub as_many : length tops ≡ n
-  pub each : (k : ℕ) (stretch : Stretch) (top : Option Top) → slice_get stretches k ≡ Some stretch →
+  pub each : (k : ℕ) (stretch : UnsignedStretch) (top : Option Top) → slice_get stretches k ≡ Some stretch →
       slice_get tops k ≡ Some top →
       IsTopOf (IsEarlyAtLeast ppb extremes stretch) top
 
-module _ (ppb : ℕ) (extremes : List Extreme) (stretches : List Stretch) (queue : List Arrival)
+module _ (ppb : ℕ) (extremes : List Extreme) (stretches : List UnsignedStretch) (queue : List Arrival)
     (is_queue : IsQueueOf ppb extremes queue) where
   pub TopsSoFar-none : (size : ℕ) → size ≡ length extremes →
       TopsSoFar ppb extremes stretches queue 0 0 (replicate size None) []
@@ -58,7 +59,7 @@ module _ (ppb : ℕ) (extremes : List Extreme) (stretches : List Stretch) (queue
           let known = slice_get-replicate size index None (omega (arith, length-replicate {A = Option ℤ} size None)) in
           none-some value (same_Some None (Some value) (sym known ∙ held)))
 
-  module _ (stretch : Stretch) (next : ℕ) (held : List (Option ℤ)) (holds : HoldsFirst queue next held)
+  module _ (stretch : UnsignedStretch) (next : ℕ) (held : List (Option ℤ)) (holds : HoldsFirst queue next held)
       (early : (i : ℕ) (a : Arrival) → i < next → slice_get queue i ≡ Some a → a.at ≤ stretch.begin + stretch.end)
       (waiting : (a : Arrival) → slice_get queue next ≡ Some a → stretch.begin + stretch.end < a.at)
       (within : next ≤ length queue) where
@@ -117,7 +118,7 @@ module _ (ppb : ℕ) (extremes : List Extreme) (stretches : List Stretch) (queue
         from_extreme
 
   module _ (rise : MiddlesRise stretches) (n next : ℕ) (before : List (Option ℤ)) (tops : List (Option Top))
-      (so_far : TopsSoFar ppb extremes stretches queue n next before tops) (stretch : Stretch)
+      (so_far : TopsSoFar ppb extremes stretches queue n next before tops) (stretch : UnsignedStretch)
       (here : slice_get stretches n ≡ Some stretch)
       (come : ℕ) (held : List (Option ℤ)) (lent : List Arrival) (same : lent ≡ queue)
       (within : (next ≤ come) × (come ≤ length lent)) (holds : HoldsFirst lent come held)
@@ -152,7 +153,7 @@ module _ (ppb : ℕ) (extremes : List Extreme) (stretches : List Stretch) (queue
       each = each;
     }
       where
-        each : (k : ℕ) (s : Stretch) (t : Option Top) → slice_get stretches k ≡ Some s →
+        each : (k : ℕ) (s : UnsignedStretch) (t : Option Top) → slice_get stretches k ≡ Some s →
             slice_get (tops ++ top ∷ []) k ≡ Some t → IsTopOf (IsEarlyAtLeast ppb extremes s) t
         each k s t at there = ⊎_elim
             (λ old. so_far.each k s t at old)
@@ -160,7 +161,7 @@ module _ (ppb : ℕ) (extremes : List Extreme) (stretches : List Stretch) (queue
             let same : n ≡ k = sym (new.0 ∙ so_far.as_many) in
             let one : stretch ≡ s = same_Some stretch s (sym here ∙ ap (slice_get stretches) same ∙ at) in
             subst (λ (x : Option Top). IsTopOf (IsEarlyAtLeast ppb extremes s) x) (sym new.1)
-            (subst (λ (x : Stretch). IsTopOf (IsEarlyAtLeast ppb extremes x) top) one
+            (subst (λ (x : UnsignedStretch). IsTopOf (IsEarlyAtLeast ppb extremes x) top) one
             (early_top stretch come held queue_holds early_here (λ a at. waiting a (lent_at come a at)) come_within top
             is_top)))
             (pushed_cases tops top t k there)

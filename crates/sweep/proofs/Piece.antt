@@ -6,11 +6,11 @@ use Rattle.sample_interval.specs.declared.kinds.Sample.{Sample}
 use Rattle.span_cover.specs.Best.{IsBestLow, IsBestHigh, best_of}
 use Rattle.sweep.specs.Extreme.{AreExtremesOf}
 use Rattle.sweep.specs.Pieces.{AreBestOfPieces, ArePairsOf}
-use Rattle.sweep.specs.Stretch.{AreStretchesOf, IsLawfulStretch}
+use Rattle.sweep.specs.UnsignedStretch.{AreStretchesOf, IsLawfulStretch}
 use Rattle.sweep.specs.Top.{AreTopNumbers}
 use Rattle.sweep.specs.declared.extreme.Extreme.{Extreme}
 use Rattle.intersection.specs.declared.ends.Side.TheVariants.{Low, High}
-use Rattle.sweep.specs.declared.stretch.Stretch.{Stretch}
+use Rattle.sweep.specs.declared.unsigned_stretch.UnsignedStretch.{UnsignedStretch}
 use Rattle.sweep.proofs.List.{all_at}
 use Rattle.sweep.proofs.Merit.{IsFirstBest-top}
 
@@ -22,7 +22,7 @@ BestLaw = (samples : List Sample) (server : ℕ) (p q : ℤ) (ppb low high : ℕ
 
 module _ (law : BestLaw) (samples : List Sample) (server : ℕ) (first : ℤ) (ends : List ℤ) (ppb : ℕ)
     (lows highs : List Extreme) (are_low : AreExtremesOf Low samples server lows)
-    (are_high : AreExtremesOf High samples server highs) (stretches : List Stretch)
+    (are_high : AreExtremesOf High samples server highs) (stretches : List UnsignedStretch)
     (are_stretches : AreStretchesOf first ends stretches) where
   pub AreBestOfPieces-tops : (low_numbers high_numbers : List ℕ) (chosen : List (ℕ × ℕ)) →
       AreTopNumbers ppb lows stretches low_numbers → AreTopNumbers ppb highs stretches high_numbers →
@@ -31,8 +31,8 @@ module _ (law : BestLaw) (samples : List Sample) (server : ℕ) (first : ℤ) (e
     as_many = pairs.as_many ∙ low_tops.as_many ∙ are_stretches.as_many;
     best = λ k p q at.
         let within = slice_get_within ends k q at.ends_at in
-        let default : Stretch = record { begin = 0; end = 0 } in
-        let stretch : Stretch = get_or stretches k default in
+        let default : UnsignedStretch = record { begin = 0; end = 0 } in
+        let stretch : UnsignedStretch = get_or stretches k default in
         let here = slice_get-get_or stretches k default (omega (arith, are_stretches.as_many)) in
         let is_stretch = are_stretches.each k p q stretch at here in
         let lawful = all_at IsLawfulStretch stretches k stretch are_stretches.lawful here in
@@ -49,12 +49,12 @@ module _ (law : BestLaw) (samples : List Sample) (server : ℕ) (first : ℤ) (e
   }
 
 -- the same of lists that were lent
-pub AreTopNumbers-lent : (ppb : ℕ) (lent extremes : List Extreme) (lent_stretches stretches : List Stretch)
+pub AreTopNumbers-lent : (ppb : ℕ) (lent extremes : List Extreme) (lent_stretches stretches : List UnsignedStretch)
     (numbers : List ℕ) →
     lent ≡ extremes → lent_stretches ≡ stretches → AreTopNumbers ppb lent lent_stretches numbers →
     AreTopNumbers ppb extremes stretches numbers
 AreTopNumbers-lent ppb lent extremes lent_stretches stretches numbers a b is =
-    subst (λ (s : List Stretch). AreTopNumbers ppb extremes s numbers) b
+    subst (λ (s : List UnsignedStretch). AreTopNumbers ppb extremes s numbers) b
     (subst (λ (x : List Extreme). AreTopNumbers ppb x lent_stretches numbers) a is)
 
 pub ArePairsOf-lent : (lent_lows lows lent_highs highs : List ℕ) (pairs : List (ℕ × ℕ)) → lent_lows ≡ lows →

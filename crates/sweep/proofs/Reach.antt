@@ -9,10 +9,10 @@ use Rattle.std.proofs.Math.Nat.{mul-le-mul_right, le_of_mul-le-mul_left}
 use Rattle.era_unfold.specs.Ratio.{IsCeiling}
 use Rattle.sample_interval.specs.Widening.{IsRate, IsWidening, widening, billion}
 use Rattle.sweep.specs.Extreme.{IsLawfulExtreme, mirrored_extreme}
-use Rattle.sweep.specs.Stretch.{IsLawfulStretch, mirrored_stretch}
+use Rattle.sweep.specs.UnsignedStretch.{IsLawfulStretch, mirrored_stretch}
 use Rattle.sweep.specs.Top.{IsAtLeast, IsEarly, IsEarlyAtLeast, distance, height, height_for}
 use Rattle.sweep.specs.declared.extreme.Extreme.{Extreme}
-use Rattle.sweep.specs.declared.stretch.Stretch.{Stretch}
+use Rattle.sweep.specs.declared.unsigned_stretch.UnsignedStretch.{UnsignedStretch}
 use Rattle.sweep.proofs.List.{map_at, at_map, all_at}
 use Rattle.sweep.proofs.Mirror.{lawful-mirrored_extreme, lawful-mirrored_stretch, distance-mirrored}
 
@@ -39,12 +39,12 @@ module _ (scale rate distance from to end level wide : ℕ) (apart : distance + 
 module _ (widens : (ppb distance : ℕ) → ppb < billion → IsWidening ppb distance (widening ppb distance)) (ppb : ℕ)
     (slow : IsRate ppb) where
   -- an early extreme's distance is from its begin to the stretch's end
-  early_distance : (extreme : Extreme) (stretch : Stretch) → IsLawfulExtreme extreme → IsLawfulStretch stretch →
+  early_distance : (extreme : Extreme) (stretch : UnsignedStretch) → IsLawfulExtreme extreme → IsLawfulStretch stretch →
       IsEarly extreme stretch →
       distance extreme stretch + extreme.from ≡ stretch.end
   early_distance extreme stretch b s early = omega (arith, b.in_order, s.in_order)
 
-  module _ (extreme : Extreme) (stretch : Stretch) (b : IsLawfulExtreme extreme) (s : IsLawfulStretch stretch)
+  module _ (extreme : Extreme) (stretch : UnsignedStretch) (b : IsLawfulExtreme extreme) (s : IsLawfulStretch stretch)
       (level : ℕ) where
     wide : ℕ
     wide = widening ppb (distance extreme stretch)
@@ -63,7 +63,7 @@ module _ (widens : (ppb distance : ℕ) → ppb < billion → IsWidening ppb dis
         (widening ppb (distance extreme stretch)) (early_distance extreme stretch b s early)
         (widens ppb (distance extreme stretch) (omega arith)) (omega arith)
 
-  module _ (extremes : List Extreme) (stretch : Stretch) (all : All IsLawfulExtreme extremes)
+  module _ (extremes : List Extreme) (stretch : UnsignedStretch) (all : All IsLawfulExtreme extremes)
       (s : IsLawfulStretch stretch) where
     pub reaches_either : (index level : ℕ) → IsAtLeast ppb extremes stretch index level →
         IsEarlyAtLeast ppb extremes stretch index level

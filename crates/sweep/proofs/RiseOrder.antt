@@ -5,50 +5,50 @@ use Rattle.std.specs.List.{slice_get}
 use Rattle.std.proofs.lemmas.Nat.{le-div}
 use Rattle.std.proofs.Math.Nat.{div-mul-le_self}
 use Rattle.sample_interval.specs.Widening.{IsRate, billion}
-use Rattle.sweep.specs.Crest.{LeadsUpto, AreCrestsOf, CountsUpto}
+use Rattle.sweep.specs.Leader.{LeadsUpto, AreLeadersOf, CountsUpto}
 use Rattle.sweep.specs.Extreme.{mirrored_extreme}
 use Rattle.sweep.specs.Rise.{IsRise, IsRiseOf, IsLateRiseOf, IsHighest, level_of}
-use Rattle.sweep.specs.Stretch.{mirrored_stretch}
+use Rattle.sweep.specs.UnsignedStretch.{mirrored_stretch}
 use Rattle.sweep.specs.Top.{IsTop, IsTopOf, IsEarlyAtLeast, higher_of}
-use Rattle.sweep.specs.declared.crest.Crest.{Crest}
+use Rattle.sweep.specs.declared.leader.Leader.{Leader}
 use Rattle.sweep.specs.declared.extreme.Extreme.{Extreme}
 use Rattle.sweep.specs.declared.rise.Rise.{Rise}
-use Rattle.sweep.specs.declared.stretch.Stretch.{Stretch}
+use Rattle.sweep.specs.declared.unsigned_stretch.UnsignedStretch.{UnsignedStretch}
 use Rattle.sweep.specs.declared.top.Top.{Top}
 use Rattle.sweep.proofs.TopOrder.{Either, top-higher_of}
 
 -- ---- over a stretch
-module _ (ppb : ℕ) (slow : IsRate ppb) (extremes : List Extreme) (crests : List Crest)
-    (are : AreCrestsOf ppb extremes crests) (stretch : Stretch) (count : ℕ)
-    (counts : CountsUpto crests (stretch.begin + stretch.end) count) where
-  pub no_crest : count ≡ 0 → IsRiseOf ppb extremes stretch None
-  no_crest none index level reaches =
+module _ (ppb : ℕ) (slow : IsRate ppb) (extremes : List Extreme) (leaders : List Leader)
+    (are : AreLeadersOf ppb extremes leaders) (stretch : UnsignedStretch) (count : ℕ)
+    (counts : CountsUpto leaders (stretch.begin + stretch.end) count) where
+  pub no_leader : count ≡ 0 → IsRiseOf ppb extremes stretch None
+  no_leader none index level reaches =
       let late = are.none (stretch.begin + stretch.end)
-      (λ first at. counts.beyond first (subst (λ (n : ℕ). slice_get crests n ≡ Some first) (sym none) at))
+      (λ first at. counts.beyond first (subst (λ (n : ℕ). slice_get leaders n ≡ Some first) (sym none) at))
       index reaches.extreme reaches.stands in
       let early = reaches.early in
       absurd (omega arith)
 
-  module _ (crest : Crest) (some : 0 < count) (here : slice_get crests (count - 1) ≡ Some crest) where
-    leads : LeadsUpto ppb extremes (stretch.begin + stretch.end) crest
+  module _ (leader : Leader) (some : 0 < count) (here : slice_get leaders (count - 1) ≡ Some leader) where
+    leads : LeadsUpto ppb extremes (stretch.begin + stretch.end) leader
     leads =
         let after : count ≡ count - 1 + 1 = omega arith in
-        are.leads (count - 1) (stretch.begin + stretch.end) crest here (counts.upto crest some here)
-        (λ next at. counts.beyond next (subst (λ (n : ℕ). slice_get crests n ≡ Some next) (sym after) at))
+        are.leads (count - 1) (stretch.begin + stretch.end) leader here (counts.upto leader some here)
+        (λ next at. counts.beyond next (subst (λ (n : ℕ). slice_get leaders n ≡ Some next) (sym after) at))
 
     -- no early extreme is higher
     under : (index level : ℕ) → IsEarlyAtLeast ppb extremes stretch index level →
-        level * (billion - ppb) + ppb * stretch.end ≤ crest.height
+        level * (billion - ppb) + ppb * stretch.end ≤ leader.height
     under index level reaches =
         let most = leads.highest index reaches.extreme reaches.stands reaches.early in
         let enough = reaches.at_least in
         omega arith
 
-    pub no_room : crest.height < ppb * stretch.end → IsRiseOf ppb extremes stretch None
+    pub no_room : leader.height < ppb * stretch.end → IsRiseOf ppb extremes stretch None
     no_room short index level reaches = let low = under index level reaches in absurd (omega arith)
 
-    pub rises : (rise : Rise) → rise.room + ppb * stretch.end ≡ crest.height → rise.index ≡ crest.index →
-        (IsTrue rise.is_clear → billion - ppb ≤ crest.height - crest.rival) → IsRise ppb extremes stretch rise
+    pub rises : (rise : Rise) → rise.room + ppb * stretch.end ≡ leader.height → rise.index ≡ leader.index →
+        (IsTrue rise.is_clear → billion - ppb ≤ leader.height - leader.runner_up) → IsRise ppb extremes stretch rise
     rises rise room index clear = record {
       under = λ i level reaches. let low = under i level reaches in omega (arith, room);
       top = λ is_clear.
@@ -104,7 +104,7 @@ lower_level m level less room positive fits apart =
     let le = le-div (level + 1) room m positive one_more in
     omega arith
 
-module _ (ppb : ℕ) (slow : IsRate ppb) (extremes : List Extreme) (stretch : Stretch) where
+module _ (ppb : ℕ) (slow : IsRate ppb) (extremes : List Extreme) (stretch : UnsignedStretch) where
   abbrev Early : ℕ → ℕ → Type 0
   Early = IsEarlyAtLeast ppb extremes stretch
 

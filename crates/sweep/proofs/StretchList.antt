@@ -10,8 +10,8 @@ use Rattle.std.proofs.lemmas.List.Elements.{All-push}
 use Rattle.std.proofs.lemmas.Option.{slice_get-get_or, slice_get_within, same_Some}
 use Rattle.span_cover.specs.Piece.{IsPiece}
 use Rattle.sweep.specs.Pieces.{IsPieceAt, ArePieces}
-use Rattle.sweep.specs.Stretch.{IsStretchOf, IsLawfulStretch, AreStretchesOf, MiddlesRise}
-use Rattle.sweep.specs.declared.stretch.Stretch.{Stretch}
+use Rattle.sweep.specs.UnsignedStretch.{IsStretchOf, IsLawfulStretch, AreStretchesOf, MiddlesRise}
+use Rattle.sweep.specs.declared.unsigned_stretch.UnsignedStretch.{UnsignedStretch}
 use Rattle.sweep.proofs.List.{pushed_cases, all_at}
 
 pub piece_at : (first kept_first : ℤ) (ends : List ℤ) (index : ℕ) (begin end : ℤ) → kept_first ≡ first →
@@ -30,7 +30,8 @@ piece_here first ends n begin pieces fits end_fits begins within =
     pieces n begin _
     (piece_at first _ ends n begin _ (to_z-of_z w128 first fits) begins within (to_z-of_z w128 _ end_fits))
 
-pub lawful_stretch : (p q : ℤ) (stretch : Stretch) → IsPiece p q → IsStretchOf p q stretch → IsLawfulStretch stretch
+pub lawful_stretch : (p q : ℤ) (stretch : UnsignedStretch) → IsPiece p q → IsStretchOf p q stretch
+    → IsLawfulStretch stretch
 lawful_stretch p q stretch piece is = record {
   begins = omega (arith, ints, piece.from_zero, is.begin);
   in_order = omega (arith, ints, piece.in_order, is.begin, is.end);
@@ -38,16 +39,19 @@ lawful_stretch p q stretch piece is = record {
 }
 
 -- the stretches of the pieces below number n, of which the next begins here
-pub record StretchesSoFar (first : ℤ) (ends : List ℤ) (n : ℕ) (begin : ℤ) (stretches : List Stretch) : Type 0 where
+pub record StretchesSoFar (first : ℤ) (ends : List ℤ) (n : ℕ) (begin : ℤ) (stretches : List UnsignedStretch)
+    : Type 0 where
   pub begins : slice_get (first ∷ ends) n ≡ Some begin
   pub as_many : length stretches ≡ n
-  pub each : (k : ℕ) (p q : ℤ) (stretch : Stretch) → IsPieceAt first ends k p q → slice_get stretches k ≡ Some stretch →
+  pub each : (k : ℕ) (p q : ℤ) (stretch : UnsignedStretch) → IsPieceAt first ends k p q →
+      slice_get stretches k ≡ Some stretch →
       IsStretchOf p q stretch
   pub lawful : All IsLawfulStretch stretches
 
-module _ (first : ℤ) (ends : List ℤ) (n : ℕ) (begin : ℤ) (stretches : List Stretch)
+module _ (first : ℤ) (ends : List ℤ) (n : ℕ) (begin : ℤ) (stretches : List UnsignedStretch)
     (so_far : StretchesSoFar first ends n begin stretches) where
-  pub StretchesSoFar-more : (end : ℤ) (stretch : Stretch) → IsPieceAt first ends n begin end → IsPiece begin end →
+  pub StretchesSoFar-more : (end : ℤ) (stretch : UnsignedStretch) → IsPieceAt first ends n begin end →
+      IsPiece begin end →
       IsStretchOf begin end stretch → StretchesSoFar first ends (n + 1) end (stretches ++ stretch ∷ [])
   StretchesSoFar-more end stretch at piece is = record {
     begins = rw (add-one n) at.ends_at;
@@ -56,7 +60,7 @@ module _ (first : ℤ) (ends : List ℤ) (n : ℕ) (begin : ℤ) (stretches : Li
     lawful = All-push IsLawfulStretch stretches stretch so_far.lawful (lawful_stretch begin end stretch piece is);
   }
     where
-      each : (k : ℕ) (p q : ℤ) (s : Stretch) → IsPieceAt first ends k p q →
+      each : (k : ℕ) (p q : ℤ) (s : UnsignedStretch) → IsPieceAt first ends k p q →
           slice_get (stretches ++ stretch ∷ []) k ≡ Some s → IsStretchOf p q s
       each k p q s there stands = ⊎_elim
           (λ old. so_far.each k p q s there old)
@@ -65,7 +69,7 @@ module _ (first : ℤ) (ends : List ℤ) (n : ℕ) (begin : ℤ) (stretches : Li
           let same_p : begin ≡ p = same_Some begin p
           (sym at.begins ∙ ap (slice_get (first ∷ ends)) (sym here) ∙ there.begins) in
           let same_q : end ≡ q = same_Some end q (sym at.ends_at ∙ ap (slice_get ends) (sym here) ∙ there.ends_at) in
-          subst (λ (x : Stretch). IsStretchOf p q x) (sym new.1)
+          subst (λ (x : UnsignedStretch). IsStretchOf p q x) (sym new.1)
           (subst (λ (x : ℤ). IsStretchOf x q stretch) same_p
           (subst (λ (x : ℤ). IsStretchOf begin x stretch) same_q is)))
           (pushed_cases stretches stretch s k stands)
@@ -78,7 +82,7 @@ module _ (first : ℤ) (ends : List ℤ) (n : ℕ) (begin : ℤ) (stretches : Li
     adjoin = adjoin;
   }
     where
-      adjoin : (k : ℕ) (a b : Stretch) → slice_get stretches k ≡ Some a → slice_get stretches (k + 1) ≡ Some b →
+      adjoin : (k : ℕ) (a b : UnsignedStretch) → slice_get stretches k ≡ Some a → slice_get stretches (k + 1) ≡ Some b →
           a.end ≡ b.begin
       adjoin k a b at_a at_b =
           let within = slice_get_within stretches (k + 1) b at_b in
@@ -93,25 +97,25 @@ module _ (first : ℤ) (ends : List ℤ) (n : ℕ) (begin : ℤ) (stretches : Li
           omega (arith, ints, before.end, behind.begin)
 
 -- ---- the middles of stretches that share their ends rise
-module _ (stretches : List Stretch) (lawful : All IsLawfulStretch stretches)
-    (adjoin : (k : ℕ) (a b : Stretch) → slice_get stretches k ≡ Some a → slice_get stretches (k + 1) ≡ Some b →
+module _ (stretches : List UnsignedStretch) (lawful : All IsLawfulStretch stretches)
+    (adjoin : (k : ℕ) (a b : UnsignedStretch) → slice_get stretches k ≡ Some a → slice_get stretches (k + 1) ≡ Some b →
     a.end ≡ b.begin) where
-  next_rises : (k : ℕ) (a b : Stretch) → slice_get stretches k ≡ Some a → slice_get stretches (k + 1) ≡ Some b →
+  next_rises : (k : ℕ) (a b : UnsignedStretch) → slice_get stretches k ≡ Some a → slice_get stretches (k + 1) ≡ Some b →
       a.begin + a.end ≤ b.begin + b.end
   next_rises k a b at_a at_b =
       let is_a = all_at IsLawfulStretch stretches k a lawful at_a in
       let is_b = all_at IsLawfulStretch stretches (k + 1) b lawful at_b in
       omega (arith, adjoin k a b at_a at_b, is_a.in_order, is_b.in_order)
 
-  later_rises : (steps k : ℕ) (a b : Stretch) → slice_get stretches k ≡ Some a →
+  later_rises : (steps k : ℕ) (a b : UnsignedStretch) → slice_get stretches k ≡ Some a →
       slice_get stretches (steps + k) ≡ Some b →
       a.begin + a.end ≤ b.begin + b.end
   later_rises zero k a b at_a at_b =
       let same : a ≡ b = same_Some a b (sym at_a ∙ ap (slice_get stretches) (sym (zero-add k)) ∙ at_b) in
-      subst (λ (x : Stretch). a.begin + a.end ≤ x.begin + x.end) same (omega arith)
+      subst (λ (x : UnsignedStretch). a.begin + a.end ≤ x.begin + x.end) same (omega arith)
   later_rises (suc steps) k a b at_a at_b =
       let inside = slice_get_within stretches (suc steps + k) b at_b in
-      let between : Stretch = get_or stretches (steps + k) a in
+      let between : UnsignedStretch = get_or stretches (steps + k) a in
       let there : slice_get stretches (steps + k) ≡ Some between = slice_get-get_or stretches (steps + k) a
       (omega arith) in
       let next : suc steps + k ≡ steps + k + 1 = omega arith in

@@ -1,9 +1,9 @@
 pub mod Extreme
 pub mod Pieces
-pub mod Stretch
+pub mod UnsignedStretch
 pub mod Top
 pub mod Queue
-pub mod Peak
+pub mod PrefixMaximum
 pub mod Table
-pub mod Crest
+pub mod Leader
 pub mod Rise

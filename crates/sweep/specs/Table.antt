@@ -10,12 +10,12 @@ use Rattle.sample_interval.specs.declared.kinds.Sample.{Sample}
 use Rattle.span_cover.specs.Gathering.{best_interval}
 use Rattle.span_cover.specs.declared.part.Part.{Part}
 use Rattle.sweep.specs.Extreme.{AreExtremesOf, mirrored_extreme}
-use Rattle.sweep.specs.Peak.{ArePeaksOf}
+use Rattle.sweep.specs.PrefixMaximum.{AreMaximaOf}
 use Rattle.sweep.specs.Top.{IsAtLeast}
 use Rattle.sweep.specs.declared.extreme.Extreme.{Extreme}
-use Rattle.sweep.specs.declared.stretch.Stretch.{Stretch}
+use Rattle.sweep.specs.declared.unsigned_stretch.UnsignedStretch.{UnsignedStretch}
 use Rattle.sweep.specs.declared.table.BestTable.{BestTable}
-use Rattle.sweep.specs.declared.table.Peaks.{Peaks}
+use Rattle.sweep.specs.declared.table.Maxima.{Maxima}
 
 -- what a server's best samples say over a piece, if it has a sample
 abbrev pub said_by : ℕ → Interval → Part
@@ -34,30 +34,30 @@ best_parts samples count p q ppb =
 abbrev pub has_sample : List Sample → ℕ → Bool
 has_sample samples server = list_any (λ sample. sample.server == server) samples
 
--- the peaks of the extremes, and of the same with time running backwards
-pub record ArePeaksBothWays (ppb : ℕ) (extremes : List Extreme) (peaks : Peaks) : Type 0 where
-  pub early : ArePeaksOf ppb extremes peaks.early.items
-  pub late : ArePeaksOf ppb (map mirrored_extreme extremes) peaks.late.items
+-- the maxima of the extremes, and of the same with time running backwards
+pub record AreMaximaBothWays (ppb : ℕ) (extremes : List Extreme) (maxima : Maxima) : Type 0 where
+  pub early : AreMaximaOf ppb extremes maxima.early.items
+  pub late : AreMaximaOf ppb (map mirrored_extreme extremes) maxima.late.items
 
 -- the highest level that an extreme reaches over the stretch
-pub record IsLevelOver (ppb : ℕ) (extremes : List Extreme) (stretch : Stretch) (level : ℕ)
+pub record IsLevelOver (ppb : ℕ) (extremes : List Extreme) (stretch : UnsignedStretch) (level : ℕ)
     : Type 0 where
   pub index : ℕ
   pub reached : IsAtLeast ppb extremes stretch index level
   pub highest : (other lower : ℕ) → IsAtLeast ppb extremes stretch other lower → lower ≤ level
 
--- the peaks of the ends of a server's samples, of which there are some
-pub record ArePeaksOfEnds (side : Side) (samples : List Sample) (server ppb : ℕ) (peaks : Peaks)
+-- the maxima of the ends of a server's samples, of which there are some
+pub record AreMaximaOfEnds (side : Side) (samples : List Sample) (server ppb : ℕ) (maxima : Maxima)
     : Type 0 where
   pub extremes : List Extreme
   pub are : AreExtremesOf side samples server extremes
   pub some : 0 < length extremes
-  pub peaks_are : ArePeaksBothWays ppb extremes peaks
+  pub maxima_are : AreMaximaBothWays ppb extremes maxima
 
 -- a server's table
 pub record IsTableOf (samples : List Sample) (ppb : ℕ) (table : BestTable) : Type 0 where
-  pub lows : ArePeaksOfEnds Low samples table.server ppb table.lows
-  pub highs : ArePeaksOfEnds High samples table.server ppb table.highs
+  pub lows : AreMaximaOfEnds Low samples table.server ppb table.lows
+  pub highs : AreMaximaOfEnds High samples table.server ppb table.highs
 
 -- the tables of the servers below this number that have a sample, in their order
 pub record AreTablesOf (samples : List Sample) (count ppb : ℕ) (tables : List BestTable)

@@ -11,11 +11,11 @@ use Rattle.std.specs.Prelude.{◌≡◌, ℕ, ◌+◌, ◌-◌, ◌*◌, ◌≤�
 use Rattle.std.specs.Prelude.{Option, Some, None, slice_get}
 use Rattle.std.specs.Prelude.{Bool, nat_lt, ◌==◌, ◌&&◌, ◌||◌, if◌then◌else◌, length, map}
 use Rattle.sweep.specs.Extreme.{mirrored_extreme}
-use Rattle.sweep.specs.Stretch.{mirrored_stretch}
+use Rattle.sweep.specs.UnsignedStretch.{mirrored_stretch}
 use Rattle.ranking.specs.Ranking.{HasAtLeast}
 use Rattle.sample_interval.specs.Widening.{widening, billion}
 use Rattle.sweep.specs.declared.extreme.Extreme.{Extreme}
-use Rattle.sweep.specs.declared.stretch.Stretch.{Stretch}
+use Rattle.sweep.specs.declared.unsigned_stretch.UnsignedStretch.{UnsignedStretch}
 use Rattle.sweep.specs.declared.top.Top.{Top}
 
 pub record IsTop (reaches : ℕ → ℕ → Type 0) (top : Top) : Type 0 where
@@ -40,18 +40,19 @@ higher_of (Some one) None = Some one
 higher_of (Some one) (Some other) = if is_above other one then Some other else Some one
 
 -- the greatest distance between the extreme's window and the stretch
-abbrev pub distance : Extreme → Stretch → ℕ
+abbrev pub distance : Extreme → UnsignedStretch → ℕ
 distance extreme stretch = max (stretch.end - extreme.from) (extreme.to - stretch.begin)
 
 -- moved down for the stretch, the extreme's end is at least the level
-pub record IsAtLeast (ppb : ℕ) (extremes : List Extreme) (stretch : Stretch) (index level : ℕ)
+pub record IsAtLeast (ppb : ℕ) (extremes : List Extreme) (stretch : UnsignedStretch)
+    (index level : ℕ)
     : Type 0 where
   pub extreme : Extreme
   pub stands : slice_get extremes index ≡ Some extreme
   pub at_least : level + widening ppb (distance extreme stretch) ≤ extreme.end
 
 -- the middle of the extreme's window isn't after that of the stretch
-abbrev pub IsEarly : Extreme → Stretch → Type 0
+abbrev pub IsEarly : Extreme → UnsignedStretch → Type 0
 IsEarly extreme stretch = extreme.from + extreme.to ≤ stretch.begin + stretch.end
 
 -- an early extreme's end and begin in one number, which no stretch enters
@@ -63,7 +64,8 @@ abbrev pub height_for : ℕ → ℕ → ℕ → ℕ
 height_for ppb end level = level * (billion - ppb) + ppb * end
 
 -- an early extreme reaches the level: its distance is from its window's begin to the stretch's end
-pub record IsEarlyAtLeast (ppb : ℕ) (extremes : List Extreme) (stretch : Stretch) (index level : ℕ)
+pub record IsEarlyAtLeast (ppb : ℕ) (extremes : List Extreme) (stretch : UnsignedStretch)
+    (index level : ℕ)
     : Type 0 where
   pub extreme : Extreme
   pub stands : slice_get extremes index ≡ Some extreme
@@ -71,22 +73,24 @@ pub record IsEarlyAtLeast (ppb : ℕ) (extremes : List Extreme) (stretch : Stret
   pub at_least : height_for ppb stretch.end level ≤ height ppb extreme
 
 -- the tops of the early extremes, over each stretch
-pub record AreEarlyTops (ppb : ℕ) (extremes : List Extreme) (stretches : List Stretch)
+pub record AreEarlyTops (ppb : ℕ) (extremes : List Extreme) (stretches : List UnsignedStretch)
     (tops : List (Option Top)) : Type 0 where
   pub as_many : length tops ≡ length stretches
-  pub each : (k : ℕ) (stretch : Stretch) (top : Option Top) → slice_get stretches k ≡ Some stretch →
+  pub each : (k : ℕ) (stretch : UnsignedStretch) (top : Option Top) →
+      slice_get stretches k ≡ Some stretch →
       slice_get tops k ≡ Some top → IsTopOf (IsEarlyAtLeast ppb extremes stretch) top
 
 -- the same for those that are early with time running backwards: the last stretch comes first
-pub record AreLateTops (ppb : ℕ) (extremes : List Extreme) (stretches : List Stretch)
+pub record AreLateTops (ppb : ℕ) (extremes : List Extreme) (stretches : List UnsignedStretch)
     (tops : List (Option Top)) : Type 0 where
   pub as_many : length tops ≡ length stretches
-  pub each : (k : ℕ) (stretch : Stretch) (top : Option Top) → slice_get stretches k ≡ Some stretch →
+  pub each : (k : ℕ) (stretch : UnsignedStretch) (top : Option Top) →
+      slice_get stretches k ≡ Some stretch →
       slice_get tops (length stretches - 1 - k) ≡ Some top →
       IsTopOf (IsEarlyAtLeast ppb (map mirrored_extreme extremes) (mirrored_stretch stretch)) top
 
 -- the number belongs to the extreme that is highest over the stretch, the first of those
-pub record IsTopNumber (ppb : ℕ) (extremes : List Extreme) (stretch : Stretch) (chosen : ℕ)
+pub record IsTopNumber (ppb : ℕ) (extremes : List Extreme) (stretch : UnsignedStretch) (chosen : ℕ)
     : Type 0 where
   pub top : Top
   pub is_top : IsTop (IsAtLeast ppb extremes stretch) top
@@ -95,10 +99,11 @@ pub record IsTopNumber (ppb : ℕ) (extremes : List Extreme) (stretch : Stretch)
   pub number : extreme.number ≡ chosen
 
 -- such a number for each stretch
-pub record AreTopNumbers (ppb : ℕ) (extremes : List Extreme) (stretches : List Stretch)
+pub record AreTopNumbers (ppb : ℕ) (extremes : List Extreme) (stretches : List UnsignedStretch)
     (numbers : List ℕ) : Type 0 where
   pub as_many : length numbers ≡ length stretches
-  pub each : (k : ℕ) (stretch : Stretch) (number : ℕ) → slice_get stretches k ≡ Some stretch →
+  pub each : (k : ℕ) (stretch : UnsignedStretch) (number : ℕ) →
+      slice_get stretches k ≡ Some stretch →
       slice_get numbers k ≡ Some number → IsTopNumber ppb extremes stretch number
 
 -- a ranking of heights has one that is enough for the level

@@ -3,15 +3,15 @@
 ghost use Rattle.std.specs.Prelude.{◌≡◌, ◌≤◌, ◌<◌, length, All, IfOk, IfSome, map};
 ghost use Rattle.sample_interval.specs.Widening.{IsRate};
 ghost use Rattle.sweep.specs.Extreme.{IsLawfulExtreme, number_at};
-ghost use Rattle.sweep.specs.Stretch.{IsLawfulStretch, MiddlesRise};
+ghost use Rattle.sweep.specs.UnsignedStretch.{IsLawfulStretch, MiddlesRise};
 ghost use Rattle.sweep.specs.Top.{AreLateTops, AreTopNumbers};
 
-use crate::crest::{count_upto, crests_of};
 use crate::extreme::{Extreme, mirrored_extremes};
+use crate::leader::{count_upto, leaders_of};
 use crate::passage::early_tops;
 use crate::rise::{highest_index, rise_over};
-use crate::stretch::{Stretch, mirrored_stretch, mirrored_stretches};
 use crate::top::{Top, higher};
+use crate::unsigned_stretch::{UnsignedStretch, mirrored_stretch, mirrored_stretches};
 use sample_interval::laws::widening_is_one_number;
 use std::alloc::{AllocError, Global};
 
@@ -19,7 +19,7 @@ use std::alloc::{AllocError, Global};
 pub fn top_numbers(
     alloc: Global,
     extremes: &[Extreme],
-    stretches: &[Stretch],
+    stretches: &[UnsignedStretch],
     drift_ppb: u32,
 ) -> Result<Vec<u32>, AllocError>
     requires extremes { All IsLawfulExtreme extremes.now }
@@ -37,11 +37,11 @@ pub fn top_numbers(
     ranked_numbers(alloc, extremes, stretches, drift_ppb)
 }
 
-/// The same by the crests alone, if over each stretch these tell.
+/// The same by the leaders alone, if over each stretch these tell.
 fn clear_numbers(
     alloc: Global,
     extremes: &[Extreme],
-    stretches: &[Stretch],
+    stretches: &[UnsignedStretch],
     drift_ppb: u32,
 ) -> Result<Option<Vec<u32>>, AllocError>
     requires extremes { All IsLawfulExtreme extremes.now }
@@ -53,8 +53,8 @@ fn clear_numbers(
 {
     // What the proof knows of widenings.
     widening_is_one_number();
-    let early = crests_of(alloc, extremes, false, drift_ppb)?;
-    let late = crests_of(alloc, extremes, true, drift_ppb)?;
+    let early = leaders_of(alloc, extremes, false, drift_ppb)?;
+    let late = leaders_of(alloc, extremes, true, drift_ppb)?;
     let mut indices = Vec::with_capacity(alloc, stretches.len())?;
     let mut early_count = 0;
     let mut late_count = late.len();
@@ -90,7 +90,7 @@ fn numbers_at(alloc: Global, extremes: &[Extreme], indices: &[u32]) -> Result<Ve
 fn ranked_numbers(
     alloc: Global,
     extremes: &[Extreme],
-    stretches: &[Stretch],
+    stretches: &[UnsignedStretch],
     drift_ppb: u32,
 ) -> Result<Vec<u32>, AllocError>
     requires extremes { All IsLawfulExtreme extremes.now }
@@ -119,7 +119,7 @@ fn ranked_numbers(
 fn late_tops(
     alloc: Global,
     extremes: &[Extreme],
-    stretches: &[Stretch],
+    stretches: &[UnsignedStretch],
     drift_ppb: u32,
 ) -> Result<Vec<Option<Top>>, AllocError>
     requires extremes { All IsLawfulExtreme extremes.now }

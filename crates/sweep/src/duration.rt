@@ -8,9 +8,9 @@
 ghost use Rattle.std.specs.Prelude.{◌≡◌, ◌≤◌, ◌^◌, length};
 ghost use Rattle.sample_interval.specs.Widening.{IsRate};
 
-use crate::peak::{Peak, count_upto};
 use crate::places::{Near, Places};
-use crate::table::{BestTable, Peaks};
+use crate::prefix_maximum::{PrefixMaximum, count_upto};
+use crate::table::{BestTable, Maxima};
 use crate::tick::{from_origin, mirrored_tick};
 use arrayvec::ArrayVec;
 use sample_interval::PARTS;
@@ -62,7 +62,7 @@ pub fn durations_near(
 }
 
 /// For how many ticks from `begin` on some extreme likely reaches a level.
-fn duration_of(peaks: &Peaks, near: &mut Near, begin: u128, level: u128, drift_ppb: u32) -> u64
+fn duration_of(maxima: &Maxima, near: &mut Near, begin: u128, level: u128, drift_ppb: u32) -> u64
     requires begin { begin ≤ 2 ^ 76 }
     requires level { level ≤ 2 ^ 76 }
     requires rate { IsRate drift_ppb }
@@ -70,21 +70,21 @@ fn duration_of(peaks: &Peaks, near: &mut Near, begin: u128, level: u128, drift_p
     let rate = u128::from(drift_ppb);
     let needed = (PARTS - rate) * level;
     let late = count_below(
-        peaks.late.as_slice(),
+        maxima.late.as_slice(),
         needed + rate * mirrored_tick(begin),
         near.late,
     );
     near.late = late;
-    let place = match peaks.late.as_slice().get(late) {
-        Some(peak) => TWICE_MIRRORED.saturating_sub(peak.place),
+    let place = match maxima.late.as_slice().get(late) {
+        Some(maximum) => TWICE_MIRRORED.saturating_sub(maximum.place),
         None => 0,
     };
-    let early = count_upto(peaks.early.as_slice(), place.max(2 * begin), near.early);
+    let early = count_upto(maxima.early.as_slice(), place.max(2 * begin), near.early);
     near.early = early;
     if early == 0 {
         return 0;
     }
-    let height = peaks.early[early - 1].height;
+    let height = maxima.early[early - 1].height;
     let room = height.saturating_sub(needed + rate * begin);
     u64::try_from(room)
         .unwrap_or(u64::MAX)
@@ -92,10 +92,10 @@ fn duration_of(peaks: &Peaks, near: &mut Near, begin: u128, level: u128, drift_p
         .unwrap_or(u64::MAX)
 }
 
-/// How many of the peaks are lower than a height, looked for from `near` on by steps that double.
-fn count_below(peaks: &[Peak], height: u128, near: usize) -> usize {
+/// How many of the maxima are lower than a height, looked for from `near` on by steps that double.
+fn count_below(maxima: &[PrefixMaximum], height: u128, near: usize) -> usize {
     let mut low = 0;
-    let mut high = peaks.len();
+    let mut high = maxima.len();
     while low < high {
         let half = (high - low) / 2;
         let middle = if near < low {
@@ -105,7 +105,7 @@ fn count_below(peaks: &[Peak], height: u128, near: usize) -> usize {
         } else {
             high - 1 - (near - high).min(half)
         };
-        if peaks[middle].height < height {
+        if maxima[middle].height < height {
             low = middle + 1;
         } else {
             high = middle;

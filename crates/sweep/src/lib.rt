@@ -40,19 +40,19 @@
 #![tactic(auto)]
 
 mod choice;
-mod crest;
 mod duration;
 mod extreme;
+mod leader;
 mod passage;
-mod peak;
 mod pieces;
 mod places;
+mod prefix_maximum;
 mod queue;
 mod rise;
-mod stretch;
 mod table;
 mod tick;
 mod top;
+mod unsigned_stretch;
 
 pub use duration::{Duration, durations_near};
 pub use extreme::servers_of;

@@ -4,14 +4,14 @@ ghost use Rattle.std.specs.Prelude.{◌≡◌, ℕ, ◌≤◌, ◌<◌, length, 
 ghost use Rattle.sample_interval.specs.Widening.{IsRate};
 ghost use Rattle.sweep.specs.Extreme.{IsLawfulExtreme};
 ghost use Rattle.sweep.specs.Queue.{ArriveOnce, HoldsFirst};
-ghost use Rattle.sweep.specs.Stretch.{IsLawfulStretch, MiddlesRise};
+ghost use Rattle.sweep.specs.UnsignedStretch.{IsLawfulStretch, MiddlesRise};
 ghost use Rattle.sweep.specs.Top.{AreEarlyTops};
 ghost use Rattle.sweep.specs.declared.queue.Arrival.{Arrival};
 
 use crate::extreme::Extreme;
 use crate::queue::{Arrival, queue_of};
-use crate::stretch::Stretch;
 use crate::top::{Top, top_of};
+use crate::unsigned_stretch::UnsignedStretch;
 use ranking::Ranking;
 use std::alloc::{AllocError, Global};
 
@@ -19,7 +19,7 @@ use std::alloc::{AllocError, Global};
 pub fn early_tops(
     alloc: Global,
     extremes: &[Extreme],
-    stretches: &[Stretch],
+    stretches: &[UnsignedStretch],
     drift_ppb: u32,
 ) -> Result<Vec<Option<Top>>, AllocError>
     requires extremes { All IsLawfulExtreme extremes.now }

@@ -8,7 +8,7 @@ ghost use Rattle.sweep.specs.Pieces.{ArePieces, AreBestOfPieces, ArePairsOf};
 
 use crate::choice::top_numbers;
 use crate::extreme::extremes_of;
-use crate::stretch::stretches_of;
+use crate::unsigned_stretch::stretches_of;
 use sample_interval::SampleSource;
 use span_cover::laws::first_best_of_both_ends_are_the_best;
 use std::alloc::{AllocError, Global};

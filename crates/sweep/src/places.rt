@@ -1,11 +1,11 @@
 //! Where look-ups in the tables ended.
 
-/// Where the last look-ups ended in the peaks of one kind of end.
+/// Where the last look-ups ended in the maxima of one kind of end.
 #[derive(Clone, Copy, Default, PartialEq, Eq)]
 pub struct Near {
     pub early: usize,
     pub late: usize,
-    /// Whether the late peaks reach the higher level.
+    /// Whether the late maxima reach the higher level.
     pub is_late: bool,
     /// The level that was found, counted from the origin.
     pub level: u128,

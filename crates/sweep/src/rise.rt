@@ -2,15 +2,15 @@
 
 ghost use Rattle.std.specs.Prelude.{◌≡◌, ◌+◌, List, IfSome, IsTrue};
 ghost use Rattle.sample_interval.specs.Widening.{IsRate};
-ghost use Rattle.sweep.specs.Crest.{AreCrestsOf, CountsUpto};
+ghost use Rattle.sweep.specs.Leader.{AreLeadersOf, CountsUpto};
 ghost use Rattle.sweep.specs.Rise.{IsRise, IsRiseOf, IsLateRiseOf, IsHighest};
-ghost use Rattle.sweep.specs.Stretch.{IsLawfulStretch};
+ghost use Rattle.sweep.specs.UnsignedStretch.{IsLawfulStretch};
 ghost use Rattle.sweep.specs.declared.extreme.Extreme.{Extreme};
-ghost use Rattle.sweep.specs.declared.stretch.Stretch.{Stretch as TheStretch};
+ghost use Rattle.sweep.specs.declared.unsigned_stretch.UnsignedStretch.{UnsignedStretch as TheStretch};
 
-use crate::crest::Crest;
-use crate::stretch::Stretch;
+use crate::leader::Leader;
 use crate::top::{Top, higher};
+use crate::unsigned_stretch::UnsignedStretch;
 use sample_interval::PARTS;
 
 /// How far the highest extreme rises.
@@ -25,24 +25,29 @@ pub struct Rise {
     pub is_clear: bool,
 }
 
-/// The rise of the first `count` crests over a stretch, if a level is reached.
-pub fn rise_over(crests: &[Crest], count: usize, stretch: Stretch, drift_ppb: u32) -> Option<Rise>
-    requires count { CountsUpto crests.now (stretch.begin + stretch.end) count }
+/// The rise of the first `count` leaders over a stretch, if a level is reached.
+pub fn rise_over(
+    leaders: &[Leader],
+    count: usize,
+    stretch: UnsignedStretch,
+    drift_ppb: u32,
+) -> Option<Rise>
+    requires count { CountsUpto leaders.now (stretch.begin + stretch.end) count }
     requires stretch { IsLawfulStretch stretch }
     requires rate { IsRate drift_ppb }
-    ensures { (extremes : List Extreme) → AreCrestsOf drift_ppb extremes crests.now →
+    ensures { (extremes : List Extreme) → AreLeadersOf drift_ppb extremes leaders.now →
         IsRiseOf drift_ppb extremes stretch result }
 {
     if count == 0 {
         return None;
     }
-    let crest = crests[count - 1];
+    let leader = leaders[count - 1];
     let rate = u128::from(drift_ppb);
-    let room = crest.height.checked_sub(rate * stretch.end)?;
+    let room = leader.height.checked_sub(rate * stretch.end)?;
     Some(Rise {
         room,
-        index: crest.index,
-        is_clear: crest.height.saturating_sub(crest.rival) >= PARTS - rate,
+        index: leader.index,
+        is_clear: leader.height.saturating_sub(leader.runner_up) >= PARTS - rate,
     })
 }
 

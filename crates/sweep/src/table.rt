@@ -8,16 +8,16 @@ ghost use Rattle.sample_interval.specs.declared.kinds.Sample.{Sample};
 ghost use Rattle.span_cover.specs.Best.{HasNoSample};
 ghost use Rattle.span_cover.specs.Piece.{IsPiece};
 ghost use Rattle.sweep.specs.Extreme.{IsLawfulExtreme};
-ghost use Rattle.sweep.specs.Stretch.{IsLawfulStretch};
-ghost use Rattle.sweep.specs.Table.{best_part, best_parts, ArePeaksBothWays, IsLevelOver};
+ghost use Rattle.sweep.specs.UnsignedStretch.{IsLawfulStretch};
+ghost use Rattle.sweep.specs.Table.{best_part, best_parts, AreMaximaBothWays, IsLevelOver};
 ghost use Rattle.sweep.specs.Table.{IsTableOf, AreTablesOf};
 ghost use Rattle.sweep.specs.declared.extreme.Extreme.{Extreme as TheExtreme};
 
 use crate::extreme::{Extreme, extremes_of, servers_of};
-use crate::peak::{Peak, early_rise, peaks_of};
 use crate::places::{Near, NearTable, Places};
-use crate::stretch::Stretch;
+use crate::prefix_maximum::{PrefixMaximum, early_rise, maxima_of};
 use crate::tick::{from_origin, from_zero, mirrored_tick};
+use crate::unsigned_stretch::UnsignedStretch;
 use arrayvec::ArrayVec;
 use era_unfold::TICKS_PER_SECOND;
 use intersection::kinds::Interval;
@@ -27,19 +27,19 @@ use span_cover::Part;
 use span_cover::laws::{best_samples_are_the_first_best, first_best_of_both_ends_are_the_best};
 use std::alloc::{AllocError, Global};
 
-/// The peaks of extremes, and of the same with time running backwards.
+/// The maxima of extremes, and of the same with time running backwards.
 #[derive(Drop)]
-pub struct Peaks {
-    pub early: Vec<Peak>,
-    pub late: Vec<Peak>,
+pub struct Maxima {
+    pub early: Vec<PrefixMaximum>,
+    pub late: Vec<PrefixMaximum>,
 }
 
 /// A server's samples, laid out so that its interval over any piece is found by a search.
 #[derive(Drop)]
 pub struct BestTable {
     pub(crate) server: u8,
-    pub(crate) lows: Peaks,
-    pub(crate) highs: Peaks,
+    pub(crate) lows: Maxima,
+    pub(crate) highs: Maxima,
 }
 
 /// A table for each of the first `count` servers that has a sample, in their order. Its one error
@@ -100,35 +100,35 @@ fn table_of<S: SampleSource>(
     }))
 }
 
-/// The peaks of extremes both ways.
-fn both_ways(alloc: Global, extremes: &[Extreme], drift_ppb: u32) -> Result<Peaks, AllocError>
+/// The maxima of extremes both ways.
+fn both_ways(alloc: Global, extremes: &[Extreme], drift_ppb: u32) -> Result<Maxima, AllocError>
     requires extremes { All IsLawfulExtreme extremes.now }
     requires few { length extremes.now ≤ 1_000_000 }
     requires rate { IsRate drift_ppb }
-    ensures { IfOk result (λ peaks. ArePeaksBothWays drift_ppb extremes.now peaks) }
+    ensures { IfOk result (λ maxima. AreMaximaBothWays drift_ppb extremes.now maxima) }
 {
-    let early = peaks_of(alloc, extremes, false, drift_ppb)?;
-    let late = peaks_of(alloc, extremes, true, drift_ppb)?;
-    Ok(Peaks { early, late })
+    let early = maxima_of(alloc, extremes, false, drift_ppb)?;
+    let late = maxima_of(alloc, extremes, true, drift_ppb)?;
+    Ok(Maxima { early, late })
 }
 
 /// The highest level that an extreme reaches over a stretch.
-fn level_over(peaks: &Peaks, near: &mut Near, stretch: Stretch, drift_ppb: u32) -> u128
+fn level_over(maxima: &Maxima, near: &mut Near, stretch: UnsignedStretch, drift_ppb: u32) -> u128
     requires stretch { IsLawfulStretch stretch }
     requires rate { IsRate drift_ppb }
     ensures small { result ≤ 2 ^ 100 }
-    ensures level { (extremes : List TheExtreme) → ArePeaksBothWays drift_ppb extremes peaks.now →
+    ensures level { (extremes : List TheExtreme) → AreMaximaBothWays drift_ppb extremes maxima.now →
         All IsLawfulExtreme extremes → 0 < length extremes →
         IsLevelOver drift_ppb extremes stretch result }
 {
     // What the proof knows of widenings.
     widening_is_one_number();
-    let early = early_rise(peaks.early.as_slice(), &mut near.early, stretch, drift_ppb);
-    let mirrored = Stretch {
+    let early = early_rise(maxima.early.as_slice(), &mut near.early, stretch, drift_ppb);
+    let mirrored = UnsignedStretch {
         begin: mirrored_tick(stretch.end),
         end: mirrored_tick(stretch.begin),
     };
-    let late = early_rise(peaks.late.as_slice(), &mut near.late, mirrored, drift_ppb);
+    let late = early_rise(maxima.late.as_slice(), &mut near.late, mirrored, drift_ppb);
     let level = level_of(early.max(late), second_before(near.level), drift_ppb);
     near.level = level;
     near.is_late = early < late;
@@ -172,7 +172,7 @@ fn part_over(
         best_part samples begin end drift_ppb table.now.server ≡ Some result }
 {
     best_samples_are_the_first_best();
-    let stretch = Stretch {
+    let stretch = UnsignedStretch {
         begin: from_origin(begin),
         end: from_origin(end),
     };

@@ -8,7 +8,7 @@ ghost use Rattle.audit.specs.At.{at};
 ghost use Rattle.audit.specs.Evidence.{IsLawfulEvidence, evidence_data};
 
 use crate::evidence::Evidence;
-use crate::finished::{Making, told};
+use crate::finished::{Making, made_whole};
 use crate::question::Question;
 use crate::sample_list::samples_of;
 use audit_text::parts_text;
@@ -25,15 +25,15 @@ use std::alloc::{AllocError, Global};
 #[derive(Clone, Copy, Debug)]
 pub struct At {
     /// The moment, in Unix seconds.
-    pub second: u32,
+    pub unix_second: u32,
 }
 
 /// The tick at which a Unix second begins.
-fn tick_of(second: u32) -> i128
-    ensures value { result ≡ spec.tick_of second }
+fn tick_of(unix_second: u32) -> i128
+    ensures value { result ≡ spec.tick_of unix_second }
     ensures piece { IsPiece result result }
 {
-    i128::from(second) * TICKS_PER_SECOND as i128
+    i128::from(unix_second) * TICKS_PER_SECOND as i128
 }
 
 /// The text for what these servers say, with the hull over the groups.
@@ -56,25 +56,28 @@ fn hull_text(
 fn at_text(
     alloc: Global,
     style: Style,
-    second: u32,
+    unix_second: u32,
     evidence: &Evidence,
 ) -> Result<Vec<u8>, AllocError>
     requires { IsLawfulEvidence evidence.now }
     ensures { IfOk result (λ text.
-        text.items ≡ spec.at_text style second (evidence_data evidence.now)) }
+        text.items ≡ spec.at_text style unix_second (evidence_data evidence.now)) }
 {
     let claim = &evidence.claim;
-    let parts = best_parts(samples_of(evidence), claim, tick_of(second));
+    let parts = best_parts(samples_of(evidence), claim, tick_of(unix_second));
     hull_text(alloc, style, claim, parts.as_slice())
 }
 
 impl Question for At {
     type Second = ();
 
-    ghost asks = { λ asked. at asked.second };
+    ghost asks = { λ asked. at asked.unix_second };
 
     fn make(self, alloc: Global, style: Style, _second: &(), evidence: Evidence) -> Making {
         hulls_hold_the_error();
-        told(at_text(alloc, style, self.second, &evidence), Outcome::Yes)
+        made_whole(
+            at_text(alloc, style, self.unix_second, &evidence),
+            Outcome::Yes,
+        )
     }
 }

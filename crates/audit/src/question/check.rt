@@ -9,7 +9,7 @@ ghost use Rattle.audit.specs.Check.{check};
 ghost use Rattle.audit.specs.Evidence.{IsLawfulEvidence, evidence_data, samples_in};
 
 use crate::evidence::Evidence;
-use crate::finished::{Making, told};
+use crate::finished::{Making, made_whole};
 use crate::laws::{bounds_of_bytes_hold_in_nanoseconds, yes_shows_the_headline};
 use crate::question::Question;
 use audit_text::{Findings, check_text};
@@ -66,6 +66,6 @@ impl Question for Check {
         yes_shows_the_headline();
         let findings = findings_on(second, &evidence);
         let text = check_text(alloc, style, &evidence.claim, &evidence.held, &findings);
-        told(text, outcome_of(&findings.verdict))
+        made_whole(text, outcome_of(&findings.verdict))
     }
 }

@@ -4,7 +4,7 @@ ghost use Rattle.std.specs.Prelude.{◌≡◌};
 ghost use Rattle.audit.specs.Envelope.{bound_outcome, envelope};
 
 use crate::evidence::Evidence;
-use crate::finished::{Making, told};
+use crate::finished::{Making, made_whole};
 use crate::least_line::line_for;
 use crate::question::Question;
 use crate::question::find::run_fault_of;
@@ -54,7 +54,7 @@ impl Question for Envelope {
                     let text = envelope_text(
                         alloc, style, samples, claim, servers, &envelope, line,
                     );
-                    told(text, outcome_of(envelope.least))
+                    made_whole(text, outcome_of(envelope.least))
                 }
                 Err(AllocError) => Err(RunFault::Memory),
             },

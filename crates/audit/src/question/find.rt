@@ -9,7 +9,7 @@ ghost use Rattle.audit.specs.Find as spec;
 ghost use Rattle.audit.specs.Find.{find, find_run_fault_of, found_outcome};
 
 use crate::evidence::Evidence;
-use crate::finished::{Making, told};
+use crate::finished::{Making, made_whole};
 use crate::question::Question;
 use crate::sample_list::samples_of;
 use crate::step::Step;
@@ -92,7 +92,7 @@ impl Question for Find {
         match find_over(alloc, samples_of(&evidence), claim, self.step.seconds) {
             Ok(found) => {
                 let text = found_text(alloc, style, self.step, claim, &found);
-                told(text, outcome_of(&found))
+                made_whole(text, outcome_of(&found))
             }
             Err(fault) => Err(run_fault_of(fault)),
         }

@@ -9,7 +9,7 @@ ghost use Rattle.audit.specs.Refute as spec;
 ghost use Rattle.audit.specs.Refute.{IsSettledFor, refute, stands_on};
 
 use crate::evidence::Evidence;
-use crate::finished::{Making, told};
+use crate::finished::{Making, made_whole};
 use crate::laws::course_beyond_the_bound_contests_the_claim;
 use crate::question::Question;
 use audit_text::{refutation_answer, refuted_text};
@@ -90,7 +90,7 @@ impl Question for Refute {
         match does_stand(alloc, self.drift, second, &evidence) {
             Ok(stands) => {
                 let text = judged_text(alloc, style, &evidence.claim, second, stands);
-                told(text, refuted_outcome(stands))
+                made_whole(text, refuted_outcome(stands))
             }
             Err(AllocError) => Err(RunFault::Memory),
         }

@@ -3,7 +3,7 @@
 ghost use Rattle.audit.specs.Samples.{samples};
 
 use crate::evidence::Evidence;
-use crate::finished::{Finished, Making, told};
+use crate::finished::{Finished, Making, made_whole};
 use crate::question::Question;
 use audit_text::samples_text;
 use line_writer::Style;
@@ -28,7 +28,7 @@ impl Question for Samples {
             },
             _ => {
                 let text = samples_text(alloc, style, &evidence.claim, &evidence.held);
-                told(text, Outcome::Yes)
+                made_whole(text, Outcome::Yes)
             }
         }
     }

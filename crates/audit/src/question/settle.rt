@@ -7,7 +7,7 @@ ghost use Rattle.audit.specs.Settle as spec;
 ghost use Rattle.audit.specs.Settle.{IsAnswerOf, IsTextFor, settled_outcome};
 
 use crate::evidence::Evidence;
-use crate::finished::{Making, told};
+use crate::finished::{Making, made_whole};
 use crate::laws::{
     bounds_of_bytes_hold_in_nanoseconds, course_beyond_the_bound_contests_the_claim,
     yes_shows_the_headline,
@@ -15,7 +15,7 @@ use crate::laws::{
 use crate::least_line::{least_carried, nanoseconds_of};
 use crate::question::Question;
 use crate::question::find::{certificate_line, run_fault_of};
-use crate::question::seek::refutation_line;
+use crate::question::find_refutation::refutation_line;
 use audit_text::{
     conflicts_text, evidence_answer, evidence_text, open_answer, open_text, refutation_answer,
     shown_answer,
@@ -159,7 +159,7 @@ impl Question for Settle {
         samples_of_exchanges_keep_limits();
         match finder::settle(alloc, &evidence.held.exchanges, &evidence.claim) {
             Ok(settled) => {
-                told(
+                made_whole(
                     text_for(alloc, style, &evidence, &settled),
                     outcome_of(&settled),
                 )

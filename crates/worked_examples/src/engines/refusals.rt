@@ -4,7 +4,7 @@ use crate::engines::trial::{COMMANDS, Command, Row, hold};
 use crate::expectation::table;
 use crate::inputs::{Capture, Edit, REFUTATION, TO, WHOLE, padded};
 use CaptureFault::{BadFraction, Link, Magic, TooLong, TornHeader, TornRecord, Version};
-use Command::{At, Check, Envelope, Find, Refute, Samples, Seek};
+use Command::{At, Check, Envelope, Find, Refute, Samples, FindRefutation};
 use audit::Style;
 use certificate::{CertificateFault, RefutationFault};
 use claim_file::ClaimFault;
@@ -68,7 +68,7 @@ const FIRST: [Row<'static>; 16] = table! {
     Check("{}"), &[OPEN], TORN, Err(NO_JSON), &[];
     Samples, &[NO_FIELD], TORN, Err(NO_CLIENT), &[];
     Refute("{}"), &[OPEN], TORN, Err(NO_JSON), &[];
-    Seek, &[NO_FIELD], TORN, Err(NO_CLIENT), &[];
+    FindRefutation, &[NO_FIELD], TORN, Err(NO_CLIENT), &[];
     Envelope(64, true, false), &[NO_FIELD], TORN, Err(NO_CLIENT), &[];
     Check("{}"), &[], TORN, Err(RunFault::Certificate(CertificateFault::Top)), &[];
     Refute("{}"), &[], TORN, Err(NO_REFUTATION), &[];

@@ -3,7 +3,7 @@
 use crate::engines::trial::{Command, NO, Row, YES, hold};
 use crate::expectation::table;
 use crate::inputs::{Capture, ONE, REFUTATION, TIGHT, WHOLE, ZERO};
-use Command::{Refute, Seek};
+use Command::{Refute, FindRefutation};
 use audit::Style;
 
 /// The refutation in which the one server is wrong.
@@ -50,12 +50,12 @@ const ROWS: [Row<'static>; 16] = table! {
     Refute(GREATEST), &[TIGHT], WHOLE, YES, &["refuted yes\n"];
     Refute(BEYOND), &[TIGHT], WHOLE, NO, &["refuted no\n"];
     Refute(REFUTATION), &[TIGHT], TURNED, NO, &["refuted no\n"];
-    Seek, &[TIGHT], WHOLE, YES, &[REFUTATION, "\n"];
-    Seek, &[], WHOLE, NO, &["nothing refutation\n"];
-    Seek, &[ZERO], WHOLE, YES, &[r#"{"error":1,"false":[],"reading":4294967296000000000}"#, "\n"];
-    Seek, &[ONE], WHOLE, YES, &[LIAR, "\n"];
-    Seek, &[], BEHIND, YES, &[FAST, "\n"];
-    Seek, &[], AHEAD, YES, &[SLOW, "\n"];
+    FindRefutation, &[TIGHT], WHOLE, YES, &[REFUTATION, "\n"];
+    FindRefutation, &[], WHOLE, NO, &["nothing refutation\n"];
+    FindRefutation, &[ZERO], WHOLE, YES, &[r#"{"error":1,"false":[],"reading":4294967296000000000}"#, "\n"];
+    FindRefutation, &[ONE], WHOLE, YES, &[LIAR, "\n"];
+    FindRefutation, &[], BEHIND, YES, &[FAST, "\n"];
+    FindRefutation, &[], AHEAD, YES, &[SLOW, "\n"];
 };
 
 #[test]

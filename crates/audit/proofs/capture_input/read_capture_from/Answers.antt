@@ -2,7 +2,7 @@ use Rattle.std.proofs.Common.{Err, List, ℕ, sym, subst}
 use Rattle.std.specs.Prelude.{IfSome}
 use Rattle.pcap_reader.specs.Source.{TakesFrom-at_most, TakesFrom-trans}
 use Rattle.claim_file.specs.Claim.{data_of}
-use Rattle.pairing.specs.Held.{held_data}
+use Rattle.pairing.specs.Compact.{compact_data}
 use Rattle.report.specs.declared.fault.RunFault.{RunFault}
 use Rattle.report.specs.Reading.{Reads}
 use Rattle.audit.specs.CaptureInput.{capture_read}
@@ -17,27 +17,27 @@ returns-in-Ok-collected-clause-known g c =
 pub returns-in-Ok-collected-clause-at_most : goal.returns-in-Ok-collected-clause-at_most
 returns-in-Ok-collected-clause-at_most g c =
     TakesFrom-at_most _ _ _
-    (TakesFrom-trans _ _ _ c.in-Ok.ensures.begins.takes c.collect_held-collected.ensures.leaves.takes)
+    (TakesFrom-trans _ _ _ c.in-Ok.ensures.begins.takes c.collect_compact-collected.ensures.leaves.takes)
     c.into_feed-feed.ensures.known c.into_feed-feed.ensures.counted
 
 pub returns-in-Err-collected-clause-known : goal.returns-in-Err-collected-clause-known
 returns-in-Err-collected-clause-known g c =
     let known = (g.F.Feed.state c.args.feed).remaining in
     let claim = data_of c.args.claim.now in
-    subst (λ (f : RunFault). IfSome known (λ (b : List ℕ). Reads held_data (capture_read claim b) (Err f)))
+    subst (λ (f : RunFault). IfSome known (λ (b : List ℕ). Reads compact_data (capture_read claim b) (Err f)))
     (sym c.run_fault_of.ensures)
     (capture_unread claim _ _ c.in-Err-collected.fault c.in-Ok.ensures.begins.known c.in-Err-collected.ensures.exact)
 
 pub returns-in-Err-collected-clause-at_most : goal.returns-in-Err-collected-clause-at_most
 returns-in-Err-collected-clause-at_most g c =
     TakesFrom-at_most _ _ _
-    (TakesFrom-trans _ _ _ c.in-Ok.ensures.begins.takes c.collect_held-collected.ensures.leaves.takes)
+    (TakesFrom-trans _ _ _ c.in-Ok.ensures.begins.takes c.collect_compact-collected.ensures.leaves.takes)
     c.into_feed-feed.ensures.known c.into_feed-feed.ensures.counted
 
 pub returns-in-Err-clause-known : goal.returns-in-Err-clause-known
 returns-in-Err-clause-known g c =
     let known = (g.F.Feed.state c.args.feed).remaining in
     let claim = data_of c.args.claim.now in
-    subst (λ (f : RunFault). IfSome known (λ (b : List ℕ). Reads held_data (capture_read claim b) (Err f)))
+    subst (λ (f : RunFault). IfSome known (λ (b : List ℕ). Reads compact_data (capture_read claim b) (Err f)))
     (sym c.from.ensures)
     (capture_refused claim _ c.in-Err.fault c.in-Err.ensures.refuses.refusal)

@@ -1,6 +1,6 @@
 use Rattle.std.proofs.Common.{◌≡◌, inr, Ok, Err, refl}
 use Rattle.claim_file.specs.Claim.{data_of as claim_data}
-use Rattle.pairing.specs.Held.{held_data}
+use Rattle.pairing.specs.Compact.{compact_data}
 use Rattle.audit.specs.Question.{no_finding, asked_of}
 use Rattle.audit.specs.Evidence.{evidence_of}
 use Rattle.audit.specs.Second.{second_read}
@@ -59,7 +59,7 @@ returns-in-Ok-collected-clause-made g c =
     let capture = (g.F.Feed.state c.args.capture).remaining in
     record {
       finding = made.finding;
-      found = rw c.in-Ok.is (finding_after made.finding claim (held_data c.in-Ok-collected.held) capture
+      found = rw c.in-Ok.is (finding_after made.finding claim (compact_data c.in-Ok-collected.held) capture
           (rw c.in-Ok-collected.is at c.read_capture_from-capture.ensures.known) made.found);
       is_made = λ expected reads.
           let is : expected ≡ Ok claim = rw c.in-Ok.is at reads in
@@ -109,7 +109,7 @@ returns-in-Ok-collected-clause-second_at_most g c =
 pub returns-in-Ok-collected-clause-shows : goal.returns-in-Ok-collected-clause-shows
 returns-in-Ok-collected-clause-shows g c =
     rw c.in-Ok.is (shows_after g.Q.Second.SecondInput.kind (g.Q.Second.SecondInput.said c.in-Ok-read_second.said)
-    (g.Q.Question.asks c.args.question) (evidence_of (claim_data c.in-Ok.claim) (held_data c.in-Ok-collected.held))
+    (g.Q.Question.asks c.args.question) (evidence_of (claim_data c.in-Ok.claim) (compact_data c.in-Ok-collected.held))
     (g.T.SecondSource.state c.args.second.now) (g.F.Feed.state c.args.capture) c.make.result
     (rw c.in-Ok-read_second.is at c.read_second.ensures.known)
     (rw c.in-Ok-collected.is at c.read_capture_from-capture.ensures.known) c.make.ensures.shows)

@@ -1,8 +1,8 @@
 use Rattle.std.proofs.Common.{◌≡◌, ◌≤◌, ◌<◌, ◌∙◌, ◌+◌, ◌++◌, List, ℕ, ap, append-nil, arith, get_or, length, length-append, map, refl, subst, sym, []}
 use Rattle.std.proofs.lemmas.List.{length-map}
 use Rattle.line_writer.specs.declared.field.Style.TheVariants.{Plain}
-use Rattle.pairing.specs.declared.held.HeldExchange.{HeldExchange}
-use Rattle.pairing.specs.Held.{exchange_shown}
+use Rattle.pairing.specs.declared.compact.CompactExchange.{CompactExchange}
+use Rattle.pairing.specs.Compact.{exchange_shown}
 use Rattle.report.specs.declared.fault.Outcome.TheVariants.{Yes}
 use Rattle.report.specs.Output.{put_count}
 use Rattle.report.specs.State.{output_state}
@@ -55,7 +55,7 @@ loop-number-preserved g c =
     let all : length c.deref-held-items.result.now ≡ length items = ap length c.deref-held-items.ensures.value in
     let within : i < length xs = omega (arith, many, all, c.loop-number-test.true) in
     let stands : x ≡ get_or xs i x =
-    subst (λ (held : List HeldExchange). x ≡ get_or (map exchange_shown held) i x) c.deref-held-items.ensures.value
+    subst (λ (held : List CompactExchange). x ≡ get_or (map exchange_shown held) i x) c.deref-held-items.ensures.value
     (stands_at exchange_shown c.deref-held-items.result.now i _ c.loop-number-test.true x c.to_exchange.ensures x) in
     let line : part ≡ sample_line Plain e.claim i (get_or xs i x) =
     c.as_bytes.ensures.text ∙ (c.write_sample_line.ensures.text ∙ ap (sample_line Plain e.claim i) stands) in

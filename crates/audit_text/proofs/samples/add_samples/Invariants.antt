@@ -1,5 +1,5 @@
 use Rattle.std.proofs.Common.{◌≡◌, ◌++◌, drop, map}
-use Rattle.pairing.specs.Held.{exchange_shown}
+use Rattle.pairing.specs.Compact.{exchange_shown}
 use Rattle.claim_file.specs.Claim.{data_of}
 use Rattle.audit_text.specs.SampleLine.{sample_line}
 use Rattle.audit_text.specs.Table.{rows_from}

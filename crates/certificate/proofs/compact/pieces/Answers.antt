@@ -1,5 +1,5 @@
-use Rattle.std.proofs.Common.{◌≡◌, ◌+◌, ◌∷◌, ◌++◌, [], map, sym, ap, ◌∙◌, subst, arith}
-use Rattle.std.proofs.lemmas.List.{map-append, length-map}
+use Rattle.std.proofs.Common.{◌≡◌, ◌+◌, ◌∷◌, ◌++◌, [], map, sym, ap, ◌∙◌, subst}
+use Rattle.std.proofs.lemmas.List.{map-append}
 use Rattle.std.proofs.lemmas.List.Elements.{All-push}
 use Rattle.std.specs.Prelude.{All}
 use Rattle.certificate.specs.Certificate.{IsHeld, piece_data}
@@ -21,12 +21,3 @@ loop-index-preserved c =
       held = subst (λ xs. All IsHeld xs) more
           (All-push IsHeld (map piece_data held) (piece_data piece) before.held c.in-Some.ensures.held);
     }
-
-pub returns-clause-few : goal.returns-clause-few
-returns-clause-few c =
-    omega (
-      arith,
-      length-map c.loop-index.pieces.items piece_data,
-      c.loop-index.invariant.read.counted,
-      c.loop-index.auto.index-end,
-    )

@@ -1,22 +1,13 @@
 use Rattle.std.proofs.Common.{◌≡◌, ◌+◌, ◌≤◌, length, Some, None, Ok, sym, ap, ◌∙◌, arith, length-append}
 use Rattle.json.specs.Json.{parse_map, after_end_array}
-use Rattle.json_text.proofs.NextToken.{mapped_same, mapped-shorter, element_refused}
+use Rattle.json_text.proofs.NextToken.{mapped-shorter, element_refused}
 use Rattle.json_text.specs.Next.{next_items}
 use Rattle.json_text.specs.Step.{given}
 use Rattle.certificate.specs.Reading.{entry_of}
 use Rattle.certificate.specs.declared.fault.CertificateFault.TheVariants.{Shape}
-use Rattle.certificate.proofs.EntriesRead.{so_far, and_one, entries_after, entries_first, too_many_there, one_more_there, none_there, pushed_one, pushed_none}
+use Rattle.certificate.proofs.EntriesRead.{so_far, and_one, entries_after, too_many_there, one_more_there, none_there, pushed_one, pushed_none}
 use Rattle.certificate.proofs.entry.read_entries.Goals as goal
 use Rattle.certificate.proofs.entry.read_entries.Goals.{Joined-branch-3, in-Some, in-None}
-
-pub entries-init : goal.entries-init
-entries-init c = record {
-  read = mapped_same _ _ (entries_first c.args.number) (next_items c.args.depth c.args.reader.now)
-      ∙ ap (λ es. parse_map (entries_after c.args.number 0 (Some es)) (next_items c.args.depth c.args.reader.now))
-      (sym c.new-entries.ensures);
-  held = omega (arith, ap length c.new-entries.ensures);
-  few = omega arith;
-}
 
 pub returns-then-count-eq-MAX_ENTRIES : goal.returns-then-count-eq-MAX_ENTRIES
 returns-then-count-eq-MAX_ENTRIES c =

@@ -1,20 +1,10 @@
-use Rattle.std.proofs.Common.{◌≡◌, Some, None, Ok, inl, inr, map, sym, ap, ◌∙◌, arith}
-use Rattle.json.specs.Json.{parse_map, after_end_array}
-use Rattle.json_text.proofs.NextToken.{mapped_same, mapped-shorter, array_ends, element_refused}
-use Rattle.json_text.specs.Next.{next_items}
-use Rattle.certificate.specs.Certificate.{piece_data}
+use Rattle.std.proofs.Common.{◌≡◌, Some, None, inl, inr, ap, ◌∙◌, arith}
+use Rattle.json.specs.Json.{after_end_array}
+use Rattle.json_text.proofs.NextToken.{mapped-shorter, array_ends, element_refused}
 use Rattle.certificate.specs.PartsData.{pieces_data}
 use Rattle.certificate.specs.Parts.{judged, pieces_and}
-use Rattle.certificate.proofs.PiecesRead.{pieces_after, pieces_first, pieces_last, too_many_there, one_more_there}
+use Rattle.certificate.proofs.PiecesRead.{pieces_after, pieces_last, too_many_there, one_more_there}
 use Rattle.certificate.proofs.pieces.read_pieces.Goals as goal
-
-pub pieces-init : goal.pieces-init
-pieces-init c = record {
-  read = mapped_same _ _ pieces_first (next_items c.args.depth c.args.reader.now)
-      ∙ ap (λ ps. parse_map (pieces_after 0 (Ok (map piece_data ps))) (next_items c.args.depth c.args.reader.now))
-      (sym c.new.ensures.items);
-  few = omega arith;
-}
 
 pub returns-then-count-eq-MAX_PIECES : goal.returns-then-count-eq-MAX_PIECES
 returns-then-count-eq-MAX_PIECES c =

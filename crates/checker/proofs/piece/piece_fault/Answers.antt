@@ -6,7 +6,7 @@ use Rattle.certificate.specs.Certificate.{piece_data}
 use Rattle.span_cover.specs.Group.{piece_hull}
 use Rattle.checker.specs.Verdict.{hull_fault}
 use Rattle.checker.proofs.FirstFault.{cut_before, cut_after, uncut, uncut_piece}
-use Rattle.checker.proofs.Kept.{last_kept, bound_kept}
+use Rattle.checker.proofs.NoOverflow.{last_kept, bound_kept}
 use Rattle.checker.proofs.Part.{listed_parts, listed_again}
 use Rattle.checker.proofs.piece.piece_fault.Goals as goal
 use Rattle.checker.proofs.piece.piece_fault.Goals.{then-stretch-begin-via-then-stretch-begin}

@@ -7,7 +7,7 @@ use Rattle.sample_interval.specs.declared.kinds.Sample.{Sample}
 use Rattle.checker.specs.Traceability.{samples_of, IsVerdictOn}
 use Rattle.checker.specs.Verdict.{verdict_of}
 use Rattle.checker.proofs.Exchange.{listed_samples, lawful_samples, same_samples}
-use Rattle.checker.proofs.Kept.{reading_kept}
+use Rattle.checker.proofs.NoOverflow.{reading_kept}
 use Rattle.checker.proofs.verdict.check_exchanges.Goals as goal
 
 pub first_fault-requires-clause-samples : goal.first_fault-requires-clause-samples

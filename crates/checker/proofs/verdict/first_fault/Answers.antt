@@ -6,7 +6,7 @@ use Rattle.claim_file.specs.Claim.{data_of as claim_data}
 use Rattle.certificate.specs.Certificate.{piece_data}
 use Rattle.checker.specs.Verdict.{verdict_from}
 use Rattle.checker.proofs.FirstFault.{none_read, ends_elsewhere, stops_at, passes_to, covered, uncovered}
-use Rattle.checker.proofs.Kept.{first_kept, last_kept}
+use Rattle.checker.proofs.NoOverflow.{first_kept, last_kept}
 use Rattle.checker.proofs.verdict.first_fault.Goals as goal
 use Rattle.checker.proofs.verdict.first_fault.Goals.{else-count-gt0-via-then-count-gt0+else-begin-claim}
 use Rattle.checker.proofs.verdict.first_fault.Goals.{else-count-gt0-via-else-count-gt0}

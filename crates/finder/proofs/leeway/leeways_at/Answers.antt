@@ -9,7 +9,7 @@ use Rattle.courses.specs.Cover.{group_of}
 use Rattle.marks.specs.Mark.{AreCompatible}
 use Rattle.finder.specs.Leeway.{AreLeeways, Lets, leeway_in, mark_at, no_limit, turned}
 use Rattle.finder.proofs.Claim.{reading_kept}
-use Rattle.finder.proofs.HeldExchange.{lawful_of, stands_at}
+use Rattle.finder.proofs.CompactExchange.{lawful_of, stands_at}
 use Rattle.finder.proofs.GroupLeeway.{none_yet, one_more_leeway, replicated, replicated_kept, same_default, still_kept}
 use Rattle.finder.proofs.leeway.leeways_at.Goals as goal
 

@@ -2,7 +2,7 @@ use Rattle.std.proofs.Common.{◌≡◌, ℕ, ◌+◌, ◌-◌, pos, ◌+ℤ◌,
 use mir.Syntax.{w128}
 use Rattle.std.proofs.lemmas.Int.{ints}
 use Rattle.sample_interval.specs.Widening.{billion}
-use Rattle.finder.proofs.Kept.{kept, kept_difference}
+use Rattle.finder.proofs.NoOverflow.{kept, kept_difference}
 use Rattle.finder.proofs.GroupLeeway.{most_later, most_earlier}
 use Rattle.finder.proofs.leeway.most_under.Goals as goal
 use Rattle.finder.proofs.leeway.most_under.Goals.{then-reading-mark, else-reading-mark}

@@ -12,11 +12,11 @@ returns-then-not-has_cover g c =
     let claim = claim_data c.args.claim.now in
     let xs = map g.X.ToExchange.shown c.args.exchanges.now in
     record {
-      settled = none_fits claim xs _ c.in_ok-told.ensures
+      settled = none_fits claim xs _ c.in_ok-listed.ensures
           (fits_not c.has_cover.result c.if-not-has_cover.true c.has_cover.ensures.exact
           c.in_ok-conflicts.ensures.covers)
           (c.some_course_fits_where_a_cover_is_small.ensures claim xs c.requires.claim c.requires.exchanges)
-          (λ is_in ends. c.ends_of_all_conflicts_are_a_cover.ensures claim xs _ is_in c.in_ok-told.ensures ends);
+          (λ is_in ends. c.ends_of_all_conflicts_are_a_cover.ensures claim xs _ is_in c.in_ok-listed.ensures ends);
       refused = tt;
     }
 

@@ -34,4 +34,4 @@ returns-in-Ok g c =
       claim_unfailed = counts.claim;
       second_unfailed = counts.second;
       capture_unfailed = counts.capture;
-    }) (let tells = answered.answers.tells in search rules) c.in-Ok.ensures.at_most
+    }) (let concludes = answered.answers.concludes in search rules) c.in-Ok.ensures.at_most

@@ -1,27 +1,10 @@
-use Rattle.std.proofs.Common.{◌≡◌, ℕ, ◌-◌, ◌<◌, List, length, Some, None, Result, Ok, Err, MatchResult, refl, ap, subst, ◌∙◌, arith}
-use Rattle.json.proofs.Grammar.{left_some, left_none, left-parse_map, read_key-shorter}
-use Rattle.json.specs.Json.{parse_map, after_end_array, read_key}
-use Rattle.json.specs.Token.{Token}
-use Rattle.serde_json.specs.Data.{array, no_members, put}
-use Rattle.json_text.specs.Next.{next_value, next_items, next_members, rest_after, Opens}
+use Rattle.std.proofs.Common.{◌≡◌, ◌-◌, ◌<◌, length, Some, None, refl, ap, ◌∙◌, arith}
+use Rattle.json.proofs.Grammar.{left_some, left_none, read_key-shorter}
+use Rattle.json.specs.Json.{after_end_array, read_key}
+use Rattle.serde_json.specs.Data.{no_members, put}
+use Rattle.json_text.specs.Next.{next_value, next_items, next_members, rest_after}
 use Rattle.json_text.proofs.NextTokens.{items_over, item_refused, item_passed, members_over, key_refused, member_refused, member_read}
 use Rattle.json_text.proofs.next.+pass.Goals as goal
-
-passed_array : {T E : Type 0} (answer : Result T E) (depth : ℕ) (ts s r : List Token) →
-    next_value depth ts ≡ parse_map array (next_items (depth - 1) s) →
-    MatchResult answer (λ _. rest_after (next_items (depth - 1) s) ≡ Some r) (λ _. next_items (depth - 1) s ≡ None) →
-    MatchResult answer (λ _. rest_after (next_value depth ts) ≡ Some r) (λ _. next_value depth ts ≡ None)
-passed_array (Ok value) depth ts s r opened passed =
-    ap rest_after opened ∙ left-parse_map array (next_items (depth - 1) s) ∙ passed
-passed_array (Err fault) depth ts s r opened passed = opened ∙ ap (parse_map array) passed
-
-pub pass_value-returns-in-Array-clause-passed : goal.pass_value-returns-in-Array-clause-passed
-pass_value-returns-in-Array-clause-passed t c =
-    let s = c.open_value.new.reader in
-    let opened = subst (λ opening. Opens opening c.args.depth c.args.reader.now s) c.in-Array.is
-    c.in_ok-open_value.ensures.opened in
-    passed_array c.pass_items.result c.args.depth c.args.reader.now s c.pass_items.new.reader opened.1
-    c.pass_items.ensures.passed
 
 pub pass_items-items-preserved : goal.pass_items-items-preserved
 pass_items-items-preserved t c =

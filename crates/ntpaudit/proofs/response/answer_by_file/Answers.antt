@@ -29,6 +29,6 @@ returns-in-Err-clause-judged g c =
       fault_is = c.in-Err.ensures.fault;
       counts_fault = c.in-Err.ensures.counts_fault;
       untouched = refl;
-      tells = c.tell.ensures.tells;
-      status_is = c.tell.ensures.status;
+      concludes = c.conclude.ensures.concludes;
+      status_is = c.conclude.ensures.status;
     })

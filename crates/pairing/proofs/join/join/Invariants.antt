@@ -2,7 +2,7 @@ use Rattle.std.proofs.Common.{◌≡◌, ◌≤◌, drop, map, take}
 use Rattle.pairing.specs.Counts.{IsJoined}
 use Rattle.indexmap.specs.IndexMap.{get}
 use Rattle.pairing.specs.Exchange.{most_exchanges}
-use Rattle.pairing.specs.Held.{exchange_shown}
+use Rattle.pairing.specs.Compact.{exchange_shown}
 use Rattle.pairing.specs.Index.{same_key}
 use Rattle.pairing.specs.Join.{outcomes_by}
 use Rattle.pairing.proofs.join.join.Given as goal

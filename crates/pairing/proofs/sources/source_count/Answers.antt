@@ -1,5 +1,5 @@
 use Rattle.std.proofs.Common.{◌∙◌, ℕ, false, ap, arith, get_or, map}
-use Rattle.pairing.specs.Held.{exchange_shown}
+use Rattle.pairing.specs.Compact.{exchange_shown}
 use Rattle.pairing.specs.Sources.{is_source}
 use Rattle.pairing.proofs.SourceSteps.{counted_more}
 use Rattle.pairing.proofs.sources.source_count.Goals as goal

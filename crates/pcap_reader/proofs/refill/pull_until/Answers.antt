@@ -1,9 +1,8 @@
-use Rattle.std.proofs.Common.{◌≤◌, ◌∙◌, [], length, arith, append-nil, refl, sym}
+use Rattle.std.proofs.Common.{◌≤◌, ◌∙◌, length, arith, refl}
 use Rattle.std.proofs.lemmas.Result.{err_from_is_err_and}
 use Rattle.byte_stream.specs.Intake.{CountsBytes-front}
-use Rattle.pcap_reader.proofs.Intake.{Pulls-none, Pulls-more, Pulls-kept}
+use Rattle.pcap_reader.proofs.Intake.{Pulls-none, Pulls-more}
 use Rattle.pcap_reader.proofs.Ranges.{front_pulled}
-use borrow.Rule.Slice.PartMut.{take_put}
 use Rattle.pcap_reader.proofs.refill.pull_until.Goals as goal
 
 pub loop-held-init : goal.loop-held-init
@@ -30,12 +29,6 @@ pull-requires g c = rw c.loop-held.invariant.unfailed c.requires.faults
 pub returns-in_err-count-clause-at_most : goal.returns-in_err-count-clause-at_most
 returns-in_err-count-clause-at_most g c = c.loop-held.invariant.at_most
 
-pub returns-in_err-count-clause-pulls : goal.returns-in_err-count-clause-pulls
-returns-in_err-count-clause-pulls g c =
-    let within : c.loop-held.held ≤ length c.loop-held.buffer = omega arith in
-    Pulls-kept _ _ _ _ _ _ c.loop-held.invariant.pulls c.in_err-count.ensures.known c.in_err-count.ensures.counts_bytes
-    (take_put c.loop-held.held _ c.loop-held.buffer c.pull.new.into within)
-
 pub returns-in_err-count-clause-enough : goal.returns-in_err-count-clause-enough
 returns-in_err-count-clause-enough g c =
     let p = err_from_is_err_and c.from_residual.result c.from_residual.ensures.1 in rw p.1 tt
@@ -51,13 +44,6 @@ returns-in_err-count-clause-counts_fault g c =
 
 pub returns-then-count-eq0-clause-at_most : goal.returns-then-count-eq0-clause-at_most
 returns-then-count-eq0-clause-at_most g c = c.loop-held.invariant.at_most
-
-pub returns-then-count-eq0-clause-pulls : goal.returns-then-count-eq0-clause-pulls
-returns-then-count-eq0-clause-pulls g c =
-    let within : c.loop-held.held ≤ length c.loop-held.buffer = omega arith in
-    let none = rw c.if-count-eq0.true at c.in_ok-count.ensures.known.0 in
-    Pulls-more _ _ _ _ _ _ [] c.loop-held.invariant.pulls none (omega (arith, c.in_ok-count.ensures.counts_bytes))
-    (take_put c.loop-held.held _ c.loop-held.buffer c.pull.new.into within ∙ sym (append-nil _))
 
 pub returns-then-count-eq0-clause-enough : goal.returns-then-count-eq0-clause-enough
 returns-then-count-eq0-clause-enough g c =

@@ -1,9 +1,6 @@
-use Rattle.std.proofs.Common.{◌∙◌}
 use Rattle.std.proofs.lemmas.Int.{to_z-of_z}
 use mir.Syntax.{w128}
-use Rattle.sample_interval.specs.OnWire.{delay_of}
-use Rattle.sample_interval.specs.Window.{request_start, request_end, reply_start, reply_end}
-use Rattle.sample_interval.proofs.Kept.{kept_tick, kept_stamp, stamp_is, end_is}
+use Rattle.sample_interval.proofs.NoOverflow.{kept_tick, kept_stamp}
 use Rattle.sample_interval.proofs.on_wire.delay.Goals as goal
 
 pub request_window-request-requires-clause-exchange : goal.request_window-request-requires-clause-exchange
@@ -55,25 +52,3 @@ round_trip-requires-2-clause-t3 c = kept_stamp c.args.x.now.t3 c.requires.exchan
 
 pub round_trip-requires-2-clause-t4 : goal.round_trip-requires-2-clause-t4
 round_trip-requires-2-clause-t4 c = kept_tick c.reply_window-reply.result.end c.reply_window-reply.ensures.end_in_range
-
-pub returns-clause-from : goal.returns-clause-from
-returns-clause-from c =
-    let t1 = end_is (request_end c.args.x.now) c.args.reading c.request_window-request.result.end c.ranges.reading
-    c.request_window-request.ensures.end_in_range c.request_window-request.ensures.end in
-    let t2 = stamp_is c.args.x.now.t2 c.requires.exchange.lawful.t2 in
-    let t3 = stamp_is c.args.x.now.t3 c.requires.exchange.lawful.t3 in
-    let t4 = end_is (reply_start c.args.x.now) c.args.reading c.reply_window-reply.result.start c.ranges.reading
-    c.reply_window-reply.ensures.start_in_range c.reply_window-reply.ensures.start in
-    to_z-of_z w128 c.round_trip.result (record { sfits = c.round_trip.type_inv }) ∙ c.round_trip.ensures
-    ∙ (λ i. delay_of (t1 i) (t2 i) (t3 i) (t4 i))
-
-pub returns-clause-to : goal.returns-clause-to
-returns-clause-to c =
-    let t1 = end_is (request_start c.args.x.now) c.args.reading c.request_window-request.result.start c.ranges.reading
-    c.request_window-request.ensures.start_in_range c.request_window-request.ensures.start in
-    let t2 = stamp_is c.args.x.now.t2 c.requires.exchange.lawful.t2 in
-    let t3 = stamp_is c.args.x.now.t3 c.requires.exchange.lawful.t3 in
-    let t4 = end_is (reply_end c.args.x.now) c.args.reading c.reply_window-reply.result.end c.ranges.reading
-    c.reply_window-reply.ensures.end_in_range c.reply_window-reply.ensures.end in
-    to_z-of_z w128 c.round_trip-2.result (record { sfits = c.round_trip-2.type_inv }) ∙ c.round_trip-2.ensures
-    ∙ (λ i. delay_of (t1 i) (t2 i) (t3 i) (t4 i))

@@ -1,9 +1,6 @@
-use Rattle.std.proofs.Common.{◌∙◌, ap}
 use Rattle.std.proofs.lemmas.Int.{to_z-of_z}
 use mir.Syntax.{w128}
-use Rattle.sample_interval.specs.OnWire.{offset_doubled, half_down}
-use Rattle.sample_interval.specs.Window.{request_end, reply_end}
-use Rattle.sample_interval.proofs.Kept.{kept_tick, kept_doubled, kept_stamp, stamp_is, end_is}
+use Rattle.sample_interval.proofs.NoOverflow.{kept_tick, kept_doubled, kept_stamp}
 use Rattle.sample_interval.proofs.on_wire.offset.Goals as goal
 
 pub request_window-request-requires-clause-exchange : goal.request_window-request-requires-clause-exchange
@@ -59,18 +56,3 @@ doubled_offset-greatest-requires-clause-t4 c =
 
 pub halved_down-requires : goal.halved_down-requires
 halved_down-requires c = kept_doubled c.doubled_offset-least.result c.doubled_offset-least.ensures.in_range
-
-pub returns-clause-from : goal.returns-clause-from
-returns-clause-from c =
-    let t1 = end_is (request_end c.args.x.now) c.args.reading c.request_window-request.result.end c.ranges.reading
-    c.request_window-request.ensures.end_in_range c.request_window-request.ensures.end in
-    let t2 = stamp_is c.args.x.now.t2 c.requires.exchange.lawful.t2 in
-    let t3 = stamp_is c.args.x.now.t3 c.requires.exchange.lawful.t3 in
-    let t4 = end_is (reply_end c.args.x.now) c.args.reading c.reply_window-reply.result.end c.ranges.reading
-    c.reply_window-reply.ensures.end_in_range c.reply_window-reply.ensures.end in
-    let doubled =
-    to_z-of_z w128 c.doubled_offset-least.result (record { sfits = c.doubled_offset-least.type_inv })
-    ∙ c.doubled_offset-least.ensures.value
-    ∙ (λ i. offset_doubled (t1 i) (t2 i) (t3 i) (t4 i)) in
-    to_z-of_z w128 c.halved_down.result (record { sfits = c.halved_down.type_inv })
-    ∙ c.halved_down.ensures.value ∙ ap half_down doubled

@@ -1,7 +1,7 @@
 use Rattle.std.proofs.Common.{arith, ◌≡◌, ◌-ℤ◌, ◌∙◌}
 use Rattle.std.proofs.lemmas.Int.{ints}
 use Rattle.sample_interval.proofs.OnWire.{delay_of-is}
-use Rattle.sample_interval.proofs.Kept.{kept_difference}
+use Rattle.sample_interval.proofs.NoOverflow.{kept_difference}
 use Rattle.sample_interval.proofs.on_wire.round_trip.Goals as goal
 
 pub overflow_sub-result : goal.overflow_sub-result

@@ -3,14 +3,8 @@ use Rattle.std.proofs.lemmas.Int.{to_z_pos, to_z-of_z, fits_signed_from_abs}
 use mir.Syntax.{w128}
 use Rattle.sample_interval.specs.Widening.{IsWidening, widening}
 use Rattle.sample_interval.proofs.LeastWidening.{IsWidening-div_ceil, IsWidening-le_distance}
-use Rattle.sample_interval.proofs.LeastWidening.{product_fits, rate_below, parts_left, within_a_word, at_most}
+use Rattle.sample_interval.proofs.LeastWidening.{rate_below, parts_left, within_a_word, at_most}
 use Rattle.sample_interval.proofs.widening.widen.Goals as goal
-
-pub overflow_mul-rate : goal.overflow_mul-rate
-overflow_mul-rate c =
-    product_fits c.from-rate.result c.unsigned_abs.result c.args.drift_ppb c.args.distance c.requires.rate
-    c.requires.from_zero c.requires.in_range c.from-rate.ensures
-    (c.unsigned_abs.ensures.value ∙ ap unsigned_abs (to_z-of_z w128 c.args.distance c.ranges.distance))
 
 pub overflow_sub-rate : goal.overflow_sub-rate
 overflow_sub-rate c = rate_below c.from-rate.result c.args.drift_ppb c.requires.rate c.from-rate.ensures

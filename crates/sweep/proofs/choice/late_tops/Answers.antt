@@ -3,9 +3,9 @@ use Rattle.std.specs.List.{All}
 use Rattle.std.proofs.lemmas.Result.{IfOk-weaker}
 use Rattle.sweep.specs.Extreme.{IsLawfulExtreme, mirrored_extreme}
 use Rattle.sweep.specs.Top.{AreEarlyTops, AreLateTops}
-use Rattle.sweep.specs.Stretch.{IsLawfulStretch, MiddlesRise}
+use Rattle.sweep.specs.UnsignedStretch.{IsLawfulStretch, MiddlesRise}
 use Rattle.sweep.specs.declared.extreme.Extreme.{Extreme}
-use Rattle.sweep.specs.declared.stretch.Stretch.{Stretch}
+use Rattle.sweep.specs.declared.unsigned_stretch.UnsignedStretch.{UnsignedStretch}
 use Rattle.sweep.proofs.Mirror.{lawful-mirrored_extremes, lawful-mirrored_stretches, MiddlesRise-mirrored}
 use Rattle.sweep.proofs.Mirror.{AreLateTops-mirrored}
 use Rattle.sweep.proofs.choice.late_tops.Goals as goal
@@ -18,7 +18,7 @@ early_tops-requires-clause-extremes c =
 
 pub early_tops-requires-clause-stretches : goal.early_tops-requires-clause-stretches
 early_tops-requires-clause-stretches c =
-    let P : List Stretch → Type 0 = All IsLawfulStretch in
+    let P : List UnsignedStretch → Type 0 = All IsLawfulStretch in
     subst P (sym (c.as_slice-2.ensures.value ∙ c.in_ok-stretches.ensures))
     (lawful-mirrored_stretches c.args.stretches.now c.requires.stretches)
 
@@ -33,7 +33,8 @@ returns c =
     (λ tops. AreLateTops c.args.drift_ppb c.args.extremes.now c.args.stretches.now tops.items)
     (λ tops early.
     AreLateTops-mirrored c.args.drift_ppb c.args.extremes.now c.args.stretches.now tops.items
-    (subst (λ (s : List Stretch). AreEarlyTops c.args.drift_ppb (map mirrored_extreme c.args.extremes.now) s tops.items)
+    (subst (λ (s : List UnsignedStretch). AreEarlyTops c.args.drift_ppb (map mirrored_extreme c.args.extremes.now) s
+    tops.items)
     (c.as_slice-2.ensures.value ∙ c.in_ok-stretches.ensures)
     (subst (λ (b : List Extreme). AreEarlyTops c.args.drift_ppb b c.as_slice-2.result.now tops.items)
     (c.as_slice.ensures.value ∙ c.in_ok-extremes.ensures) early)))

@@ -4,7 +4,7 @@ use Rattle.std.proofs.lemmas.Int.{to_z-of_z}
 use mir.Syntax.{w128}
 use Rattle.sweep.specs.Extreme.{IsLawfulExtreme}
 use Rattle.sweep.specs.Pieces.{ArePieces}
-use Rattle.sweep.specs.Stretch.{AreStretchesOf, MiddlesRise}
+use Rattle.sweep.specs.UnsignedStretch.{AreStretchesOf, MiddlesRise}
 use Rattle.sweep.specs.declared.extreme.Extreme.{Extreme}
 use Rattle.intersection.specs.declared.ends.Side.TheVariants.{Low, High}
 use Rattle.sweep.proofs.ExtremeList.{lawful_extremes, some_sample, some_extreme}

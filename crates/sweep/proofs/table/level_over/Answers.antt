@@ -1,9 +1,9 @@
 use Rattle.std.proofs.Common.{ℕ, ◌-◌, ◌/◌, ap, ◌∙◌, ◌≡◌, map, subst, sym, arith}
 use Rattle.sample_interval.specs.Widening.{billion}
 use Rattle.sweep.specs.Extreme.{mirrored_extreme}
-use Rattle.sweep.specs.Peak.{ArePeaksOf, IsEarlyLevel}
-use Rattle.sweep.specs.Stretch.{mirrored_stretch}
-use Rattle.sweep.specs.declared.stretch.Stretch.{Stretch}
+use Rattle.sweep.specs.PrefixMaximum.{AreMaximaOf, IsEarlyLevel}
+use Rattle.sweep.specs.UnsignedStretch.{mirrored_stretch}
+use Rattle.sweep.specs.declared.unsigned_stretch.UnsignedStretch.{UnsignedStretch}
 use Rattle.sweep.proofs.Level.{IsLevelOver-higher, higher_quotient}
 use Rattle.sweep.proofs.table.level_over.Goals as goal
 
@@ -13,7 +13,7 @@ returns-clause-level c extremes are lawful some =
     let m = billion - ppb in
     let early = c.early_rise-early.result in
     let late = c.early_rise-late.result in
-    let make : ℕ → ℕ → Stretch = λ b e. record { begin = b; end = e } in
+    let make : ℕ → ℕ → UnsignedStretch = λ b e. record { begin = b; end = e } in
     let turned : make c.mirrored_tick.result c.mirrored_tick-2.result ≡ mirrored_stretch c.args.stretch =
     ap (λ (b : ℕ). make b c.mirrored_tick-2.result) c.mirrored_tick.ensures
     ∙ ap (λ (e : ℕ). make (mirrored_stretch c.args.stretch).begin e) c.mirrored_tick-2.ensures in
@@ -21,8 +21,8 @@ returns-clause-level c extremes are lawful some =
     IsLevelOver-higher c.widening_is_one_number.ensures.is ppb c.requires.rate extremes c.args.stretch
     lawful c.requires.stretch some (early / m) (late / m)
     (c.early_rise-early.ensures extremes
-    (subst (ArePeaksOf ppb extremes) (sym c.as_slice.ensures.value) are.early))
-    (subst (λ (s : Stretch). IsEarlyLevel ppb (map mirrored_extreme extremes) s (late / m)) turned
+    (subst (AreMaximaOf ppb extremes) (sym c.as_slice.ensures.value) are.early))
+    (subst (λ (s : UnsignedStretch). IsEarlyLevel ppb (map mirrored_extreme extremes) s (late / m)) turned
     (c.early_rise-late.ensures (map mirrored_extreme extremes)
-    (subst (ArePeaksOf ppb (map mirrored_extreme extremes)) (sym c.as_slice-2.ensures.value) are.late)))
+    (subst (AreMaximaOf ppb (map mirrored_extreme extremes)) (sym c.as_slice-2.ensures.value) are.late)))
     _ (c.level_of-level.ensures ∙ ap (λ (n : ℕ). n / m) c.max.ensures ∙ higher_quotient early late m (omega arith))

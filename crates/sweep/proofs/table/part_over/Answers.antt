@@ -4,8 +4,8 @@ use mir.Syntax.{w128}
 use Rattle.intersection.specs.declared.ends.Side.TheVariants.{Low, High}
 use Rattle.span_cover.specs.declared.part.Part.{Part}
 use Rattle.sweep.specs.Extreme.{IsFromOrigin}
-use Rattle.sweep.specs.Stretch.{IsStretchOf}
-use Rattle.sweep.specs.declared.stretch.Stretch.{Stretch}
+use Rattle.sweep.specs.UnsignedStretch.{IsStretchOf}
+use Rattle.sweep.specs.declared.unsigned_stretch.UnsignedStretch.{UnsignedStretch}
 use Rattle.sweep.proofs.ExtremeList.{lawful_extremes}
 use Rattle.sweep.proofs.Level.{interval_is, part_is}
 use Rattle.sweep.proofs.StretchList.{lawful_stretch}
@@ -14,7 +14,7 @@ use Rattle.sweep.proofs.table.part_over.Goals as goal
 pub returns : goal.returns
 returns c samples is =
     let server = c.args.table.now.server in
-    let stretch : Stretch = record { begin = c.from_origin.result; end = c.from_origin-2.result } in
+    let stretch : UnsignedStretch = record { begin = c.from_origin.result; end = c.from_origin-2.result } in
     let at : IsStretchOf c.args.begin c.args.end stretch = record {
       begin = subst (λ (x : ℤ). IsFromOrigin x c.from_origin.result) (to_z-of_z w128 c.args.begin c.ranges.begin)
           c.from_origin.ensures;
@@ -27,7 +27,7 @@ returns c samples is =
     stretch at (lawful_stretch c.args.begin c.args.end stretch c.requires.piece at) c.level_over-low.result
     c.level_over-high.result c.interval_between.result c.interval_between.ensures.lo c.interval_between.ensures.hi
     is.lows.extremes is.highs.extremes is.lows.are is.highs.are is.lows.some
-    (c.level_over-low.ensures.level is.lows.extremes is.lows.peaks_are
+    (c.level_over-low.ensures.level is.lows.extremes is.lows.maxima_are
     (lawful_extremes Low samples server is.lows.extremes is.lows.are) is.lows.some)
-    (c.level_over-high.ensures.level is.highs.extremes is.highs.peaks_are
+    (c.level_over-high.ensures.level is.highs.extremes is.highs.maxima_are
     (lawful_extremes High samples server is.highs.extremes is.highs.are) is.highs.some))

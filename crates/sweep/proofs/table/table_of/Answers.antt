@@ -2,7 +2,7 @@ use Rattle.std.proofs.Common.{rules, List, length, ◌<◌, subst, sym}
 use Rattle.std.specs.List.{All}
 use Rattle.intersection.specs.declared.ends.Side.TheVariants.{Low, High}
 use Rattle.sweep.specs.Extreme.{IsLawfulExtreme}
-use Rattle.sweep.specs.Table.{ArePeaksBothWays}
+use Rattle.sweep.specs.Table.{AreMaximaBothWays}
 use Rattle.sweep.specs.declared.extreme.Extreme.{Extreme}
 use Rattle.sweep.proofs.ExtremeList.{lawful_extremes, some_sample, some_extreme}
 use Rattle.sweep.proofs.table.table_of.Goals as goal
@@ -39,7 +39,7 @@ returns-clause-table g c =
         extremes = c.in_ok-lows.lows.items;
         are = c.in_ok-lows.ensures.lows;
         some = some;
-        peaks_are = subst (λ (xs : List Extreme). ArePeaksBothWays c.args.drift_ppb xs c.in_ok-lows-2.lows)
+        maxima_are = subst (λ (xs : List Extreme). AreMaximaBothWays c.args.drift_ppb xs c.in_ok-lows-2.lows)
             c.as_slice.ensures.value c.in_ok-lows-2.ensures;
       };
       highs = record {
@@ -47,7 +47,7 @@ returns-clause-table g c =
         are = c.in_ok-lows.ensures.highs;
         some = some_extreme High samples c.args.server c.in_ok-lows.highs.items c.in_ok-lows.ensures.highs
             (some_sample Low samples c.args.server c.in_ok-lows.lows.items c.in_ok-lows.ensures.lows some);
-        peaks_are = subst (λ (xs : List Extreme). ArePeaksBothWays c.args.drift_ppb xs c.in_ok-highs.highs)
+        maxima_are = subst (λ (xs : List Extreme). AreMaximaBothWays c.args.drift_ppb xs c.in_ok-highs.highs)
             c.as_slice-2.ensures.value c.in_ok-highs.ensures;
       };
     }

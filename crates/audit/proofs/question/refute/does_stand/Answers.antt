@@ -1,7 +1,7 @@
 use Rattle.std.proofs.Common.{map, subst, sym}
 use Rattle.std.proofs.lemmas.Result.{IfOk-weaker}
 use Rattle.certificate.specs.Refutation.{data_of as refutation_data}
-use Rattle.pairing.specs.Held.{exchange_shown}
+use Rattle.pairing.specs.Compact.{exchange_shown}
 use Rattle.courses.specs.DriftSettlement.{SettlesWithDrift}
 use Rattle.audit.specs.Evidence.{evidence_data}
 use Rattle.audit.specs.Refute.{IsSettledFor, refuted_outcome}

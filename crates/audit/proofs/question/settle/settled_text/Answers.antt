@@ -1,5 +1,5 @@
 use Rattle.std.proofs.lemmas.List.{length-map}
-use Rattle.pairing.specs.Held.{exchange_shown}
+use Rattle.pairing.specs.Compact.{exchange_shown}
 use Rattle.audit.specs.Evidence.{evidence_data}
 use Rattle.audit.proofs.SettlementShowing.{numbers_within}
 use Rattle.audit.proofs.question.settle.settled_text.Goals as goal

@@ -5,14 +5,14 @@ use Rattle.std.proofs.Math.Seq.{take-append_seam}
 use Rattle.std.proofs.lemmas.List.{length-map}
 use Rattle.std.proofs.lemmas.Result.{err_from_is_err_and}
 use Rattle.indexmap.specs.IndexMap.{get}
-use Rattle.pairing.specs.declared.held.HeldExchange.{HeldExchange}
+use Rattle.pairing.specs.declared.compact.CompactExchange.{CompactExchange}
 use Rattle.pairing.specs.declared.index.Key.{Key}
-use Rattle.pairing.specs.declared.index.Kept.{Kept}
+use Rattle.pairing.specs.declared.index.IndexedRequest.{IndexedRequest}
 use Rattle.pairing.specs.declared.index.Place.{Place}
 use Rattle.pairing.specs.Counts.{IsJoined}
 use Rattle.pairing.specs.Exchange.{most_exchanges}
 use Rattle.pairing.specs.Gathering.{IsGatheredFrom}
-use Rattle.pairing.specs.Held.{exchange_shown}
+use Rattle.pairing.specs.Compact.{exchange_shown}
 use Rattle.pairing.specs.Index.{Finds, found_in, same_key}
 use Rattle.pairing.specs.Join.{outcomes_by}
 use Rattle.pairing.proofs.Exactness.{collection-few, collection-many}
@@ -23,14 +23,15 @@ take-written : {X : Type 0} (k n : ℕ) (ys zs : List X) → length ys ≡ n →
 take-written k n ys zs is = rw (← is) (ap (take k) (take-append_seam ys zs))
 
 -- the look-ups of the index are those among the requests
-same_look_up : (look_up : Key → Option Place) (kept held_kept : List Kept) → kept ≡ held_kept →
+same_look_up : (look_up : Key → Option Place) (kept held_kept : List IndexedRequest) → kept ≡ held_kept →
     Finds look_up kept → look_up ≡ found_in held_kept
-same_look_up look_up kept held_kept same finds = λ i. λ k. (finds k ∙ ap (λ (items : List Kept). found_in items k) same) i
+same_look_up look_up kept held_kept same finds =
+    λ i. λ k. (finds k ∙ ap (λ (items : List IndexedRequest). found_in items k) same) i
 
 pub returns-in_err-kept : goal.returns-in_err-kept
 returns-in_err-kept c claim records gathered =
     let requests = c.args.self.requests.items in
-    let same = subst (λ (hs : List HeldExchange). IsGatheredFrom claim records requests hs c.args.self.counts)
+    let same = subst (λ (hs : List CompactExchange). IsGatheredFrom claim records requests hs c.args.self.counts)
     (sym c.deref_mut.ensures.value) gathered in
     let look_up = same_look_up (get same_key c.in_ok-index.index.places) _ requests c.deref.ensures.value c.in_ok-index.ensures in
     let fault = c.in_err-kept.ensures.fault in
@@ -42,7 +43,7 @@ returns-in_err-kept c claim records gathered =
 pub returns : goal.returns
 returns c claim records gathered =
     let requests = c.args.self.requests.items in
-    let same = subst (λ (hs : List HeldExchange). IsGatheredFrom claim records requests hs c.args.self.counts)
+    let same = subst (λ (hs : List CompactExchange). IsGatheredFrom claim records requests hs c.args.self.counts)
     (sym c.deref_mut.ensures.value) gathered in
     let look_up = same_look_up (get same_key c.in_ok-index.index.places) _ requests c.deref.ensures.value c.in_ok-index.ensures in
     let kept = c.in_ok-kept.kept in

@@ -72,9 +72,3 @@ returns-in-Err c =
       stays_failed = refl;
       takes = TakesFrom-none _;
     }
-
-pub overflow_add-self-in-Ok-2 : goal.overflow_add-self-in-Ok-2
-overflow_add-self-in-Ok-2 c =
-    let number : c.in-Ok.head.number ≡ c.args.self.now.given =
-    ap (λ (h : RecordHead). h.number) c.in-Ok.ensures.head in
-    omega (arith, c.in-Ok.ensures.lawful.number)

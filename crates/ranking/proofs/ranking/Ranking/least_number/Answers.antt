@@ -6,7 +6,7 @@ use Rattle.ranking.specs.declared.tree.TheConstants.{NOTHING}
 use Rattle.ranking.specs.Tree.{value_of}
 use Rattle.ranking.specs.Tree.{entries_of}
 use Rattle.ranking.proofs.Entries.{leaf_of}
-use Rattle.ranking.proofs.Leader.{leader_is}
+use Rattle.ranking.proofs.TakenIn.{leader_found}
 use Rattle.ranking.proofs.Root.{all_below, greatest_is, least_is}
 use Rattle.ranking.proofs.ranking.Ranking.least_number.Goals as goal
 
@@ -27,14 +27,14 @@ returns-then-self-at_least-clause-least c =
     let leaves = c.self.inside.leaves in
     let root_fits : SFits w128 c.root.result = search rules in
     let limit_fits : SFits w128 c.max-at_least.result = search rules in
-    let lead = c.self.inside.lead in
-    let rival_fits : SFits w128 lead.rival = search rules in
-    let alone : lead.rival <ℤ c.max-at_least.result = grind (arith, ints) in
+    let leader = c.self.inside.leader in
+    let runner_up_fits : SFits w128 leader.runner_up = search rules in
+    let alone : leader.runner_up <ℤ c.max-at_least.result = grind (arith, ints) in
     let enough : c.max-at_least.result ≤ℤ c.root.result = grind (arith, ints) in
     let something : NOTHING <ℤ c.root.result = omega (arith, ints) in
     let is = c.root.ensures ∙ ap (λ nodes. value_of nodes 0) c.deref.ensures.value in
     rw (← c.self.view_is)
-    (leader_is (entries_of nodes leaves) lead (value_of nodes 0) c.args.at_least c.max-at_least.result
+    (leader_found (entries_of nodes leaves) leader (value_of nodes 0) c.args.at_least c.max-at_least.result
     c.self.invariant.leads alone
     (greatest_is nodes leaves c.self.invariant.tree (rw (← is) something)) (rw (← is) enough) (omega (arith, ints))
     (λ number value held enough. let leaf = leaf_of nodes leaves number value held in omega (arith, ints, clamps)))

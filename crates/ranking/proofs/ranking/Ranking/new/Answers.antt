@@ -1,6 +1,6 @@
 use Rattle.std.proofs.Common.{◌≡◌, ◌∙◌, arith, rules, ◌+◌, ◌-◌, replicate}
 use Rattle.ranking.specs.declared.tree.TheConstants.{NOTHING}
-use Rattle.ranking.proofs.Empty.{empty_entries, empty_lead, empty_tree}
+use Rattle.ranking.proofs.Empty.{empty_entries, empty_leader, empty_tree}
 use Rattle.ranking.proofs.ranking.Ranking.new.Goals as goal
 
 pub invariant_of-result : goal.invariant_of-result
@@ -11,7 +11,7 @@ invariant_of-result c =
       tree =
           empty_tree (leaves + c.args.size) leaves c.first_leaf-leaves.ensures.level
           (omega arith) (omega arith) (omega arith) (omega arith) (omega arith);
-      leads = empty_lead (leaves + c.args.size) leaves (record { number = 0; rival = NOTHING });
+      leads = empty_leader (leaves + c.args.size) leaves (record { number = 0; runner_up = NOTHING });
     })
 
 pub returns : goal.returns

@@ -11,7 +11,7 @@ pub returns-then-value-root : goal.returns-then-value-root
 returns-then-value-root c =
     let nodes = c.self.inside.nodes.items in
     let leaves = c.self.inside.leaves in
-    let lead = c.self.inside.lead in
+    let leader = c.self.inside.leader in
     let fits : SFits w128 c.root.result = search rules in
     let enough : c.args.value ≤ℤ c.root.result = grind (arith, ints) in
     let above = c.requires.above_least in
@@ -23,7 +23,7 @@ returns-then-value-root c =
     (inr (
       refl,
       record {
-        other = lead.number;
+        other = leader.number;
         earlier = omega (arith, c.if-self-number.true);
         has = record {
           value = has.value;

@@ -1,10 +1,10 @@
 use Rattle.std.proofs.Common.{Err, sym, subst}
 use Rattle.std.specs.Prelude.{is_err}
 use Rattle.report.specs.declared.fault.RunFault.{RunFault}
-use Rattle.report.specs.declared.fault.RunFault.TheVariants.{Device, Memory, Write}
+use Rattle.report.specs.declared.fault.RunFault.TheVariants.{Memory}
 use Rattle.report.specs.State.{output_state}
 use Rattle.report.specs.Closing.{Closes}
-use Rattle.report.proofs.Closing.{closes_device, closes_memory, closes_write, may_be_refused}
+use Rattle.report.proofs.Closing.{closes_memory}
 use Rattle.report.proofs.output.Output.give_up.Goals as goal
 
 pub returns-in-Memory-clause-closes : goal.returns-in-Memory-clause-closes
@@ -22,27 +22,5 @@ finish-requires g c = let ready = rw c.in-Device.is at c.requires in ready.sink
 pub finish-requires-in-Memory : goal.finish-requires-in-Memory
 finish-requires-in-Memory g c = let ready = rw c.in-Memory.is at c.requires in ready.sink
 
-pub returns-in-Write-clause-closes : goal.returns-in-Write-clause-closes
-returns-in-Write-clause-closes g c =
-    let old = output_state g.S.Sink.state c.args.self.now in
-    subst (λ (ran : RunFault). Closes old old.sink (Err ran) (Err (Write c.in-Write.sent))) (sym c.in-Write.is)
-    (closes_write old c.in-Write.sent (rw c.in-Write.is at c.requires))
-
-pub returns-in-Device-clause-closes : goal.returns-in-Device-clause-closes
-returns-in-Device-clause-closes g c =
-    let finishes = c.finish.ensures in
-    let old = output_state g.S.Sink.state c.args.self.now in
-    let after = g.S.Sink.state c.finish.new.self in
-    let input = c.in-Device.input in
-    subst (λ (ran : RunFault). Closes old after (Err ran) (Err (Device input))) (sym c.in-Device.is)
-    (closes_device _ _ input (is_err c.finish.result)
-    (record { kept = finishes.known; closed = finishes.closes; counts = finishes.counts_fault }))
-
 pub returns-in_default : goal.returns-in_default
 returns-in_default g c = c.refuse.ensures
-
-pub refuse-requires : goal.refuse-requires
-refuse-requires g c =
-    let no = c.in_default in
-    let may = may_be_refused _ c.args.fault no.not-Device no.not-Write no.not-Memory c.requires in
-    record { ready = may.0; refusal = may.1 }

@@ -7,7 +7,7 @@ use Rattle.audit.specs.Evidence.{evidence_data}
 use Rattle.audit.specs.Question.{ShowsOf, no_finding}
 use Rattle.audit.specs.Second.{no_second, nothing_said}
 use Rattle.audit.proofs.EnvelopeShowing.{count_is_few, envelope_made, envelope_refused, envelope_shows, few_pieces}
-use Rattle.audit.proofs.Showing.{of_evidence, told_made, told_shows, unfound}
+use Rattle.audit.proofs.Showing.{of_evidence, made_whole_is, outcome_shows, unfound}
 use Rattle.audit.proofs.question.envelope.EnvelopeQuestion.make.Goals as goal
 
 pub line_for-requires-clause-few : goal.line_for-requires-clause-few
@@ -30,8 +30,8 @@ returns-in-Ok-line_for-clause-made c =
       found = record { settled = tt; least = line.shows };
       is_made = envelope_made c.args.style step c.args.self.servers c.args.self.least line.found e _
           (envelope_data c.in-Ok.envelope) c.in-Ok-line_for.line exact line.line_is
-          (rw c.outcome_of.ensures at (told_made c.envelope_text-text.result (λ t. t.items) c.outcome_of.result
-          c.told.result _ c.told.ensures.made
+          (rw c.outcome_of.ensures at (made_whole_is c.envelope_text-text.result (λ t. t.items) c.outcome_of.result
+          c.made_whole.result _ c.made_whole.ensures.made
           (rw c.samples_of-samples.ensures.samples at c.envelope_text-text.ensures)));
     }
 
@@ -41,12 +41,12 @@ returns-in-Ok-line_for-clause-shows c =
     let asked = c.args.self in
     let outcome = c.outcome_of.result in
     let samples = c.samples_of.ensures in
-    told_shows c.told.result outcome
+    outcome_shows c.made_whole.result outcome
     (ShowsOf (envelope asked.step.seconds asked.servers asked.least) no_second nothing_said e)
     (of_evidence (IsEnvelopeOf asked.step.seconds outcome) e
     (envelope_shows c.best_hulls_hold_the_error.ensures asked.step.seconds e c.requires.evidence.claim
     samples.of_claim _ samples.samples c.in-Ok.envelope outcome c.outcome_of.ensures c.in-Ok.ensures))
-    c.told.ensures.outcome
+    c.made_whole.ensures.outcome
 
 pub returns-in-Ok-clause-made : goal.returns-in-Ok-clause-made
 returns-in-Ok-clause-made c = unfound tt

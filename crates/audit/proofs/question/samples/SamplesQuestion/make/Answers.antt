@@ -4,7 +4,7 @@ use Rattle.audit.specs.Evidence.{evidence_data}
 use Rattle.audit.specs.Question.{ShowsOf}
 use Rattle.audit.specs.Samples.{samples}
 use Rattle.audit.specs.Second.{no_second, nothing_said}
-use Rattle.audit.proofs.Showing.{told_made, told_shows, unfound}
+use Rattle.audit.proofs.Showing.{made_whole_is, outcome_shows, unfound}
 use Rattle.audit.proofs.question.samples.SamplesQuestion.make.Goals as goal
 
 pub returns-in-Ok-clause-made : goal.returns-in-Ok-clause-made
@@ -15,10 +15,10 @@ returns-in-Err-clause-made c = unfound tt
 
 pub returns-in_default-clause-made : goal.returns-in_default-clause-made
 returns-in_default-clause-made c =
-    unfound (told_made c.samples_text-text.result (λ t. t.items) Yes c.told.result _ c.told.ensures.made
+    unfound (made_whole_is c.samples_text-text.result (λ t. t.items) Yes c.made_whole.result _ c.made_whole.ensures.made
     c.samples_text-text.ensures)
 
 pub returns-in_default-clause-shows : goal.returns-in_default-clause-shows
 returns-in_default-clause-shows c =
-    told_shows c.told.result Yes (ShowsOf samples no_second nothing_said (evidence_data c.args.evidence))
-    (λ claim second capture are. tt) c.told.ensures.outcome
+    outcome_shows c.made_whole.result Yes (ShowsOf samples no_second nothing_said (evidence_data c.args.evidence))
+    (λ claim second capture are. tt) c.made_whole.ensures.outcome

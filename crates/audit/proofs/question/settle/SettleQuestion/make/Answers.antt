@@ -5,7 +5,7 @@ use Rattle.audit.specs.Question.{ShowsOf}
 use Rattle.audit.specs.Second.{no_second, nothing_said}
 use Rattle.audit.specs.Settle.{IsSettledBy, settle}
 use Rattle.audit.proofs.SettlementShowing.{fault_found, refused_made, settled_of}
-use Rattle.audit.proofs.Showing.{BytesLaws, of_inputs, settled_from, told_shows}
+use Rattle.audit.proofs.Showing.{BytesLaws, of_inputs, settled_from, outcome_shows}
 use Rattle.audit.proofs.SettlementText.{text_made}
 use Rattle.audit.proofs.question.settle.SettleQuestion.make.Goals as goal
 
@@ -24,15 +24,16 @@ returns-in-Ok c =
       contested = c.course_beyond_the_bound_contests_the_claim.ensures;
     } in
     record {
-      made = text_made e settled holds c.args.style c.text_for.result (λ t. t.items) c.outcome_of.result c.told.result
-          c.outcome_of.ensures c.told.ensures.made c.text_for.ensures;
-      fault = c.told.ensures.fault;
-      shows = told_shows c.told.result c.outcome_of.result (ShowsOf settle no_second nothing_said e)
+      made = text_made e settled holds c.args.style c.text_for.result (λ t. t.items) c.outcome_of.result
+          c.made_whole.result
+          c.outcome_of.ensures c.made_whole.ensures.made c.text_for.ensures;
+      fault = c.made_whole.ensures.fault;
+      shows = outcome_shows c.made_whole.result c.outcome_of.result (ShowsOf settle no_second nothing_said e)
           (of_inputs e (IsSettledBy c.outcome_of.result) (λ b f is. record {
             settled = settled;
             outcome_is = c.outcome_of.ensures;
             holds = settled_from laws b f e is settled holds;
-          })) c.told.ensures.outcome;
+          })) c.made_whole.ensures.outcome;
     }
 
 pub returns-clause-made : goal.returns-clause-made

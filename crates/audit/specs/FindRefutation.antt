@@ -1,0 +1,84 @@
+-- The report of `find --refutation`: a refutation, or that none is found; and what its outcome
+-- says.
+use Rattle.std.specs.Prelude.{◌≡◌, ℕ, false, List, ◌++◌, codes, Option, Some, None}
+use Rattle.byte_stream.specs.State.{FeedState}
+use Rattle.certificate.specs.Refutation.{RefutationData}
+use Rattle.certificate.specs.RefutationWriting.{refutation_text}
+use Rattle.claim_file.specs.Claim.{ClaimData}
+use Rattle.finder.specs.NearestRefutation.{IsNearestRefutation, NoneIsRefuted, nearest_refutation}
+use Rattle.report.specs.declared.fault.Outcome.{Outcome}
+use Rattle.report.specs.declared.fault.Outcome.TheVariants.{Yes, No}
+use Rattle.report.specs.Reports.{Report, whole_text}
+use Rattle.line_writer.specs.declared.field.Style.{Style}
+use Rattle.line_writer.specs.declared.field.Style.TheVariants.{Plain}
+use Rattle.audit_text.specs.Answer.{refutation_answer}
+use Rattle.audit_text.specs.Refutation.{no_refutation_text}
+use Rattle.audit.specs.Contested.{ShowsContested}
+use Rattle.audit.specs.Evidence.{EvidenceData, GiveEvidence, OfClaimAndCapture}
+use Rattle.audit.specs.Refute.{IsContestedOf}
+use Rattle.audit.specs.Question.{QuestionData}
+
+-- a refutation: for a program its compact text and a line feed, and for a person what it says
+abbrev pub refutation_for : Style → ClaimData → RefutationData → List ℕ
+refutation_for Plain claim refutation = refutation_text refutation ++ codes "\n"
+refutation_for style claim refutation =
+    refutation_answer (codes "refutation found") claim refutation
+
+-- what is found, in words: a refutation, or that there is none
+unfoldable pub found_refutation_text : Style → ClaimData → Option RefutationData → List ℕ
+found_refutation_text style claim (Some refutation) = refutation_for style claim refutation
+found_refutation_text style claim None = no_refutation_text style
+
+-- the outcome: yes if there is a refutation
+abbrev pub found_refutation_outcome : Option RefutationData → Outcome
+found_refutation_outcome (Some refutation) = Yes
+found_refutation_outcome None = No
+
+-- what is found in the exchanges of a capture
+abbrev pub refutation_found_in : EvidenceData → Option RefutationData
+refutation_found_in e = nearest_refutation e.claim e.collection.exchanges
+
+-- the report of `find --refutation` on a claim and the exchanges of a capture
+abbrev pub find_refutation_report : Style → EvidenceData → Report
+find_refutation_report style e =
+    whole_text (found_refutation_text style e.claim (refutation_found_in e))
+    (found_refutation_outcome (refutation_found_in e))
+
+-- A refutation is found of this evidence, with the error nearest above the bound, or else nearest
+-- below it on the other side; and it stands.
+pub record IsRefutableOf (e : EvidenceData) : Type 0 where
+  pub refutation : RefutationData
+  pub found_is : refutation_found_in e ≡ Some refutation
+  pub nearest : IsNearestRefutation e.claim e.collection.exchanges refutation
+  pub stands : IsContestedOf false refutation e
+
+-- None is found of it, and none is accepted.
+pub record IsIrrefutableOf (e : EvidenceData) : Type 0 where
+  pub found_is : refutation_found_in e ≡ None
+  pub none_accepted : NoneIsRefuted e.claim e.collection.exchanges
+
+-- At a yes a refutation is found, which stands, and that a course breaks the claim is shown in
+-- relations alone, if the bytes of claim and capture are known.
+pub record IsRefutable (claim capture : FeedState) : Type 0 where
+  pub found : OfClaimAndCapture claim capture (GiveEvidence IsRefutableOf)
+  pub shown : OfClaimAndCapture claim capture ShowsContested
+
+-- At a no none is accepted, if these bytes are known.
+abbrev pub IsIrrefutable : FeedState → FeedState → Type 0
+IsIrrefutable claim capture = OfClaimAndCapture claim capture (GiveEvidence IsIrrefutableOf)
+
+-- what the outcome of the search shows of evidence, and of inputs
+abbrev pub IsFindRefutationOf : EvidenceData → Outcome → Type 0
+IsFindRefutationOf e Yes = IsRefutableOf e
+IsFindRefutationOf e No = IsIrrefutableOf e
+
+abbrev pub ShowsFindRefutation : FeedState → FeedState → Outcome → Type 0
+ShowsFindRefutation claim capture Yes = IsRefutable claim capture
+ShowsFindRefutation claim capture No = IsIrrefutable claim capture
+
+-- is there a refutation of the claim?
+abbrev pub find_refutation : QuestionData
+find_refutation = record {
+  report = λ style finding said e. find_refutation_report style e;
+  Shows = λ claim second capture outcome. ShowsFindRefutation claim capture outcome;
+}

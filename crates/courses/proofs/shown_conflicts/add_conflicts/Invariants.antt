@@ -1,0 +1,14 @@
+use Rattle.std.proofs.Common.{List, map}
+use Rattle.claim_file.specs.Claim.{data_of as claim_data}
+use Rattle.courses.specs.ConflictsView.{data_of}
+use Rattle.courses.specs.NumberedMarks.{AreGrounds}
+use Rattle.courses.specs.PairMarks.{conflict_data}
+use Rattle.courses.specs.ShownConflicts.{AreListedUpto}
+use Rattle.pairing.specs.declared.exchange.Exchange.{Exchange}
+use Rattle.courses.proofs.shown_conflicts.add_conflicts.Given as goal
+
+abbrev pub invariant-loop-b : goal.invariant-loop-b
+invariant-loop-b l =
+    (xs : List Exchange) → AreGrounds (claim_data l.claim) xs (data_of l.conflicts) l.marks
+    → AreListedUpto (claim_data l.claim) xs l.a 0 (map conflict_data l.initial.listed.items)
+    → AreListedUpto (claim_data l.claim) xs l.a l.b (map conflict_data l.listed.items)

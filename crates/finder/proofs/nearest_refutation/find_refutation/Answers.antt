@@ -1,0 +1,57 @@
+use Rattle.std.proofs.Common.{rules, subst, true≢false, ◌≡◌, ◌∙◌, Some, length, sym, ap, arith, unsigned_abs, w64}
+use Rattle.std.specs.Prelude.{map, option_map}
+use Rattle.std.proofs.lemmas.Int.{ints, to_z-of_z}
+use mir.Val.{SFits}
+use Rattle.claim_file.specs.Claim.{data_of as claim_data}
+use Rattle.finder.specs.NearestRefutation.{IsNearestRefutation, refutation_at}
+use Rattle.finder.proofs.RefutationFinding.{refutation_is, says_none, says_some}
+use Rattle.finder.proofs.Claim.{first_kept, reading_kept}
+use Rattle.finder.proofs.NoOverflow.{kept}
+use Rattle.finder.proofs.nearest_refutation.find_refutation.Goals as goal
+
+pub rooms_of-rooms-requires-clause-from_zero : goal.rooms_of-rooms-requires-clause-from_zero
+rooms_of-rooms-requires-clause-from_zero g c =
+    rw (reading_kept (claim_data c.args.claim.now) c.requires.claim) c.requires.claim.reading_not_negative
+
+pub rooms_of-rooms-requires-clause-at_most_a_second : goal.rooms_of-rooms-requires-clause-at_most_a_second
+rooms_of-rooms-requires-clause-at_most_a_second g c =
+    rw (reading_kept (claim_data c.args.claim.now) c.requires.claim) c.requires.claim.reading_in_range
+
+pub nearest_error-requires-clause-low : goal.nearest_error-requires-clause-low
+nearest_error-requires-clause-low g c server below = (c.rooms_of-rooms.ensures.rooms server below).low
+
+pub nearest_error-requires-clause-high : goal.nearest_error-requires-clause-high
+nearest_error-requires-clause-high g c server below = (c.rooms_of-rooms.ensures.rooms server below).high
+
+pub returns-in_err-error-clause-none : goal.returns-in_err-error-clause-none
+returns-in_err-error-clause-none g c none =
+    let claim = claim_data c.args.claim.now in
+    let xs = map g.X.ToExchange.shown c.args.exchanges.now in
+    let are = rw (reading_kept claim c.requires.claim) at c.rooms_of-rooms.ensures.rooms in
+    says_none c.test_is_passed_where_room_is_left.ensures claim c.requires.claim xs c.requires.exchanges
+    (sym (c.in_err-error.ensures.exact xs are))
+
+pub returns : goal.returns
+returns g c =
+    let claim = claim_data c.args.claim.now in
+    let lawful = c.requires.claim in
+    let xs = map g.X.ToExchange.shown c.args.exchanges.now in
+    let law = c.test_is_passed_where_room_is_left.ensures in
+    let found = c.in_ok-error.error in
+    let in_range = c.in_ok-error.ensures.in_range in
+    let bottom = in_range.not_below in
+    let top = in_range.not_above in
+    let are = rw (reading_kept claim lawful) at c.rooms_of-rooms.ensures.rooms in
+    let exact = c.in_ok-error.ensures.exact xs are in
+    let wide = kept found (omega (arith, ints)) in
+    let fits : SFits w64 found = search rules in
+    let count : c.len.result ≡ length claim.servers = search rules in
+    let liars = rw (wide, count) at c.refusing.ensures in
+    let is = refutation_is law claim lawful xs c.requires.exchanges c.rooms_of-rooms.result are found in_range _ _ liars
+    (ap unsigned_abs (first_kept claim lawful)) in
+    rw (wide, to_z-of_z w64 found fits) (record {
+      exact = ap Some is ∙ ap (option_map (refutation_at claim xs)) exact;
+      found = subst (IsNearestRefutation claim xs) (sym is)
+          (says_some law claim lawful xs c.requires.exchanges found (sym exact));
+      none = λ none. absurd (true≢false none);
+    })

@@ -1,0 +1,99 @@
+use Rattle.std.proofs.Common.{◌≡◌, ◌∙◌, refl, ◌+ℤ◌, pos, true, false, true≢false, sym, arith, to_z, of_z}
+use Rattle.std.proofs.lemmas.Int.{ints, to_z-of_z}
+use mir.Syntax.{w128}
+use Rattle.claim_file.specs.Claim.{ClaimData, IsLawful, data_of as claim_data}
+use Rattle.finder.specs.Room.{possible_by, room_at}
+use Rattle.finder.proofs.Claim.{bound_kept, few_groups}
+use Rattle.finder.proofs.NoOverflow.{kept}
+use Rattle.finder.proofs.Nearest.{first_is_nearest, next_is_nearest, nothing_so_far, none_is_nearest, passed, taken}
+use Rattle.finder.proofs.nearest_refutation.nearest.Goals as goal
+use Rattle.finder.proofs.nearest_refutation.nearest.Goals.{Else-is_possible, then-claim-error+then-error-first+then-is_possible-2, else-claim-error, else-claim-error-via-then-claim-error+then-error-first+else-is_possible-2, else-claim-error-via-then-claim-error+else-error-first, else-claim-error-via-else-claim-error}
+
+next_kept : (claim : ClaimData) → IsLawful claim
+    → to_z w128 (of_z w128 (claim.bound +ℤ pos 1)) ≡ claim.bound +ℤ pos 1
+next_kept claim lawful =
+    let not_below = lawful.bound_not_negative in
+    let not_above = lawful.bound_in_range in
+    kept (claim.bound +ℤ pos 1) (omega (arith, ints))
+
+pub returns-then-is_possible : goal.returns-then-is_possible
+returns-then-is_possible c =
+    let claim = claim_data c.args.claim.now in
+    let bound = bound_kept claim c.requires.claim in
+    let next = next_kept claim c.requires.claim in
+    let passes : possible_by c.args.rooms.now claim (claim.bound +ℤ pos 1) ≡ true =
+    rw (bound, next) at (sym c.is_possible.ensures ∙ c.if-is_possible.true) in
+    rw (bound, next) (next_is_nearest c.args.rooms.now claim (few_groups claim c.requires.claim) c.args.limit
+    c.requires.beyond passes)
+
+pub loop-server-init : goal.loop-server-init
+loop-server-init c =
+    let claim = claim_data c.args.claim.now in
+    let not_below = c.requires.claim.bound_not_negative in
+    let beyond = c.requires.beyond in
+    let in_range = c.requires.in_range in
+    let limit = to_z-of_z w128 c.args.limit c.ranges.limit in
+    let after = kept (c.args.limit +ℤ pos 1) (omega (arith, ints)) in
+    rw (limit, after) (nothing_so_far c.args.rooms.now claim (few_groups claim c.requires.claim) c.args.limit beyond)
+
+pub loop-server-preserved : goal.loop-server-preserved
+loop-server-preserved c =
+    let claim = claim_data c.args.claim.now in
+    let bound = bound_kept claim c.requires.claim in
+    let rooms = c.args.rooms.now in
+    let server = c.loop-server.server in
+    let low = c.requires.low server c.loop-server-test.true in
+    let error = kept (room_at rooms server).lo (omega (arith, low)) in
+    let few = few_groups claim c.requires.claim in
+    elim c.if-claim-error.branch [
+      | then-claim-error+then-error-first+then-is_possible-2 w ↦
+          let above = rw (bound, error) at w.if-claim-error.true in
+          let before = rw error at w.if-error-first.true in
+          let passes = rw error at (sym w.is_possible-then-error-first.ensures ∙ w.if-is_possible-2.true) in
+          rw (w.first-is, error)
+          (taken rooms claim few _ server _ c.loop-server.invariant (room_at rooms server).lo refl
+          (grind (arith, ints)) (grind (arith, ints)) passes)
+      | else-claim-error w ↦
+          rw w.first-is (passed rooms claim few _ server _ c.loop-server.invariant
+          (elim w.else-claim-error.branch [
+            | else-claim-error-via-then-claim-error+then-error-first+else-is_possible-2 w' ↦ λ over passes.
+                absurd (true≢false (sym passes
+                ∙ (rw error at (sym w'.is_possible-then-error-first.ensures ∙ w'.if-is_possible-2.false))))
+            | else-claim-error-via-then-claim-error+else-error-first w' ↦ λ over passes.
+                (let after = rw error at w'.if-error-first.false in grind (arith, ints))
+            | else-claim-error-via-else-claim-error w' ↦ λ over passes.
+                absurd (let below = rw (bound, error) at w'.if-claim-error.false in grind (arith, ints))
+          ]))
+    ]
+
+-- the first number of all fails
+fails : (c : Else-is_possible)
+    → possible_by c.args.rooms.now (claim_data c.args.claim.now) (c.args.claim.now.bound +ℤ pos 1) ≡ false
+fails c =
+    let claim = claim_data c.args.claim.now in
+    rw (bound_kept claim c.requires.claim, next_kept claim c.requires.claim) at
+    (sym c.is_possible.ensures ∙ c.if-is_possible.false)
+
+pub returns-then-first-limit : goal.returns-then-first-limit
+returns-then-first-limit c =
+    let claim = claim_data c.args.claim.now in
+    let few = few_groups claim c.requires.claim in
+    let limit = to_z-of_z w128 c.args.limit c.ranges.limit in
+    let within = rw limit at c.if-first-limit.true in
+    let up = c.loop-server-test.false in
+    let to = c.loop-server.auto.server-end in
+    let all : c.loop-server.server ≡ 32 = omega arith in
+    first_is_nearest c.args.rooms.now claim few c.args.limit _ (rw (limit, all) at c.loop-server.invariant)
+    (fails (goal.at.returns-then-first-limit c).Else-is_possible) (grind (arith, ints))
+
+pub returns-else-first-limit : goal.returns-else-first-limit
+returns-else-first-limit c =
+    let claim = claim_data c.args.claim.now in
+    let few = few_groups claim c.requires.claim in
+    let limit = to_z-of_z w128 c.args.limit c.ranges.limit in
+    let outside = rw limit at c.if-first-limit.false in
+    let up = c.loop-server-test.false in
+    let to = c.loop-server.auto.server-end in
+    let all : c.loop-server.server ≡ 32 = omega arith in
+    none_is_nearest c.args.rooms.now claim few c.args.limit _ (rw (limit, all) at c.loop-server.invariant)
+    (fails (goal.at.returns-else-first-limit c).Else-is_possible) (grind (arith, ints))

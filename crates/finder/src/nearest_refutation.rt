@@ -1,0 +1,99 @@
+//! Refutations that are found.
+
+ghost use Rattle.std.specs.Prelude.{◌≡◌, ◌^◌, ◌<◌, ◌≤◌, ℤ, ℕ, pos, ◌≤ℤ◌, ◌<ℤ◌, unsigned_abs, List, length, map, All, IsNone, IfSome, option_map};
+ghost use Rattle.pairing.specs.declared.exchange.Exchange.{Exchange};
+ghost use Rattle.certificate.specs.Refutation.{data_of as refutation_data};
+ghost use Rattle.claim_file.specs.Claim.{IsLawful, data_of as claim_data};
+ghost use Rattle.pairing.specs.Exchange.{IsLawful as IsLawfulExchange};
+ghost use Rattle.finder.specs.Room.{AreRooms, possible_by, room_at};
+ghost use Rattle.finder.specs.NearestRefutation.{IsErrorOf64Bits, IsNearest, IsNearestRefutation, NoneIsRefuted};
+ghost use Rattle.finder.specs.NearestRefutation.{nearest_error, nearest_refutation};
+
+use crate::room::{is_possible, mirrored, refusing, rooms_of};
+use certificate::Refutation;
+use checker::laws::test_is_passed_where_room_is_left;
+use claim_file::Claim;
+use intersection::kinds::Interval;
+use pairing::ToExchange;
+
+/// The greatest error of a refutation, in ticks.
+const GREATEST_ERROR: i128 = (1 << 63) - 1;
+
+/// How far below zero the least error of a refutation is, in ticks.
+const LEAST_ERROR_BELOW: i128 = 1 << 63;
+
+/// Looks for a refutation of a claim: the one with the least error above the bound, or, if there is
+/// none, the one with the greatest error below it on the other side. It names just the servers that
+/// have an exchange with no room for that error, in their order, and the first reading of the span.
+/// It takes no memory, and looks once at each exchange.
+pub fn find_refutation<X: ToExchange>(exchanges: &[X], claim: &Claim) -> Option<Refutation>
+    requires claim { IsLawful (claim_data claim.now) }
+    requires exchanges { All (IsLawfulExchange (length claim.now.servers.items))
+        (map X.shown exchanges.now) }
+    ensures exact { option_map refutation_data result
+        ≡ nearest_refutation (claim_data claim.now) (map X.shown exchanges.now) }
+    ensures found { IfSome result (λ found.
+        IsNearestRefutation (claim_data claim.now) (map X.shown exchanges.now) (refutation_data found)) }
+
+    // With no other error, servers or reading is a refutation accepted.
+    ensures none { IsNone result
+        → NoneIsRefuted (claim_data claim.now) (map X.shown exchanges.now) }
+{
+    test_is_passed_where_room_is_left();
+    let rooms = rooms_of(exchanges, claim.reading);
+    let error = nearest_error(&rooms, claim)?;
+    Some(Refutation {
+        error: error as i64,
+        liars: refusing(&rooms, claim.servers.len() as u8, error),
+        reading: claim.first as u64,
+    })
+}
+
+/// The nearest error, if each server leaves room for just the errors of its interval.
+fn nearest_error(rooms: &[Interval; 32], claim: &Claim) -> Option<i128>
+    requires claim { IsLawful (claim_data claim.now) }
+    requires low { (server : ℕ) → server < 32 →
+        unsigned_abs (room_at rooms.now server).lo ≤ 2 ^ 80 }
+    requires high { (server : ℕ) → server < 32 →
+        unsigned_abs (room_at rooms.now server).hi ≤ 2 ^ 80 }
+    ensures exact { (xs : List Exchange) → AreRooms claim.now.reading xs rooms.now →
+        result ≡ nearest_error (claim_data claim.now) xs }
+    ensures in_range { IfSome result IsErrorOf64Bits }
+{
+    if let Some(error) = nearest(rooms, claim, GREATEST_ERROR) {
+        return Some(error);
+    }
+    match nearest(&mirrored(rooms), claim, LEAST_ERROR_BELOW) {
+        Some(error) => Some(-error),
+        None => None,
+    }
+}
+
+/// The first error above the claim's bound, of those up to a limit, that at most `false_max` groups
+/// refuse.
+///
+/// If an error has this property, then so has the greatest low end that isn't above it, or the
+/// first error of all: each server that refuses this one refuses the other too. So these alone are
+/// looked at.
+fn nearest(rooms: &[Interval; 32], claim: &Claim, limit: i128) -> Option<i128>
+    requires claim { IsLawful (claim_data claim.now) }
+    requires low { (server : ℕ) → server < 32 →
+        unsigned_abs (room_at rooms.now server).lo ≤ 2 ^ 80 }
+    requires beyond { claim.now.bound <ℤ limit }
+    requires in_range { limit ≤ℤ pos (2 ^ 63) }
+    ensures { IsNearest (possible_by rooms.now (claim_data claim.now))
+        claim.now.bound limit result }
+{
+    let next = claim.bound + 1;
+    if is_possible(rooms, claim, next) {
+        return Some(next);
+    }
+    let mut first = limit + 1;
+    for server in 0..32 {
+        let error = rooms[server].lo;
+        if claim.bound < error && error < first && is_possible(rooms, claim, error) {
+            first = error;
+        }
+    }
+    if first <= limit { Some(first) } else { None }
+}

@@ -1,0 +1,31 @@
+-- A look-up among what is kept of requests is one among them.
+use Rattle.std.proofs.Common.{◌≡◌, ◌∙◌, List, [], ◌∷◌, Bool, true, false, refl, ap, map}
+use Rattle.std.specs.Prelude.{if◌then◌else◌}
+use Rattle.pairing.specs.declared.index.Key.{Key}
+use Rattle.pairing.specs.declared.index.IndexedRequest.{IndexedRequest}
+use Rattle.pairing.specs.Index.{Indexes, found_in, having, indexed_of, indexed_with, key_of, place_at, place_of, same_key}
+use Rattle.pairing.specs.Message.{Request}
+
+indexed_with-head : (same : Bool) (q : Request) (ks : List IndexedRequest) (qs : List Request) →
+    ks ≡ map indexed_of qs →
+    (if same then indexed_of q ∷ ks else ks) ≡ map indexed_of (if same then q ∷ qs else qs)
+indexed_with-head true q ks qs is = ap (λ xs. indexed_of q ∷ xs) is
+indexed_with-head false q ks qs is = is
+
+indexed_with-map : (k : Key) (requests : List Request) →
+    indexed_with k (map indexed_of requests) ≡ map indexed_of (having k requests)
+indexed_with-map k [] = refl
+indexed_with-map k (q ∷ requests) =
+    indexed_with-head (same_key k (key_of q)) q (indexed_with k (map indexed_of requests)) (having k requests)
+    (indexed_with-map k requests)
+
+place_at-map : (requests : List Request) → place_at (map indexed_of requests) ≡ place_of requests
+place_at-map [] = refl
+place_at-map (q ∷ []) = refl
+place_at-map (q ∷ other ∷ others) = refl
+
+pub indexed_as_found : (requests : List Request) (kept : List IndexedRequest) → kept ≡ map indexed_of requests →
+    Indexes (found_in kept) requests
+indexed_as_found requests kept is k =
+    ap (λ items. place_at (indexed_with k items)) is ∙ ap place_at (indexed_with-map k requests)
+    ∙ place_at-map (having k requests)

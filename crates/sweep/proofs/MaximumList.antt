@@ -1,0 +1,282 @@
+-- The maxima of extremes.
+use Rattle.std.proofs.Common.{◌≡◌, ℕ, ◌+◌, ◌-◌, ◌*◌, ◌/◌, ◌<◌, ◌≤◌, List, [], ◌∷◌, ◌++◌, length, Some, refl}
+use Rattle.std.proofs.Common.{arith, subst, sym, ◌∙◌, ap, ◌⊎◌, inl, inr, ⊎_elim, le_trans}
+use Rattle.std.specs.List.{slice_get}
+use Rattle.std.proofs.lemmas.Bool.{cases_lt}
+use Rattle.std.proofs.lemmas.Nat.{le-div}
+use Rattle.std.proofs.lemmas.Option.{slice_get_within, same_Some}
+use Rattle.std.proofs.Math.Nat.{div-mul-le_self, mul-le-mul_right}
+use Rattle.sample_interval.specs.Widening.{IsRate, billion}
+use Rattle.sweep.specs.PrefixMaximum.{IsMaximumOf, IsTopped, MaximaRise, AreMaximaOf, IsHeightUpto, IsEarlyLevel}
+use Rattle.sweep.specs.Queue.{IsQueueOf}
+use Rattle.sweep.specs.Top.{IsEarlyAtLeast, height}
+use Rattle.sweep.specs.declared.extreme.Extreme.{Extreme}
+use Rattle.sweep.specs.declared.prefix_maximum.PrefixMaximum.{PrefixMaximum}
+use Rattle.sweep.specs.declared.queue.Arrival.{Arrival}
+use Rattle.sweep.specs.declared.unsigned_stretch.UnsignedStretch.{UnsignedStretch}
+use Rattle.sweep.proofs.List.{pushed_cases, slice_get-front, slice_get-last, there}
+
+-- a maximum has the place and the height of one of the first n arrivals
+pub record IsFromArrival (queue : List Arrival) (n : ℕ) (maximum : PrefixMaximum) : Type 0 where
+  pub turn : ℕ
+  pub arrival : Arrival
+  pub before : turn < n
+  pub stands : slice_get queue turn ≡ Some arrival
+  pub place : maximum.place ≡ arrival.at
+  pub height : maximum.height ≡ arrival.height
+
+-- the maxima of the first n arrivals
+pub record MaximaSoFar (queue : List Arrival) (n : ℕ) (maxima : List PrefixMaximum) : Type 0 where
+  pub each : (i : ℕ) (maximum : PrefixMaximum) → slice_get maxima i ≡ Some maximum → IsFromArrival queue n maximum
+  pub all : (k : ℕ) (a : Arrival) → k < n → slice_get queue k ≡ Some a → IsTopped maxima a.at a.height
+  pub rise : MaximaRise maxima
+
+pub MaximaSoFar-none : (queue : List Arrival) → MaximaSoFar queue 0 []
+MaximaSoFar-none queue = record {
+  each = λ i maximum is. absurd cc;
+  all = λ k a less is. absurd (omega arith);
+  rise = λ i j a b le at_i at_j. absurd cc;
+}
+
+one_later : (queue : List Arrival) (n : ℕ) (maximum : PrefixMaximum) → IsFromArrival queue n maximum →
+    IsFromArrival queue (n + 1) maximum
+one_later queue n maximum is = record {
+  turn = is.turn;
+  arrival = is.arrival;
+  before = let before = is.before in omega arith;
+  stands = is.stands;
+  place = is.place;
+  height = is.height;
+}
+
+module _ (ppb : ℕ) (extremes : List Extreme) (queue : List Arrival) (are : IsQueueOf ppb extremes queue) where
+  module _ (n : ℕ) (maxima : List PrefixMaximum) (so_far : MaximaSoFar queue n maxima) (a : Arrival)
+      (here : slice_get queue n ≡ Some a) where
+    no_later : (maximum : PrefixMaximum) → IsFromArrival queue n maximum → maximum.place ≤ a.at
+    no_later maximum is =
+        let before = is.before in
+        let order = are.in_order is.turn n is.arrival a (omega arith) is.stands here in
+        omega (arith, is.place)
+
+    -- an arrival that isn't higher than the last maximum
+    pub MaximaSoFar-kept : (last : PrefixMaximum) → slice_get maxima (length maxima - 1) ≡ Some last →
+        a.height ≤ last.height →
+        MaximaSoFar queue (n + 1) maxima
+    MaximaSoFar-kept last at_last under = record {
+      each = λ i maximum is. one_later queue n maximum (so_far.each i maximum is);
+      all = λ k x less at. ⊎_elim
+          (λ old. so_far.all k x old at)
+          (λ le.
+          let same : n ≡ k = omega arith in
+          let one : a ≡ x = same_Some a x (sym here ∙ ap (slice_get queue) same ∙ at) in
+          subst (λ (y : Arrival). IsTopped maxima y.at y.height) one (record {
+            index = length maxima - 1;
+            maximum = last;
+            stands = at_last;
+            no_later = no_later last (so_far.each _ last at_last);
+            no_lower = under;
+          }))
+          (cases_lt k n);
+      rise = so_far.rise;
+    }
+
+    -- an arrival that is
+    module _ (maximum : PrefixMaximum) (place : maximum.place ≡ a.at) (height_is : maximum.height ≡ a.height)
+        (above : (last : PrefixMaximum) → slice_get maxima (length maxima - 1) ≡ Some last → last.height < a.height)
+      where
+        each : (i : ℕ) (x : PrefixMaximum) → slice_get (maxima ++ maximum ∷ []) i ≡ Some x → IsFromArrival queue (n + 1) x
+        each i x is = ⊎_elim
+            (λ old. one_later queue n x (so_far.each i x old))
+            (λ new. subst (IsFromArrival queue (n + 1)) (sym new.1) (record {
+              turn = n;
+              arrival = a;
+              before = omega arith;
+              stands = here;
+              place = place;
+              height = height_is;
+            }))
+            (pushed_cases maxima maximum x i is)
+
+        all : (k : ℕ) (x : Arrival) → k < n + 1 → slice_get queue k ≡ Some x →
+            IsTopped (maxima ++ maximum ∷ []) x.at x.height
+        all k x less at = ⊎_elim
+            (λ old.
+            let top = so_far.all k x old at in
+            let within = slice_get_within maxima top.index top.maximum top.stands in
+            record {
+              index = top.index;
+              maximum = top.maximum;
+              stands = slice_get-front maxima maximum top.index within ∙ top.stands;
+              no_later = top.no_later;
+              no_lower = top.no_lower;
+            })
+            (λ le.
+            let same : n ≡ k = omega arith in
+            let one : a ≡ x = same_Some a x (sym here ∙ ap (slice_get queue) same ∙ at) in
+            subst (λ (y : Arrival). IsTopped (maxima ++ maximum ∷ []) y.at y.height) one (record {
+              index = length maxima;
+              maximum = maximum;
+              stands = slice_get-last maxima maximum;
+              no_later = omega (arith, place);
+              no_lower = omega (arith, height_is);
+            }))
+            (cases_lt k n)
+
+        -- an old maximum and the new one
+        under_new : (i : ℕ) (x : PrefixMaximum) → slice_get maxima i ≡ Some x → (x.place ≤ maximum.place)
+            × (x.height ≤ maximum.height)
+        under_new i x at =
+            let within = slice_get_within maxima i x at in
+            let last = there maxima (length maxima - 1) (omega arith) in
+            let lower = so_far.rise i (length maxima - 1) x last.0 (omega arith) at last.1 in
+            let less = above last.0 last.1 in
+            let low = lower.1 in
+            let early = no_later x (so_far.each i x at) in
+            (omega (arith, place), omega (arith, height_is))
+
+        rise : MaximaRise (maxima ++ maximum ∷ [])
+        rise i j x y le at_i at_j = ⊎_elim
+            (λ old_j. ⊎_elim
+            (λ old_i. so_far.rise i j x y le old_i old_j)
+            (λ new_i.
+            let within = slice_get_within maxima j y old_j in
+            absurd (omega (arith, new_i.0)))
+            (pushed_cases maxima maximum x i at_i))
+            (λ new_j. ⊎_elim
+            (λ old_i. subst (λ (z : PrefixMaximum). (x.place ≤ z.place) × (x.height ≤ z.height)) (sym new_j.1)
+            (under_new i x old_i))
+            (λ new_i.
+            let same : x ≡ y = new_i.1 ∙ sym new_j.1 in
+            subst (λ (z : PrefixMaximum). (x.place ≤ z.place) × (x.height ≤ z.height)) same (omega arith, omega arith))
+            (pushed_cases maxima maximum x i at_i))
+            (pushed_cases maxima maximum y j at_j)
+
+        pub MaximaSoFar-more : MaximaSoFar queue (n + 1) (maxima ++ maximum ∷ [])
+        MaximaSoFar-more = record { each = each; all = all; rise = rise }
+
+  -- all of them
+  pub AreMaximaOf-all : (n : ℕ) (maxima : List PrefixMaximum) → length queue ≤ n → MaximaSoFar queue n maxima →
+      AreMaximaOf ppb extremes maxima
+  AreMaximaOf-all n maxima enough so_far = record { each = each; all = all; rise = so_far.rise }
+    where
+      each : (i : ℕ) (maximum : PrefixMaximum) → slice_get maxima i ≡ Some maximum → IsMaximumOf ppb extremes maximum
+      each i maximum is =
+          let from = so_far.each i maximum is in
+          let own = are.each from.turn from.arrival from.stands in
+          record {
+            index = from.arrival.index;
+            extreme = own.extreme;
+            stands = own.stands;
+            place = from.place ∙ own.at;
+            height = from.height ∙ own.height;
+          }
+
+      all : (index : ℕ) (extreme : Extreme) → slice_get extremes index ≡ Some extreme →
+          IsTopped maxima (extreme.from + extreme.to) (height ppb extreme)
+      all index extreme is =
+          let came = are.all index extreme is in
+          let own = are.each came.0 came.1 came.2 in
+          let within = slice_get_within queue came.0 came.1 came.2 in
+          let same : own.extreme ≡ extreme =
+          same_Some own.extreme extreme (sym own.stands ∙ ap (slice_get extremes) came.3 ∙ is) in
+          let top = so_far.all came.0 came.1 (omega arith) came.2 in
+          subst (λ (x : Extreme). IsTopped maxima (x.from + x.to) (height ppb x)) same
+          (subst (λ (h : ℕ). IsTopped maxima (own.extreme.from + own.extreme.to) h) own.height
+          (subst (λ (p : ℕ). IsTopped maxima p came.1.height) own.at top))
+
+-- ---- asked up to a place
+
+module _ (ppb : ℕ) (extremes : List Extreme) (maxima : List PrefixMaximum) (are : AreMaximaOf ppb extremes maxima)
+    (place : ℕ) where
+  -- no maximum comes up to it
+  pub IsHeightUpto-none : ((maximum : PrefixMaximum) → slice_get maxima 0 ≡ Some maximum → place < maximum.place) →
+      IsHeightUpto ppb extremes place 0
+  IsHeightUpto-none beyond = record {
+    of_one = inl refl;
+    no_lower = λ index extreme is upto.
+        let top = are.all index extreme is in
+        let within = slice_get_within maxima top.index top.maximum top.stands in
+        let first = there maxima 0 (omega arith) in
+        let order = (are.rise 0 top.index first.0 top.maximum (omega arith) first.1 top.stands).0 in
+        let after = beyond first.0 first.1 in
+        let later = top.no_later in
+        absurd (omega arith);
+  }
+
+  -- the last that does
+  pub IsHeightUpto-last : (count : ℕ) (last : PrefixMaximum) → 0 < count → slice_get maxima (count - 1) ≡ Some last →
+      last.place ≤ place → ((maximum : PrefixMaximum) → slice_get maxima count ≡ Some maximum → place < maximum.place) →
+      IsHeightUpto ppb extremes place last.height
+  IsHeightUpto-last count last some at_last upto beyond = record {
+    of_one =
+        let own = are.each (count - 1) last at_last in
+        inr (record {
+          index = own.index;
+          extreme = own.extreme;
+          stands = own.stands;
+          no_later = let is = own.place in omega arith;
+          height = own.height;
+        });
+    no_lower = no_lower;
+  }
+    where
+      no_lower : (index : ℕ) (extreme : Extreme) → slice_get extremes index ≡ Some extreme →
+          extreme.from + extreme.to ≤ place → height ppb extreme ≤ last.height
+      no_lower index extreme is before =
+          let top = are.all index extreme is in
+          let later = top.no_later in
+          let lower = top.no_lower in
+          ⊎_elim
+          (λ inside.
+          let order = (are.rise top.index (count - 1) top.maximum last (omega arith) top.stands at_last).1 in
+          le_trans lower order)
+          (λ past.
+          let within = slice_get_within maxima top.index top.maximum top.stands in
+          let first = there maxima count (omega arith) in
+          let order = (are.rise count top.index first.0 top.maximum past first.1 top.stands).0 in
+          let after = beyond first.0 first.1 in
+          absurd (omega arith))
+          (cases_lt top.index count)
+
+-- ---- the level of a height
+
+module _ (ppb : ℕ) (slow : IsRate ppb) (extremes : List Extreme) (stretch : UnsignedStretch) (greatest : ℕ)
+    (is : IsHeightUpto ppb extremes (stretch.begin + stretch.end) greatest) where
+  reached : (level : ℕ) → level ≡ (greatest - ppb * stretch.end) / (billion - ppb) →
+      (level ≡ 0) ⊎ ((index : ℕ) × IsEarlyAtLeast ppb extremes stretch index level)
+  reached level level_is =
+      let fits : (greatest - ppb * stretch.end) / (billion - ppb) * (billion - ppb) ≤ greatest - ppb * stretch.end =
+      div-mul-le_self (greatest - ppb * stretch.end) (billion - ppb) in
+      let under : level * (billion - ppb) ≤ greatest - ppb * stretch.end =
+      subst (λ (l : ℕ). l * (billion - ppb) ≤ greatest - ppb * stretch.end) (sym level_is) fits in
+      ⊎_elim
+      (λ positive. ⊎_elim
+      (λ none.
+      let least : 1 * (billion - ppb) ≤ level * (billion - ppb) = mul-le-mul_right (billion - ppb) positive in
+      absurd (omega arith))
+      (λ one. inr (
+        one.index,
+        record {
+          extreme = one.extreme;
+          stands = one.stands;
+          early = one.no_later;
+          at_least =
+              let least : 1 * (billion - ppb) ≤ level * (billion - ppb) = mul-le-mul_right (billion - ppb) positive in
+              let same = one.height in
+              omega arith;
+        },
+      ))
+      is.of_one)
+      (λ none. inl (omega arith))
+      (cases_lt 0 level)
+
+  pub IsEarlyLevel-room : (level : ℕ) → level ≡ (greatest - ppb * stretch.end) / (billion - ppb) →
+      IsEarlyLevel ppb extremes stretch level
+  IsEarlyLevel-room level level_is = record {
+    reached = reached level level_is;
+    highest = λ index other there.
+        let lower = is.no_lower index there.extreme there.stands there.early in
+        let enough = there.at_least in
+        subst (λ (l : ℕ). other ≤ l) (sym level_is)
+        (le-div other (greatest - ppb * stretch.end) (billion - ppb) (omega arith) (omega arith));
+  }

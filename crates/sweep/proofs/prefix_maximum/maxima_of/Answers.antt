@@ -1,0 +1,54 @@
+use Rattle.std.proofs.Common.{◌≡◌, ◌<◌, ◌-◌, refl, List, Some, length, arith, subst, sym, ap, ◌∙◌}
+use Rattle.std.proofs.Common.{true≢false, Vec, Global}
+use Rattle.std.specs.List.{slice_get}
+use Rattle.std.proofs.lemmas.Option.{slice_get-get_or}
+use Rattle.sweep.specs.Extreme.{seen}
+use Rattle.sweep.specs.declared.prefix_maximum.PrefixMaximum.{PrefixMaximum}
+use Rattle.sweep.proofs.MaximumList.{MaximaSoFar, MaximaSoFar-none, MaximaSoFar-kept, MaximaSoFar-more, AreMaximaOf-all}
+use Rattle.sweep.proofs.prefix_maximum.maxima_of.Goals as goal
+use Rattle.sweep.proofs.prefix_maximum.maxima_of.Goals.{then-is_higher+in_ok-push, else-is_higher}
+
+pub loop-turn-init : goal.loop-turn-init
+loop-turn-init c =
+    subst (MaximaSoFar c.in_ok-queue.queue.items 0) (sym c.new-maxima.ensures.items)
+    (MaximaSoFar-none c.in_ok-queue.queue.items)
+
+pub loop-turn-preserved : goal.loop-turn-preserved
+loop-turn-preserved c =
+    let queue = c.in_ok-queue.queue.items in
+    let turn = c.loop-turn.turn in
+    let maxima = c.loop-turn.maxima.items in
+    let arrival = c.index-arrival.result.now in
+    let long = c.in_ok-queue.queue.ok.0 in
+    let test = c.loop-turn-test.true in
+    let end = c.len-turn-end.ensures in
+    let within : turn < length queue = omega arith in
+    let here : slice_get queue turn ≡ Some arrival =
+    slice_get-get_or queue turn arrival within ∙ ap Some (sym c.index-arrival.ensures) in
+    let passed = c.as_slice.ensures.value in
+    elim c.if-is_higher.branch [
+      | then-is_higher+in_ok-push w ↦
+          subst (MaximaSoFar queue _)
+          (sym (ap (λ (v : Vec PrefixMaximum Global). v.items) w.maxima-is ∙ w.in_ok-push.ensures.items))
+          (MaximaSoFar-more c.args.drift_ppb (seen c.args.backwards c.args.extremes.now) queue
+          c.in_ok-queue.ensures turn maxima
+          c.loop-turn.invariant arrival here _ refl refl
+          (λ last at. c.is_higher.ensures.higher w.if-is_higher.true last
+          (subst (λ (xs : List PrefixMaximum). slice_get xs (length xs - 1) ≡ Some last) (sym passed) at)))
+      | else-is_higher w ↦
+          let low = c.is_higher.ensures.no_higher (λ t. true≢false (sym t ∙ w.if-is_higher.false)) in
+          subst (MaximaSoFar queue _) (sym (ap (λ (v : Vec PrefixMaximum Global). v.items) w.maxima-is))
+          (MaximaSoFar-kept c.args.drift_ppb (seen c.args.backwards c.args.extremes.now) queue
+          c.in_ok-queue.ensures turn maxima
+          c.loop-turn.invariant arrival here low.0
+          (subst (λ (xs : List PrefixMaximum). slice_get xs (length xs - 1) ≡ Some low.0) passed low.1) low.2)
+    ]
+
+pub returns : goal.returns
+returns c =
+    let long = c.in_ok-queue.queue.ok.0 in
+    let test = c.loop-turn-test.false in
+    let end = c.len-turn-end.ensures in
+    AreMaximaOf-all c.args.drift_ppb (seen c.args.backwards c.args.extremes.now) c.in_ok-queue.queue.items
+    c.in_ok-queue.ensures c.loop-turn.turn
+    c.loop-turn.maxima.items (omega arith) c.loop-turn.invariant

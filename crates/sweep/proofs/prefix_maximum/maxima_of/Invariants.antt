@@ -1,0 +1,5 @@
+use Rattle.sweep.proofs.MaximumList.{MaximaSoFar}
+use Rattle.sweep.proofs.prefix_maximum.maxima_of.Given as goal
+
+abbrev pub invariant-loop-turn : goal.invariant-loop-turn
+invariant-loop-turn l = MaximaSoFar l.queue.items l.turn l.maxima.items

@@ -1,6 +1,0 @@
-use Rattle.std.proofs.Common.{◌≡◌, map, take}
-use Rattle.sweep.specs.Stretch.{mirrored_stretch}
-use Rattle.sweep.proofs.stretch.mirrored_stretches.Given as goal
-
-abbrev pub invariant-loop-stretch : goal.invariant-loop-stretch
-invariant-loop-stretch l = l.mirrored.items ≡ map mirrored_stretch (take l.stretch-index l.stretches)
