@@ -13,7 +13,7 @@ ghost use Rattle.ntpaudit.specs.Response.{request_of};
 use crate::asked::is_human;
 use crate::files::Inputs;
 use crate::invocation::Request;
-use audit::{Question, Samples, FindRefutation, Settle, Style, run};
+use audit::{FindRefutation, Question, Samples, Settle, Style, run};
 use byte_stream::Sink;
 use in_memory::{NamedFeed, run_twice};
 use report::{Outcome, RunFault};
@@ -92,7 +92,15 @@ pub(crate) fn draft<
         Request::At(at) => draft_one(alloc, at, style, inputs, draft, out, hasher),
         Request::Settle => draft_one(alloc, Settle, style, inputs, draft, out, hasher),
         Request::Find(find) => draft_one(alloc, find, style, inputs, draft, out, hasher),
-        Request::FindRefutation => draft_one(alloc, FindRefutation, style, inputs, draft, out, hasher),
+        Request::FindRefutation => draft_one(
+            alloc,
+            FindRefutation,
+            style,
+            inputs,
+            draft,
+            out,
+            hasher,
+        ),
         Request::Envelope(envelope) => {
             draft_one(alloc, envelope, style, inputs, draft, out, hasher)
         }

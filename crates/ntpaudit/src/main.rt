@@ -38,7 +38,7 @@ use audit::Outputs;
 use byte_stream::{Sink, WriteSink};
 use fault_words::{KeptSink, Obstacle};
 use listing::answer_list;
-use report::{Input, Outcome, RunFault, refuse, refuse_time, show, conclude};
+use report::{Input, Outcome, RunFault, conclude, refuse, refuse_time, show};
 use std::alloc::AllocError;
 use std::hash::{BuildHasher, BuildHasherDefault, FoldHasher, RandomState};
 use std::process::ExitCode;

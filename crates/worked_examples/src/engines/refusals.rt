@@ -4,7 +4,7 @@ use crate::engines::trial::{COMMANDS, Command, Row, hold};
 use crate::expectation::table;
 use crate::inputs::{Capture, Edit, REFUTATION, TO, WHOLE, padded};
 use CaptureFault::{BadFraction, Link, Magic, TooLong, TornHeader, TornRecord, Version};
-use Command::{At, Check, Envelope, Find, Refute, Samples, FindRefutation};
+use Command::{At, Check, Envelope, Find, FindRefutation, Refute, Samples};
 use audit::Style;
 use certificate::{CertificateFault, RefutationFault};
 use claim_file::ClaimFault;

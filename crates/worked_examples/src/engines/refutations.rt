@@ -3,7 +3,7 @@
 use crate::engines::trial::{Command, NO, Row, YES, hold};
 use crate::expectation::table;
 use crate::inputs::{Capture, ONE, REFUTATION, TIGHT, WHOLE, ZERO};
-use Command::{Refute, FindRefutation};
+use Command::{FindRefutation, Refute};
 use audit::Style;
 
 /// The refutation in which the one server is wrong.

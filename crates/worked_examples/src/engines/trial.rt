@@ -4,7 +4,7 @@ ghost use Rattle.byte_stream.specs.State.{IsWritable};
 
 use crate::expectation::{assert_equal, assert_equal_at, assert_ok, table};
 use crate::inputs::{Capture, Edit, REFUTATION, capture_of, claim_of};
-use audit::{At, Check, Envelope, Find, Refute, Samples, FindRefutation, Step, Style};
+use audit::{At, Check, Envelope, Find, FindRefutation, Refute, Samples, Step, Style};
 use byte_stream::{Cut, Feed, Sink, TestFeed, TestSink};
 use listing::run_list;
 use report::{Input, Outcome, RunFault};
@@ -123,7 +123,9 @@ pub(crate) fn run<'a>(
         Command::List => run_list(alloc, capture, out),
         Command::Samples => audit::run(alloc, Samples, style, first, none, capture, out, hasher),
         Command::At(second) => {
-            let at = At { unix_second: second };
+            let at = At {
+                unix_second: second,
+            };
             audit::run(alloc, at, style, first, none, capture, out, hasher)
         }
         Command::Check(_) => audit::run(alloc, Check, style, first, next, capture, out, hasher),
@@ -137,7 +139,16 @@ pub(crate) fn run<'a>(
             let refute = Refute { drift: false };
             audit::run(alloc, refute, style, first, next, capture, out, hasher)
         }
-        Command::FindRefutation => audit::run(alloc, FindRefutation, style, first, none, capture, out, hasher),
+        Command::FindRefutation => audit::run(
+            alloc,
+            FindRefutation,
+            style,
+            first,
+            none,
+            capture,
+            out,
+            hasher,
+        ),
         Command::Envelope(seconds, servers, least) => {
             let envelope = Envelope {
                 step: step_of(seconds),
