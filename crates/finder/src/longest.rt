@@ -158,8 +158,8 @@ impl Pace {
 
 /// Where the longest piece from `begin` ends; or, if the piece of one tick from there doesn't show
 /// that the error is within the bound, the hull over it. The end is looked for where the servers'
-/// ends likely leave the bound, or sooner if pieces have been shorter; and each look-up goes on from
-/// where the last one ended.
+/// ends likely leave the bound, or sooner if pieces have been shorter; and each look-up goes on
+/// from where the last one ended.
 pub(crate) fn longest_piece(
     tables: &[BestTable],
     pace: &mut Pace,

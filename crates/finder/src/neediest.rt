@@ -24,8 +24,8 @@ use std::alloc::{AllocError, Global};
 use std::cmp::Reverse;
 use sweep::{BestTable, Places, parts_near};
 
-/// A stretch of the span, mostly a tick, by how many ticks the bound of its hull has to have. The one
-/// that needs most is the greatest, and of those that need as much the first.
+/// A stretch of the span, mostly a tick, by how many ticks the bound of its hull has to have. The
+/// one that needs most is the greatest, and of those that need as much the first.
 #[derive(Clone, Copy, PartialEq, Eq, PartialOrd, Ord)]
 pub(crate) struct StretchNeed {
     /// How many ticks of 2^-32 s the bound has to have.
@@ -122,6 +122,29 @@ impl Gap {
         let margin = self.reach / 8;
         half.max(margin).min(self.reach - margin)
     }
+
+    /// What lies before and after the tick so far from its begin, which needs so much. The one that
+    /// may need more comes last.
+    fn halves(self, half: u64, need: u128, drift_ppb: u32) -> (Gap, Gap)
+        requires rate { IsRate drift_ppb }
+    {
+        let before = Gap {
+            reach: half,
+            last: need,
+            ..self
+        };
+        let after = Gap {
+            begin: self.begin.saturating_add(half),
+            reach: self.reach.saturating_sub(half),
+            first: need,
+            ..self
+        };
+        if before.most(drift_ppb) < after.most(drift_ppb) {
+            (before, after)
+        } else {
+            (after, before)
+        }
+    }
 }
 
 /// The tick that needs most where the groups of a cover have no say, the first of those that need
@@ -168,23 +191,7 @@ pub(crate) fn neediest_tick(
         let middle = gap.begin.saturating_add(half);
         if let Some(tick) = tick_need(tables, &mut places, claim, cover, middle) {
             best = best.max(tick);
-            let before = Gap {
-                reach: half,
-                last: tick.ticks,
-                ..gap
-            };
-            let after = Gap {
-                begin: middle,
-                reach: gap.reach.saturating_sub(half),
-                first: tick.ticks,
-                ..gap
-            };
-            let is_after_first = before.most(claim.drift_ppb) < after.most(claim.drift_ppb);
-            let (next, later) = if is_after_first {
-                (after, before)
-            } else {
-                (before, after)
-            };
+            let (later, next) = gap.halves(half, tick.ticks, claim.drift_ppb);
             left.push(later)?;
             left.push(next)?;
         }

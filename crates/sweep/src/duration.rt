@@ -31,8 +31,8 @@ pub struct Duration {
     pub is_beyond: bool,
 }
 
-/// The duration of each server that has a table, in their order, for pieces from `begin` on. The last piece that
-/// was asked for with these places is the tick from there.
+/// The duration of each server that has a table, in their order, for pieces from `begin` on. The
+/// last piece that was asked for with these places is the tick from there.
 pub fn durations_near(
     tables: &[BestTable],
     places: &mut Places,

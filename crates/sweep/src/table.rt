@@ -204,7 +204,7 @@ fn interval_between(low: u128, high: u128) -> Interval
 /// The piece is of Unix ticks, from 0 to below 2^64. The rate is the one that the tables were made
 /// for, and they are at most 32. The nearer the piece lies to the last one that was asked for with
 /// these places the fewer steps it takes, and where it lies far at most twice as many as a search
-/// from nothing. What is found doesn't depend on the places. They say afterwards where it was found.
+/// from nothing. What is found doesn't depend on the places. They say afterwards where it was.
 pub fn parts_near(
     tables: &[BestTable],
     places: &mut Places,
