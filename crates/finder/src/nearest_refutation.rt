@@ -32,8 +32,8 @@ pub fn find_refutation<X: ToExchange>(exchanges: &[X], claim: &Claim) -> Option<
         (map X.shown exchanges.now) }
     ensures exact { option_map refutation_data result
         ≡ nearest_refutation (claim_data claim.now) (map X.shown exchanges.now) }
-    ensures found { IfSome result (λ found.
-        IsNearestRefutation (claim_data claim.now) (map X.shown exchanges.now) (refutation_data found)) }
+    ensures found { IfSome result (λ found. IsNearestRefutation
+        (claim_data claim.now) (map X.shown exchanges.now) (refutation_data found)) }
 
     // With no other error, servers or reading is a refutation accepted.
     ensures none { IsNone result

@@ -84,7 +84,8 @@ module _ (ppb : ℕ) (extremes : List Extreme) (queue : List Arrival) (are : IsQ
     module _ (maximum : PrefixMaximum) (place : maximum.place ≡ a.at) (height_is : maximum.height ≡ a.height)
         (above : (last : PrefixMaximum) → slice_get maxima (length maxima - 1) ≡ Some last → last.height < a.height)
       where
-        each : (i : ℕ) (x : PrefixMaximum) → slice_get (maxima ++ maximum ∷ []) i ≡ Some x → IsFromArrival queue (n + 1) x
+        each : (i : ℕ) (x : PrefixMaximum) → slice_get (maxima ++ maximum ∷ []) i ≡ Some x →
+            IsFromArrival queue (n + 1) x
         each i x is = ⊎_elim
             (λ old. one_later queue n x (so_far.each i x old))
             (λ new. subst (IsFromArrival queue (n + 1)) (sym new.1) (record {

@@ -49,7 +49,8 @@ pub fn leaders_of(
 /// The leader that begins with an arrival, if it changes anything.
 fn leader_after(leaders: &[Leader], arrival: Arrival) -> Option<Leader>
     ensures first { length leaders.now ≡ 0 → MatchOption result ⊥ (Begins arrival) }
-    ensures later { (last : TheLeader) → slice_get leaders.now (length leaders.now - 1) ≡ Some last →
+    ensures later { (last : TheLeader) →
+        slice_get leaders.now (length leaders.now - 1) ≡ Some last →
         MatchOption result (Stays last arrival) (Follows last arrival) }
 {
     if leaders.is_empty() {
