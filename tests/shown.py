@@ -42,12 +42,12 @@ def at(lines: list[str]) -> list[str]:
 
 
 def envelope(lines: list[str], servers: bool) -> list[str]:
-    """A server's line has the begin and the end of its piece, whose own line comes after those of the servers."""
+    """A server's line has the fields of its piece but the hull. The piece's own line comes after those of the servers."""
     at_end = [row for row in lines if row.startswith(("bound_ns ", "least_ns "))]
     rows = [read(PIECE_OF_SERVER if "." in row.split(" ")[1] else PIECE, row) for row in lines[:-len(at_end)]]
-    times = {row["K"]: {"FROM": row["FROM"], "TO": row["TO"]} for row in rows if "FROM" in row}
+    of_pieces = {row["K"]: row for row in rows if "FROM" in row}
     columns = PIECES_WITH_SERVERS if servers else PIECE
-    return table(columns, [{**times[row["K"]], **row} for row in rows]) + [bound(row) for row in at_end]
+    return table(columns, [{**of_pieces[row["K"]], **row} for row in rows]) + [bound(row) for row in at_end]
 
 
 def bound(row: str) -> str:
