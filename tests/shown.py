@@ -42,7 +42,7 @@ def at(lines: list[str]) -> list[str]:
 
 
 def envelope(lines: list[str], servers: bool) -> list[str]:
-    """A server's line has the fields of its piece but the hull. The piece's own line comes after those of the servers."""
+    """A server's line has its piece's fields but the hull. The piece's own line comes after those of the servers."""
     at_end = [row for row in lines if row.startswith(("bound_ns ", "least_ns "))]
     rows = [read(PIECE_OF_SERVER if "." in row.split(" ")[1] else PIECE, row) for row in lines[:-len(at_end)]]
     of_pieces = {row["K"]: row for row in rows if "FROM" in row}
