@@ -78,7 +78,8 @@ def test_forged_audit(place):
           line=(out.startswith(b"refuted ") and b"unchanged" not in out, True))
     check("and then it is known", row=(table(folder)[0]["verdict"], "refuted"),
           again=(b"(unchanged)" in dossier("audit", folder)[1], True))
-    stranger = folder_of(place, "true")
+    # A bound of its own: else another test may make the very same audit, within the same second, and it is known here.
+    stranger = folder_of(place, "true", bound_ns=5_000_001)
     dossier("audit", stranger, env=elsewhere(place))
     check("an audit of somebody else's that is true", row=(table(stranger)[0]["verdict"], "not verified"),
           signed=(dossier("sign", stranger, "--key", "any")[0], 5),
