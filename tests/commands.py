@@ -9,6 +9,7 @@ from typing import NamedTuple
 
 import shown
 import transcript
+from answers import Answer
 from claims import read_claim
 from columns import SAMPLE, counted, written
 from tally import DATA, Ran
@@ -18,9 +19,6 @@ CERTIFICATE, REFUTATION = DATA / "two-packets.certificate.json", DATA / "two-pac
 TIME = "2001-09-09T01:46:40Z"
 SECOND = {"check": "certificate", "refute": "refutation"}
 """What the second input of a command is, if it takes one."""
-
-Answer = tuple[int, list[str]]
-"""A status, and the lines on standard output."""
 
 
 class Command(NamedTuple):
@@ -170,3 +168,10 @@ COMMANDS = (
     Command("envelope", least, (), ("--least",)),
     Command("envelope", for_a_person("envelope", envelope), (), ("--human",)),
 )
+PLAIN = [command for command in COMMANDS if "--human" not in command.options]
+
+
+def variants(name: str) -> list[tuple[str, ...]]:
+    """A command's options as they are tried: each of those above, and all together."""
+    found = [command.options for command in PLAIN if command.name == name]
+    return list(dict.fromkeys([*found, tuple(word for options in found for word in options)]))

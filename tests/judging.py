@@ -1,4 +1,4 @@
-"""What commands answer about a claim and a capture, held to the second reading of tests/pieces.py, tests/marks.py and
+"""What commands answer about a claim and a capture, held to the second reading of tests/answers.py, tests/marks.py and
 tests/settlement.py: for tests/hostile and tests/large, whose captures are made by tests/families.py.
 
 A question is a claim on a capture. Of each there are cases: what was tried, and what is wrong with it.
@@ -10,13 +10,16 @@ from functools import cached_property
 from pathlib import Path
 from typing import NamedTuple
 
+import answers
 import families
 import marks
 import pieces
 import rules
 import settlement
+from answers import Evidence
 from claims import Claim, Piece, Refutation, changed
 from columns import TICKS, counted
+from commands import PLAIN
 from marks import Conflicts
 from pieces import Hulls, Stop
 from rules import Sample
@@ -95,6 +98,13 @@ class Question:
     @cached_property
     def hulls(self) -> Hulls:
         return Hulls(self.claim, self.samples)
+
+    @property
+    def evidence(self) -> Evidence:
+        """What tests/answers.py reads, whose intervals are made of sorted lists."""
+        known = len(self.samples)
+        counts = counted(records=2 * known, requests=known, replies=known, samples=known)
+        return Evidence(self.claim, self.samples, self.records, counts, self.hulls.intervals)
 
     @cached_property
     def covers(self) -> list[set[int]]:
@@ -177,9 +187,9 @@ def certificate_wrong(question: Question, claim: Claim, ran: Ran) -> str:
         end = piece["upto"]
         if not begin < end <= last and not begin == end == last:
             return f"piece {number} ends at {end}"
-        if not pieces.is_inside(bound, question.hulls.over(begin, end)):
+        if not rules.is_inside(bound, question.hulls.over(begin, end)):
             return f"piece {number} isn't inside the bound"
-        if end < last and pieces.is_inside(bound, question.hulls.over(begin, end + 1)):
+        if end < last and rules.is_inside(bound, question.hulls.over(begin, end + 1)):
             return f"piece {number} may be longer"
         begin = end
     is_compact = ran[1] == text_of([rules.compact({"pieces": printed})])
@@ -211,30 +221,16 @@ def unaccepted(question: Question, certificate: bytes) -> str:
 # ---- envelope
 
 
-def envelope_lines(question: Question, with_servers: bool = False) -> list[str]:
-    lines, needs = [], []
-    for number, (begin, end) in enumerate(rules.pieces_of(question.claim, question.step)):
-        found = question.hulls.over(begin, end)
-        if with_servers:
-            lines += rules.server_lines(question.claim, number, question.hulls.intervals(begin, end))
-        needs.append(pieces.need_of(found))
-        lines.append(rules.piece_line(number, begin, end, found))
-    in_ns = [rules.ceiling(need * rules.BILLION, TICKS) for need in needs if need is not None]
-    if len(in_ns) < len(needs):
-        return [*lines, f"bound_ns none piece {needs.index(None)}"]
-    return [*lines, f"bound_ns {max(in_ns)} piece {in_ns.index(max(in_ns))}"]
-
-
 def envelope_case(question: Question) -> Iterator[Case]:
-    """`envelope` alone, with `--servers`, and with `--least`."""
-    words = "--step", question.step
-    ran, lines = question.call("envelope", *words, "--least"), envelope_lines(question)
-    status = int(lines[-1].startswith("bound_ns none"))
-    yield "envelope", differs(question.call("envelope", *words), status, lines)
-    by_servers = question.call("envelope", *words, "--servers")
-    yield "envelope --servers", differs(by_servers, status, envelope_lines(question, True))
-    *rest, line = ran[1].decode().splitlines() or [""]
-    yield "envelope --least", differs((ran[0], text_of(rest), ran[2]), status, lines) or least_wrong(question, line)
+    """`envelope` with each of its options. The line of the least bound is looked at by itself."""
+    for command in (command for command in PLAIN if command.name == "envelope"):
+        words = "--step", question.step, *command.options
+        ran, line, has_least = question.call("envelope", *words), "", "--least" in words
+        if has_least:
+            *rest, line = ran[1].decode().splitlines() or [""]
+            ran = ran[0], text_of(rest), ran[2]
+        wanted = answers.envelope(question.evidence, *(word for word in words if word != "--least"))
+        yield command.title, differs(ran, *wanted) or (least_wrong(question, line) if has_least else "")
 
 
 def least_wrong(question: Question, line: str) -> str:
@@ -242,7 +238,7 @@ def least_wrong(question: Question, line: str) -> str:
     words = line.split()
     if words[:1] != ["least_ns"] or len(words) not in (2, 4):
         return f"the line {line!r}"
-    told = pieces.told_least(line)
+    told = answers.told_least(line)
     if told is None:
         return "" if question.ends(pieces.MOST_BOUND_NS)[1] else "none, and the greatest bound has a certificate"
     bound_ns, piece = told
@@ -284,20 +280,18 @@ def below_wrong(question: Question, bound_ns: int, piece: int) -> str:
     return "" if piece == first else f"piece {piece}, and the pieces stop in piece {first}, at {stop.begin}"
 
 
-# ---- find, at, samples, refute
+# ---- the other commands
 
 
 def find_case(question: Question, step: int | None = None) -> Iterator[Case]:
     """`find`, and `check` of what it found."""
     step = step or question.step
-    ran, bound = question.call("find", "--step", step), rules.bound_of(question.claim)
-    cut = rules.pieces_of(question.claim, step)
-    for number, (begin, end) in enumerate(cut):
-        found = question.hulls.over(begin, end)
-        if not pieces.is_inside(bound, found):
-            yield "find", differs(ran, 1, [f"nothing piece {number} hull {rules.hull_words(found)}"])
-            return
-    is_right = kind_of(ran) == "shown" and ran[0] == 0 and pieces.ends_in(ran[1]) == [end for _, end in cut]
+    ran, line = question.call("find", "--step", step), answers.failing(question.evidence, step)
+    if line:
+        yield "find", differs(ran, 1, [line])
+        return
+    ends = [end for _, end in rules.pieces_of(question.claim, step)]
+    is_right = kind_of(ran) == "shown" and ran[0] == 0 and pieces.ends_in(ran[1]) == ends
     yield "find", named_wrong(question, json.loads(ran[1])["pieces"]) if is_right else short(ran)
     yield "check of what find printed", unaccepted(question, ran[1])
 
@@ -305,19 +299,16 @@ def find_case(question: Question, step: int | None = None) -> Iterator[Case]:
 def at_case(question: Question) -> Iterator[Case]:
     """`at` of the first and the last moment, and one between them."""
     begin, last = (place // TICKS for place in question.span)
-    for second in sorted({begin, (begin + last) // 2, last}):
-        place = second * TICKS
-        lines = rules.moment_lines(question.claim, question.hulls.intervals(place, place),
-                                   question.hulls.over(place, place))
-        yield f"at {second}", differs(question.call("at", families.spelled(second)), 0, lines)
+    for time in map(families.spelled, sorted({begin, (begin + last) // 2, last})):
+        yield f"at {time}", differs(question.call("at", time), *answers.at(question.evidence, time))
 
 
-def samples_case(question: Question) -> Iterator[Case]:
-    lines = [rules.sample_line(question.claim, number, sample, records)
-             for number, (sample, records) in enumerate(zip(question.samples, question.records))]
-    known = len(lines)
-    counts = counted(records=2 * known, requests=known, replies=known, samples=known)
-    yield "samples", differs(question.call("samples"), 0, [*lines, counts])
+def plain_case(question: Question) -> Iterator[Case]:
+    """Each command of which nothing else has to be known than its second reading."""
+    for command in PLAIN:
+        if command.name in set(answers.READINGS) - {"settle", "envelope", "find", "at"}:
+            wanted = answers.READINGS[command.name](question.evidence, *command.words)
+            yield command.title, differs(question.call(command.name, *command.words), *wanted)
 
 
 def refute_case(question: Question) -> Iterator[Case]:
@@ -356,4 +347,4 @@ def sought_wrong(question: Question, ran: Ran) -> str:
 
 
 CASES: tuple[Callable[[Question], Iterator[Case]],
-             ...] = settle_case, envelope_case, find_case, at_case, samples_case, refute_case
+             ...] = settle_case, envelope_case, find_case, at_case, plain_case, refute_case

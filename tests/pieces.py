@@ -93,16 +93,6 @@ def meeting(intervals: list[tuple[int, int]], wanted: int) -> Hull:
     return (firsts[0], lasts[-1]) if firsts else ()
 
 
-def need_of(found: Hull) -> int | None:
-    """The least bound in ticks inside which a hull lies: None where it has no ends."""
-    return max(0, -found[0], found[1]) if found else None
-
-
-def is_inside(bound: int, found: Hull) -> bool:
-    """Whether a hull lies inside a bound in ticks."""
-    return -bound <= found[0] and found[1] <= bound if found else False
-
-
 def bound_in_ticks(bound_ns: int) -> int:
     return bound_ns * TICKS // BILLION
 
@@ -144,9 +134,9 @@ def ends_of(span: tuple[int, int], hulls: Hulls, bound: int, most: int = MOST_PI
     while not ends or begin < last:
         tick = min(begin + 1, last)
         found = hulls.over(begin, tick)
-        if not is_inside(bound, found) or len(ends) == most:
-            return ends, Stop(begin, tick, found, is_inside(bound, found))
-        end = farthest(lambda end: is_inside(bound, hulls.over(begin, end)), tick, last, begin + length)
+        if not rules.is_inside(bound, found) or len(ends) == most:
+            return ends, Stop(begin, tick, found, rules.is_inside(bound, found))
+        end = farthest(lambda end: rules.is_inside(bound, hulls.over(begin, end)), tick, last, begin + length)
         ends.append(end)
         begin, length = end, max(1, end - begin)
     return ends, None
@@ -171,7 +161,7 @@ def neediest(hulls: Hulls, begin: int, end: int, most: int) -> tuple[int, int, i
     one. A piece within a piece needs no more, so the one that needs most is halved until it has one tick. After so
     many turns it is the neediest of those in the middle of what was halved."""
     def with_need(begin: int, end: int) -> list[tuple[int, int, int]]:
-        need = need_of(hulls.over(begin, end))
+        need = rules.need_of(hulls.over(begin, end))
         return [] if need is None else [(-need, begin, end)]
     waiting, seen = with_need(begin, end), list[tuple[int, int, int]]()
     for _ in range(most):
@@ -242,25 +232,6 @@ def has_property(claim: Claim, samples: list[Sample], told: tuple[int, int] | No
     if bound_ns and not ends_of(span, hulls, bound_in_ticks(bound_ns - 1))[1]:
         return False
     return piece == piece_of(claim, hulls, bound_ns, step)
-
-
-def told_least(line: str) -> tuple[int, int] | None:
-    """The bound and the piece of a line `least_ns`."""
-    words = line.split()
-    return None if words[1] == "none" else (int(words[1]), int(words[3]))
-
-
-def least_line(claim: Claim, samples: list[Sample], step: int) -> str:
-    """The last line of `envelope --least`."""
-    found = least(claim, samples, step)
-    return f"least_ns {found[0]} piece {found[1]}" if found else "least_ns none"
-
-
-def envelope_lines(claim: Claim, samples: list[Sample], step: int, with_servers: bool,
-                   with_least: bool = False) -> list[str]:
-    """The lines of `envelope`."""
-    lines = rules.envelope_lines(claim, samples, step, with_servers)
-    return lines + ([least_line(claim, samples, step)] if with_least else [])
 
 
 def ends_in(text: bytes) -> list[int]:

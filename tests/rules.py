@@ -2,7 +2,7 @@
 what hulls, certificates, envelopes and refutations have to be.
 
 This shares nothing with the program, and it is slow: it looks at every sample, and at every point that an interval's
-end could be. tests/tools/samples_from_list applies it to what `list` prints, and tests/courses to courses of events.
+end could be. tests/answers.py makes of it what the commands print.
 
 A claim is the value of its file, and servers and samples go by their numbers. Times are in ticks of 2^-32 s.
 """
@@ -12,7 +12,7 @@ from collections.abc import Callable, Collection, Iterable
 from itertools import accumulate
 
 from claims import Certificate, Claim, Refutation
-from columns import MOMENT, NO_ENDS, PIECE, PIECE_OF_SERVER, SAMPLE, TICKS, written
+from columns import NO_ENDS, TICKS
 
 BILLION = 10**9
 
@@ -125,10 +125,10 @@ def intervals(claim: Claim, samples: list[Sample], entries: list[list[int]], beg
             for a, b in entries}
 
 
-def hull(claim: Claim, samples: list[Sample], entries: list[list[int]], begin: int, end: int) -> Hull:
-    """The hull over the groups of the entries, where an interval of a group is what all its servers have in common:
+def hull_of(claim: Claim, of_servers: Intervals) -> Hull:
+    """The hull over the groups of these servers, where an interval of a group is what all its servers have in common:
     None where it's unbounded, () where it's empty."""
-    of_servers, of_groups = intervals(claim, samples, entries, begin, end), []
+    of_groups = []
     for group in groups_of(claim):
         if own := [of_servers[server] for server in group if server in of_servers]:
             of_groups.append((max(low for low, _ in own), min(high for _, high in own)))
@@ -137,6 +137,21 @@ def hull(claim: Claim, samples: list[Sample], entries: list[list[int]], begin: i
     ends = [end for both in of_groups for end in both]
     points = [p for p in ends if sum(p < low or high < p for low, high in of_groups) <= claim["false_max"]]
     return (min(points), max(points)) if points else ()
+
+
+def hull(claim: Claim, samples: list[Sample], entries: list[list[int]], begin: int, end: int) -> Hull:
+    """The hull of some entries."""
+    return hull_of(claim, intervals(claim, samples, entries, begin, end))
+
+
+def need_of(found: Hull) -> int | None:
+    """The least bound in ticks inside which a hull lies: None where it has no ends."""
+    return max(0, -found[0], found[1]) if found else None
+
+
+def is_inside(bound: int, found: Hull) -> bool:
+    """Whether a hull lies inside a bound in ticks."""
+    return -bound <= found[0] and found[1] <= bound if found else False
 
 
 # ---- what the commands print
@@ -151,48 +166,8 @@ def hull_words(hull: Hull) -> str:
     return " ".join(map(str, hull_fields(hull))).rstrip()
 
 
-def sample_line(claim: Claim, number: int, sample: Sample, records: tuple[int, int]) -> str:
-    """A line of `samples`, of a sample whose request and reply have these numbers of records."""
-    return written(SAMPLE, number, claim["servers"][sample.server], *records, *sample.offset, *sample.delay, sample.low,
-                   sample.high)
-
-
-def moment_lines(claim: Claim, of_servers: Intervals, hull: Hull) -> list[str]:
-    """The lines of `at`."""
-    lines = [written(MOMENT, claim["servers"][server], *ends) for server, ends in of_servers.items()]
-    return [*lines, written(MOMENT, "hull", *hull_fields(hull))]
-
-
-def server_lines(claim: Claim, number: int, of_servers: Intervals) -> list[str]:
-    """The lines of the servers of a piece of `envelope`."""
-    return [written(PIECE_OF_SERVER, number, claim["servers"][server], *ends) for server, ends in of_servers.items()]
-
-
-def piece_line(number: int, begin: int, end: int, hull: Hull) -> str:
-    """The line of a piece of `envelope`."""
-    return written(PIECE, number, begin // TICKS, end // TICKS, *hull_fields(hull))
-
-
-def moment(claim: Claim, samples: list[Sample], time: int) -> list[str]:
-    """What `at` prints."""
-    of_moment = claim, samples, best_entries(claim, samples, time, time), time, time
-    return moment_lines(claim, intervals(*of_moment), hull(*of_moment))
-
-
 def compact(value: object) -> str:
     return json.dumps(value, separators=(",", ":"))
-
-
-def certificate(claim: Claim, samples: list[Sample], step: int) -> str:
-    """The line of `find`: a certificate, or the first piece that fails."""
-    pieces = []
-    for k, (begin, end) in enumerate(pieces_of(claim, step)):
-        entries = best_entries(claim, samples, begin, end)
-        found = hull(claim, samples, entries, begin, end)
-        if not found or max(-found[0], found[1]) > bound_of(claim):
-            return f"nothing piece {k} hull {hull_words(found)}"
-        pieces.append({"entries": entries, "upto": end})
-    return compact({"pieces": pieces})
 
 
 def verdict(claim: Claim, samples: list[Sample], certificate: Certificate) -> str:
@@ -213,36 +188,12 @@ def verdict(claim: Claim, samples: list[Sample], certificate: Certificate) -> st
         found = hull(claim, samples, piece["entries"], begin, end)
         if not found:
             return f"no piece {number} " + ("unbounded" if found is None else "contradiction")
-        if max(-found[0], found[1]) > bound_of(claim):
+        if not is_inside(bound_of(claim), found):
             return f"no piece {number} exceeds"
         begin = end
     if not certificate["pieces"] or begin != last:
         return f"no piece {len(certificate['pieces'])} uncovered"
     return "yes"
-
-
-def envelope(claim: Claim, samples: list[Sample],
-             step: int) -> tuple[list[tuple[int, int, Intervals, Hull]], int | None, int]:
-    """The pieces, each with its begin, its end, its intervals and its hull; and the least bound inside which all hulls
-    lie, with the first piece that needs it: None where a piece has no hull, the first of which is given."""
-    pieces = []
-    for begin, end in pieces_of(claim, step):
-        entries = best_entries(claim, samples, begin, end)
-        of_piece = claim, samples, entries, begin, end
-        pieces.append((begin, end, intervals(*of_piece), hull(*of_piece)))
-    needs = [ceiling(max(0, -found[0], found[1]) * BILLION, TICKS) if found else None for *_, found in pieces]
-    known = [need for need in needs if need is not None]
-    if len(known) < len(needs):
-        return pieces, None, needs.index(None)
-    return pieces, max(known), known.index(max(known))
-
-
-def envelope_lines(claim: Claim, samples: list[Sample], step: int, with_servers: bool) -> list[str]:
-    """The lines of `envelope`, without that of `--least`."""
-    (pieces, bound, worst), lines = envelope(claim, samples, step), []
-    for k, (begin, end, of_servers, found) in enumerate(pieces):
-        lines += [*(server_lines(claim, k, of_servers) if with_servers else []), piece_line(k, begin, end, found)]
-    return [*lines, f"bound_ns {'none' if bound is None else bound} piece {worst}"]
 
 
 # ---- refutations
