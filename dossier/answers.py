@@ -1,4 +1,4 @@
-"""What the program prints, taken apart word by word. A number stays the number that was printed."""
+"""What the program prints, taken apart by the names of its fields. A number stays the number that was printed."""
 from __future__ import annotations
 
 import re
@@ -82,13 +82,21 @@ class Envelope(NamedTuple):
     """The piece that needs the least bound, or the first that is unbounded or empty."""
 
 
+PIECE = "piece", "begin", "end", "low", "high"
+SERVER = "piece", "server", "low", "high"
+CLOSING = "name", "bound", "word", "piece"
+"""The fields of the lines of `envelope`, as far as they are read: of a piece, of a server in it, and of a line at the
+end, which begins with a name."""
+
+
 def read_envelope(text: bytes) -> Envelope:
     """Takes the text of `envelope --servers` apart."""
     lines, _ = lines_of(text)
     width, servers = width_of(lines), {}
     for place in range(width):
         words, fields = " ".join(lines[place :: width + 1]).split(" "), len(lines[place].split(" "))
-        servers[words[1]] = list(map(int, words[2::fields])), list(map(int, words[3::fields]))
+        column = {name: words[at::fields] for at, name in enumerate(SERVER)}
+        servers[column["server"][0]] = list(map(int, column["low"])), list(map(int, column["high"]))
     return read_hulls(text)._replace(servers=servers)
 
 
@@ -96,19 +104,21 @@ def read_hulls(text: bytes) -> Envelope:
     """The envelope with its servers left out."""
     lines, closing = lines_of(text)
     width = width_of(lines)
-    hulls = [line.split() for line in lines[width :: width + 1]]
-    _, bound, _, worst = closing[0].split()
-    least = closing[1].split() if bound != "none" and closing[1:] not in ([], ["least_ns none"]) else []
-    return Envelope([int(words[1]) for words in hulls], [int(words[2]) for words in hulls],
-                    [read_hull(words[3:]) for words in hulls], {}, int(least[1]) if least else None,
-                    int(least[3] if least else worst))
+    pieces = [dict(zip(PIECE, line.split())) for line in lines[width :: width + 1]]
+    bound, least = closing["bound_ns"], closing.get("least_ns", {"bound": "none"})
+    has_least = "none" not in (bound["bound"], least["bound"])
+    return Envelope([int(piece["begin"]) for piece in pieces], [int(piece["end"]) for piece in pieces],
+                    [read_hull([piece["low"], piece.get("high", "")]) for piece in pieces], {},
+                    int(least["bound"]) if has_least else None, int((least if has_least else bound)["piece"]))
 
 
-def lines_of(text: bytes) -> tuple[list[str], list[str]]:
-    """The lines of pieces; and the closing ones, of which the last is there only if the least bound was asked for."""
-    lines = text.decode("ascii").splitlines()
-    end = len(lines) - (2 if lines[-1].startswith("least_ns ") else 1)
-    return lines[:end], lines[end:]
+def lines_of(text: bytes) -> tuple[list[str], dict[str, dict[str, str]]]:
+    """The lines of pieces, which begin with a number; and the fields of the closing ones by their names."""
+    lines, closing = text.decode("ascii").splitlines(), dict[str, dict[str, str]]()
+    while not lines[-1][0].isdigit():
+        fields = dict(zip(CLOSING, lines.pop().split()))
+        closing[fields["name"]] = fields
+    return lines, closing
 
 
 def width_of(lines: list[str]) -> int:

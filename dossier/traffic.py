@@ -26,7 +26,6 @@ class Traffic:
         """The clients, the one that asked most first."""
         return sorted(self.asked, key=lambda address: (-self.asked[address].total(), number_of(address)))
 
-
     def interleaving(self, client: str, servers: Iterable[str]) -> list[str]:
         """The servers most of whose answers to a client are in interleaved mode."""
         return [server for server in servers

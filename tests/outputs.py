@@ -209,7 +209,7 @@ def long_claim(folder: Path) -> Path:
 def test_full_disk(folder: Path) -> None:
     """A draft that can't be written whole: a limit of the file's size, met by an error or by a signal that kills."""
     claim, inside = long_claim(folder), folder / "in"
-    for human in ([], ["--human"]):
+    for human in (list[str](), ["--human"]):
         words = ["find", claim, CAPTURE, "--step", "1", "-o", inside / "f", *human]
         for what, files in beginnings():
             name = " ".join([what, *human])
@@ -266,7 +266,8 @@ def test_rights(folder: Path) -> None:
         claim, capture = Path(open_to_all, "claim"), Path(open_to_all, "f.pcap")
         shutil.copy(CLAIM, claim)
         shutil.copy(CAPTURE, capture)
-        claim.chmod(0o644), capture.chmod(0o644)
+        claim.chmod(0o644)
+        capture.chmod(0o644)
         for command in WRITERS:
             fill(shut, {"f": OLD})
             shut.chmod(0o555)
@@ -286,13 +287,15 @@ def test_rights(folder: Path) -> None:
 def test_command_lines(folder: Path) -> None:
     """Outputs that are no path, or that don't go with another option, are refused before anything is done."""
     file = folder / "f"
-    for words in (["-o", "-"], ["-o", ""], ["--output="], ["-o"], ["-o", file, "-o", file],
-                  ["-o", file, "--sums", CLAIM]):
+    given: list[list[Path | str]] = [["-o", "-"], ["-o", ""], ["--output="], ["-o"], ["-o", file, "-o", file],
+                                     ["-o", file, "--sums", CLAIM]]
+    for words in given:
         status, output, error = run([PROGRAM, "settle", CLAIM, CAPTURE, *words])
         check(f"settle with {words}", run=((status, output, error[:7]), (5, b"", b"error: ")),
               files=(files_of(folder), {}))
     for command in ("samples", "envelope", "check"):
-        status, output, _ = run([PROGRAM, command, CLAIM, CAPTURE, *["x"] * (command == "check"), "-o", file])
+        second = ["x"] if command == "check" else []
+        status, output, _ = run([PROGRAM, command, CLAIM, CAPTURE, *second, "-o", file])
         check(f"{command} with -o", run=((status, output), (5, b"")), files=(files_of(folder), {}))
 
 
