@@ -17,7 +17,7 @@ ghost use Rattle.audit.specs.FindRefutation.{IsIrrefutable, IsRefutable, find_re
 
 use crate::engine::{Outputs, answer, run};
 use crate::question::{At, Check, Find, FindRefutation, Refute, Samples};
-use crate::step::Step;
+use audit_text::Step;
 use byte_stream::{Feed, Sink};
 use line_writer::Style;
 use report::{Outcome, RunFault};

@@ -32,15 +32,12 @@ mod question;
 mod sample_list;
 mod sample_output;
 mod second;
-mod step;
 
+pub use audit_text::{Envelope, Step};
 pub use commands::{answer_check, run_at, run_check, run_find, run_refute, run_samples, run_seek};
 pub use engine::{Outputs, answer, run};
 pub use evidence::Evidence;
 pub use finished::{Finished, Making};
 pub use line_writer::Style;
-pub use question::{
-    At, Check, Envelope, Find, FindRefutation, Question, Refute, Request, Samples, Settle,
-};
+pub use question::{At, Check, Find, FindRefutation, Question, Refute, Request, Samples, Settle};
 pub use second::{SecondInput, SecondSource};
-pub use step::Step;
