@@ -16,7 +16,7 @@ ghost use Rattle.audit.specs.Second.{certificate_second, refutation_second};
 ghost use Rattle.audit.specs.FindRefutation.{IsIrrefutable, IsRefutable, find_refutation};
 
 use crate::engine::{Outputs, answer, run};
-use crate::question::{At, Check, Find, FindRefutation, Refute, Samples};
+use crate::question::{At, Check, Find, Refute, Request};
 use audit_text::Step;
 use byte_stream::{Feed, Sink};
 use line_writer::Style;
@@ -76,7 +76,7 @@ pub fn run_samples<C: Feed, F: Feed, S: Sink>(
         (run_state (C.state claim.new) no_feed (F.state result.0) (S.state out.new))
         capture result.0 result.1 }
 {
-    let (asked, style, fixed) = (Samples, Style::Plain, fixed_hasher());
+    let (asked, style, fixed) = (Request::Samples, Style::Plain, fixed_hasher());
     run(alloc, asked, style, claim, &mut (), capture, out, fixed)
 }
 
@@ -99,7 +99,8 @@ pub fn run_at<C: Feed, F: Feed, S: Sink>(
     ensures in_hull { IfOk result.1 (λ outcome.
         HullHoldsError unix_second (C.state claim.old) (F.state capture)) }
 {
-    let (asked, style, fixed) = (At { unix_second }, Style::Plain, fixed_hasher());
+    let asked = Request::At(At { unix_second });
+    let (style, fixed) = (Style::Plain, fixed_hasher());
     run(alloc, asked, style, claim, &mut (), capture, out, fixed)
 }
 
@@ -181,7 +182,8 @@ pub fn run_find<C: Feed, F: Feed, S: Sink>(
         IsNotFound step_s (C.state claim.old) (F.state capture) }
 {
     let step = Step { seconds: step_s };
-    let (asked, style, fixed) = (Find { step }, Style::Plain, fixed_hasher());
+    let asked = Request::Find(Find { step });
+    let (style, fixed) = (Style::Plain, fixed_hasher());
     run(alloc, asked, style, claim, &mut (), capture, out, fixed)
 }
 
@@ -203,6 +205,6 @@ pub fn run_seek<C: Feed, F: Feed, S: Sink>(
     ensures none { result.1 ≡ Ok Outcome.No →
         IsIrrefutable (C.state claim.old) (F.state capture) }
 {
-    let (asked, style, fixed) = (FindRefutation, Style::Plain, fixed_hasher());
+    let (asked, style, fixed) = (Request::FindRefutation, Style::Plain, fixed_hasher());
     run(alloc, asked, style, claim, &mut (), capture, out, fixed)
 }

@@ -39,5 +39,5 @@ pub use engine::{Outputs, answer, run};
 pub use evidence::Evidence;
 pub use finished::{Finished, Making};
 pub use line_writer::Style;
-pub use question::{At, Check, Find, FindRefutation, Question, Refute, Request, Samples, Settle};
+pub use question::{At, Check, Find, Question, Refute, Request};
 pub use second::{SecondInput, SecondSource};
