@@ -13,10 +13,9 @@
 //! A run on feeds, as `run` of `worked_examples/src/engines/trial.rt`, which the gate runs:
 //!
 //! ```text
-//! let find = Find {
-//!     step: step_of(seconds),
-//! };
-//! audit::run(alloc, find, style, first, none, capture, out, hasher)
+//! Command::Ask(request) => {
+//!     audit::run(alloc, request, style, first, none, capture, out, hasher)
+//! }
 //! ```
 
 #![tactic(auto)]
