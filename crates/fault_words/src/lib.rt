@@ -4,8 +4,7 @@
 //! [`explain`] puts them behind the name of the file that the fault is of, with what [`look`] sees
 //! there. What is seen is no more than help: it changes no sentence's subject and no fault.
 //!
-//! [`fault_of_line`] finds the fault from the line that an engine wrote. The words about it are put
-//! together as in `explain` of `fault_words/src/explanation.rt`:
+//! The words are put together as in `explain` of `fault_words/src/explanation.rt`:
 //!
 //! ```text
 //! let mut text = String::from_str(alloc, "  ")?;
@@ -21,10 +20,8 @@ mod claim_look;
 mod explanation;
 mod found;
 mod input_look;
-mod kept_sink;
 mod kind;
 pub mod laws;
-mod line_fault;
 mod obstacle;
 mod quote;
 mod record_count;
@@ -37,9 +34,7 @@ pub use claim_field::field_name;
 pub use explanation::{explain, explain_time};
 pub use found::Found;
 pub use input_look::look;
-pub use kept_sink::KeptSink;
 pub use kind::Kind;
-pub use line_fault::fault_of_line;
 pub use obstacle::{Obstacle, explain_output, obstacle_sentence};
 pub use quote::{quoted, shown};
 pub use record_count::look_at_records;
