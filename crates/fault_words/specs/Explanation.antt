@@ -12,7 +12,7 @@ use Rattle.fault_words.specs.Sentence.{SentenceData, says, sentence_of}
 use Rattle.fault_words.specs.declared.found.Found.{Found}
 use Rattle.fault_words.specs.declared.kind.Kind.{Kind}
 use Rattle.fault_words.specs.Kind.{kind_remedy}
-use Rattle.fault_words.specs.Quote.{front}
+use Rattle.fault_words.specs.Quote.{IsQuiet, front}
 use Rattle.fault_words.specs.Subject.{NamesData, input_of, subject}
 
 -- what was seen of a fault when its input was looked at again: the field of a claim, or 0, whether
@@ -31,6 +31,10 @@ found_data found = record {
   kind = found.kind;
   seen = string_bytes found.seen;
 }
+
+-- What was seen is told without a character that a terminal obeys.
+abbrev pub IsToldQuietly : Found → Type 0
+IsToldQuietly found = IsQuiet (string_bytes found.seen)
 
 -- a file of that kind, in which nothing was seen but this
 abbrev pub nothing_found : Kind → List ℕ → FoundData
