@@ -1,12 +1,12 @@
 -- Texts of which a terminal obeys no character.
-use Rattle.std.proofs.Common.{◌≡◌, ℕ, zero, suc, ◌/◌, ◌%◌, ◌<◌, ◌++◌, ◌==◌, ◌&&◌, Bool, true, false, if◌then◌else◌, T, List, [], ◌∷◌, codes, nat_le, nat_lt, refl, sym, subst, append-nil, arith}
+use Rattle.std.proofs.Common.{◌≡◌, ℕ, zero, suc, ◌/◌, ◌%◌, ◌<◌, ◌≤◌, ◌++◌, ◌==◌, ◌&&◌, Bool, true, false, if◌then◌else◌, T, List, [], ◌∷◌, codes, nat_le, nat_lt, refl, sym, subst, append-nil, arith}
 use Rattle.std.proofs.lemmas.Bool.Decides.{nat_tests}
-use Rattle.std.proofs.Math.Facts.{ltb_yes}
+use Rattle.std.proofs.Math.Nat.{mod-lt}
 use lib.Ieee.Fits.{and_l, and_r}
-use Rattle.std.specs.Prelude.{chars, encode_utf8}
+use Rattle.std.specs.Prelude.{encode_utf8}
 use Rattle.std.specs.Fmt.{decimal, digits, digits_onto, digit_glyph}
 use Rattle.std.specs.List.{flat_map}
-use Rattle.std.specs.Str.{IsAscii, NoCharPasses, NonePass}
+use Rattle.std.specs.Str.{IsAscii, NonePass}
 use Rattle.std.proofs.lemmas.Str.{NoCharPasses-append, NoCharPasses-nil, encodes-IsAscii}
 use Rattle.fault_words.specs.Quote.{IsQuiet, is_obeyed, shown_char}
 
@@ -57,32 +57,26 @@ and_both false b x y = absurd x
 glyph_is_visible : (d : ℕ) → d < 16 → T (is_visible (digit_glyph false d))
 glyph_is_visible d few = grind (arith, nat_tests)
 
-either_visible : (b : Bool) (xs ys : List ℕ) → T (are_visible xs) → T (are_visible ys) →
+pub either_visible : (b : Bool) (xs ys : List ℕ) → T (are_visible xs) → T (are_visible ys) →
     T (are_visible (if b then xs else ys))
 either_visible true xs ys p q = p
 either_visible false xs ys p q = q
 
-decimals_are_visible : (k n : ℕ) (after : List ℕ) → T (are_visible after) →
-    T (are_visible (digits_onto k 10 false n after))
-decimals_are_visible zero n after visible = visible
-decimals_are_visible (suc k) n after visible =
-    let here = and_both _ (are_visible after) (glyph_is_visible (n % 10) (omega arith)) visible in
-    either_visible (n / 10 == 0) _ _ here (decimals_are_visible k (n / 10) _ here)
+module _ (base : ℕ) (least : 0 < base) (most : base ≤ 16) where
+  digits_are_visible : (k n : ℕ) (after : List ℕ) → T (are_visible after) →
+      T (are_visible (digits_onto k base false n after))
+  digits_are_visible zero n after visible = visible
+  digits_are_visible (suc k) n after visible =
+      let glyph = glyph_is_visible (n % base) (omega (arith, mod-lt n least, most)) in
+      let here = and_both _ (are_visible after) glyph visible in
+      either_visible (n / base == 0) _ _ here (digits_are_visible k (n / base) _ here)
 
-hexadecimals_are_visible : (k n : ℕ) (after : List ℕ) → T (are_visible after) →
-    T (are_visible (digits_onto k 16 false n after))
-hexadecimals_are_visible zero n after visible = visible
-hexadecimals_are_visible (suc k) n after visible =
-    let here = and_both _ (are_visible after) (glyph_is_visible (n % 16) (omega arith)) visible in
-    either_visible (n / 16 == 0) _ _ here (hexadecimals_are_visible k (n / 16) _ here)
+  digits_are_quiet : (n : ℕ) → IsQuiet (digits base false n)
+  unfolding digits
+  digits_are_quiet n = visible_is_quiet (digits base false n) (digits_are_visible 64 n [] tt)
 
 pub decimal_is_quiet : (n : ℕ) → IsQuiet (decimal n)
-unfolding digits
-decimal_is_quiet n = visible_is_quiet (decimal n) (decimals_are_visible 64 n [] tt)
-
-hexadecimal_is_quiet : (n : ℕ) → IsQuiet (digits 16 false n)
-unfolding digits
-hexadecimal_is_quiet n = visible_is_quiet (digits 16 false n) (hexadecimals_are_visible 64 n [] tt)
+decimal_is_quiet n = digits_are_quiet 10 (omega arith) (omega arith) n
 
 -- ---- what is shown
 
@@ -90,7 +84,7 @@ as_is_quiet : (b : Bool) (c : ℕ) → is_obeyed c ≡ b →
     IsQuiet (if b then codes "\\u{" ++ digits 16 false c ++ codes "}" else encode_utf8 c)
 as_is_quiet true c is =
     quiet_append (codes "\\u{") _ (visible_is_quiet (codes "\\u{") tt)
-    (quiet_append (digits 16 false c) (codes "}") (hexadecimal_is_quiet c) (visible_is_quiet (codes "}") tt))
+    (quiet_append (digits 16 false c) (codes "}") (digits_are_quiet 16 (omega arith) (omega arith) c) (visible_is_quiet (codes "}") tt))
 as_is_quiet false c is = (c ∷ [], append-nil (encode_utf8 c), (is, tt))
 
 shown_char_is_quiet : (c : ℕ) → IsQuiet (shown_char c)

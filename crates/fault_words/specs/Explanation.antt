@@ -87,6 +87,18 @@ explanation names fault found =
     codes "  " ++ subject names (input_of fault) ++
     ending (fault_sentence fault found) found.seen
 
+-- names of which a terminal obeys no character
+pub record AreQuiet (names : NamesData) : Type 0 where
+  pub claim : IsQuiet names.claim
+  pub capture : IsQuiet names.capture
+  pub second : IsQuiet names.second
+  pub sums : IsQuiet names.sums
+
+-- two lines, of which a terminal obeys nothing but the line feeds behind them
+abbrev pub AreTwoLines : List ℕ → Type 0
+AreTwoLines text = (first second : List ℕ)
+    × (text ≡ first ++ codes "\n" ++ second ++ codes "\n") × IsQuiet first × IsQuiet second
+
 -- the words about a TIME that is none, as it is quoted
 abbrev pub time_words : List ℕ → List ℕ
 time_words time = codes "  TIME has to be a time of UTC; it is \"" ++ time ++ codes "\"\n  "

@@ -12,7 +12,8 @@ abbrev pub turns : ℕ → Bool
 turns c = is_in_range 0x61C 0x61C c || is_in_range 0x200E 0x200F c || is_in_range 0x202A 0x202E c
     || is_in_range 0x2066 0x2069 c
 
--- whether a terminal obeys a character: a control character, as a line feed, or one that turns others
+-- whether a terminal obeys a character: a control character, as a line feed is, or one that turns
+-- others
 abbrev pub is_obeyed : ℕ → Bool
 is_obeyed c = is_control c || turns c
 

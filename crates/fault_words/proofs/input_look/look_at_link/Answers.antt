@@ -5,5 +5,6 @@ use Rattle.fault_words.proofs.input_look.look_at_link.Goals as goal
 
 pub returns : goal.returns
 returns c =
-    said _ (codes "; its link type is ") _ (ap (λ (d : FoundData). d.seen) c.seen.ensures ∙ c.in_ok-format.ensures.ok) tt
+    let seen = ap (λ (d : FoundData). d.seen) c.seen.ensures ∙ c.in_ok-format.ensures.ok in
+    said _ (codes "; its link type is ") _ seen tt
     (quiet_append _ _ (decimal_is_quiet c.in-Some.link) c.link_name-name.ensures)

@@ -1,5 +1,4 @@
-use Rattle.std.proofs.Common.{◌∙◌, codes, sym, subst, String}
-use Rattle.std.specs.Prelude.{string_bytes}
+use Rattle.std.proofs.Common.{codes, sym, subst}
 use Rattle.fault_words.specs.Quote.{IsQuiet}
 use Rattle.fault_words.proofs.Quiet.{quiet_append, visible_is_quiet}
 use Rattle.fault_words.proofs.quote.quoted.Goals as goal
