@@ -3,6 +3,8 @@
 //! [`sentence_of`] has the sentence of each fault, and `claim_field` those of a claim's fields.
 //! [`explain`] puts them behind the name of the file that the fault is of, with what [`look`] sees
 //! there. What is seen is no more than help: it changes no sentence's subject and no fault.
+//! A terminal obeys nothing of what [`look`], [`shown`] and [`quoted`] give, and nothing of the
+//! words but their line feeds, if the files' names are shown so (`laws::words_are_two_lines`).
 //!
 //! The words are put together as in `explain` of `fault_words/src/explanation.rt`:
 //!
