@@ -20,7 +20,7 @@ use crate::question::{At, Check, Find, Refute, Request};
 use audit_text::Step;
 use byte_stream::{Feed, Sink};
 use line_writer::Style;
-use report::{Outcome, RunFault};
+use report::{Conclusion, Outcome, RunFault};
 use std::alloc::Global;
 use std::hash::{BuildHasher, BuildHasherDefault, FoldHasher};
 
@@ -38,7 +38,7 @@ pub fn answer_check<C: Feed, T: Feed, F: Feed, S: Sink, E: Sink, H: BuildHasher 
     capture: F,
     to: &mut Outputs<S, E>,
     hasher: H,
-) -> (F, u8)
+) -> (F, Conclusion)
     requires run { MayRun (run_state (C.state claim.old) (T.state certificate.old)
         (F.state capture) (S.state to.old.out)) }
     requires err { IsWritable (E.state to.old.err) }
@@ -49,9 +49,9 @@ pub fn answer_check<C: Feed, T: Feed, F: Feed, S: Sink, E: Sink, H: BuildHasher 
         (F.state result.0) (S.state to.new.out))
         certificate.old certificate.new capture result.0
         (E.state to.old.err) (E.state to.new.err) result.1 }
-    ensures traceable { result.1 ≡ 0 →
+    ensures traceable { result.1.code ≡ 0 →
         IsTraced (C.state claim.old) (T.state certificate.old) (F.state capture) }
-    ensures shows { ShowsAt result.1 check
+    ensures shows { ShowsAt result.1.code check
         (C.state claim.old) (T.state certificate.old) (F.state capture) }
 {
     answer(alloc, Check, style, claim, certificate, capture, to, hasher)
