@@ -10,7 +10,6 @@ use Rattle.line_writer.specs.declared.field.Style.{Style}
 use Rattle.line_writer.specs.declared.field.Style.TheVariants.{Human, Plain}
 use Rattle.report.specs.declared.fault.Input.{Input}
 use Rattle.report.specs.declared.fault.Input.TheVariants.{Certificate, Refutation}
-use Rattle.audit.specs.declared.step.Step.{Step}
 use Rattle.ntpaudit.specs.declared.invocation.Invocation.{Invocation}
 use Rattle.ntpaudit.specs.declared.invocation.Invocation.TheVariants as calls
 use Rattle.ntpaudit.specs.declared.invocation.JudgedPaths.{JudgedPaths}
@@ -44,9 +43,6 @@ style_of false = Plain
 abbrev pub step_given : List Row → Option ℕ
 step_given rows =
     option_map (λ text. digits_value 10 (without_leading_plus text)) (one_of (codes "step") rows)
-
-abbrev pub HasStep : List Row → Step → Type 0
-HasStep rows step = step_given rows ≡ Some step.seconds
 
 -- The capture and the style are those of the words.
 pub record IsListed (rows : List Row) (listed : Listed) : Type 0 where
@@ -96,12 +92,13 @@ IsRequest name rows (requests.At at) =
     (name ≡ codes "at") × (time_given rows ≡ Some at.unix_second)
 IsRequest name rows requests.Settle = name ≡ codes "settle"
 IsRequest name rows (requests.Find find) =
-    (name ≡ codes "find") × IsFlag (codes "refutation") rows false × HasStep rows find.step
+    (name ≡ codes "find") × IsFlag (codes "refutation") rows false
+    × (step_given rows ≡ Some find.step.seconds)
 IsRequest name rows requests.FindRefutation = (name ≡ codes "find")
     × IsFlag (codes "refutation") rows true
 IsRequest name rows (requests.Envelope envelope) = (name ≡ codes "envelope")
     × IsFlag (codes "servers") rows envelope.servers × IsFlag (codes "least") rows envelope.least
-    × HasStep rows envelope.step
+    × (step_given rows ≡ Some envelope.step.seconds)
 
 -- this question is asked of the files that are named
 abbrev pub IsAsking : Request → List Row → Invocation → Type 0

@@ -1,11 +1,12 @@
 //! What the words of a command line call for.
 
-ghost use Rattle.std.specs.Prelude.{◌≡◌};
+ghost use Rattle.std.specs.Prelude.{◌≡◌, IfOk};
 ghost use Rattle.ntpaudit.specs.Asked.{listed_name};
-ghost use Rattle.ntpaudit.specs.Invocation.{second_of};
+ghost use Rattle.ntpaudit.specs.Invocation.{IsRefusal, second_of};
 
 use audit::{At, Envelope, Find, Refute, Style};
 use report::Input;
+use std::alloc::{AllocError, Global};
 
 /// The operand that is standard input.
 pub(crate) const STDIN: &str = "-";
@@ -109,4 +110,13 @@ pub(crate) enum Invocation {
     /// The command line is refused, since its TIME, which is here for a person, isn't written as a
     /// claim's times are.
     RefuseTime(Option<String>),
+}
+
+impl Invocation {
+    /// A command line that is refused with this text.
+    pub(crate) fn refusal(alloc: Global, text: &str) -> Result<Invocation, AllocError>
+        ensures { IfOk result IsRefusal }
+    {
+        Ok(Invocation::Refuse(String::from_str(alloc, text)?))
+    }
 }

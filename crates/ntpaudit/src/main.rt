@@ -14,8 +14,8 @@ ghost use Rattle.ntpaudit.specs.Response.{SaysAlone};
 
 mod advice;
 mod asked;
+mod command;
 mod command_line;
-mod commands;
 mod draft;
 mod drafted;
 mod files;
@@ -24,7 +24,6 @@ mod response;
 mod second_look;
 mod standard_input;
 mod warning;
-mod words;
 
 use crate::asked::Asked;
 use crate::command_line::read_command_line;

@@ -30,11 +30,6 @@ fn names_no_file(paths: &Paths) -> bool {
     }
 }
 
-/// A command line that is refused with this text.
-fn refused(alloc: Global, text: &str) -> Result<Invocation, AllocError> {
-    Ok(Invocation::Refuse(String::from_str(alloc, text)?))
-}
-
 /// What a command line calls for, refused if standard input would be two of its inputs, or if its
 /// output is no path.
 pub(crate) fn read_once(alloc: Global, invocation: Invocation) -> Result<Invocation, AllocError> {
@@ -44,13 +39,12 @@ pub(crate) fn read_once(alloc: Global, invocation: Invocation) -> Result<Invocat
         _ => return Ok(invocation),
     };
     if is_twice(paths, second) {
-        return refused(alloc, "error: standard input, -, can be one input alone\n");
+        let text = "error: standard input, -, can be one input alone\n";
+        return Invocation::refusal(alloc, text);
     }
     if names_no_file(paths) {
-        return refused(
-            alloc,
-            "error: -o takes a file's path; standard output needs no -o\n",
-        );
+        let text = "error: -o takes a file's path; standard output needs no -o\n";
+        return Invocation::refusal(alloc, text);
     }
     Ok(invocation)
 }
