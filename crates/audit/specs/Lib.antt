@@ -11,6 +11,7 @@ pub mod Envelope
 pub mod Refute
 pub mod FindRefutation
 pub mod Settle
+pub mod Request
 pub mod Finding
 pub mod Question
 pub mod Report

@@ -39,6 +39,8 @@ pub use engine::{Outputs, answer, run};
 pub use evidence::Evidence;
 pub use finished::{Finished, Making};
 pub use line_writer::Style;
-pub use question::{At, Check, Envelope, Find, FindRefutation, Question, Refute, Samples, Settle};
+pub use question::{
+    At, Check, Envelope, Find, FindRefutation, Question, Refute, Request, Samples, Settle,
+};
 pub use second::{SecondInput, SecondSource};
 pub use step::Step;

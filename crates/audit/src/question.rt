@@ -1,12 +1,14 @@
 //! What may be asked of a claim and a capture.
 //!
 //! A [`Question`] says what its second input is, what its report is and what its outcome shows, and
-//! makes the report. Each stands in a module of its own, here and in `specs/`.
+//! makes the report. Each stands in a module of its own, here and in `specs/`. A [`Request`] is any
+//! of those without a second input.
 
 ghost use Rattle.std.specs.Prelude.{IfOk, IfErr};
 ghost use Rattle.audit.specs.Evidence.{IsLawfulEvidence, evidence_data};
 ghost use Rattle.audit.specs.Question.{QuestionData, ShowsOf};
 ghost use Rattle.audit.specs.Report.{IsMadeOf, IsOfMaking};
+ghost use Rattle.audit.specs.Request.{question_of};
 
 mod at;
 mod check;
@@ -48,4 +50,38 @@ pub trait Question: Copy {
         ensures fault { IfErr result IsOfMaking }
         ensures shows { IfOk result (λ made. ShowsOf (asks self) Self.Second.kind
             (Self.Second.said second.now) (evidence_data evidence) made.outcome) };
+}
+
+/// A question without a second input.
+#[derive(Clone, Copy, Debug)]
+pub enum Request {
+    /// What does each exchange say about the clock?
+    Samples,
+    /// What does each server say about the clock at a moment?
+    At(At),
+    /// Is the claim shown, refuted, fitted by no course of events, or does it stay open?
+    Settle,
+    /// Is there a certificate with pieces of one length?
+    Find(Find),
+    /// Is there a refutation of the claim?
+    FindRefutation,
+    /// How far off may the clock have been, piece by piece?
+    Envelope(Envelope),
+}
+
+impl Question for Request {
+    type Second = ();
+
+    ghost asks = { question_of };
+
+    fn make(self, alloc: Global, style: Style, second: &(), evidence: Evidence) -> Making {
+        match self {
+            Request::Samples => Samples.make(alloc, style, second, evidence),
+            Request::At(at) => at.make(alloc, style, second, evidence),
+            Request::Settle => Settle.make(alloc, style, second, evidence),
+            Request::Find(find) => find.make(alloc, style, second, evidence),
+            Request::FindRefutation => FindRefutation.make(alloc, style, second, evidence),
+            Request::Envelope(envelope) => envelope.make(alloc, style, second, evidence),
+        }
+    }
 }
