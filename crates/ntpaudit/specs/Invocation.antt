@@ -10,6 +10,8 @@ use Rattle.line_writer.specs.declared.field.Style.{Style}
 use Rattle.line_writer.specs.declared.field.Style.TheVariants.{Human, Plain}
 use Rattle.report.specs.declared.fault.Input.{Input}
 use Rattle.report.specs.declared.fault.Input.TheVariants.{Certificate, Refutation}
+use Rattle.audit.specs.declared.question.Request.{Request}
+use Rattle.audit.specs.declared.question.Request.TheVariants as requests
 use Rattle.ntpaudit.specs.declared.invocation.Invocation.{Invocation}
 use Rattle.ntpaudit.specs.declared.invocation.Invocation.TheVariants as calls
 use Rattle.ntpaudit.specs.declared.invocation.JudgedPaths.{JudgedPaths}
@@ -17,8 +19,6 @@ use Rattle.ntpaudit.specs.declared.invocation.Judgement.{Judgement}
 use Rattle.ntpaudit.specs.declared.invocation.Judgement.TheVariants as judgements
 use Rattle.ntpaudit.specs.declared.invocation.Listed.{Listed}
 use Rattle.ntpaudit.specs.declared.invocation.Paths.{Paths}
-use Rattle.ntpaudit.specs.declared.invocation.Request.{Request}
-use Rattle.ntpaudit.specs.declared.invocation.Request.TheVariants as requests
 
 -- the text of an operand among the rows that were found, empty if it was left out
 abbrev pub operand : Text → List Row → Text

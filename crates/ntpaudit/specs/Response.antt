@@ -14,17 +14,11 @@ use Rattle.report.specs.declared.fault.Outcome.{Outcome}
 use Rattle.report.specs.declared.fault.Outcome.TheVariants.{Yes}
 use Rattle.report.specs.declared.fault.RunFault.{RunFault}
 use Rattle.line_writer.specs.declared.field.Style.{Style}
-use Rattle.audit.specs.At.{at}
 use Rattle.audit.specs.Check.{check}
-use Rattle.audit.specs.Envelope.{envelope}
-use Rattle.audit.specs.Find.{find}
-use Rattle.audit.specs.Question.{AskedData, QuestionData, asked_of}
+use Rattle.audit.specs.Question.{AskedData, asked_of}
 use Rattle.audit.specs.Refute.{refute}
 use Rattle.audit.specs.Run.{AnswersFor, ShowsAt}
-use Rattle.audit.specs.Samples.{samples}
-use Rattle.audit.specs.Second.{no_second, certificate_second, refutation_second}
-use Rattle.audit.specs.FindRefutation.{find_refutation}
-use Rattle.audit.specs.Settle.{settle}
+use Rattle.audit.specs.Second.{certificate_second, refutation_second}
 use Rattle.in_memory.specs.Answer.{JudgesBySums}
 use Rattle.ntpaudit.specs.Reading.{Reading, run_of, sums_of}
 use Rattle.ntpaudit.specs.declared.files.Inputs.{Inputs}
@@ -32,21 +26,6 @@ use Rattle.ntpaudit.specs.declared.invocation.Invocation.{Invocation}
 use Rattle.ntpaudit.specs.declared.invocation.Invocation.TheVariants as calls
 use Rattle.ntpaudit.specs.declared.invocation.Judgement.{Judgement}
 use Rattle.ntpaudit.specs.declared.invocation.Judgement.TheVariants as judgements
-use Rattle.ntpaudit.specs.declared.invocation.Request.{Request}
-use Rattle.ntpaudit.specs.declared.invocation.Request.TheVariants as requests
-
--- the question of a request
-abbrev pub question_of : Request → QuestionData
-question_of requests.Samples = samples
-question_of (requests.At asked) = at asked.unix_second
-question_of requests.Settle = settle
-question_of (requests.Find asked) = find asked.step.seconds
-question_of requests.FindRefutation = find_refutation
-question_of (requests.Envelope asked) = envelope asked.step.seconds asked.servers asked.least
-
--- what the engine is asked
-abbrev pub request_of : Request → Style → AskedData
-request_of request style = asked_of (question_of request) no_second style
 
 -- the question of a judgement, and what the engine is asked
 abbrev pub judged_of : Judgement → Style → AskedData

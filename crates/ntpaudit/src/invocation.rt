@@ -4,7 +4,7 @@ ghost use Rattle.std.specs.Prelude.{◌≡◌, IfOk};
 ghost use Rattle.ntpaudit.specs.Asked.{listed_name};
 ghost use Rattle.ntpaudit.specs.Invocation.{IsRefusal, second_of};
 
-use audit::{At, Envelope, Find, Refute, Style};
+use audit::{Refute, Request, Style};
 use report::Input;
 use std::alloc::{AllocError, Global};
 
@@ -54,23 +54,6 @@ pub(crate) struct JudgedPaths {
     pub(crate) evidence: Paths,
     /// That of the certificate or refutation.
     pub(crate) second: String,
-}
-
-/// A question without a second input.
-#[derive(Clone, Copy, Debug)]
-pub(crate) enum Request {
-    /// Show the samples.
-    Samples,
-    /// Show what each server says at a moment.
-    At(At),
-    /// Settle the claim.
-    Settle,
-    /// Look for a certificate.
-    Find(Find),
-    /// Look for a refutation.
-    FindRefutation,
-    /// Show how far off the clock may have been.
-    Envelope(Envelope),
 }
 
 /// A question with a second input.

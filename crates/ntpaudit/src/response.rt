@@ -1,21 +1,18 @@
 //! The answer to what a command line calls for, over files that were opened.
 
-ghost use Rattle.std.specs.Prelude.{◌≡◌, [], IfSome, false};
+ghost use Rattle.std.specs.Prelude.{◌≡◌, IfSome, false};
 ghost use Rattle.byte_stream.specs.State.{IsReadable, IsWritable};
-ghost use Rattle.report.specs.Run.{no_feed};
 ghost use Rattle.audit.specs.Run.{MayRun};
 ghost use Rattle.audit.specs.Check.{check};
 ghost use Rattle.audit.specs.Question.{asked_of};
 ghost use Rattle.audit.specs.Second.{certificate_second};
 ghost use Rattle.ntpaudit.specs.Reading.{reading, run_of};
 ghost use Rattle.ntpaudit.specs.Response.{AnswersBySums, IsAnswered, IsJudgedBy, Responds};
-ghost use Rattle.ntpaudit.specs.Response.{judged_of, request_of};
+ghost use Rattle.ntpaudit.specs.Response.{judged_of};
 
 use crate::files::Inputs;
-use crate::invocation::{Judgement, Request};
-use audit::{
-    Check, FindRefutation, Outputs, Question, Samples, Settle, Style, answer, answer_check,
-};
+use crate::invocation::Judgement;
+use audit::{Check, Outputs, Question, Style, answer, answer_check};
 use byte_stream::{Feed, Sink};
 use in_memory::{MAX_SUMS, NamedFeed, SummedSource, answer_by_sums};
 use report::{Input, conclude, read_input};
@@ -162,7 +159,7 @@ fn answer_by_file<
 }
 
 /// Answers a question, by a file of sums if there is one. The result is the exit status.
-fn answer_one<
+pub(crate) fn ask<
     Q: Question,
     C: NamedFeed + Drop,
     T: SummedSource<Q::Second> + Drop,
@@ -192,55 +189,6 @@ fn answer_one<
     match sums {
         Some(sums) => answer_by_file(alloc, question, style, inputs, sums, to, hasher),
         None => answer_alone(alloc, question, style, inputs, to, hasher),
-    }
-}
-
-/// Answers a question without a second input, by a file of sums if there is one. The result is the
-/// exit status.
-pub(crate) fn ask<
-    C: NamedFeed + Drop,
-    F: NamedFeed + Drop,
-    U: Feed + Drop,
-    S: Sink,
-    E: Sink,
-    H: BuildHasher + Drop,
->(
-    alloc: Global,
-    request: Request,
-    style: Style,
-    inputs: Inputs<C, (), F>,
-    sums: Option<U>,
-    to: &mut Outputs<S, E>,
-    hasher: H,
-) -> u8
-    requires run { MayRun (run_of
-        (reading C.state (λ none. no_feed) F.state C.named (λ none. []) F.named)
-        inputs (S.state to.old.out)) }
-    requires err { IsWritable (E.state to.old.err) }
-    requires sums { IfSome sums (λ file. IsReadable (U.state file)) }
-    ensures responds { Responds
-        (reading C.state (λ none. no_feed) F.state C.named (λ none. []) F.named)
-        U.state (request_of request style)
-        inputs sums (S.state to.old.out) (S.state to.new.out)
-        (E.state to.old.err) (E.state to.new.err) result }
-{
-    match request {
-        Request::Samples => answer_one(alloc, Samples, style, inputs, sums, to, hasher),
-        Request::At(at) => answer_one(alloc, at, style, inputs, sums, to, hasher),
-        Request::Settle => answer_one(alloc, Settle, style, inputs, sums, to, hasher),
-        Request::Find(find) => answer_one(alloc, find, style, inputs, sums, to, hasher),
-        Request::FindRefutation => answer_one(
-            alloc,
-            FindRefutation,
-            style,
-            inputs,
-            sums,
-            to,
-            hasher,
-        ),
-        Request::Envelope(envelope) => {
-            answer_one(alloc, envelope, style, inputs, sums, to, hasher)
-        }
     }
 }
 
@@ -306,6 +254,6 @@ pub(crate) fn judge<
 {
     match judgement {
         Judgement::Check => check_one(alloc, style, inputs, sums, to, hasher),
-        Judgement::Refute(refute) => answer_one(alloc, refute, style, inputs, sums, to, hasher),
+        Judgement::Refute(refute) => ask(alloc, refute, style, inputs, sums, to, hasher),
     }
 }

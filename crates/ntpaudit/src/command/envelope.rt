@@ -6,8 +6,8 @@ ghost use Rattle.ntpaudit.specs.Invocation.{IsCalled};
 
 use crate::command::argument::{flag, is_given, step_of, step_option};
 use crate::command::evidence::{ask, evidence_command};
-use crate::invocation::{Invocation, Request};
-use audit::Envelope;
+use crate::invocation::Invocation;
+use audit::{Envelope, Request};
 use clap::{ArgMatches, Command};
 use std::alloc::{AllocError, Global};
 
