@@ -13,7 +13,7 @@ use Rattle.intersection.specs.declared.kinds.Hull.TheVariants.{Empty}
 use Rattle.sample_interval.specs.declared.kinds.Sample.{Sample}
 use Rattle.checker.specs.Traceability.{HoldsError, IsContradicted}
 use Rattle.span_cover.specs.declared.stretch.Stretch.{Stretch}
-use Rattle.finder.specs.declared.envelope.Envelope.{Envelope}
+use Rattle.finder.specs.declared.envelope.Envelope.{Envelope as FoundEnvelope}
 use Rattle.finder.specs.declared.fault.FindFault.{FindFault}
 use Rattle.finder.specs.declared.fault.FindFault.TheVariants.{TooManyPieces, Memory}
 use Rattle.finder.specs.Answer.{FindsEnvelope}
@@ -26,6 +26,7 @@ use Rattle.report.specs.declared.fault.RunFault.{RunFault}
 use Rattle.report.specs.Publication.{IsMadeFor, Ready}
 use Rattle.line_writer.specs.declared.field.Style.{Style}
 use Rattle.finder.specs.declared.carried.LeastCarried.{LeastCarried}
+use Rattle.audit_text.specs.declared.envelope.Envelope.{Envelope}
 use Rattle.audit_text.specs.declared.least_line.LeastLine.{LeastLine}
 use Rattle.audit.specs.Envelope.{IsEnvelopeOf, bound_outcome, envelope_in, envelope_report, report_of, text_of}
 use Rattle.audit.specs.Find.{find_run_fault_of}
@@ -54,11 +55,11 @@ module _ (samples : List Sample) (claim : ClaimData) (step : ℕ) where
   whole envelope e = whole_if (nat_lt max_pieces (count_of claim step)) refl envelope e
 
   -- an envelope that is held in memory has no more pieces than a certificate
-  pub count_is_few : (envelope : Envelope) → envelope_of samples claim step ≡ Ok (data_of envelope) →
+  pub count_is_few : (envelope : FoundEnvelope) → envelope_of samples claim step ≡ Ok (data_of envelope) →
       count_of claim step ≤ max_pieces
   count_is_few envelope e = (whole (data_of envelope) e).few
 
-  pub few_pieces : (envelope : Envelope) → envelope_of samples claim step ≡ Ok (data_of envelope) →
+  pub few_pieces : (envelope : FoundEnvelope) → envelope_of samples claim step ≡ Ok (data_of envelope) →
       length envelope.pieces.items ≤ max_pieces
   few_pieces envelope e =
       let is = whole (data_of envelope) e in
@@ -84,21 +85,21 @@ module _ (P : PieceHullData → Type 0) (at : ℕ → PieceHullData) (each : (k 
 
 -- ---- what is made of an envelope, or of why there is none
 
-module _ (style : Style) (step : ℕ) (servers least : Bool) (found : Option (Option LeastCarried)) (e : EvidenceData)
+module _ (style : Style) (asked : Envelope) (found : Option (Option LeastCarried)) (e : EvidenceData)
     (made : Result Ready RunFault) where
-  pub envelope_made : (envelope : EnvelopeData) (line : LeastLine) → envelope_in step e ≡ Ok envelope
-      → least_line_of e.claim step least found ≡ Some line
-      → IsMadeFor (text_of style servers e envelope (Some line)) made
-      → IsMadeFor (envelope_report style step servers least found e) made
+  pub envelope_made : (envelope : EnvelopeData) (line : LeastLine) → envelope_in asked.step.seconds e ≡ Ok envelope
+      → least_line_of e.claim asked.step.seconds asked.least found ≡ Some line
+      → IsMadeFor (text_of style asked e envelope (Some line)) made
+      → IsMadeFor (envelope_report style asked found e) made
   envelope_made envelope line is line_is h = rw (is, line_is) h
 
-pub envelope_refused : (style : Style) (step : ℕ) (servers least : Bool) (e : EvidenceData) (fault : FindFault)
-    (told : RunFault) → told ≡ find_run_fault_of fault → (fault ≡ Memory) ⊎ (envelope_in step e ≡ Err fault)
-    → IsMadeFor (envelope_report style step servers least None e) (Err told)
-envelope_refused style step servers least e Memory told is why = rw is tt
-envelope_refused style step servers least e TooManyPieces told is (inl memory) = absurd cc
-envelope_refused style step servers least e TooManyPieces told is (inr same) =
-    subst (λ (r : Result EnvelopeData FindFault). IsMadeFor (report_of style step servers least None e r) (Err told))
+pub envelope_refused : (style : Style) (asked : Envelope) (e : EvidenceData) (fault : FindFault) (told : RunFault)
+    → told ≡ find_run_fault_of fault → (fault ≡ Memory) ⊎ (envelope_in asked.step.seconds e ≡ Err fault)
+    → IsMadeFor (envelope_report style asked None e) (Err told)
+envelope_refused style asked e Memory told is why = rw is tt
+envelope_refused style asked e TooManyPieces told is (inl memory) = absurd cc
+envelope_refused style asked e TooManyPieces told is (inr same) =
+    subst (λ (r : Result EnvelopeData FindFault). IsMadeFor (report_of style asked None e r) (Err told))
     (sym same) (refused_made TooManyPieces told is)
 
 -- ---- the whole
@@ -110,7 +111,7 @@ HullLaw = (claim : ClaimData) (samples : List Sample) (stretch : Stretch) → Is
     → HoldsError claim samples stretch (best_hull samples claim stretch)
 
 module _ (law : HullLaw) (step : ℕ) (e : EvidenceData) (lawful : IsLawful e.claim) where
-  shown : AreSamplesOf e.claim (samples_in e) → (envelope : Envelope)
+  shown : AreSamplesOf e.claim (samples_in e) → (envelope : FoundEnvelope)
       → FindsEnvelope (samples_in e) e.claim step (Ok envelope)
       → IsEnvelopeOf step (bound_outcome envelope.least) e
   shown are envelope finds =
@@ -133,7 +134,7 @@ module _ (law : HullLaw) (step : ℕ) (e : EvidenceData) (lawful : IsLawful e.cl
 
   -- what its outcome shows
   pub envelope_shows : AreSamplesOf e.claim (samples_in e) → (samples : List Sample) → samples ≡ samples_in e
-      → (envelope : Envelope) (outcome : Outcome) → outcome ≡ bound_outcome envelope.least
+      → (envelope : FoundEnvelope) (outcome : Outcome) → outcome ≡ bound_outcome envelope.least
       → FindsEnvelope samples e.claim step (Ok envelope) → IsEnvelopeOf step outcome e
   envelope_shows are samples same envelope outcome is finds =
       rw is (shown are envelope (rw same at finds))

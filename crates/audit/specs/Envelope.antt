@@ -1,6 +1,6 @@
 -- The report of `envelope`: the hull of each piece, and the least bound that holds; and what it
 -- says about every course of events.
-use Rattle.std.specs.Prelude.{◌≡◌, ℕ, All, Bool, Option, Some, None, Result, Ok, Err}
+use Rattle.std.specs.Prelude.{◌≡◌, ℕ, All, Option, Some, None, Result, Ok, Err}
 use Rattle.byte_stream.specs.State.{FeedState}
 use Rattle.checker.specs.Traceability.{HoldsError, IsContradicted}
 use Rattle.intersection.specs.declared.kinds.Hull.TheVariants.{Empty}
@@ -17,6 +17,7 @@ use Rattle.report.specs.declared.fault.RunFault.TheVariants.{Memory}
 use Rattle.report.specs.Reports.{Report, refused, whole_text}
 use Rattle.line_writer.specs.declared.field.Style.{Style}
 use Rattle.audit_text.specs.Envelope.{envelope_text}
+use Rattle.audit_text.specs.declared.envelope.Envelope.{Envelope}
 use Rattle.audit_text.specs.declared.least_line.LeastLine.{LeastLine}
 use Rattle.audit.specs.Evidence.{EvidenceData, GiveEvidence, OfClaimAndCapture, samples_in}
 use Rattle.audit.specs.Find.{find_run_fault_of}
@@ -28,30 +29,30 @@ abbrev pub bound_outcome : LeastBound → Outcome
 bound_outcome (Holds n piece) = Yes
 bound_outcome (NoneHolds piece) = No
 
--- the report on an envelope: with what each server says, if that is asked for, and with this line
--- of the least bound that a certificate carries; none if no bound was looked for
-abbrev pub text_of : Style → Bool → EvidenceData → EnvelopeData → Option LeastLine → Report
-text_of style servers e envelope None = refused Memory
-text_of style servers e envelope (Some line) =
-    whole_text (envelope_text style (samples_in e) e.claim servers envelope line)
+-- the report on an envelope, as it is asked for, with this line of the least bound that a
+-- certificate carries; none if no bound was looked for
+abbrev pub text_of : Style → Envelope → EvidenceData → EnvelopeData → Option LeastLine → Report
+text_of style asked e envelope None = refused Memory
+text_of style asked e envelope (Some line) =
+    whole_text (envelope_text style asked (samples_in e) e.claim envelope line)
     (bound_outcome envelope.least)
 
--- the same in pieces of this many seconds, on the least bound that was found if it is asked for
-abbrev pub report_of : Style → ℕ → Bool → Bool → Option (Option LeastCarried) →
+-- the same on the least bound that was found, if it is asked for
+abbrev pub report_of : Style → Envelope → Option (Option LeastCarried) →
     EvidenceData → Result EnvelopeData FindFault → Report
-report_of style step servers least found e (Ok envelope) =
-    text_of style servers e envelope (least_line_of e.claim step least found)
-report_of style step servers least found e (Err fault) = refused (find_run_fault_of fault)
+report_of style asked found e (Ok envelope) = text_of style asked e envelope
+    (least_line_of e.claim asked.step.seconds asked.least found)
+report_of style asked found e (Err fault) = refused (find_run_fault_of fault)
 
 -- the envelope of the samples of a capture, in pieces of this many seconds
 abbrev pub envelope_in : ℕ → EvidenceData → Result EnvelopeData FindFault
 envelope_in step e = envelope_of (samples_in e) e.claim step
 
 -- the report of `envelope` on a claim and the exchanges of a capture
-abbrev pub envelope_report : Style → ℕ → Bool → Bool → Option (Option LeastCarried) →
+abbrev pub envelope_report : Style → Envelope → Option (Option LeastCarried) →
     EvidenceData → Report
-envelope_report style step servers least found e =
-    report_of style step servers least found e (envelope_in step e)
+envelope_report style asked found e =
+    report_of style asked found e (envelope_in asked.step.seconds e)
 
 -- This evidence has an envelope, with this outcome. In every course of events that fits the
 -- exchanges, whenever the clock reads a time of a piece, its error lies in the piece's hull; if the
@@ -73,10 +74,9 @@ abbrev pub IsEnveloped : ℕ → Outcome → FeedState → FeedState → Type 0
 IsEnveloped step outcome claim capture =
     OfClaimAndCapture claim capture (GiveEvidence (IsEnvelopeOf step outcome))
 
--- How far off may the clock have been, in pieces of this many seconds? What each server says may be
--- shown, and the least bound that a certificate carries.
-abbrev pub envelope : ℕ → Bool → Bool → QuestionData
-envelope step servers least = record {
-  report = λ style finding said e. envelope_report style step servers least finding.least e;
-  Shows = λ claim second capture outcome. IsEnveloped step outcome claim capture;
+-- How far off may the clock have been, piece by piece?
+abbrev pub envelope : Envelope → QuestionData
+envelope asked = record {
+  report = λ style finding said e. envelope_report style asked finding.least e;
+  Shows = λ claim second capture outcome. IsEnveloped asked.step.seconds outcome claim capture;
 }

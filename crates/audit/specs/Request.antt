@@ -16,4 +16,4 @@ question_of (requests.At asked) = at asked.unix_second
 question_of requests.Settle = settle
 question_of (requests.Find asked) = find asked.step.seconds
 question_of requests.FindRefutation = find_refutation
-question_of (requests.Envelope asked) = envelope asked.step.seconds asked.servers asked.least
+question_of (requests.Envelope asked) = envelope asked

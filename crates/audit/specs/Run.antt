@@ -2,6 +2,7 @@
 use Rattle.std.specs.Prelude.{◌≡◌, ℕ, Result, Ok}
 use Rattle.byte_stream.specs.State.{FeedState, IsReadable, IsWritable, SinkState}
 use Rattle.report.specs.ExitStatus.{status_of}
+use Rattle.report.specs.declared.conclusion.Conclusion.{Conclusion}
 use Rattle.report.specs.declared.fault.Outcome.{Outcome}
 use Rattle.report.specs.declared.fault.RunFault.{RunFault}
 use Rattle.report.specs.Run.{RunState}
@@ -37,11 +38,11 @@ RunsAlone question before after capture capture' answer =
     capture capture' answer
 
 -- What a caller of a whole command sees: all that a run promises, and its answer, reported by a
--- line and a status.
+-- line and a conclusion.
 abbrev pub AnswersFor : {T F : Type 0} → AskedData → RunState → RunState → T → T → F → F →
-    SinkState → SinkState → ℕ → Type 0
-AnswersFor asked before after second second' capture capture' err err' status =
-    IsConcluded (RunsFor asked before after second second' capture capture') err err' status
+    SinkState → SinkState → Conclusion → Type 0
+AnswersFor asked before after second second' capture capture' err err' conclusion =
+    IsConcluded (RunsFor asked before after second second' capture capture') err err' conclusion
 
 -- what the exit status of a run shows, by the outcome that it reports
 abbrev pub ShowsAt : ℕ → QuestionData → FeedState → FeedState → FeedState → Type 0

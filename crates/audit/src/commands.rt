@@ -16,11 +16,11 @@ ghost use Rattle.audit.specs.Second.{certificate_second, refutation_second};
 ghost use Rattle.audit.specs.FindRefutation.{IsIrrefutable, IsRefutable, find_refutation};
 
 use crate::engine::{Outputs, answer, run};
-use crate::question::{At, Check, Find, FindRefutation, Refute, Samples};
-use crate::step::Step;
+use crate::question::{At, Check, Find, Refute, Request};
+use audit_text::Step;
 use byte_stream::{Feed, Sink};
 use line_writer::Style;
-use report::{Outcome, RunFault};
+use report::{Conclusion, Outcome, RunFault};
 use std::alloc::Global;
 use std::hash::{BuildHasher, BuildHasherDefault, FoldHasher};
 
@@ -38,7 +38,7 @@ pub fn answer_check<C: Feed, T: Feed, F: Feed, S: Sink, E: Sink, H: BuildHasher 
     capture: F,
     to: &mut Outputs<S, E>,
     hasher: H,
-) -> (F, u8)
+) -> (F, Conclusion)
     requires run { MayRun (run_state (C.state claim.old) (T.state certificate.old)
         (F.state capture) (S.state to.old.out)) }
     requires err { IsWritable (E.state to.old.err) }
@@ -49,9 +49,9 @@ pub fn answer_check<C: Feed, T: Feed, F: Feed, S: Sink, E: Sink, H: BuildHasher 
         (F.state result.0) (S.state to.new.out))
         certificate.old certificate.new capture result.0
         (E.state to.old.err) (E.state to.new.err) result.1 }
-    ensures traceable { result.1 ≡ 0 →
+    ensures traceable { result.1.code ≡ 0 →
         IsTraced (C.state claim.old) (T.state certificate.old) (F.state capture) }
-    ensures shows { ShowsAt result.1 check
+    ensures shows { ShowsAt result.1.code check
         (C.state claim.old) (T.state certificate.old) (F.state capture) }
 {
     answer(alloc, Check, style, claim, certificate, capture, to, hasher)
@@ -76,7 +76,7 @@ pub fn run_samples<C: Feed, F: Feed, S: Sink>(
         (run_state (C.state claim.new) no_feed (F.state result.0) (S.state out.new))
         capture result.0 result.1 }
 {
-    let (asked, style, fixed) = (Samples, Style::Plain, fixed_hasher());
+    let (asked, style, fixed) = (Request::Samples, Style::Plain, fixed_hasher());
     run(alloc, asked, style, claim, &mut (), capture, out, fixed)
 }
 
@@ -99,7 +99,8 @@ pub fn run_at<C: Feed, F: Feed, S: Sink>(
     ensures in_hull { IfOk result.1 (λ outcome.
         HullHoldsError unix_second (C.state claim.old) (F.state capture)) }
 {
-    let (asked, style, fixed) = (At { unix_second }, Style::Plain, fixed_hasher());
+    let asked = Request::At(At { unix_second });
+    let (style, fixed) = (Style::Plain, fixed_hasher());
     run(alloc, asked, style, claim, &mut (), capture, out, fixed)
 }
 
@@ -181,7 +182,8 @@ pub fn run_find<C: Feed, F: Feed, S: Sink>(
         IsNotFound step_s (C.state claim.old) (F.state capture) }
 {
     let step = Step { seconds: step_s };
-    let (asked, style, fixed) = (Find { step }, Style::Plain, fixed_hasher());
+    let asked = Request::Find(Find { step });
+    let (style, fixed) = (Style::Plain, fixed_hasher());
     run(alloc, asked, style, claim, &mut (), capture, out, fixed)
 }
 
@@ -203,6 +205,6 @@ pub fn run_seek<C: Feed, F: Feed, S: Sink>(
     ensures none { result.1 ≡ Ok Outcome.No →
         IsIrrefutable (C.state claim.old) (F.state capture) }
 {
-    let (asked, style, fixed) = (FindRefutation, Style::Plain, fixed_hasher());
+    let (asked, style, fixed) = (Request::FindRefutation, Style::Plain, fixed_hasher());
     run(alloc, asked, style, claim, &mut (), capture, out, fixed)
 }

@@ -33,7 +33,7 @@ use crate::second::SecondSource;
 use byte_stream::{Feed, Sink};
 use claim_file::Claim;
 use line_writer::Style;
-use report::{Outcome, RunFault, conclude, read_claim_from};
+use report::{Conclusion, Outcome, RunFault, conclude, read_claim_from};
 use std::alloc::Global;
 use std::hash::BuildHasher;
 
@@ -149,7 +149,7 @@ pub fn run<
 }
 
 /// Answers a question as `run` does, with the text on `to.out`, and reports a fault on `to.err`.
-/// Beside the capture's feed stands the exit status.
+/// Beside the capture's feed stands what that comes to.
 pub fn answer<
     Q: Question,
     C: Feed,
@@ -167,7 +167,7 @@ pub fn answer<
     capture: F,
     to: &mut Outputs<S, E>,
     hasher: H,
-) -> (F, u8)
+) -> (F, Conclusion)
     requires run { MayRun (run_state
         (C.state claim.old) (T.state second.old) (F.state capture) (S.state to.old.out)) }
     requires err { IsWritable (E.state to.old.err) }
@@ -175,7 +175,7 @@ pub fn answer<
         (run_state (C.state claim.old) (T.state second.old) (F.state capture) (S.state to.old.out))
         (run_state (C.state claim.new) (T.state second.new) (F.state result.0) (S.state to.new.out))
         second.old second.new capture result.0 (E.state to.old.err) (E.state to.new.err) result.1 }
-    ensures shows { ShowsAt result.1 (Q.asks question)
+    ensures shows { ShowsAt result.1.code (Q.asks question)
         (C.state claim.old) (T.state second.old) (F.state capture) }
 {
     let (capture, answer) = run(

@@ -10,8 +10,7 @@ ghost use Rattle.audit.specs.Least.{IsLeastBoundOf, IsLineFor};
 
 use crate::evidence::Evidence;
 use crate::sample_list::samples_of;
-use crate::step::Step;
-use audit_text::LeastLine;
+use audit_text::{LeastLine, Step};
 use courses::conflicts_of;
 use finder::laws::{courses_leave_no_hull_empty, pieces_hold_their_ticks};
 use finder::{LeastCarried, least_bound, piece_holding};

@@ -13,10 +13,9 @@
 //! A run on feeds, as `run` of `worked_examples/src/engines/trial.rt`, which the gate runs:
 //!
 //! ```text
-//! let find = Find {
-//!     step: step_of(seconds),
-//! };
-//! audit::run(alloc, find, style, first, none, capture, out, hasher)
+//! Command::Ask(request) => {
+//!     audit::run(alloc, request, style, first, none, capture, out, hasher)
+//! }
 //! ```
 
 #![tactic(auto)]
@@ -32,15 +31,12 @@ mod question;
 mod sample_list;
 mod sample_output;
 mod second;
-mod step;
 
+pub use audit_text::{Envelope, Step};
 pub use commands::{answer_check, run_at, run_check, run_find, run_refute, run_samples, run_seek};
 pub use engine::{Outputs, answer, run};
 pub use evidence::Evidence;
 pub use finished::{Finished, Making};
 pub use line_writer::Style;
-pub use question::{
-    At, Check, Envelope, Find, FindRefutation, Question, Refute, Request, Samples, Settle,
-};
+pub use question::{At, Check, Find, Question, Refute, Request};
 pub use second::{SecondInput, SecondSource};
-pub use step::Step;

@@ -23,13 +23,13 @@ use crate::evidence::Evidence;
 use crate::finished::Making;
 pub use crate::question::at::At;
 pub use crate::question::check::Check;
-pub use crate::question::envelope::Envelope;
 pub use crate::question::find::Find;
-pub use crate::question::find_refutation::FindRefutation;
+use crate::question::find_refutation::FindRefutation;
 pub use crate::question::refute::Refute;
-pub use crate::question::samples::Samples;
-pub use crate::question::settle::Settle;
+use crate::question::samples::Samples;
+use crate::question::settle::Settle;
 use crate::second::SecondInput;
+use audit_text::Envelope;
 use line_writer::Style;
 use std::alloc::Global;
 

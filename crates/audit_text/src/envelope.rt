@@ -14,13 +14,25 @@ ghost use Rattle.audit_text.specs.Table.{rows_from};
 use crate::least_line::{LeastLine, add_least};
 use crate::sample_line::server_of;
 use crate::second::second_of;
+use crate::step::Step;
 use crate::table::{add_heading, add_row, hull_high, hull_low, is_plain, word_for};
 use claim_file::Claim;
-use finder::{Envelope, LeastBound, PieceHull, parts};
+use finder::{LeastBound, PieceHull, parts};
 use line_writer::{Field, Kind, Style, add_line};
 use sample_interval::SampleSource;
-use span_cover::{Part, Stretch};
+use span_cover::Part;
 use std::alloc::{AllocError, Global};
+
+/// How far off may the clock have been, piece by piece?
+#[derive(Clone, Copy, Debug)]
+pub struct Envelope {
+    /// How long the pieces are.
+    pub step: Step,
+    /// Whether to show what each server says about each piece.
+    pub servers: bool,
+    /// Whether to show the least bound that a certificate carries.
+    pub least: bool,
+}
 
 /// The columns, the last of them for what servers say.
 const COLUMNS: [Field<'static>; 6] = [
@@ -33,10 +45,35 @@ const COLUMNS: [Field<'static>; 6] = [
 ];
 
 /// The columns of pieces, and of what servers say in them.
-fn columns(servers: bool) -> &'static [Field<'static>]
-    ensures { map field_data result.now ≡ piece_columns servers }
+fn columns(asked: Envelope) -> &'static [Field<'static>]
+    ensures { map field_data result.now ≡ piece_columns asked }
 {
-    if servers { &COLUMNS } else { &COLUMNS[..5] }
+    if asked.servers {
+        &COLUMNS
+    } else {
+        &COLUMNS[..COLUMNS.len() - 1]
+    }
+}
+
+/// The fields of a piece, with these ends of a range of the error.
+fn fields_with(
+    number: u32,
+    piece: &PieceHull,
+    low: Field<'static>,
+    high: Field<'static>,
+) -> [Field<'static>; 5]
+    requires begin { second_of piece.now.stretch.begin < 2 ^ 32 }
+    requires end { second_of piece.now.stretch.end < 2 ^ 32 }
+    ensures { map field_data result ≡ spec.fields_with
+        number (piece_data piece.now) (field_data low.entry) (field_data high.entry) }
+{
+    [
+        Field::Number(u64::from(number)),
+        Field::Second(second_of(piece.stretch.begin)),
+        Field::Second(second_of(piece.stretch.end)),
+        low,
+        high,
+    ]
 }
 
 /// Adds the line of a piece.
@@ -52,14 +89,23 @@ fn add_piece(
     ensures { IfOk result (λ _. text.new.items ≡
         text.old.items ++ piece_line style number (piece_data piece.now)) }
 {
-    let fields = [
-        Field::Number(u64::from(number)),
-        Field::Second(second_of(piece.stretch.begin)),
-        Field::Second(second_of(piece.stretch.end)),
-        hull_low(piece.hull),
-        hull_high(piece.hull),
-    ];
+    let fields = fields_with(number, piece, hull_low(piece.hull), hull_high(piece.hull));
     add_row(text, style, &fields)
+}
+
+/// The fields of a server in the columns of a piece.
+fn server_columns(claim: &Claim, number: u32, piece: &PieceHull, part: &Part) -> [Field<'static>; 6]
+    requires listed { part.now.server < length claim.now.servers.items }
+    requires begin { second_of piece.now.stretch.begin < 2 ^ 32 }
+    requires end { second_of piece.now.stretch.end < 2 ^ 32 }
+    ensures { map field_data result
+        ≡ spec.server_columns (data_of claim.now) number (piece_data piece.now) part.now }
+{
+    let low = Field::Low(part.interval.lo);
+    let high = Field::High(part.interval.hi);
+    let [number, begin, end, low, high] = fields_with(number, piece, low, high);
+    let server = Field::Address(server_of(claim, part.server));
+    [number, begin, end, low, high, server]
 }
 
 /// Adds the line of a server in a piece.
@@ -69,25 +115,25 @@ fn add_part(
     style: Style,
     claim: &Claim,
     number: u32,
-    stretch: Stretch,
+    piece: &PieceHull,
     part: &Part,
 ) -> Result<(), AllocError>
     requires listed { part.now.server < length claim.now.servers.items }
-    requires begin { second_of stretch.begin < 2 ^ 32 }
-    requires end { second_of stretch.end < 2 ^ 32 }
-    ensures { IfOk result (λ _. text.new.items ≡
-        text.old.items ++ server_line style (data_of claim.now) number stretch part.now) }
+    requires begin { second_of piece.now.stretch.begin < 2 ^ 32 }
+    requires end { second_of piece.now.stretch.end < 2 ^ 32 }
+    ensures { IfOk result (λ _. text.new.items ≡ text.old.items ++ server_line
+        style (data_of claim.now) number (piece_data piece.now) part.now) }
 {
-    let number = Field::Number(u64::from(number));
-    let server = Field::Address(server_of(claim, part.server));
-    let low = Field::Low(part.interval.lo);
-    let high = Field::High(part.interval.hi);
-    if is_plain(style) {
-        return add_row(text, style, &[number, server, low, high]);
+    if !is_plain(style) {
+        return add_row(text, style, &server_columns(claim, number, piece, part));
     }
-    let begin = Field::Second(second_of(stretch.begin));
-    let end = Field::Second(second_of(stretch.end));
-    add_row(text, style, &[number, begin, end, low, high, server])
+    let fields = [
+        Field::Number(u64::from(number)),
+        Field::Address(server_of(claim, part.server)),
+        Field::Low(part.interval.lo),
+        Field::High(part.interval.hi),
+    ];
+    add_row(text, style, &fields)
 }
 
 /// Adds the line of each of these servers.
@@ -96,17 +142,17 @@ fn add_parts(
     style: Style,
     claim: &Claim,
     number: u32,
-    stretch: Stretch,
+    piece: &PieceHull,
     parts: &[Part],
 ) -> Result<(), AllocError>
     requires listed { All (λ part. part.server < length claim.now.servers.items) parts.now }
-    requires begin { second_of stretch.begin < 2 ^ 32 }
-    requires end { second_of stretch.end < 2 ^ 32 }
-    ensures { IfOk result (λ _. text.new.items ≡ text.old.items
-        ++ flat_map (server_line style (data_of claim.now) number stretch) parts.now) }
+    requires begin { second_of piece.now.stretch.begin < 2 ^ 32 }
+    requires end { second_of piece.now.stretch.end < 2 ^ 32 }
+    ensures { IfOk result (λ _. text.new.items ≡ text.old.items ++ flat_map
+        (server_line style (data_of claim.now) number (piece_data piece.now)) parts.now) }
 {
     for part in parts {
-        add_part(text, style, claim, number, stretch, part)?;
+        add_part(text, style, claim, number, piece, part)?;
     }
     Ok(())
 }
@@ -127,7 +173,7 @@ fn add_servers<S: SampleSource>(
         style (S.samples samples) (data_of claim.now) number (piece_data piece.now)) }
 {
     let parts = parts(samples, claim, piece.stretch, &piece.entries);
-    add_parts(text, style, claim, number, piece.stretch, parts.as_slice())
+    add_parts(text, style, claim, number, piece, parts.as_slice())
 }
 
 /// Adds the line of the least bound of the pieces.
@@ -154,13 +200,35 @@ fn add_bound(text: &mut Vec<u8>, style: Style, least: LeastBound) -> Result<(), 
     }
 }
 
+/// The lines of a piece.
+fn add_lines<S: SampleSource>(
+    text: &mut Vec<u8>,
+    style: Style,
+    asked: Envelope,
+    samples: S,
+    claim: &Claim,
+    number: u32,
+    piece: &PieceHull,
+) -> Result<(), AllocError>
+    requires claim { IsLawful (data_of claim.now) }
+    requires samples { AreSamplesOf (data_of claim.now) (S.samples samples) }
+    requires piece { IsLawfulPiece (length (S.samples samples)) (piece_data piece.now) }
+    ensures { IfOk result (λ _. text.new.items ≡ text.old.items ++ piece_lines
+        style asked (S.samples samples) (data_of claim.now) number (piece_data piece.now)) }
+{
+    if asked.servers {
+        add_servers(text, style, samples, claim, number, piece)?;
+    }
+    add_piece(text, style, number, piece)
+}
+
 /// The lines of the pieces, in their order.
 fn add_pieces<S: SampleSource>(
     text: &mut Vec<u8>,
     style: Style,
+    asked: Envelope,
     samples: S,
     claim: &Claim,
-    servers: bool,
     pieces: &[PieceHull],
 ) -> Result<(), AllocError>
     requires claim { IsLawful (data_of claim.now) }
@@ -169,20 +237,17 @@ fn add_pieces<S: SampleSource>(
     requires pieces { All (λ piece. IsLawfulPiece (length (S.samples samples)) (piece_data piece))
         pieces.now }
     ensures { IfOk result (λ _. text.new.items ≡ text.old.items ++ rows_from
-        (piece_lines style (S.samples samples) (data_of claim.now) servers) 0
+        (piece_lines style asked (S.samples samples) (data_of claim.now)) 0
         (map piece_data pieces.now)) }
 {
     for (number, piece) in pieces.iter().enumerate() {
-        if servers {
-            add_servers(text, style, samples, claim, number as u32, piece)?;
-        }
-        add_piece(text, style, number as u32, piece)?;
+        add_lines(text, style, asked, samples, claim, number as u32, piece)?;
     }
     Ok(())
 }
 
 /// The text of `envelope`: a line for each piece, numbered from 0, with its begin and end in Unix
-/// seconds and its hull in ticks of 2^-32 s; before it, if `servers` is true, a line for each
+/// seconds and its hull in ticks of 2^-32 s; before it, if servers are asked for, a line for each
 /// server that has a sample, with its address and its interval in the piece; then the least bound
 /// in nanoseconds, and the first piece that needs it, or the first piece in which no bound holds;
 /// and last `least`, the least bound that a certificate carries, if it is asked for.
@@ -192,22 +257,22 @@ fn add_pieces<S: SampleSource>(
 pub fn envelope_text<S: SampleSource>(
     alloc: Global,
     style: Style,
+    asked: Envelope,
     samples: S,
     claim: &Claim,
-    servers: bool,
-    envelope: &Envelope,
+    envelope: &finder::Envelope,
     least: LeastLine,
 ) -> Result<Vec<u8>, AllocError>
     requires claim { IsLawful (data_of claim.now) }
     requires samples { AreSamplesOf (data_of claim.now) (S.samples samples) }
     requires few { length envelope.now.pieces.items ≤ 100_000 }
     requires envelope { IsLawfulEnvelope (length (S.samples samples)) envelope.now }
-    ensures { IfOk result (λ text. text.items ≡ spec.envelope_text style (S.samples samples)
-        (data_of claim.now) servers (envelope_data envelope.now) least) }
+    ensures { IfOk result (λ text. text.items ≡ spec.envelope_text style asked (S.samples samples)
+        (data_of claim.now) (envelope_data envelope.now) least) }
 {
     let mut text = Vec::new(alloc);
-    add_heading(&mut text, style, columns(servers))?;
-    add_pieces(&mut text, style, samples, claim, servers, &envelope.pieces)?;
+    add_heading(&mut text, style, columns(asked))?;
+    add_pieces(&mut text, style, asked, samples, claim, &envelope.pieces)?;
     add_bound(&mut text, style, envelope.least)?;
     add_least(&mut text, style, least)?;
     Ok(text)

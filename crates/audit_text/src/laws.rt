@@ -1,15 +1,13 @@
 //! What holds of the definitions that the contracts cite. A law is a function that does nothing:
 //! its contract is the law.
 
-ghost use Rattle.std.specs.Prelude.{◌↔◌, ℕ, ◌<◌, ℤ, unsigned_abs, Bool, true, IsTrue};
+ghost use Rattle.std.specs.Prelude.{◌↔◌, ℕ, ◌<◌, ℤ, unsigned_abs, IsTrue};
 ghost use Rattle.era_unfold.specs.Nanoseconds.{ticks_down};
 ghost use Rattle.claim_file.specs.Claim.{ClaimData};
-ghost use Rattle.finder.specs.Envelope.{PieceHullData};
 ghost use Rattle.intersection.specs.declared.kinds.Hull.{Hull};
 ghost use Rattle.pairing.specs.declared.exchange.Exchange.{Exchange};
 ghost use Rattle.span_cover.specs.declared.part.Part.{Part};
-ghost use Rattle.span_cover.specs.declared.stretch.Stretch.{Stretch};
-ghost use Rattle.audit_text.specs.Envelope.{piece_columns, piece_fields, server_columns};
+ghost use Rattle.audit_text.specs.Envelope.{PiecesAreUnder, ServersAreUnder};
 ghost use Rattle.audit_text.specs.Excess.{is_beyond};
 ghost use Rattle.audit_text.specs.Parts.{hull_fields, part_columns, part_fields};
 ghost use Rattle.audit_text.specs.SampleLine.{sample_columns, sample_fields};
@@ -28,8 +26,6 @@ pub fn rows_stand_under_their_headings()
     ensures moments { (claim : ClaimData) (part : Part) →
         IsUnder part_columns (part_fields claim part) }
     ensures hulls { (hull : Hull) → IsUnder part_columns (hull_fields hull) }
-    ensures pieces { (servers : Bool) (number : ℕ) (piece : PieceHullData) →
-        IsUnder (piece_columns servers) (piece_fields number piece) }
-    ensures servers { (claim : ClaimData) (number : ℕ) (stretch : Stretch) (part : Part) →
-        IsUnder (piece_columns true) (server_columns claim number stretch part) }
+    ensures pieces { PiecesAreUnder }
+    ensures servers { ServersAreUnder }
 {}

@@ -27,7 +27,7 @@ text_at texts code =
     if nat_eq code 9 then texts.groups else
     []
 
-abbrev names : Texts
+abbrev pub names : Texts
 names = record {
   client = codes "client";
   servers = codes "servers";
@@ -49,7 +49,7 @@ a_time = codes "write a time as \"2026-11-22T06:46:09Z\", in UTC"
 abbrev nanoseconds : List ℕ
 nanoseconds = codes "write nanoseconds as a bare whole number: 5 ms are 5000000"
 
-abbrev ranges : Texts
+abbrev pub ranges : Texts
 ranges = record {
   client = codes "has to be an IPv4 address";
   servers = codes "has to be an array of 1 to 32 IPv4 addresses";
@@ -62,7 +62,7 @@ ranges = record {
   groups = codes "has to be an array of arrays of server numbers";
 }
 
-abbrev remedies : Texts
+abbrev pub remedies : Texts
 remedies = record {
   client = an_address;
   servers = an_address;

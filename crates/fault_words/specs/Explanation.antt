@@ -12,7 +12,7 @@ use Rattle.fault_words.specs.Sentence.{SentenceData, says, sentence_of}
 use Rattle.fault_words.specs.declared.found.Found.{Found}
 use Rattle.fault_words.specs.declared.kind.Kind.{Kind}
 use Rattle.fault_words.specs.Kind.{kind_remedy}
-use Rattle.fault_words.specs.Quote.{front}
+use Rattle.fault_words.specs.Quote.{IsQuiet, front}
 use Rattle.fault_words.specs.Subject.{NamesData, input_of, subject}
 
 -- what was seen of a fault when its input was looked at again: the field of a claim, or 0, whether
@@ -31,6 +31,10 @@ found_data found = record {
   kind = found.kind;
   seen = string_bytes found.seen;
 }
+
+-- What was seen is told without a character that a terminal obeys.
+abbrev pub IsToldQuietly : Found → Type 0
+IsToldQuietly found = IsQuiet (string_bytes found.seen)
 
 -- a file of that kind, in which nothing was seen but this
 abbrev pub nothing_found : Kind → List ℕ → FoundData
@@ -82,6 +86,18 @@ abbrev pub explanation : NamesData → RunFault → FoundData → List ℕ
 explanation names fault found =
     codes "  " ++ subject names (input_of fault) ++
     ending (fault_sentence fault found) found.seen
+
+-- names of which a terminal obeys no character
+pub record AreQuiet (names : NamesData) : Type 0 where
+  pub claim : IsQuiet names.claim
+  pub capture : IsQuiet names.capture
+  pub second : IsQuiet names.second
+  pub sums : IsQuiet names.sums
+
+-- two lines, of which a terminal obeys nothing but the line feeds behind them
+abbrev pub AreTwoLines : List ℕ → Type 0
+AreTwoLines text = (first second : List ℕ)
+    × (text ≡ first ++ codes "\n" ++ second ++ codes "\n") × IsQuiet first × IsQuiet second
 
 -- the words about a TIME that is none, as it is quoted
 abbrev pub time_words : List ℕ → List ℕ

@@ -5,15 +5,25 @@ use Rattle.std.specs.Char.{is_control}
 use Rattle.std.specs.Int.{is_in_range}
 use Rattle.std.specs.Fmt.{digits}
 use Rattle.std.specs.List.{flat_map}
+use Rattle.std.specs.Str.{NoCharPasses}
 
 -- whether a character turns the direction in which others are shown (Unicode's Bidi_Control)
 abbrev pub turns : ℕ → Bool
 turns c = is_in_range 0x61C 0x61C c || is_in_range 0x200E 0x200F c || is_in_range 0x202A 0x202E c
     || is_in_range 0x2066 0x2069 c
 
+-- whether a terminal obeys a character: a control character, as a line feed is, or one that turns
+-- others
+abbrev pub is_obeyed : ℕ → Bool
+is_obeyed c = is_control c || turns c
+
+-- a text of which a terminal obeys no character
+abbrev pub IsQuiet : List ℕ → Type 0
+IsQuiet text = NoCharPasses is_obeyed text
+
 -- a character: itself, or its number in hexadecimal digits
 abbrev pub shown_char : ℕ → List ℕ
-shown_char c = if is_control c || turns c then codes "\\u{" ++ digits 16 false c ++ codes "}"
+shown_char c = if is_obeyed c then codes "\\u{" ++ digits 16 false c ++ codes "}"
     else encode_utf8 c
 
 -- a text so

@@ -1,5 +1,8 @@
 //! What stands in a claim that is refused.
 
+ghost use Rattle.std.specs.Prelude.{IfOk};
+ghost use Rattle.fault_words.specs.Explanation.{IsToldQuietly};
+
 use crate::claim_field::field_name;
 use crate::found::Found;
 use crate::quote::quoted;
@@ -14,7 +17,9 @@ pub(crate) fn look_at_claim(
     alloc: Global,
     fault: &ClaimFault,
     bytes: &[u8],
-) -> Result<Found, AllocError> {
+) -> Result<Found, AllocError>
+    ensures { IfOk result IsToldQuietly }
+{
     if !has_fault(alloc, fault, bytes) {
         return Ok(Found::nothing(alloc));
     }
@@ -33,7 +38,9 @@ fn has_fault(alloc: Global, fault: &ClaimFault, bytes: &[u8]) -> bool {
 }
 
 /// The same of what its JSON text says.
-fn look_at_members(alloc: Global, fault: &ClaimFault, value: &Value) -> Result<Found, AllocError> {
+fn look_at_members(alloc: Global, fault: &ClaimFault, value: &Value) -> Result<Found, AllocError>
+    ensures { IfOk result IsToldQuietly }
+{
     match fault {
         ClaimFault::Field(0) => unknown_name(alloc, value),
         ClaimFault::Field(code) => at_field(alloc, value, *code),
@@ -46,15 +53,24 @@ fn look_at_members(alloc: Global, fault: &ClaimFault, value: &Value) -> Result<F
     }
 }
 
+/// That it is this text.
+fn this_text(alloc: Global, text: &str) -> Result<Found, AllocError>
+    ensures { IfOk result IsToldQuietly }
+{
+    let text = quoted(alloc, text)?;
+    Ok(Found::seen(format!(in alloc; ": \"{}\"", text.as_str())?))
+}
+
 /// The first name that no claim has.
-fn unknown_name(alloc: Global, value: &Value) -> Result<Found, AllocError> {
+fn unknown_name(alloc: Global, value: &Value) -> Result<Found, AllocError>
+    ensures { IfOk result IsToldQuietly }
+{
     let Some(members) = value.as_object() else {
         return Ok(Found::nothing(alloc));
     };
     for name in members.keys() {
         if !is_known(name.as_str()) {
-            let name = quoted(alloc, name.as_str())?;
-            return Ok(Found::seen(format!(in alloc; ": \"{}\"", name.as_str())?));
+            return this_text(alloc, name.as_str());
         }
     }
     Ok(Found::nothing(alloc))
@@ -71,7 +87,9 @@ fn is_known(name: &str) -> bool {
 }
 
 /// What stands in the field of this code.
-fn at_field(alloc: Global, value: &Value, field: u8) -> Result<Found, AllocError> {
+fn at_field(alloc: Global, value: &Value, field: u8) -> Result<Found, AllocError>
+    ensures { IfOk result IsToldQuietly }
+{
     let Some(member) = value.get(field_name(field)) else {
         return Ok(Found::of_field(field, true, String::new(alloc)));
     };
@@ -87,7 +105,9 @@ fn is_address(text: &str) -> bool {
 }
 
 /// The first address that is none: the client's, or one of a server.
-fn at_address(alloc: Global, value: &Value) -> Result<Found, AllocError> {
+fn at_address(alloc: Global, value: &Value) -> Result<Found, AllocError>
+    ensures { IfOk result IsToldQuietly }
+{
     let client = value.get("client").and_then(Value::as_str).unwrap_or("");
     if !is_address(client) {
         return at_field(alloc, value, 1);
@@ -107,7 +127,9 @@ fn at_address(alloc: Global, value: &Value) -> Result<Found, AllocError> {
 }
 
 /// The first time that is none.
-fn at_time(alloc: Global, value: &Value) -> Result<Found, AllocError> {
+fn at_time(alloc: Global, value: &Value) -> Result<Found, AllocError>
+    ensures { IfOk result IsToldQuietly }
+{
     let begin = value.get("from").and_then(Value::as_str).unwrap_or("");
     if read_time(begin).is_none() {
         return at_field(alloc, value, 4);
@@ -137,7 +159,9 @@ fn server_count(value: &Value) -> usize {
 }
 
 /// The first field that is out of its range.
-fn at_range(alloc: Global, value: &Value) -> Result<Found, AllocError> {
+fn at_range(alloc: Global, value: &Value) -> Result<Found, AllocError>
+    ensures { IfOk result IsToldQuietly }
+{
     let count = server_count(value);
     if count == 0 || 32 < count {
         let seen = format!(in alloc; "; it has {count}")?;
@@ -159,7 +183,9 @@ fn at_range(alloc: Global, value: &Value) -> Result<Found, AllocError> {
 }
 
 /// The first address that stands twice.
-fn repeated(alloc: Global, value: &Value) -> Result<Found, AllocError> {
+fn repeated(alloc: Global, value: &Value) -> Result<Found, AllocError>
+    ensures { IfOk result IsToldQuietly }
+{
     let client = value.get("client").and_then(Value::as_str).unwrap_or("");
     let Some(servers) = value.get("servers").and_then(Value::as_array) else {
         return Ok(Found::nothing(alloc));
@@ -171,8 +197,7 @@ fn repeated(alloc: Global, value: &Value) -> Result<Found, AllocError> {
             .take(count)
             .any(|other| other.as_str().unwrap_or("") == text);
         if text == client || stands_before {
-            let text = quoted(alloc, text)?;
-            return Ok(Found::seen(format!(in alloc; ": \"{}\"", text.as_str())?));
+            return this_text(alloc, text);
         }
     }
     Ok(Found::nothing(alloc))

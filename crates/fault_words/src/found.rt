@@ -1,7 +1,7 @@
 //! What was seen of a fault.
 
 ghost use Rattle.std.specs.Prelude.{◌≡◌, [], IfOk, string_bytes};
-ghost use Rattle.fault_words.specs.Explanation.{found_data, nothing_found};
+ghost use Rattle.fault_words.specs.Explanation.{IsToldQuietly, found_data, nothing_found};
 ghost use Rattle.fault_words.specs.Kind.{kind_word};
 
 use crate::kind::Kind;
@@ -23,7 +23,8 @@ pub struct Found {
 impl Found {
     /// Nothing was seen.
     pub fn nothing(alloc: Global) -> Found
-        ensures { found_data result ≡ nothing_found Kind.Unknown [] }
+        ensures nothing { found_data result ≡ nothing_found Kind.Unknown [] }
+        ensures quiet { IsToldQuietly result }
     {
         Found::seen(String::new(alloc))
     }
@@ -42,7 +43,9 @@ impl Found {
 
     /// The file is of this kind.
     pub fn of_kind(alloc: Global, kind: Kind) -> Result<Found, AllocError>
-        ensures { IfOk result (λ found. found_data found ≡ nothing_found kind (kind_word kind)) }
+        ensures kind { IfOk result (λ found.
+            found_data found ≡ nothing_found kind (kind_word kind)) }
+        ensures quiet { IfOk result IsToldQuietly }
     {
         let seen = String::from_str(alloc, kind.word())?;
         Ok(Found {
@@ -52,7 +55,9 @@ impl Found {
     }
 
     /// What is wrong is of this field of the claim.
-    pub(crate) fn of_field(field: u8, is_missing: bool, seen: String) -> Found {
+    pub(crate) fn of_field(field: u8, is_missing: bool, seen: String) -> Found
+        ensures { string_bytes result.seen ≡ string_bytes seen }
+    {
         Found {
             field,
             is_missing,

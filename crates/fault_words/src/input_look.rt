@@ -1,5 +1,9 @@
 //! What is seen of a fault when its input is looked at again.
 
+ghost use Rattle.std.specs.Prelude.{IfOk};
+ghost use Rattle.fault_words.specs.Explanation.{IsToldQuietly};
+ghost use Rattle.fault_words.specs.Quote.{IsQuiet};
+
 use crate::claim_look::look_at_claim;
 use crate::found::Found;
 use crate::kind::{Kind, is_object, kind_of};
@@ -12,13 +16,15 @@ use serde_json::Value;
 use std::alloc::{AllocError, Global};
 
 /// What is seen of a fault in the first bytes of the input that it is of, which are all of them if
-/// `is_whole` is true.
+/// `is_whole` is true. Whatever stands there, a terminal obeys nothing of what is told of it.
 pub fn look(
     alloc: Global,
     fault: &RunFault,
     bytes: &[u8],
     is_whole: bool,
-) -> Result<Found, AllocError> {
+) -> Result<Found, AllocError>
+    ensures { IfOk result IsToldQuietly }
+{
     match fault {
         RunFault::Claim(ClaimFault::Json)
         | RunFault::Certificate(CertificateFault::Json)
@@ -37,7 +43,9 @@ pub fn look(
 }
 
 /// What a file looks like that isn't JSON, or else where its fault is, if there is memory for that.
-fn no_json(alloc: Global, bytes: &[u8], is_whole: bool) -> Result<Found, AllocError> {
+fn no_json(alloc: Global, bytes: &[u8], is_whole: bool) -> Result<Found, AllocError>
+    ensures { IfOk result IsToldQuietly }
+{
     let kind = kind_of(bytes);
     if !kind.word().is_empty() || !is_whole {
         return Found::of_kind(alloc, kind);
@@ -53,7 +61,9 @@ fn no_json(alloc: Global, bytes: &[u8], is_whole: bool) -> Result<Found, AllocEr
 }
 
 /// What JSON it is instead of the second input.
-fn another_json(alloc: Global, bytes: &[u8], is_whole: bool) -> Result<Found, AllocError> {
+fn another_json(alloc: Global, bytes: &[u8], is_whole: bool) -> Result<Found, AllocError>
+    ensures { IfOk result IsToldQuietly }
+{
     if !is_whole {
         return Ok(Found::nothing(alloc));
     }
@@ -73,7 +83,9 @@ fn another_json(alloc: Global, bytes: &[u8], is_whole: bool) -> Result<Found, Al
 }
 
 /// What a file looks like that isn't a capture.
-fn no_capture(alloc: Global, bytes: &[u8]) -> Result<Found, AllocError> {
+fn no_capture(alloc: Global, bytes: &[u8]) -> Result<Found, AllocError>
+    ensures { IfOk result IsToldQuietly }
+{
     if is_object(bytes) {
         return Found::of_kind(alloc, Kind::Object);
     }
@@ -90,7 +102,10 @@ fn link_of(bytes: &[u8]) -> Option<u32> {
 }
 
 /// The name of a link type.
-fn link_name(link: u32) -> &'static str {
+#[tactic(auto, using(crate::proofs::Quiet::visible_is_quiet))]
+fn link_name(link: u32) -> &'static str
+    ensures { IsQuiet result.now }
+{
     match link {
         0 => ", NULL",
         9 => ", PPP",
@@ -105,7 +120,9 @@ fn link_name(link: u32) -> &'static str {
 }
 
 /// The capture's link type.
-fn look_at_link(alloc: Global, bytes: &[u8]) -> Result<Found, AllocError> {
+fn look_at_link(alloc: Global, bytes: &[u8]) -> Result<Found, AllocError>
+    ensures { IfOk result IsToldQuietly }
+{
     let Some(link) = link_of(bytes) else {
         return Ok(Found::nothing(alloc));
     };

@@ -1,9 +1,13 @@
 //! What holds of every sentence. A law is a function that does nothing: its contract is the law.
 
-ghost use Rattle.std.specs.Prelude.{◌<◌, ◌≤◌, ℕ, Bool, length};
+ghost use Rattle.std.specs.Prelude.{◌<◌, ◌≤◌, ℕ, List, Bool, length};
 ghost use Rattle.report.specs.declared.fault.RunFault.{RunFault};
 ghost use Rattle.fault_words.specs.ClaimField.{field_name, field_range, field_remedy};
-ghost use Rattle.fault_words.specs.Obstacle.{obstacle_sentence};
+ghost use Rattle.fault_words.specs.Explanation.{AreQuiet, AreTimeWords, AreTwoLines, FoundData};
+ghost use Rattle.fault_words.specs.Explanation.{explanation};
+ghost use Rattle.fault_words.specs.Obstacle.{obstacle_sentence, output_words};
+ghost use Rattle.fault_words.specs.Quote.{IsQuiet};
+ghost use Rattle.fault_words.specs.Subject.{NamesData};
 ghost use Rattle.fault_words.specs.declared.obstacle.Obstacle.{Obstacle};
 ghost use Rattle.fault_words.specs.Sentence.{sentence_of};
 
@@ -24,4 +28,14 @@ pub fn no_field_is_without_words()
 pub fn no_obstacle_is_without_words()
     ensures wrong { (obstacle : Obstacle) → 0 < length (obstacle_sentence obstacle).wrong }
     ensures remedy { (obstacle : Obstacle) → 0 < length (obstacle_sentence obstacle).remedy }
+{}
+
+/// Words are two lines, of which a terminal obeys nothing but their line feeds, if it obeys nothing
+/// of the files' names and of what was seen. Those about a TIME always are.
+pub fn words_are_two_lines()
+    ensures input { (names : NamesData) (fault : RunFault) (found : FoundData) →
+        AreQuiet names → IsQuiet found.seen → AreTwoLines (explanation names fault found) }
+    ensures output { (name : List ℕ) (obstacle : Obstacle) (seen : List ℕ) →
+        IsQuiet name → IsQuiet seen → AreTwoLines (output_words name obstacle seen) }
+    ensures time { (time text : List ℕ) → AreTimeWords time text → AreTwoLines text }
 {}

@@ -3,9 +3,10 @@
 //! [`sentence_of`] has the sentence of each fault, and `claim_field` those of a claim's fields.
 //! [`explain`] puts them behind the name of the file that the fault is of, with what [`look`] sees
 //! there. What is seen is no more than help: it changes no sentence's subject and no fault.
+//! A terminal obeys nothing of what [`look`], [`shown`] and [`quoted`] give, and nothing of the
+//! words but their line feeds, if the files' names are shown so (`laws::words_are_two_lines`).
 //!
-//! [`fault_of_line`] finds the fault from the line that an engine wrote. The words about it are put
-//! together as in `explain` of `fault_words/src/explanation.rt`:
+//! The words are put together as in `explain` of `fault_words/src/explanation.rt`:
 //!
 //! ```text
 //! let mut text = String::from_str(alloc, "  ")?;
@@ -21,10 +22,8 @@ mod claim_look;
 mod explanation;
 mod found;
 mod input_look;
-mod kept_sink;
 mod kind;
 pub mod laws;
-mod line_fault;
 mod obstacle;
 mod quote;
 mod record_count;
@@ -37,9 +36,7 @@ pub use claim_field::field_name;
 pub use explanation::{explain, explain_time};
 pub use found::Found;
 pub use input_look::look;
-pub use kept_sink::KeptSink;
 pub use kind::Kind;
-pub use line_fault::fault_of_line;
 pub use obstacle::{Obstacle, explain_output, obstacle_sentence};
 pub use quote::{quoted, shown};
 pub use record_count::look_at_records;

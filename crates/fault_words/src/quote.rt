@@ -34,6 +34,7 @@ fn add_shown(text: &mut String, alloc: Global, c: char) -> Result<(), AllocError
 /// A text with its control characters, and those that turn others, as their numbers.
 pub fn shown(alloc: Global, text: &str) -> Result<String, AllocError>
     ensures escaped { IfOk result (λ out. string_bytes out ≡ spec.shown text.now) }
+    ensures quiet { IfOk result (λ out. spec.IsQuiet (string_bytes out)) }
 {
     let mut out = String::new(alloc);
     for c in text.chars() {
@@ -45,6 +46,7 @@ pub fn shown(alloc: Global, text: &str) -> Result<String, AllocError>
 /// The first 40 characters of a text, shown so.
 fn front(alloc: Global, text: &str) -> Result<String, AllocError>
     ensures escaped { IfOk result (λ out. string_bytes out ≡ spec.front text.now) }
+    ensures quiet { IfOk result (λ out. spec.IsQuiet (string_bytes out)) }
 {
     let mut out = String::new(alloc);
     for c in text.chars().take(MOST_SHOWN) {
@@ -56,6 +58,7 @@ fn front(alloc: Global, text: &str) -> Result<String, AllocError>
 /// The first 40 characters of a text, shown so, and two dots if there are more.
 pub fn quoted(alloc: Global, text: &str) -> Result<String, AllocError>
     ensures short { IfOk result (λ out. spec.IsQuoted text.now (string_bytes out)) }
+    ensures quiet { IfOk result (λ out. spec.IsQuiet (string_bytes out)) }
 {
     let mut out = front(alloc, text)?;
     if MOST_SHOWN < text.chars().count() {

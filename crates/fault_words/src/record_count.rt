@@ -2,7 +2,8 @@
 
 ghost use Rattle.std.specs.Prelude.{◌≡◌, ◌^◌, ◌-◌, ◌<◌, IfOk, string_bytes};
 ghost use Rattle.byte_stream.specs.State.{IsReadable};
-ghost use Rattle.fault_words.specs.Explanation.{found_data, nothing_found};
+ghost use Rattle.fault_words.specs.Explanation.{IsToldQuietly, found_data, nothing_found};
+ghost use Rattle.fault_words.specs.Quote.{IsQuiet};
 ghost use Rattle.fault_words.specs.declared.kind.Kind.TheVariants.{Unknown};
 
 use crate::found::Found;
@@ -27,6 +28,18 @@ fn whole_records<S: RecordSource>(source: &mut S, fault: &CaptureFault) -> Optio
     None
 }
 
+/// The same in words, and none if the source hasn't this fault.
+#[tactic(auto, using(crate::proofs::Quiet::visible_is_quiet))]
+fn record_words(alloc: Global, count: Option<u32>) -> Result<String, AllocError>
+    ensures { IfOk result (λ words. IsQuiet (string_bytes words)) }
+{
+    match count {
+        Some(1) => String::from_str(alloc, "; 1 whole record stands before it"),
+        Some(count) => Ok(format!(in alloc; "; {count} whole records stand before it")?),
+        None => Ok(String::new(alloc)),
+    }
+}
+
 /// How many whole records stand before a record's fault, in the words of a person. It changes no
 /// sentence.
 pub fn look_at_records<F: Feed + Drop>(
@@ -35,16 +48,13 @@ pub fn look_at_records<F: Feed + Drop>(
     fault: &CaptureFault,
 ) -> Result<Found, AllocError>
     requires { IsReadable (F.state feed) }
-    ensures { IfOk result (λ found.
+    ensures nothing_else { IfOk result (λ found.
         found_data found ≡ nothing_found Unknown (string_bytes found.seen)) }
+    ensures quiet { IfOk result IsToldQuietly }
 {
     let Ok(mut source) = Capture::begin(alloc, feed) else {
         return Ok(Found::nothing(alloc));
     };
-    let seen = match whole_records(&mut source, fault) {
-        Some(1) => String::from_str(alloc, "; 1 whole record stands before it")?,
-        Some(count) => format!(in alloc; "; {count} whole records stand before it")?,
-        None => String::new(alloc),
-    };
+    let seen = record_words(alloc, whole_records(&mut source, fault))?;
     Ok(Found::seen(seen))
 }

@@ -10,10 +10,7 @@ use Rattle.certificate.specs.Certificate.{max_pieces}
 use Rattle.claim_file.specs.Claim.{ClaimData, IsLawful}
 use Rattle.intersection.specs.declared.kinds.Hull.{Hull}
 use Rattle.sample_interval.specs.declared.kinds.Sample.{Sample}
-use Rattle.span_cover.specs.Group.{piece_hull}
-use Rattle.span_cover.specs.declared.stretch.Stretch.{Stretch}
 use Rattle.finder.specs.Answer.{FindsEnvelope}
-use Rattle.finder.specs.Entry.{best_entries, parts_named}
 use Rattle.finder.specs.Envelope.{EnvelopeData, PieceHullData, IsLawfulEnvelope, IsLawfulPiece, IsLeast, data_of, piece_hull_at, piece_hulls, least_of, with_piece, envelope_of, envelope_to}
 use Rattle.finder.specs.Found.{hull_at}
 use Rattle.finder.specs.Piece.{count_of, stretch_at}
@@ -23,7 +20,6 @@ use Rattle.finder.specs.declared.fault.FindFault.TheVariants.{TooManyPieces, Mem
 use Rattle.finder.specs.declared.least.LeastBound.{LeastBound}
 use Rattle.finder.proofs.Best.{BestLaw}
 use Rattle.finder.proofs.EntryList.{entries_there}
-use Rattle.finder.proofs.Finding.{hull_is}
 use Rattle.finder.proofs.SpanPieces.{is_few, is_many, piece_of_claim}
 
 -- what holds of what f gives of each holds of each
@@ -42,20 +38,6 @@ module _ (samples : List Sample) (claim : ClaimData) (step : ℕ) where
       → envelope_of samples claim step ≡ Ok (envelope_to samples claim step (count_of claim step))
   unfolding envelope_of
   envelope_of_few h = cond-false (nat_lt max_pieces (count_of claim step)) _ _ (is_few _ h)
-
-  -- a piece that the code makes
-  pub piece_hull_is : (k : ℕ) (stretch : Stretch) (entries : List (ℕ × ℕ)) (hull : Hull)
-      → stretch ≡ stretch_at claim step k → entries ≡ best_entries samples claim (stretch_at claim step k)
-      → hull ≡ piece_hull claim.groups claim.false_max (parts_named samples claim stretch entries)
-      → ◌≡◌ {A = PieceHullData} (record { stretch = stretch; entries = entries; hull = hull })
-      (piece_hull_at samples claim step k)
-  piece_hull_is k stretch entries hull a b e =
-      let make : Stretch → List (ℕ × ℕ) → Hull → PieceHullData =
-      λ s es h. record { stretch = s; entries = es; hull = h } in
-      ap (λ (s : Stretch). make s entries hull) a
-      ∙ ap (λ (es : List (ℕ × ℕ)). make (stretch_at claim step k) es hull) b
-      ∙ ap (make (stretch_at claim step k) (best_entries samples claim (stretch_at claim step k)))
-      (hull_is samples claim step k stretch entries hull a b e)
 
   -- one more piece
   pub piece_hulls_more : (k : ℕ) (old : List PieceHullData) (piece : PieceHullData)

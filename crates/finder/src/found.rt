@@ -112,6 +112,7 @@ fn find_pieces<S: SampleSource>(
             stretch,
             entries,
             hull,
+            ..
         } = piece_hull_at(samples, claim, step_s, tables.as_slice(), number);
         if !is_inside(claim.bound, hull) {
             return Ok(Found::Nothing {

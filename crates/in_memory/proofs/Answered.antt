@@ -3,6 +3,7 @@ use Rattle.std.proofs.Common.{◌≡◌, ℕ, List, [], Result, refl, subst}
 use Rattle.std.specs.Prelude.{IfOk}
 use Rattle.byte_stream.specs.State.{FeedState, SinkState}
 use Rattle.report.specs.Run.{RunState, run_state}
+use Rattle.report.specs.declared.conclusion.Conclusion.{Conclusion}
 use Rattle.report.specs.declared.fault.Outcome.{Outcome}
 use Rattle.report.specs.declared.fault.RunFault.{RunFault}
 use Rattle.audit.specs.Question.{AskedData}
@@ -28,21 +29,21 @@ of_memory {c} {s} {f} feeds are P h =
 
 -- what a run over these feeds came to, which are feeds of these bytes
 pub record Concluded {T F : Type 0} (asked : AskedData) (c s f : List ℕ) (sink err err' : SinkState) (ended : RunState)
-    (second second' : T) (capture capture' : F) (status : ℕ) : Type 0 where
+    (second second' : T) (capture capture' : F) (conclusion : Conclusion) : Type 0 where
   pub feeds : Feeds
   pub are : AreFeedsOf c s f feeds
   pub answers : AnswersFor asked (run_state feeds.claim feeds.second feeds.capture sink) ended
-      second second' capture capture' err err' status
-  pub shows : ShowsAt status asked.question feeds.claim feeds.second feeds.capture
+      second second' capture capture' err err' conclusion
+  pub shows : ShowsAt conclusion.code asked.question feeds.claim feeds.second feeds.capture
   pub unfailed : HaveNotFailed ended
 
 module _ {T F : Type 0} {asked : AskedData} {c s f : List ℕ} {sink err err' : SinkState} {ended : RunState}
-    {second second' : T} {capture capture' : F} {status : ℕ}
-    (told : Concluded asked c s f sink err err' ended second second' capture capture' status) where
-  pub answered : IsAnsweredFor asked c s f sink ended.sink err err' status
+    {second second' : T} {capture capture' : F} {conclusion : Conclusion}
+    (told : Concluded asked c s f sink err err' ended second second' capture capture' conclusion) where
+  pub answered : IsAnsweredFor asked c s f sink ended.sink err err' conclusion
   answered =
       let answers = of_memory told.feeds told.are (λ x y z. AnswersFor asked (run_state x y z sink) ended
-      second second' capture capture' err err' status) told.answers in
+      second second' capture capture' err err' conclusion) told.answers in
       record {
         ended = ended;
         sink_is = refl;
@@ -53,9 +54,9 @@ module _ {T F : Type 0} {asked : AskedData} {c s f : List ℕ} {sink err err' : 
           answer = answers.answer;
           promise = answers.promise.runs.reports;
           concludes = answers.concludes;
-          status_is = answers.status_is;
+          conclusion_is = answers.conclusion_is;
         };
-        shows = of_memory told.feeds told.are (λ x y z. ShowsAt status asked.question x y z) told.shows;
+        shows = of_memory told.feeds told.are (λ x y z. ShowsAt conclusion.code asked.question x y z) told.shows;
       }
 
 -- the same of a run whose answer isn't reported yet, without a second input

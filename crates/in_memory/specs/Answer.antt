@@ -3,9 +3,9 @@
 use Rattle.std.specs.Prelude.{◌≡◌, ◌⊎◌, ◌≤◌, ℕ, false, List, Some, Err}
 use Rattle.std.specs.Io.KnownBytes.{Keeps}
 use Rattle.byte_stream.specs.State.{SinkState}
-use Rattle.report.specs.ExitStatus.{status_of}
 use Rattle.report.specs.Run.{RunState, run_state}
-use Rattle.report.specs.Conclusion.{Answers, Concludes}
+use Rattle.report.specs.Conclusion.{Answers, Concludes, conclusion_of}
+use Rattle.report.specs.declared.conclusion.Conclusion.{Conclusion}
 use Rattle.report.specs.declared.fault.Outcome.{Outcome}
 use Rattle.report.specs.declared.fault.RunFault.{RunFault}
 use Rattle.audit.specs.Finding.{ShowsFinding}
@@ -37,7 +37,7 @@ ShowsOfBytes status question claim second capture =
 -- those for a finding, which shows what it says. The bytes are in memory, so the fault isn't that
 -- of a device of theirs. The status shows what it shows of them.
 pub record IsAnsweredFor (asked : AskedData) (claim second capture : List ℕ)
-    (sink sink' err err' : SinkState) (status : ℕ) : Type 0 where
+    (sink sink' err err' : SinkState) (conclusion : Conclusion) : Type 0 where
   pub ended : RunState
   pub sink_is : ended.sink ≡ sink'
   pub unfailed : HaveNotFailed ended
@@ -45,13 +45,13 @@ pub record IsAnsweredFor (asked : AskedData) (claim second capture : List ℕ)
   pub found : ShowsFinding finding (feed_of claim) (feed_of capture)
   pub answers : Answers
       (report_of_bytes asked finding (Some claim) (Some second) (Some capture))
-      (run_state (feed_of claim) (feed_of second) (feed_of capture) sink) ended err err' status
-  pub shows : ShowsOfBytes status asked.question claim second capture
+      (run_state (feed_of claim) (feed_of second) (feed_of capture) sink) ended err err' conclusion
+  pub shows : ShowsOfBytes conclusion.code asked.question claim second capture
 
 -- There are bytes of claim, second input and capture with the sums that are given for them, and
 -- they are answered for. No device of an input failed.
 pub record IsJudged (asked : AskedData) (sums : SumsData) (before after : RunState)
-    (err err' : SinkState) (status : ℕ) : Type 0 where
+    (err err' : SinkState) (conclusion : Conclusion) : Type 0 where
   pub claim : List ℕ
   pub second : List ℕ
   pub capture : List ℕ
@@ -59,28 +59,29 @@ pub record IsJudged (asked : AskedData) (sums : SumsData) (before after : RunSta
   pub second_summed : IsSecondSummed asked.second sums.text sums.second before.second.remaining
       second
   pub capture_summed : IsSummed sums.text sums.capture before.capture.remaining capture
-  pub answered : IsAnsweredFor asked claim second capture before.sink after.sink err err' status
+  pub answered : IsAnsweredFor asked claim second capture before.sink after.sink err err'
+      conclusion
   pub claim_unfailed : after.claim.faults ≡ before.claim.faults
   pub second_unfailed : after.second.faults ≡ before.second.faults
   pub capture_unfailed : after.capture.faults ≡ before.capture.faults
 
 -- A run is given up before anything is judged: the fault is reported, and nothing is written.
 pub record IsUnjudged (kind : SecondKind) (sums : SumsData) (before after : RunState)
-    (err err' : SinkState) (status : ℕ) : Type 0 where
+    (err err' : SinkState) (conclusion : Conclusion) : Type 0 where
   pub fault : RunFault
   pub fault_is : IsUnjudgedFor kind sums (feeds_of before) (feeds_of after) fault
   pub unwritten : Keeps before.sink.contents after.sink.contents
   pub closed : after.sink.is_open ≡ false
   pub concludes : Concludes (Err fault) err err'
-  pub status_is : status ≡ status_of (Err fault)
+  pub conclusion_is : conclusion ≡ conclusion_of (Err fault)
   pub counts_faults : CountFaults {A = Outcome} (Err fault) (feeds_of before) (feeds_of after)
 
 -- What a run promises that is held to sums: the inputs are judged, or the run is given up; and they
 -- are judged at status 0 and 1.
 pub record JudgesBySums (asked : AskedData) (sums : SumsData) (before after : RunState)
-    (err err' : SinkState) (status : ℕ) : Type 0 where
-  pub either : IsJudged asked sums before after err err' status
-      ⊎ IsUnjudged asked.second sums before after err err' status
-  pub judged : status ≤ 1 → IsJudged asked sums before after err err' status
+    (err err' : SinkState) (conclusion : Conclusion) : Type 0 where
+  pub either : IsJudged asked sums before after err err' conclusion
+      ⊎ IsUnjudged asked.second sums before after err err' conclusion
+  pub judged : conclusion.code ≤ 1 → IsJudged asked sums before after err err' conclusion
   pub closed : err'.is_open ≡ false
   pub at_most : TakeAtMost asked.second (feeds_of before) (feeds_of after)

@@ -16,12 +16,12 @@ use crate::named_feed::NamedFeed;
 use crate::second::SummedSource;
 use audit::{Outputs, Question, Style, answer};
 use byte_stream::Sink;
-use report::conclude;
+use report::{Conclusion, conclude};
 use std::alloc::Global;
 use std::hash::BuildHasher;
 
-/// Answers a question on inputs that are in memory, and reports the answer. The result is the exit
-/// status.
+/// Answers a question on inputs that are in memory, and reports the answer. The result is what that
+/// comes to.
 fn judge<Q: Question, T: SummedSource<Q::Second>, S: Sink, E: Sink, H: BuildHasher + Drop>(
     alloc: Global,
     question: Q,
@@ -29,7 +29,7 @@ fn judge<Q: Question, T: SummedSource<Q::Second>, S: Sink, E: Sink, H: BuildHash
     held: HeldInputs<T::Held>,
     to: &mut Outputs<S, E>,
     hasher: H,
-) -> u8
+) -> Conclusion
     requires out { IsWritable (S.state to.old.out) }
     requires err { IsWritable (E.state to.old.err) }
     ensures { (said : List ℕ) → T.Held.state held.second ≡ feed_of said →
@@ -45,7 +45,7 @@ fn judge<Q: Question, T: SummedSource<Q::Second>, S: Sink, E: Sink, H: BuildHash
 }
 
 /// Answers a question on inputs that are held to their sums, and reports the answer. The result is
-/// the exit status.
+/// what that comes to.
 ///
 /// `sums` is the text of a file of sums, which has the inputs by their names. The inputs are read
 /// whole into memory, in the order claim, second input, capture; each is held to its sum as soon as
@@ -72,7 +72,7 @@ pub fn answer_by_sums<
     capture: &mut F,
     to: &mut Outputs<S, E>,
     hasher: H,
-) -> u8
+) -> Conclusion
     requires run { MayRun (run_state
         (C.state claim.old) (T.state second.old) (F.state capture.old) (S.state to.old.out)) }
     requires err { IsWritable (E.state to.old.err) }

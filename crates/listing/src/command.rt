@@ -10,17 +10,17 @@ ghost use Rattle.listing.specs.Listing.{list_report};
 
 use crate::run::run_list;
 use byte_stream::{Feed, Sink};
-use report::conclude;
+use report::{Conclusion, conclude};
 use std::alloc::Global;
 
 /// Lists a capture on `out` as `run_list` does, and reports a fault on `err`. Beside the feed
-/// stands the exit status.
+/// stands what that comes to.
 pub fn answer_list<F: Feed, S: Sink, E: Sink>(
     alloc: Global,
     capture: F,
     out: &mut S,
     err: &mut E,
-) -> (F, u8)
+) -> (F, Conclusion)
     requires feed { IsReadable (F.state capture) }
     requires out { IsWritable (S.state out.old) }
     requires err { IsWritable (E.state err.old) }

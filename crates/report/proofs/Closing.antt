@@ -1,5 +1,5 @@
 -- How a run ends.
-use Rattle.std.proofs.Common.{◌≡◌, ◌∙◌, ◌++◌, ◌+◌, ℕ, List, [], ◌∷◌, Option, Some, None, Bool, true, false, Ok, Err, refl, sym, ap, subst, inl, inr, length, take, arith, append_assoc, IsOk}
+use Rattle.std.proofs.Common.{◌≡◌, ◌∙◌, ◌++◌, ◌+◌, ℕ, List, [], ◌∷◌, Option, Some, None, Bool, true, false, Ok, Err, refl, sym, ap, subst, inl, inr, length, take, arith, IsOk}
 use Rattle.std.proofs.Math.Seq.{take-length}
 use Rattle.std.proofs.lemmas.List.{append-nil}
 use Rattle.std.specs.List.{concat}
@@ -10,9 +10,9 @@ use Rattle.report.specs.declared.fault.Input.{Input}
 use Rattle.report.specs.declared.fault.Outcome.{Outcome}
 use Rattle.report.specs.declared.fault.RunFault.{RunFault}
 use Rattle.report.specs.declared.fault.RunFault.TheVariants.{Device, Write, Memory}
-use Rattle.report.specs.Output.{OutputState, IsReady, Puts, IsWrite}
+use Rattle.report.specs.Output.{OutputState, Puts, IsWrite}
 use Rattle.report.specs.Reports.{Report, text_of, GetsText, CountsSink, is_device}
-use Rattle.report.specs.Closing.{CanClose, IsPut, HasRun, Closes, IsRefusal, StaysOrWrites, stops_of}
+use Rattle.report.specs.Closing.{IsPut, HasRun, Closes, IsRefusal, StaysOrWrites, stops_of}
 use Rattle.report.proofs.Known.{appends_kept, appends_same}
 use Rattle.report.proofs.OutputSteps.{put_all}
 

@@ -1,13 +1,28 @@
--- How an answer is reported beside its status: a fault by its line, and an outcome by nothing.
-use Rattle.std.specs.Prelude.{◌≡◌, ℕ, List, [], ◌++◌, codes, Option, Result, Ok, Err}
+-- What a command comes to, and how its answer is reported: a fault by its line, and an outcome by
+-- nothing.
+use Rattle.std.specs.Prelude.{◌≡◌, ℕ, List, [], ◌++◌, codes, Option, Some, None, Result, Ok, Err}
 use Rattle.byte_stream.specs.State.{SinkState}
+use Rattle.report.specs.declared.conclusion.Conclusion.{Conclusion}
 use Rattle.report.specs.declared.fault.Outcome.{Outcome}
 use Rattle.report.specs.declared.fault.RunFault.{RunFault}
 use Rattle.report.specs.Delivery.{IsDelivered}
-use Rattle.report.specs.ExitStatus.{status_of}
+use Rattle.report.specs.ExitStatus.{refused_status, status_of}
 use Rattle.report.specs.FaultText.{fault_text}
 use Rattle.report.specs.Run.{RunState}
 use Rattle.report.specs.Reports.{Report, Reports}
+
+-- the fault that is an answer: none if it's an outcome
+abbrev pub fault_of : Result Outcome RunFault → Option RunFault
+fault_of (Ok outcome) = None
+fault_of (Err fault) = Some fault
+
+-- what a command comes to with this answer: its exit status, and the fault that is reported
+abbrev pub conclusion_of : Result Outcome RunFault → Conclusion
+conclusion_of answer = record { code = status_of answer; fault = fault_of answer }
+
+-- what a refused command line comes to
+abbrev pub refused_conclusion : Conclusion
+refused_conclusion = record { code = refused_status; fault = None }
 
 -- the line that reports an answer, with its line feed: none for an outcome
 abbrev pub conclusion_text : Result Outcome RunFault → List ℕ
@@ -20,16 +35,16 @@ abbrev pub Concludes : Result Outcome RunFault → SinkState → SinkState → T
 Concludes answer before after = IsDelivered (conclusion_text answer) before after
 
 -- What a caller of a whole command sees: there is one answer for which a promise holds; the line of
--- its fault stands in the sink for errors, and its status in the result.
+-- its fault stands in the sink for errors, and its status and its fault in the result.
 pub record IsConcluded (Promise : Result Outcome RunFault → Type 0) (err err' : SinkState)
-    (status : ℕ) : Type 0 where
+    (conclusion : Conclusion) : Type 0 where
   pub answer : Result Outcome RunFault
   pub promise : Promise answer
   pub concludes : Concludes answer err err'
-  pub status_is : status ≡ status_of answer
+  pub conclusion_is : conclusion ≡ conclusion_of answer
 
 -- the same of a command that promises this report in the output's sink
 abbrev pub Answers :
-    Option Report → RunState → RunState → SinkState → SinkState → ℕ → Type 0
-Answers report before after err err' status =
-    IsConcluded (Reports report before after) err err' status
+    Option Report → RunState → RunState → SinkState → SinkState → Conclusion → Type 0
+Answers report before after err err' conclusion =
+    IsConcluded (Reports report before after) err err' conclusion

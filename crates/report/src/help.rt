@@ -6,13 +6,13 @@ ghost use Rattle.report.specs.Reports.{whole_text};
 ghost use Rattle.report.specs.Run.{bare_state};
 ghost use Rattle.report.specs.Conclusion.{Answers};
 
-use crate::conclusion::conclude;
+use crate::conclusion::{Conclusion, conclude};
 use crate::fault::Outcome;
 use crate::publication::{Made, publish};
 use byte_stream::Sink;
 
-/// Shows a text on `out`. The result is the exit status.
-pub fn show<S: Sink, E: Sink>(text: String, out: &mut S, err: &mut E) -> u8
+/// Shows a text on `out`. The result is what that comes to.
+pub fn show<S: Sink, E: Sink>(text: String, out: &mut S, err: &mut E) -> Conclusion
     requires out { IsWritable (S.state out.old) }
     requires err { IsWritable (E.state err.old) }
     ensures { Answers (Some (whole_text (string_bytes text) Outcome.Yes))

@@ -37,7 +37,7 @@ mod refutation_input;
 
 pub use certificate_input::{MAX_CERTIFICATE, read_certificate_from};
 pub use claim_input::{MAX_CLAIM, read_claim_from};
-pub use conclusion::conclude;
+pub use conclusion::{Conclusion, conclude};
 pub use delivery::deliver;
 pub use exit_status::status;
 pub use fault::{Input, Outcome, RunFault, SumsFault};

@@ -9,24 +9,12 @@ use crate::least_line::line_for;
 use crate::question::Question;
 use crate::question::find::run_fault_of;
 use crate::sample_list::samples_of;
-use crate::step::Step;
-use audit_text::envelope_text;
+use audit_text::{Envelope, envelope_text};
 use finder::laws::best_hulls_hold_the_error;
 use finder::{LeastBound, find_envelope_over};
 use line_writer::Style;
 use report::{Outcome, RunFault};
 use std::alloc::{AllocError, Global};
-
-/// How far off may the clock have been, piece by piece?
-#[derive(Clone, Copy, Debug)]
-pub struct Envelope {
-    /// How long the pieces are.
-    pub step: Step,
-    /// Whether to show what each server says about each piece.
-    pub servers: bool,
-    /// Whether to show the least bound that a certificate carries.
-    pub least: bool,
-}
 
 /// The outcome of a least bound.
 fn outcome_of(least: LeastBound) -> Outcome
@@ -41,7 +29,7 @@ fn outcome_of(least: LeastBound) -> Outcome
 impl Question for Envelope {
     type Second = ();
 
-    ghost asks = { λ asked. envelope asked.step.seconds asked.servers asked.least };
+    ghost asks = { envelope };
 
     fn make(self, alloc: Global, style: Style, _second: &(), evidence: Evidence) -> Making {
         best_hulls_hold_the_error();
@@ -50,10 +38,7 @@ impl Question for Envelope {
             Ok(envelope) => match line_for(alloc, self.step, self.least, &evidence) {
                 Ok(line) => {
                     let samples = samples_of(&evidence);
-                    let servers = self.servers;
-                    let text = envelope_text(
-                        alloc, style, samples, claim, servers, &envelope, line,
-                    );
+                    let text = envelope_text(alloc, style, self, samples, claim, &envelope, line);
                     made_whole(text, outcome_of(envelope.least))
                 }
                 Err(AllocError) => Err(RunFault::Memory),

@@ -22,7 +22,7 @@ use std::alloc::{AllocError, Global};
 
 /// Is there a refutation of the claim?
 #[derive(Clone, Copy, Debug)]
-pub struct FindRefutation;
+pub(crate) struct FindRefutation;
 
 /// The outcome of a search.
 fn outcome_of(found: &Option<Refutation>) -> Outcome

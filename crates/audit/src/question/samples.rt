@@ -12,7 +12,7 @@ use std::alloc::{AllocError, Global};
 
 /// What does each exchange say about the clock?
 #[derive(Clone, Copy, Debug)]
-pub struct Samples;
+pub(crate) struct Samples;
 
 impl Question for Samples {
     type Second = ();

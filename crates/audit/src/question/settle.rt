@@ -29,7 +29,7 @@ use std::alloc::{AllocError, Global};
 
 /// Is the claim shown, refuted, fitted by no course of events, or does it stay open?
 #[derive(Clone, Copy, Debug)]
-pub struct Settle;
+pub(crate) struct Settle;
 
 /// The outcome of a settled claim.
 fn outcome_of(settled: &Settled) -> Outcome

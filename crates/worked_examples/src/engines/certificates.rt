@@ -1,10 +1,10 @@
 //! The worked rows on `check` and `find`.
 
-use crate::engines::trial::{Command, NO, Row, YES, hold};
+use crate::engines::trial::{Command, FIND, NO, Row, YES, hold};
 use crate::expectation::table;
 use crate::inputs::{COUNTS, LONG, LONG_TIGHT, NANO, REQUEST, TIGHT, WHOLE};
-use Command::{Check, Find};
-use audit::Style;
+use Command::{Ask, Check};
+use audit::{Find, Request, Step, Style};
 use vectors::K1;
 
 const CLIENT: &str = "client 192.0.2.10 servers 1 false_max 0\n";
@@ -50,14 +50,19 @@ const ONE_PIECE: &str = "{\"pieces\":[{\"entries\":[[0,0]],\"upto\":429496757087
 const TWO_PIECES: &str = "{\"pieces\":[{\"entries\":[[0,0]],\"upto\":4294967433438953472},\
     {\"entries\":[[0,0]],\"upto\":4294967570877906944}]}\n";
 
+/// Pieces of 32 seconds.
+const FIND_TWO: Command<'static> = Ask(Request::Find(Find {
+    step: Step { seconds: 32 },
+}));
+
 /// A moment, and a span of 64 seconds with a drift, in one piece and in two.
 const FINDS: [Row<'static>; 6] = table! {
-    Find(64), &[], WHOLE, YES, &[K1, "\n"];
-    Find(64), &[TIGHT], WHOLE, NO, &["nothing piece 0 hull -42949674 42953969\n"];
-    Find(64), &LONG, WHOLE, YES, &[ONE_PIECE];
-    Find(64), &LONG_TIGHT, WHOLE, NO, &["nothing piece 0 hull -48447343 48449920\n"];
-    Find(32), &LONG, WHOLE, YES, &[TWO_PIECES];
-    Find(32), &LONG_TIGHT, WHOLE, NO, &["nothing piece 1 hull -48447343 48449920\n"];
+    FIND, &[], WHOLE, YES, &[K1, "\n"];
+    FIND, &[TIGHT], WHOLE, NO, &["nothing piece 0 hull -42949674 42953969\n"];
+    FIND, &LONG, WHOLE, YES, &[ONE_PIECE];
+    FIND, &LONG_TIGHT, WHOLE, NO, &["nothing piece 0 hull -48447343 48449920\n"];
+    FIND_TWO, &LONG, WHOLE, YES, &[TWO_PIECES];
+    FIND_TWO, &LONG_TIGHT, WHOLE, NO, &["nothing piece 1 hull -48447343 48449920\n"];
 };
 
 #[test]

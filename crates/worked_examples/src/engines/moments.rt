@@ -1,11 +1,11 @@
 //! The worked rows on `samples` and `at`.
 
-use crate::engines::trial::{Command, Row, YES, hold};
+use crate::engines::trial::{AT, Command, Row, YES, hold};
 use crate::expectation::table;
 use crate::inputs::{COUNTS, Capture, Edit, NANO, WHOLE};
-use Command::{At, Samples};
-use audit::Style;
-use vectors::SECOND;
+use Command::Ask;
+use Request::Samples;
+use audit::{Request, Style};
 
 const SAMPLE: &str = "0 192.0.2.1 0 1 offset -4295 1 delay 85895050 85903641 \
     low -42949674 high 42953969\n";
@@ -46,13 +46,13 @@ const TWO_GROUPS: Edit<'static> = (
 /// A reply is paired with no request if two were sent that it may answer. A reply that came twice
 /// gives two samples.
 const ROWS: [Row<'static>; 7] = table! {
-    Samples, &[], WHOLE, YES, &[SAMPLE, COUNTS];
-    Samples, &[], REQUEST_TWICE, YES, &[AMBIGUOUS];
-    Samples, &[], REPLY_TWICE, YES, &[SAMPLE, AGAIN, AGAIN_COUNTS];
-    At(SECOND), &[], WHOLE, YES, &[SERVER, HULL];
-    At(SECOND), &[], NANO, YES, &["192.0.2.1 -42949674 42949679\nhull -42949674 42949679\n"];
-    At(SECOND), &[ONE_GROUP], TWO, YES, &[SERVER, OTHER, "hull unbounded\n"];
-    At(SECOND), &[TWO_GROUPS], TWO, YES, &[SERVER, OTHER, HULL];
+    Ask(Samples), &[], WHOLE, YES, &[SAMPLE, COUNTS];
+    Ask(Samples), &[], REQUEST_TWICE, YES, &[AMBIGUOUS];
+    Ask(Samples), &[], REPLY_TWICE, YES, &[SAMPLE, AGAIN, AGAIN_COUNTS];
+    AT, &[], WHOLE, YES, &[SERVER, HULL];
+    AT, &[], NANO, YES, &["192.0.2.1 -42949674 42949679\nhull -42949674 42949679\n"];
+    AT, &[ONE_GROUP], TWO, YES, &[SERVER, OTHER, "hull unbounded\n"];
+    AT, &[TWO_GROUPS], TWO, YES, &[SERVER, OTHER, HULL];
 };
 
 #[test]

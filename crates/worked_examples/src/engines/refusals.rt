@@ -1,16 +1,18 @@
 //! Inputs that are refused, by every engine that reads them.
 
-use crate::engines::trial::{COMMANDS, Command, Row, hold};
+use crate::engines::envelopes::{PLAIN, SERVERS};
+use crate::engines::trial::{AT, COMMANDS, Command, FIND, Row, hold};
 use crate::expectation::table;
 use crate::inputs::{Capture, Edit, REFUTATION, TO, WHOLE, padded};
 use CaptureFault::{BadFraction, Link, Magic, TooLong, TornHeader, TornRecord, Version};
-use Command::{At, Check, Envelope, Find, FindRefutation, Refute, Samples};
-use audit::Style;
+use Command::{Ask, Check, Refute};
+use Request::{FindRefutation, Samples};
+use audit::{Envelope, Find, Request, Step, Style};
 use certificate::{CertificateFault, RefutationFault};
 use claim_file::ClaimFault;
 use pcap_reader::CaptureFault;
 use report::{Input, RunFault};
-use vectors::{C1, K1, SECOND};
+use vectors::{C1, K1};
 
 /// Captures that are refused: for their header, torn, too long, and with a whole second in the
 /// sub-second field, in microseconds and in nanoseconds.
@@ -60,27 +62,37 @@ const LATE: Edit<'static> = (r#""false_max":0,"from":""#, r#""false_max":32,"fro
 /// A span of more than 100,000 seconds.
 const DAY: Edit<'static> = (TO, r#""to":"2001-09-10T05:33:21Z""#);
 
+/// Pieces of a second.
+const SHORT_STEP: Step = Step { seconds: 1 };
+
+const FIND_SHORT: Command<'static> = Ask(Request::Find(Find { step: SHORT_STEP }));
+
+const ENVELOPE_SHORT: Command<'static> = Ask(Request::Envelope(Envelope {
+    step: SHORT_STEP,
+    ..PLAIN
+}));
+
 const TOO_GREAT: &str = r#"{"error":9223372036854775808,"false":[],"reading":0}"#;
 
 /// The claim is refused before the second input, and this before the capture, which is torn. A time
 /// is told before a number. That a span has too many pieces is found last.
 const FIRST: [Row<'static>; 16] = table! {
     Check("{}"), &[OPEN], TORN, Err(NO_JSON), &[];
-    Samples, &[NO_FIELD], TORN, Err(NO_CLIENT), &[];
+    Ask(Samples), &[NO_FIELD], TORN, Err(NO_CLIENT), &[];
     Refute("{}"), &[OPEN], TORN, Err(NO_JSON), &[];
-    FindRefutation, &[NO_FIELD], TORN, Err(NO_CLIENT), &[];
-    Envelope(64, true, false), &[NO_FIELD], TORN, Err(NO_CLIENT), &[];
+    Ask(FindRefutation), &[NO_FIELD], TORN, Err(NO_CLIENT), &[];
+    SERVERS, &[NO_FIELD], TORN, Err(NO_CLIENT), &[];
     Check("{}"), &[], TORN, Err(RunFault::Certificate(CertificateFault::Top)), &[];
     Refute("{}"), &[], TORN, Err(NO_REFUTATION), &[];
     Refute("["), &[], TORN, Err(RunFault::Refutation(RefutationFault::Json)), &[];
     Refute(TOO_GREAT), &[], TORN, Err(NO_REFUTATION), &[];
     Check(K1), &[], TORN, Err(NO_HEADER), &[];
     Refute(REFUTATION), &[], TORN, Err(NO_HEADER), &[];
-    At(SECOND), &[LATE], TORN, Err(RunFault::Claim(ClaimFault::Time)), &[];
-    Find(1), &[DAY], WHOLE, Err(RunFault::Pieces), &[];
-    Envelope(1, false, false), &[DAY], WHOLE, Err(RunFault::Pieces), &[];
-    Find(1), &[DAY], TORN, Err(NO_HEADER), &[];
-    Envelope(1, false, false), &[DAY], TORN, Err(NO_HEADER), &[];
+    AT, &[LATE], TORN, Err(RunFault::Claim(ClaimFault::Time)), &[];
+    FIND_SHORT, &[DAY], WHOLE, Err(RunFault::Pieces), &[];
+    ENVELOPE_SHORT, &[DAY], WHOLE, Err(RunFault::Pieces), &[];
+    FIND_SHORT, &[DAY], TORN, Err(NO_HEADER), &[];
+    ENVELOPE_SHORT, &[DAY], TORN, Err(NO_HEADER), &[];
 };
 
 #[test]
@@ -99,7 +111,7 @@ fn long_inputs(rt: HostRuntime) {
         let refutation = padded(&rt, rt.alloc(), REFUTATION, length);
         let edit = (C1, claim.as_str());
         let rows: [Row<'_>; 2] = table! {
-            Find(64), &[edit], TORN, Err(claim_fault), &[];
+            FIND, &[edit], TORN, Err(claim_fault), &[];
             Refute(refutation.as_str()), &[], TORN, Err(refutation_fault), &[];
         };
         hold(&rt, rt.alloc(), Style::Plain, &rows);

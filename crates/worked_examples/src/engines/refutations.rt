@@ -3,8 +3,9 @@
 use crate::engines::trial::{Command, NO, Row, YES, hold};
 use crate::expectation::table;
 use crate::inputs::{Capture, ONE, REFUTATION, TIGHT, WHOLE, ZERO};
-use Command::{FindRefutation, Refute};
-use audit::Style;
+use Command::{Ask, Refute};
+use Request::FindRefutation;
+use audit::{Request, Style};
 
 /// The refutation in which the one server is wrong.
 const LIAR: &str = r#"{"error":42953973,"false":[0],"reading":4294967296000000000}"#;
@@ -50,12 +51,12 @@ const ROWS: [Row<'static>; 16] = table! {
     Refute(GREATEST), &[TIGHT], WHOLE, YES, &["refuted yes\n"];
     Refute(BEYOND), &[TIGHT], WHOLE, NO, &["refuted no\n"];
     Refute(REFUTATION), &[TIGHT], TURNED, NO, &["refuted no\n"];
-    FindRefutation, &[TIGHT], WHOLE, YES, &[REFUTATION, "\n"];
-    FindRefutation, &[], WHOLE, NO, &["nothing refutation\n"];
-    FindRefutation, &[ZERO], WHOLE, YES, &[r#"{"error":1,"false":[],"reading":4294967296000000000}"#, "\n"];
-    FindRefutation, &[ONE], WHOLE, YES, &[LIAR, "\n"];
-    FindRefutation, &[], BEHIND, YES, &[FAST, "\n"];
-    FindRefutation, &[], AHEAD, YES, &[SLOW, "\n"];
+    Ask(FindRefutation), &[TIGHT], WHOLE, YES, &[REFUTATION, "\n"];
+    Ask(FindRefutation), &[], WHOLE, NO, &["nothing refutation\n"];
+    Ask(FindRefutation), &[ZERO], WHOLE, YES, &[r#"{"error":1,"false":[],"reading":4294967296000000000}"#, "\n"];
+    Ask(FindRefutation), &[ONE], WHOLE, YES, &[LIAR, "\n"];
+    Ask(FindRefutation), &[], BEHIND, YES, &[FAST, "\n"];
+    Ask(FindRefutation), &[], AHEAD, YES, &[SLOW, "\n"];
 };
 
 #[test]

@@ -2,29 +2,25 @@
 
 ghost use Rattle.byte_stream.specs.State.{IsWritable};
 
+use crate::engines::envelopes::SERVERS;
 use crate::expectation::{assert_equal, assert_equal_at, assert_ok, table};
 use crate::inputs::{Capture, Edit, REFUTATION, capture_of, claim_of};
-use audit::{At, Check, Envelope, Find, FindRefutation, Refute, Samples, Step, Style};
+use audit::{At, Check, Find, Refute, Request, Step, Style};
 use byte_stream::{Cut, Feed, Sink, TestFeed, TestSink};
 use listing::run_list;
 use report::{Input, Outcome, RunFault};
 use std::alloc::Global;
 use std::hash::{BuildHasherDefault, FoldHasher};
 use std::process::Abort;
-use vectors::K1;
+use vectors::{K1, SECOND};
 
-/// A command, with what it's asked for: a moment in Unix seconds, its second input, or the length
-/// of pieces in seconds, whether to show the servers, and whether to show the least bound.
+/// A command, with what it asks or with its second input.
 #[derive(Clone, Copy, Debug)]
 pub(crate) enum Command<'a> {
     List,
-    Samples,
-    At(u32),
+    Ask(Request),
     Check(&'a str),
-    Find(u32),
     Refute(&'a str),
-    FindRefutation,
-    Envelope(u32, bool, bool),
 }
 
 impl<'a> Command<'a> {
@@ -56,15 +52,26 @@ pub(crate) const NO: Answer = Ok(Outcome::No);
 /// A command, and its answer on the worked inputs.
 pub(crate) type Worked = (Command<'static>, Answer);
 
+/// The worked moment.
+pub(crate) const AT: Command<'static> = Command::Ask(Request::At(At {
+    unix_second: SECOND,
+}));
+
+/// Pieces of 64 seconds.
+pub(crate) const LONG_STEP: Step = Step { seconds: 64 };
+
+/// A certificate in such pieces.
+pub(crate) const FIND: Command<'static> = Command::Ask(Request::Find(Find { step: LONG_STEP }));
+
 /// Each command that has a claim.
 pub(crate) const COMMANDS: [Worked; 7] = table! {
-    Command::Samples, YES;
-    Command::At(1_000_000_000), YES;
+    Command::Ask(Request::Samples), YES;
+    AT, YES;
     Command::Check(K1), YES;
-    Command::Find(64), YES;
+    FIND, YES;
     Command::Refute(REFUTATION), NO;
-    Command::FindRefutation, NO;
-    Command::Envelope(64, true, false), YES;
+    Command::Ask(Request::FindRefutation), NO;
+    SERVERS, YES;
 };
 
 /// The input of which a pull fails, and the number of that pull, the first being number 1.
@@ -94,12 +101,6 @@ impl Ran<'_> {
     }
 }
 
-/// Pieces of this many seconds.
-fn step_of(seconds: u32) -> Step {
-    let seconds = seconds.max(1).min(86_400);
-    Step { seconds }
-}
-
 /// Runs a command on feeds that cut and fail so.
 pub(crate) fn run<'a>(
     alloc: Global,
@@ -121,41 +122,13 @@ pub(crate) fn run<'a>(
     let none = &mut ();
     let (capture, answer) = match asked.command {
         Command::List => run_list(alloc, capture, out),
-        Command::Samples => audit::run(alloc, Samples, style, first, none, capture, out, hasher),
-        Command::At(second) => {
-            let at = At {
-                unix_second: second,
-            };
-            audit::run(alloc, at, style, first, none, capture, out, hasher)
+        Command::Ask(request) => {
+            audit::run(alloc, request, style, first, none, capture, out, hasher)
         }
         Command::Check(_) => audit::run(alloc, Check, style, first, next, capture, out, hasher),
-        Command::Find(seconds) => {
-            let find = Find {
-                step: step_of(seconds),
-            };
-            audit::run(alloc, find, style, first, none, capture, out, hasher)
-        }
         Command::Refute(_) => {
             let refute = Refute { drift: false };
             audit::run(alloc, refute, style, first, next, capture, out, hasher)
-        }
-        Command::FindRefutation => audit::run(
-            alloc,
-            FindRefutation,
-            style,
-            first,
-            none,
-            capture,
-            out,
-            hasher,
-        ),
-        Command::Envelope(seconds, servers, least) => {
-            let envelope = Envelope {
-                step: step_of(seconds),
-                servers,
-                least,
-            };
-            audit::run(alloc, envelope, style, first, none, capture, out, hasher)
         }
     };
     Ran {

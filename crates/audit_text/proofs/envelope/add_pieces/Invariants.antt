@@ -7,6 +7,6 @@ use Rattle.audit_text.proofs.envelope.add_pieces.Given as goal
 
 abbrev pub invariant-loop-number : goal.invariant-loop-number
 invariant-loop-number g l =
-    let row = piece_lines l.style (g.S.SampleSource.samples l.samples) (data_of l.claim) l.servers in
+    let row = piece_lines l.style l.asked (g.S.SampleSource.samples l.samples) (data_of l.claim) in
     let pieces = map piece_data l.pieces in
     l.text.items ++ rows_from row l.number (drop l.number pieces) ≡ l.initial.text.items ++ rows_from row 0 pieces

@@ -2,7 +2,7 @@ use Rattle.std.proofs.Common.{◌∙◌}
 use Rattle.claim_file.specs.Claim.{data_of as claim_data}
 use Rattle.finder.specs.Piece.{stretch_at}
 use Rattle.finder.proofs.EntryList.{entries_there}
-use Rattle.finder.proofs.EnvelopePieces.{piece_hull_is}
+use Rattle.finder.proofs.Finding.{hull_is}
 use Rattle.finder.proofs.SpanPieces.{piece_of_claim}
 use Rattle.finder.proofs.piece_hull.piece_hull_at.Goals as goal
 
@@ -20,6 +20,10 @@ hull_of-hull-requires-clause-named g c =
 
 pub returns : goal.returns
 returns g c =
-    piece_hull_is (g.S.SampleSource.samples c.args.samples) (claim_data c.args.claim.now) c.args.step_s c.args.number
-    _ _ c.hull_of-hull.result c.stretch_at-stretch.ensures (c.entries_at-entries.ensures ∙ c.requires.best)
-    c.hull_of-hull.ensures
+    let stretch = c.stretch_at-stretch.ensures in
+    let entries = c.entries_at-entries.ensures ∙ c.requires.best in
+    let samples = g.S.SampleSource.samples c.args.samples in
+    let hull =
+    hull_is samples (claim_data c.args.claim.now) c.args.step_s c.args.number _ _ c.hull_of-hull.result stretch entries
+    c.hull_of-hull.ensures in
+    cc

@@ -1,6 +1,7 @@
-use Rattle.std.proofs.Common.{◌≡◌, ℕ, false, inl, rules}
+use Rattle.std.proofs.Common.{◌≡◌, false, inl, rules}
 use Rattle.byte_stream.specs.State.{SinkState}
 use Rattle.report.specs.Run.{RunState}
+use Rattle.report.specs.declared.conclusion.Conclusion.{Conclusion}
 use Rattle.audit.specs.Question.{AskedData}
 use Rattle.in_memory.specs.Answer.{IsJudged, JudgesBySums, feeds_of}
 use Rattle.in_memory.specs.Holding.{TakeAtMost}
@@ -8,9 +9,10 @@ use Rattle.in_memory.specs.Sums.{SumsData}
 use Rattle.in_memory.proofs.engine.answer_by_sums.Goals as goal
 
 -- what was judged
-by_judged : {asked : AskedData} {sums : SumsData} {before after : RunState} {err err' : SinkState} {status : ℕ} →
-    IsJudged asked sums before after err err' status → err'.is_open ≡ false →
-    TakeAtMost asked.second (feeds_of before) (feeds_of after) → JudgesBySums asked sums before after err err' status
+by_judged : {asked : AskedData} {sums : SumsData} {before after : RunState} {err err' : SinkState}
+    {conclusion : Conclusion} → IsJudged asked sums before after err err' conclusion → err'.is_open ≡ false →
+    TakeAtMost asked.second (feeds_of before) (feeds_of after) →
+    JudgesBySums asked sums before after err err' conclusion
 by_judged judged closed at_most = record {
   either = inl judged;
   judged = λ few. judged;

@@ -5,5 +5,5 @@ returns-clause-answers g c = record {
   answer = c.run_list-capture.result.1;
   promise = c.run_list-capture.ensures.reports;
   concludes = c.conclude.ensures.concludes;
-  status_is = c.conclude.ensures.status;
+  conclusion_is = c.conclude.ensures.exact;
 }

@@ -28,7 +28,7 @@ returns-in-Ok-line_for-clause-made c =
     record {
       finding = record { settled = no_finding.settled; least = line.found };
       found = record { settled = tt; least = line.shows };
-      is_made = envelope_made c.args.style step c.args.self.servers c.args.self.least line.found e _
+      is_made = envelope_made c.args.style c.args.self line.found e _
           (envelope_data c.in-Ok.envelope) c.in-Ok-line_for.line exact line.line_is
           (rw c.outcome_of.ensures at (made_whole_is c.envelope_text-text.result (λ t. t.items) c.outcome_of.result
           c.made_whole.result _ c.made_whole.ensures.made
@@ -42,7 +42,7 @@ returns-in-Ok-line_for-clause-shows c =
     let outcome = c.outcome_of.result in
     let samples = c.samples_of.ensures in
     outcome_shows c.made_whole.result outcome
-    (ShowsOf (envelope asked.step.seconds asked.servers asked.least) no_second nothing_said e)
+    (ShowsOf (envelope asked) no_second nothing_said e)
     (of_evidence (IsEnvelopeOf asked.step.seconds outcome) e
     (envelope_shows c.best_hulls_hold_the_error.ensures asked.step.seconds e c.requires.evidence.claim
     samples.of_claim _ samples.samples c.in-Ok.envelope outcome c.outcome_of.ensures c.in-Ok.ensures))
@@ -54,6 +54,5 @@ returns-in-Ok-clause-made c = unfound tt
 pub returns-clause-made : goal.returns-clause-made
 returns-clause-made c =
     let e = evidence_data c.args.evidence in
-    unfound (envelope_refused c.args.style c.args.self.step.seconds c.args.self.servers c.args.self.least e
-    c.in-Err.fault c.run_fault_of.result c.run_fault_of.ensures
+    unfound (envelope_refused c.args.style c.args.self e c.in-Err.fault c.run_fault_of.result c.run_fault_of.ensures
     (rw c.samples_of.ensures.samples at c.in-Err.ensures.exact))
