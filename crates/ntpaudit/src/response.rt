@@ -1,25 +1,25 @@
 //! The answer to what a command line calls for, over files that were opened.
 
-ghost use Rattle.std.specs.Prelude.{◌≡◌, IfSome, false};
+ghost use Rattle.std.specs.Prelude.{IfSome};
 ghost use Rattle.byte_stream.specs.State.{IsReadable, IsWritable};
 ghost use Rattle.audit.specs.Run.{MayRun};
 ghost use Rattle.audit.specs.Check.{check};
 ghost use Rattle.audit.specs.Question.{asked_of};
 ghost use Rattle.audit.specs.Second.{certificate_second};
 ghost use Rattle.ntpaudit.specs.Reading.{reading, run_of};
-ghost use Rattle.ntpaudit.specs.Response.{AnswersBySums, IsAnswered, IsJudgedBy, Responds};
-ghost use Rattle.ntpaudit.specs.Response.{judged_of};
+ghost use Rattle.ntpaudit.specs.Response.{AnswersBySums, IsAnswered, IsJudgedBy, IsReported};
+ghost use Rattle.ntpaudit.specs.Response.{Responds, judged_of};
 
 use crate::files::Inputs;
 use crate::invocation::Judgement;
 use audit::{Check, Outputs, Question, Style, answer, answer_check};
 use byte_stream::{Feed, Sink};
 use in_memory::{MAX_SUMS, NamedFeed, SummedSource, answer_by_sums};
-use report::{Input, conclude, read_input};
+use report::{Conclusion, Input, conclude, read_input};
 use std::alloc::Global;
 use std::hash::BuildHasher;
 
-/// Answers a question. The result is the exit status.
+/// Answers a question. The result is what that comes to.
 fn answer_alone<
     Q: Question,
     C: NamedFeed + Drop,
@@ -35,7 +35,7 @@ fn answer_alone<
     inputs: Inputs<C, T, F>,
     to: &mut Outputs<S, E>,
     hasher: H,
-) -> u8
+) -> Conclusion
     requires run { MayRun (run_of (reading C.state T.state F.state C.named T.named F.named)
         inputs (S.state to.old.out)) }
     requires err { IsWritable (E.state to.old.err) }
@@ -43,7 +43,7 @@ fn answer_alone<
         (asked_of (Q.asks question) Q.Second.kind style)
         inputs (S.state to.old.out) (S.state to.new.out)
         (E.state to.old.err) (E.state to.new.err) result }
-    ensures closed { (E.state to.new.err).is_open ≡ false }
+    ensures reported { IsReported (E.state to.old.err) (E.state to.new.err) result }
 {
     let Inputs {
         mut claim,
@@ -54,7 +54,7 @@ fn answer_alone<
     answer(alloc, question, style, claim, second, capture, to, hasher).1
 }
 
-/// Checks a certificate. The result is the exit status.
+/// Checks a certificate. The result is what that comes to.
 fn check_alone<
     C: NamedFeed + Drop,
     T: NamedFeed + Drop,
@@ -62,7 +62,13 @@ fn check_alone<
     S: Sink,
     E: Sink,
     H: BuildHasher + Drop,
->(alloc: Global, style: Style, inputs: Inputs<C, T, F>, to: &mut Outputs<S, E>, hasher: H) -> u8
+>(
+    alloc: Global,
+    style: Style,
+    inputs: Inputs<C, T, F>,
+    to: &mut Outputs<S, E>,
+    hasher: H,
+) -> Conclusion
     requires run { MayRun (run_of (reading C.state T.state F.state C.named T.named F.named)
         inputs (S.state to.old.out)) }
     requires err { IsWritable (E.state to.old.err) }
@@ -70,7 +76,7 @@ fn check_alone<
         (asked_of check certificate_second style)
         inputs (S.state to.old.out) (S.state to.new.out)
         (E.state to.old.err) (E.state to.new.err) result }
-    ensures closed { (E.state to.new.err).is_open ≡ false }
+    ensures reported { IsReported (E.state to.old.err) (E.state to.new.err) result }
 {
     let Inputs {
         mut claim,
@@ -82,7 +88,7 @@ fn check_alone<
 }
 
 /// Answers a question, with each input held to its line in the text of a file of sums, under its
-/// name. The result is the exit status.
+/// name. The result is what that comes to.
 fn answer_by_text<
     Q: Question,
     C: NamedFeed + Drop,
@@ -99,7 +105,7 @@ fn answer_by_text<
     inputs: Inputs<C, T, F>,
     to: &mut Outputs<S, E>,
     hasher: H,
-) -> u8
+) -> Conclusion
     requires run { MayRun (run_of (reading C.state T.state F.state C.named T.named F.named)
         inputs (S.state to.old.out)) }
     requires err { IsWritable (E.state to.old.err) }
@@ -107,7 +113,7 @@ fn answer_by_text<
         (asked_of (Q.asks question) Q.Second.kind style)
         inputs text.now (S.state to.old.out) (S.state to.new.out)
         (E.state to.old.err) (E.state to.new.err) result }
-    ensures closed { (E.state to.new.err).is_open ≡ false }
+    ensures reported { IsReported (E.state to.old.err) (E.state to.new.err) result }
 {
     let Inputs {
         mut claim,
@@ -138,7 +144,7 @@ fn answer_by_file<
     mut sums: U,
     to: &mut Outputs<S, E>,
     hasher: H,
-) -> u8
+) -> Conclusion
     requires run { MayRun (run_of (reading C.state T.state F.state C.named T.named F.named)
         inputs (S.state to.old.out)) }
     requires err { IsWritable (E.state to.old.err) }
@@ -147,7 +153,7 @@ fn answer_by_file<
         U.state (asked_of (Q.asks question) Q.Second.kind style)
         inputs sums (S.state to.old.out) (S.state to.new.out)
         (E.state to.old.err) (E.state to.new.err) result }
-    ensures closed { (E.state to.new.err).is_open ≡ false }
+    ensures reported { IsReported (E.state to.old.err) (E.state to.new.err) result }
 {
     match read_input(alloc, &mut sums, Input::Sums, MAX_SUMS) {
         Ok(text) => {
@@ -158,7 +164,7 @@ fn answer_by_file<
     }
 }
 
-/// Answers a question, by a file of sums if there is one. The result is the exit status.
+/// Answers a question, by a file of sums if there is one. The result is what that comes to.
 pub(crate) fn ask<
     Q: Question,
     C: NamedFeed + Drop,
@@ -176,7 +182,7 @@ pub(crate) fn ask<
     sums: Option<U>,
     to: &mut Outputs<S, E>,
     hasher: H,
-) -> u8
+) -> Conclusion
     requires run { MayRun (run_of (reading C.state T.state F.state C.named T.named F.named)
         inputs (S.state to.old.out)) }
     requires err { IsWritable (E.state to.old.err) }
@@ -192,7 +198,7 @@ pub(crate) fn ask<
     }
 }
 
-/// Checks a certificate, by a file of sums if there is one. The result is the exit status.
+/// Checks a certificate, by a file of sums if there is one. The result is what that comes to.
 fn check_one<
     C: NamedFeed + Drop,
     T: NamedFeed + Drop,
@@ -208,7 +214,7 @@ fn check_one<
     sums: Option<U>,
     to: &mut Outputs<S, E>,
     hasher: H,
-) -> u8
+) -> Conclusion
     requires run { MayRun (run_of (reading C.state T.state F.state C.named T.named F.named)
         inputs (S.state to.old.out)) }
     requires err { IsWritable (E.state to.old.err) }
@@ -224,8 +230,8 @@ fn check_one<
     }
 }
 
-/// Judges a certificate or a refutation, by a file of sums if there is one. The result is the exit
-/// status.
+/// Judges a certificate or a refutation, by a file of sums if there is one. The result is what
+/// that comes to.
 pub(crate) fn judge<
     C: NamedFeed + Drop,
     T: NamedFeed + Drop,
@@ -242,7 +248,7 @@ pub(crate) fn judge<
     sums: Option<U>,
     to: &mut Outputs<S, E>,
     hasher: H,
-) -> u8
+) -> Conclusion
     requires run { MayRun (run_of (reading C.state T.state F.state C.named T.named F.named)
         inputs (S.state to.old.out)) }
     requires err { IsWritable (E.state to.old.err) }
