@@ -28,9 +28,9 @@ pub reported_by_sums : {asked : AskedData} {sums : SumsData} {before after : Run
 reported_by_sums told = elim told.either [
   | inl judged ↦ reported judged.answered.answers
   | inr unjudged ↦ record {
-      answer = Err unjudged.fault;
-      promise = tt;
-      concludes = unjudged.concludes;
-      conclusion_is = unjudged.conclusion_is;
-    }
+    answer = Err unjudged.fault;
+    promise = tt;
+    concludes = unjudged.concludes;
+    conclusion_is = unjudged.conclusion_is;
+  }
 ]

@@ -1,6 +1,6 @@
 //! What the words of a command line call for.
 
-ghost use Rattle.std.specs.Prelude.{◌≡◌, IfOk};
+ghost use Rattle.std.specs.Prelude.{◌≡◌, [], IfOk, option_map, string_bytes, unwrap_or};
 ghost use Rattle.ntpaudit.specs.Asked.{listed_name};
 ghost use Rattle.ntpaudit.specs.Invocation.{IsRefusal, second_of};
 
@@ -10,6 +10,16 @@ use std::alloc::{AllocError, Global};
 
 /// The operand that is standard input.
 pub(crate) const STDIN: &str = "-";
+
+/// The path of an option, empty if it was left out.
+pub(crate) fn path_or_none(path: &Option<String>) -> &str
+    ensures { result.now ≡ unwrap_or (option_map string_bytes path.now) [] }
+{
+    match path {
+        Some(path) => path.as_str(),
+        None => "",
+    }
+}
 
 /// The capture that is listed, and for whom its faults are told.
 #[derive(Drop)]

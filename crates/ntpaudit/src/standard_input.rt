@@ -1,19 +1,11 @@
 //! The operand `-`.
 
-use crate::invocation::{Invocation, Paths, STDIN};
+use crate::invocation::{Invocation, Paths, STDIN, path_or_none};
 use std::alloc::{AllocError, Global};
 
 /// How many of these operands are standard input.
 fn count_of(operands: &[&str]) -> usize {
     operands.iter().filter(|operand| **operand == STDIN).count()
-}
-
-/// The path of an option, empty if it was left out.
-fn path_or_none(path: &Option<String>) -> &str {
-    match path {
-        Some(path) => path.as_str(),
-        None => "",
-    }
 }
 
 /// Whether standard input would be two inputs of a command with this second one, if it has one.
