@@ -10,7 +10,8 @@ use Rattle.line_writer.specs.declared.field.Style.{Style}
 use Rattle.line_writer.specs.declared.field.Style.TheVariants.{Human, Plain}
 use Rattle.report.specs.declared.fault.Input.{Input}
 use Rattle.report.specs.declared.fault.Input.TheVariants.{Certificate, Refutation}
-use Rattle.audit.specs.declared.step.Step.{Step}
+use Rattle.audit.specs.declared.question.Request.{Request}
+use Rattle.audit.specs.declared.question.Request.TheVariants as requests
 use Rattle.ntpaudit.specs.declared.invocation.Invocation.{Invocation}
 use Rattle.ntpaudit.specs.declared.invocation.Invocation.TheVariants as calls
 use Rattle.ntpaudit.specs.declared.invocation.JudgedPaths.{JudgedPaths}
@@ -18,8 +19,6 @@ use Rattle.ntpaudit.specs.declared.invocation.Judgement.{Judgement}
 use Rattle.ntpaudit.specs.declared.invocation.Judgement.TheVariants as judgements
 use Rattle.ntpaudit.specs.declared.invocation.Listed.{Listed}
 use Rattle.ntpaudit.specs.declared.invocation.Paths.{Paths}
-use Rattle.ntpaudit.specs.declared.invocation.Request.{Request}
-use Rattle.ntpaudit.specs.declared.invocation.Request.TheVariants as requests
 
 -- the text of an operand among the rows that were found, empty if it was left out
 abbrev pub operand : Text → List Row → Text
@@ -44,9 +43,6 @@ style_of false = Plain
 abbrev pub step_given : List Row → Option ℕ
 step_given rows =
     option_map (λ text. digits_value 10 (without_leading_plus text)) (one_of (codes "step") rows)
-
-abbrev pub HasStep : List Row → Step → Type 0
-HasStep rows step = step_given rows ≡ Some step.seconds
 
 -- The capture and the style are those of the words.
 pub record IsListed (rows : List Row) (listed : Listed) : Type 0 where
@@ -96,12 +92,13 @@ IsRequest name rows (requests.At at) =
     (name ≡ codes "at") × (time_given rows ≡ Some at.unix_second)
 IsRequest name rows requests.Settle = name ≡ codes "settle"
 IsRequest name rows (requests.Find find) =
-    (name ≡ codes "find") × IsFlag (codes "refutation") rows false × HasStep rows find.step
+    (name ≡ codes "find") × IsFlag (codes "refutation") rows false
+    × (step_given rows ≡ Some find.step.seconds)
 IsRequest name rows requests.FindRefutation = (name ≡ codes "find")
     × IsFlag (codes "refutation") rows true
 IsRequest name rows (requests.Envelope envelope) = (name ≡ codes "envelope")
     × IsFlag (codes "servers") rows envelope.servers × IsFlag (codes "least") rows envelope.least
-    × HasStep rows envelope.step
+    × (step_given rows ≡ Some envelope.step.seconds)
 
 -- this question is asked of the files that are named
 abbrev pub IsAsking : Request → List Row → Invocation → Type 0

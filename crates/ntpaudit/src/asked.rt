@@ -5,7 +5,7 @@ ghost use Rattle.fault_words.specs.Subject.{names_data};
 ghost use Rattle.ntpaudit.specs.Asked as spec;
 ghost use Rattle.ntpaudit.specs.Invocation as words;
 
-use crate::invocation::{JudgedPaths, Listed, Paths};
+use crate::invocation::{JudgedPaths, Listed, Paths, path_or_none};
 use audit::Style;
 use fault_words::Names;
 
@@ -22,16 +22,6 @@ pub(crate) enum Asked {
     Time(Option<String>),
     /// A run whose words aren't fixed: help, or a refused command line.
     Nothing,
-}
-
-/// The name of the file of sums, empty if there is none.
-fn sums_name(paths: &Paths) -> &str
-    ensures { result.now ≡ spec.sums_name paths.now }
-{
-    match &paths.sums {
-        Some(sums) => sums.as_str(),
-        None => "",
-    }
 }
 
 /// Whether a style is for a person.
@@ -53,12 +43,13 @@ impl Asked {
             Asked::Listing(listed) => ("", listed.operand(), "", ""),
             Asked::Question(paths) => {
                 let (claim, capture) = (paths.claim.as_str(), paths.capture.as_str());
-                (claim, capture, "", sums_name(paths))
+                (claim, capture, "", path_or_none(&paths.sums))
             }
             Asked::Judgement(paths) => {
                 let evidence = &paths.evidence;
                 let (claim, capture) = (evidence.claim.as_str(), evidence.capture.as_str());
-                (claim, capture, paths.second.as_str(), sums_name(evidence))
+                let (second, sums) = (paths.second.as_str(), path_or_none(&evidence.sums));
+                (claim, capture, second, sums)
             }
             Asked::Time(_) | Asked::Nothing => ("", "", "", ""),
         };
@@ -75,10 +66,7 @@ impl Asked {
         ensures { result.now ≡ spec.output_of self.now }
     {
         match self {
-            Asked::Question(paths) => match &paths.output {
-                Some(path) => path.as_str(),
-                None => "",
-            },
+            Asked::Question(paths) => path_or_none(&paths.output),
             _ => "",
         }
     }

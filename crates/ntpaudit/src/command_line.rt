@@ -1,10 +1,9 @@
 //! The process's command line, read.
 
 use crate::advice::{advised, counted};
-use crate::commands::program;
+use crate::command::{invocation_of, program};
 use crate::invocation::Invocation;
 use crate::standard_input::read_once;
-use crate::words::invocation_of;
 use clap::{Error, error};
 use std::alloc::{AllocError, Global};
 use std::env;
@@ -38,8 +37,7 @@ pub(crate) fn read_command_line(rt: &HostRuntime) -> Result<Invocation, AllocErr
     let arguments = match env::args(rt) {
         Ok(arguments) => arguments,
         Err(error) if error.kind() == ErrorKind::InvalidData => {
-            let text = String::from_str(alloc, "error: an operand isn't UTF-8\n")?;
-            return Ok(Invocation::Refuse(text));
+            return Invocation::refusal(alloc, "error: an operand isn't UTF-8\n");
         }
         Err(_) => return Err(AllocError),
     };

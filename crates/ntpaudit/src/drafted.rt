@@ -8,12 +8,10 @@ ghost use Rattle.audit.specs.Run.{MayRun};
 ghost use Rattle.audit.specs.Second.{no_second};
 ghost use Rattle.ntpaudit.specs.Drafted.{IsDrafted};
 ghost use Rattle.ntpaudit.specs.Reading.{reading, run_of};
-ghost use Rattle.ntpaudit.specs.Response.{request_of};
 
 use crate::asked::is_human;
 use crate::files::Inputs;
-use crate::invocation::Request;
-use audit::{FindRefutation, Question, Samples, Settle, Style, run};
+use audit::{Question, Style, run};
 use byte_stream::Sink;
 use in_memory::{NamedFeed, run_twice};
 use report::{Outcome, RunFault};
@@ -22,7 +20,7 @@ use std::hash::BuildHasher;
 
 /// Answers a question for a program in a draft, and for a person on `out` too, if the style is one
 /// for a person.
-fn draft_one<
+pub(crate) fn draft<
     Q: Question<Second = ()>,
     C: NamedFeed + Drop,
     F: NamedFeed + Drop,
@@ -60,49 +58,5 @@ fn draft_one<
             alloc, question, style, claim, second, capture, draft, hasher,
         )
         .1
-    }
-}
-
-/// Answers a question without a second input so.
-pub(crate) fn draft<
-    C: NamedFeed + Drop,
-    F: NamedFeed + Drop,
-    D: Sink,
-    S: Sink,
-    H: BuildHasher + Copy + Drop,
->(
-    alloc: Global,
-    request: Request,
-    style: Style,
-    inputs: Inputs<C, (), F>,
-    draft: &mut D,
-    out: &mut S,
-    hasher: H,
-) -> Result<Outcome, RunFault>
-    requires run { MayRun (run_of
-        (reading C.state (λ none. no_feed) F.state C.named (λ none. []) F.named)
-        inputs (D.state draft.old)) }
-    requires out { IsWritable (S.state out.old) }
-    ensures { IsDrafted (reading C.state (λ none. no_feed) F.state C.named (λ none. []) F.named)
-        (request_of request style) inputs (D.state draft.old) (D.state draft.new)
-        (S.state out.old) (S.state out.new) result }
-{
-    match request {
-        Request::Samples => draft_one(alloc, Samples, style, inputs, draft, out, hasher),
-        Request::At(at) => draft_one(alloc, at, style, inputs, draft, out, hasher),
-        Request::Settle => draft_one(alloc, Settle, style, inputs, draft, out, hasher),
-        Request::Find(find) => draft_one(alloc, find, style, inputs, draft, out, hasher),
-        Request::FindRefutation => draft_one(
-            alloc,
-            FindRefutation,
-            style,
-            inputs,
-            draft,
-            out,
-            hasher,
-        ),
-        Request::Envelope(envelope) => {
-            draft_one(alloc, envelope, style, inputs, draft, out, hasher)
-        }
     }
 }

@@ -1,14 +1,25 @@
 //! What the words of a command line call for.
 
-ghost use Rattle.std.specs.Prelude.{◌≡◌};
+ghost use Rattle.std.specs.Prelude.{◌≡◌, [], IfOk, option_map, string_bytes, unwrap_or};
 ghost use Rattle.ntpaudit.specs.Asked.{listed_name};
-ghost use Rattle.ntpaudit.specs.Invocation.{second_of};
+ghost use Rattle.ntpaudit.specs.Invocation.{IsRefusal, second_of};
 
-use audit::{At, Envelope, Find, Refute, Style};
+use audit::{Refute, Request, Style};
 use report::Input;
+use std::alloc::{AllocError, Global};
 
 /// The operand that is standard input.
 pub(crate) const STDIN: &str = "-";
+
+/// The path of an option, empty if it was left out.
+pub(crate) fn path_or_none(path: &Option<String>) -> &str
+    ensures { result.now ≡ unwrap_or (option_map string_bytes path.now) [] }
+{
+    match path {
+        Some(path) => path.as_str(),
+        None => "",
+    }
+}
 
 /// The capture that is listed, and for whom its faults are told.
 #[derive(Drop)]
@@ -55,23 +66,6 @@ pub(crate) struct JudgedPaths {
     pub(crate) second: String,
 }
 
-/// A question without a second input.
-#[derive(Clone, Copy, Debug)]
-pub(crate) enum Request {
-    /// Show the samples.
-    Samples,
-    /// Show what each server says at a moment.
-    At(At),
-    /// Settle the claim.
-    Settle,
-    /// Look for a certificate.
-    Find(Find),
-    /// Look for a refutation.
-    FindRefutation,
-    /// Show how far off the clock may have been.
-    Envelope(Envelope),
-}
-
 /// A question with a second input.
 #[derive(Clone, Copy, Debug)]
 pub(crate) enum Judgement {
@@ -109,4 +103,13 @@ pub(crate) enum Invocation {
     /// The command line is refused, since its TIME, which is here for a person, isn't written as a
     /// claim's times are.
     RefuseTime(Option<String>),
+}
+
+impl Invocation {
+    /// A command line that is refused with this text.
+    pub(crate) fn refusal(alloc: Global, text: &str) -> Result<Invocation, AllocError>
+        ensures { IfOk result IsRefusal }
+    {
+        Ok(Invocation::Refuse(String::from_str(alloc, text)?))
+    }
 }

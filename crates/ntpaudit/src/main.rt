@@ -7,15 +7,15 @@
 
 #![tactic(auto)]
 
-ghost use Rattle.std.specs.Prelude.{◌≡◌, false};
+ghost use Rattle.std.specs.Prelude.{◌≡◌};
 ghost use Rattle.byte_stream.specs.State.{IsWritable};
 ghost use Rattle.ntpaudit.specs.Asked.{asked_of};
-ghost use Rattle.ntpaudit.specs.Response.{SaysAlone};
+ghost use Rattle.ntpaudit.specs.Response.{IsReported, Says};
 
 mod advice;
 mod asked;
+mod command;
 mod command_line;
-mod commands;
 mod draft;
 mod drafted;
 mod files;
@@ -24,30 +24,29 @@ mod response;
 mod second_look;
 mod standard_input;
 mod warning;
-mod words;
 
 use crate::asked::Asked;
 use crate::command_line::read_command_line;
 use crate::draft::{Draft, Hindrance};
 use crate::drafted::draft;
 use crate::files::{open, open_evidence, open_judged};
-use crate::invocation::{Invocation, JudgedPaths, Judgement, Listed, Paths, Request};
+use crate::invocation::{Invocation, JudgedPaths, Judgement, Listed, Paths};
 use crate::response::{ask, judge};
 use crate::second_look::say;
-use audit::Outputs;
+use audit::{Outputs, Request};
 use byte_stream::{Sink, WriteSink};
-use fault_words::{KeptSink, Obstacle};
+use fault_words::Obstacle;
 use listing::answer_list;
-use report::{Input, Outcome, RunFault, conclude, refuse, refuse_time, show};
+use report::{Conclusion, Input, Outcome, RunFault, conclude, refuse, refuse_time, show};
 use std::alloc::AllocError;
 use std::hash::{BuildHasher, BuildHasherDefault, FoldHasher, RandomState};
 use std::process::ExitCode;
 
-/// Lists a capture. The result is the exit status.
-fn list<S: Sink, E: Sink>(rt: &HostRuntime, listed: &Listed, to: &mut Outputs<S, E>) -> u8
+/// Lists a capture. The result is what that comes to.
+fn list<S: Sink, E: Sink>(rt: &HostRuntime, listed: &Listed, to: &mut Outputs<S, E>) -> Conclusion
     requires out { IsWritable (S.state to.old.out) }
     requires err { IsWritable (E.state to.old.err) }
-    ensures closed { (E.state to.new.err).is_open ≡ false }
+    ensures reported { IsReported (E.state to.old.err) (E.state to.new.err) result }
 {
     match open(rt, listed.operand(), Input::Capture) {
         Ok(capture) => answer_list(rt.alloc(), capture, &mut to.out, &mut to.err).1,
@@ -55,17 +54,17 @@ fn list<S: Sink, E: Sink>(rt: &HostRuntime, listed: &Listed, to: &mut Outputs<S,
     }
 }
 
-/// Answers a question, once its files are opened. The result is the exit status.
+/// Answers a question, once its files are opened. The result is what that comes to.
 fn ask_of_files<S: Sink, E: Sink, H: BuildHasher + Drop>(
     rt: &HostRuntime,
     request: Request,
     paths: &Paths,
     to: &mut Outputs<S, E>,
     hasher: H,
-) -> u8
+) -> Conclusion
     requires out { IsWritable (S.state to.old.out) }
     requires err { IsWritable (E.state to.old.err) }
-    ensures closed { (E.state to.new.err).is_open ≡ false }
+    ensures reported { IsReported (E.state to.old.err) (E.state to.new.err) result }
 {
     match open_evidence(rt, paths) {
         Ok((inputs, sums)) => ask(rt.alloc(), request, paths.style, inputs, sums, to, hasher),
@@ -127,7 +126,7 @@ fn write_file<S: Sink, H: BuildHasher + Copy + Drop>(
     }
 }
 
-/// Answers a question so, and reports the answer. The result is the exit status.
+/// Answers a question so, and reports the answer. The result is what that comes to.
 fn ask_for_file<S: Sink, E: Sink, H: BuildHasher + Copy + Drop>(
     rt: &HostRuntime,
     request: Request,
@@ -135,26 +134,27 @@ fn ask_for_file<S: Sink, E: Sink, H: BuildHasher + Copy + Drop>(
     path: &str,
     to: &mut Outputs<S, E>,
     hasher: H,
-) -> (u8, Option<Hindrance>)
+) -> (Conclusion, Option<Hindrance>)
     requires out { IsWritable (S.state to.old.out) }
     requires err { IsWritable (E.state to.old.err) }
-    ensures closed { (E.state to.new.err).is_open ≡ false }
+    ensures reported { IsReported (E.state to.old.err) (E.state to.new.err) result.0 }
 {
     let (answer, hindrance) = write_file(rt, request, paths, path, &mut to.out, hasher);
     (conclude(&answer, &mut to.err), hindrance)
 }
 
-/// Judges a certificate or a refutation, once its files are opened. The result is the exit status.
+/// Judges a certificate or a refutation, once its files are opened. The result is what that comes
+/// to.
 fn judge_files<S: Sink, E: Sink, H: BuildHasher + Drop>(
     rt: &HostRuntime,
     judgement: Judgement,
     paths: &JudgedPaths,
     to: &mut Outputs<S, E>,
     hasher: H,
-) -> u8
+) -> Conclusion
     requires out { IsWritable (S.state to.old.out) }
     requires err { IsWritable (E.state to.old.err) }
-    ensures closed { (E.state to.new.err).is_open ≡ false }
+    ensures reported { IsReported (E.state to.old.err) (E.state to.new.err) result }
 {
     match open_judged(rt, judgement.second(), paths) {
         Ok((inputs, sums)) => {
@@ -166,33 +166,32 @@ fn judge_files<S: Sink, E: Sink, H: BuildHasher + Drop>(
 }
 
 /// Does what a command line calls for: all files are opened before anything is read. The result is
-/// the exit status, and what may be said of the run behind its fault line. What is read of a
+/// what that comes to, and what may be said of the run behind its fault line. What is read of a
 /// capture is hashed by `hasher`, on which no answer depends.
 fn respond<S: Sink, E: Sink, H: BuildHasher + Copy + Drop>(
     rt: &HostRuntime,
     invocation: Invocation,
     to: &mut Outputs<S, E>,
     hasher: H,
-) -> (u8, Asked, Option<Hindrance>)
+) -> (Conclusion, Asked, Option<Hindrance>)
     requires out { IsWritable (S.state to.old.out) }
     requires err { IsWritable (E.state to.old.err) }
-    ensures says { SaysAlone invocation (S.state to.old.out) (S.state to.new.out)
+    ensures says { Says invocation (S.state to.old.out) (S.state to.new.out)
         (E.state to.old.err) (E.state to.new.err) result.0 }
-    ensures closed { (E.state to.new.err).is_open ≡ false }
     ensures asked { result.1 ≡ asked_of invocation }
 {
     match invocation {
         Invocation::List(listed) => (list(rt, &listed, to), Asked::Listing(listed), None),
         Invocation::Ask(request, paths) => {
-            let (code, hindrance) = match &paths.output {
+            let (conclusion, hindrance) = match &paths.output {
                 Some(path) => ask_for_file(rt, request, &paths, path.as_str(), to, hasher),
                 None => (ask_of_files(rt, request, &paths, to, hasher), None),
             };
-            (code, Asked::Question(paths), hindrance)
+            (conclusion, Asked::Question(paths), hindrance)
         }
         Invocation::Judge(judgement, paths) => {
-            let code = judge_files(rt, judgement, &paths, to, hasher);
-            (code, Asked::Judgement(paths), None)
+            let conclusion = judge_files(rt, judgement, &paths, to, hasher);
+            (conclusion, Asked::Judgement(paths), None)
         }
         Invocation::Show(text) => (show(text, &mut to.out, &mut to.err), Asked::Nothing, None),
         Invocation::Refuse(text) => (refuse(text, &mut to.err), Asked::Nothing, None),
@@ -203,9 +202,9 @@ fn respond<S: Sink, E: Sink, H: BuildHasher + Copy + Drop>(
 fn main(rt: HostRuntime) -> ExitCode {
     let mut outputs = Outputs {
         out: WriteSink::new(rt.stdout()),
-        err: KeptSink::new(WriteSink::new(rt.stderr())),
+        err: WriteSink::new(rt.stderr()),
     };
-    let (code, asked, hindrance) = match read_command_line(&rt) {
+    let (conclusion, asked, hindrance) = match read_command_line(&rt) {
         // A random key, so that nobody can write a capture whose packets collide. If the system has
         // no random bytes a fixed key has to do: it slows such a capture down, no more.
         Ok(invocation) => match RandomState::new(&rt) {
@@ -216,10 +215,10 @@ fn main(rt: HostRuntime) -> ExitCode {
             }
         },
         Err(AllocError) => {
-            let code = conclude(&Err(RunFault::Memory), &mut outputs.err);
-            (code, Asked::Nothing, None)
+            let conclusion = conclude(&Err(RunFault::Memory), &mut outputs.err);
+            (conclusion, Asked::Nothing, None)
         }
     };
-    say(&rt, &asked, &hindrance, outputs.err.kept(), code);
-    ExitCode::from(code)
+    say(&rt, &asked, &hindrance, &conclusion);
+    ExitCode::from(conclusion.code)
 }

@@ -1,28 +1,25 @@
 //! The answer to what a command line calls for, over files that were opened.
 
-ghost use Rattle.std.specs.Prelude.{◌≡◌, [], IfSome, false};
+ghost use Rattle.std.specs.Prelude.{IfSome};
 ghost use Rattle.byte_stream.specs.State.{IsReadable, IsWritable};
-ghost use Rattle.report.specs.Run.{no_feed};
 ghost use Rattle.audit.specs.Run.{MayRun};
 ghost use Rattle.audit.specs.Check.{check};
 ghost use Rattle.audit.specs.Question.{asked_of};
 ghost use Rattle.audit.specs.Second.{certificate_second};
 ghost use Rattle.ntpaudit.specs.Reading.{reading, run_of};
-ghost use Rattle.ntpaudit.specs.Response.{AnswersBySums, IsAnswered, IsJudgedBy, Responds};
-ghost use Rattle.ntpaudit.specs.Response.{judged_of, request_of};
+ghost use Rattle.ntpaudit.specs.Response.{AnswersBySums, IsAnswered, IsJudgedBy, IsReported};
+ghost use Rattle.ntpaudit.specs.Response.{Responds, judged_of};
 
 use crate::files::Inputs;
-use crate::invocation::{Judgement, Request};
-use audit::{
-    Check, FindRefutation, Outputs, Question, Samples, Settle, Style, answer, answer_check,
-};
+use crate::invocation::Judgement;
+use audit::{Check, Outputs, Question, Style, answer, answer_check};
 use byte_stream::{Feed, Sink};
 use in_memory::{MAX_SUMS, NamedFeed, SummedSource, answer_by_sums};
-use report::{Input, conclude, read_input};
+use report::{Conclusion, Input, conclude, read_input};
 use std::alloc::Global;
 use std::hash::BuildHasher;
 
-/// Answers a question. The result is the exit status.
+/// Answers a question. The result is what that comes to.
 fn answer_alone<
     Q: Question,
     C: NamedFeed + Drop,
@@ -38,7 +35,7 @@ fn answer_alone<
     inputs: Inputs<C, T, F>,
     to: &mut Outputs<S, E>,
     hasher: H,
-) -> u8
+) -> Conclusion
     requires run { MayRun (run_of (reading C.state T.state F.state C.named T.named F.named)
         inputs (S.state to.old.out)) }
     requires err { IsWritable (E.state to.old.err) }
@@ -46,7 +43,7 @@ fn answer_alone<
         (asked_of (Q.asks question) Q.Second.kind style)
         inputs (S.state to.old.out) (S.state to.new.out)
         (E.state to.old.err) (E.state to.new.err) result }
-    ensures closed { (E.state to.new.err).is_open ≡ false }
+    ensures reported { IsReported (E.state to.old.err) (E.state to.new.err) result }
 {
     let Inputs {
         mut claim,
@@ -57,7 +54,7 @@ fn answer_alone<
     answer(alloc, question, style, claim, second, capture, to, hasher).1
 }
 
-/// Checks a certificate. The result is the exit status.
+/// Checks a certificate. The result is what that comes to.
 fn check_alone<
     C: NamedFeed + Drop,
     T: NamedFeed + Drop,
@@ -65,7 +62,13 @@ fn check_alone<
     S: Sink,
     E: Sink,
     H: BuildHasher + Drop,
->(alloc: Global, style: Style, inputs: Inputs<C, T, F>, to: &mut Outputs<S, E>, hasher: H) -> u8
+>(
+    alloc: Global,
+    style: Style,
+    inputs: Inputs<C, T, F>,
+    to: &mut Outputs<S, E>,
+    hasher: H,
+) -> Conclusion
     requires run { MayRun (run_of (reading C.state T.state F.state C.named T.named F.named)
         inputs (S.state to.old.out)) }
     requires err { IsWritable (E.state to.old.err) }
@@ -73,7 +76,7 @@ fn check_alone<
         (asked_of check certificate_second style)
         inputs (S.state to.old.out) (S.state to.new.out)
         (E.state to.old.err) (E.state to.new.err) result }
-    ensures closed { (E.state to.new.err).is_open ≡ false }
+    ensures reported { IsReported (E.state to.old.err) (E.state to.new.err) result }
 {
     let Inputs {
         mut claim,
@@ -85,7 +88,7 @@ fn check_alone<
 }
 
 /// Answers a question, with each input held to its line in the text of a file of sums, under its
-/// name. The result is the exit status.
+/// name. The result is what that comes to.
 fn answer_by_text<
     Q: Question,
     C: NamedFeed + Drop,
@@ -102,7 +105,7 @@ fn answer_by_text<
     inputs: Inputs<C, T, F>,
     to: &mut Outputs<S, E>,
     hasher: H,
-) -> u8
+) -> Conclusion
     requires run { MayRun (run_of (reading C.state T.state F.state C.named T.named F.named)
         inputs (S.state to.old.out)) }
     requires err { IsWritable (E.state to.old.err) }
@@ -110,7 +113,7 @@ fn answer_by_text<
         (asked_of (Q.asks question) Q.Second.kind style)
         inputs text.now (S.state to.old.out) (S.state to.new.out)
         (E.state to.old.err) (E.state to.new.err) result }
-    ensures closed { (E.state to.new.err).is_open ≡ false }
+    ensures reported { IsReported (E.state to.old.err) (E.state to.new.err) result }
 {
     let Inputs {
         mut claim,
@@ -141,7 +144,7 @@ fn answer_by_file<
     mut sums: U,
     to: &mut Outputs<S, E>,
     hasher: H,
-) -> u8
+) -> Conclusion
     requires run { MayRun (run_of (reading C.state T.state F.state C.named T.named F.named)
         inputs (S.state to.old.out)) }
     requires err { IsWritable (E.state to.old.err) }
@@ -150,7 +153,7 @@ fn answer_by_file<
         U.state (asked_of (Q.asks question) Q.Second.kind style)
         inputs sums (S.state to.old.out) (S.state to.new.out)
         (E.state to.old.err) (E.state to.new.err) result }
-    ensures closed { (E.state to.new.err).is_open ≡ false }
+    ensures reported { IsReported (E.state to.old.err) (E.state to.new.err) result }
 {
     match read_input(alloc, &mut sums, Input::Sums, MAX_SUMS) {
         Ok(text) => {
@@ -161,8 +164,8 @@ fn answer_by_file<
     }
 }
 
-/// Answers a question, by a file of sums if there is one. The result is the exit status.
-fn answer_one<
+/// Answers a question, by a file of sums if there is one. The result is what that comes to.
+pub(crate) fn ask<
     Q: Question,
     C: NamedFeed + Drop,
     T: SummedSource<Q::Second> + Drop,
@@ -179,7 +182,7 @@ fn answer_one<
     sums: Option<U>,
     to: &mut Outputs<S, E>,
     hasher: H,
-) -> u8
+) -> Conclusion
     requires run { MayRun (run_of (reading C.state T.state F.state C.named T.named F.named)
         inputs (S.state to.old.out)) }
     requires err { IsWritable (E.state to.old.err) }
@@ -195,56 +198,7 @@ fn answer_one<
     }
 }
 
-/// Answers a question without a second input, by a file of sums if there is one. The result is the
-/// exit status.
-pub(crate) fn ask<
-    C: NamedFeed + Drop,
-    F: NamedFeed + Drop,
-    U: Feed + Drop,
-    S: Sink,
-    E: Sink,
-    H: BuildHasher + Drop,
->(
-    alloc: Global,
-    request: Request,
-    style: Style,
-    inputs: Inputs<C, (), F>,
-    sums: Option<U>,
-    to: &mut Outputs<S, E>,
-    hasher: H,
-) -> u8
-    requires run { MayRun (run_of
-        (reading C.state (λ none. no_feed) F.state C.named (λ none. []) F.named)
-        inputs (S.state to.old.out)) }
-    requires err { IsWritable (E.state to.old.err) }
-    requires sums { IfSome sums (λ file. IsReadable (U.state file)) }
-    ensures responds { Responds
-        (reading C.state (λ none. no_feed) F.state C.named (λ none. []) F.named)
-        U.state (request_of request style)
-        inputs sums (S.state to.old.out) (S.state to.new.out)
-        (E.state to.old.err) (E.state to.new.err) result }
-{
-    match request {
-        Request::Samples => answer_one(alloc, Samples, style, inputs, sums, to, hasher),
-        Request::At(at) => answer_one(alloc, at, style, inputs, sums, to, hasher),
-        Request::Settle => answer_one(alloc, Settle, style, inputs, sums, to, hasher),
-        Request::Find(find) => answer_one(alloc, find, style, inputs, sums, to, hasher),
-        Request::FindRefutation => answer_one(
-            alloc,
-            FindRefutation,
-            style,
-            inputs,
-            sums,
-            to,
-            hasher,
-        ),
-        Request::Envelope(envelope) => {
-            answer_one(alloc, envelope, style, inputs, sums, to, hasher)
-        }
-    }
-}
-
-/// Checks a certificate, by a file of sums if there is one. The result is the exit status.
+/// Checks a certificate, by a file of sums if there is one. The result is what that comes to.
 fn check_one<
     C: NamedFeed + Drop,
     T: NamedFeed + Drop,
@@ -260,7 +214,7 @@ fn check_one<
     sums: Option<U>,
     to: &mut Outputs<S, E>,
     hasher: H,
-) -> u8
+) -> Conclusion
     requires run { MayRun (run_of (reading C.state T.state F.state C.named T.named F.named)
         inputs (S.state to.old.out)) }
     requires err { IsWritable (E.state to.old.err) }
@@ -276,8 +230,8 @@ fn check_one<
     }
 }
 
-/// Judges a certificate or a refutation, by a file of sums if there is one. The result is the exit
-/// status.
+/// Judges a certificate or a refutation, by a file of sums if there is one. The result is what
+/// that comes to.
 pub(crate) fn judge<
     C: NamedFeed + Drop,
     T: NamedFeed + Drop,
@@ -294,7 +248,7 @@ pub(crate) fn judge<
     sums: Option<U>,
     to: &mut Outputs<S, E>,
     hasher: H,
-) -> u8
+) -> Conclusion
     requires run { MayRun (run_of (reading C.state T.state F.state C.named T.named F.named)
         inputs (S.state to.old.out)) }
     requires err { IsWritable (E.state to.old.err) }
@@ -306,6 +260,6 @@ pub(crate) fn judge<
 {
     match judgement {
         Judgement::Check => check_one(alloc, style, inputs, sums, to, hasher),
-        Judgement::Refute(refute) => answer_one(alloc, refute, style, inputs, sums, to, hasher),
+        Judgement::Refute(refute) => ask(alloc, refute, style, inputs, sums, to, hasher),
     }
 }

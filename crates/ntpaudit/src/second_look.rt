@@ -9,11 +9,11 @@ use crate::invocation::STDIN;
 use crate::warning::warnings;
 use byte_stream::{Feed, ReadFeed, WriteSink};
 use fault_words::{
-    Found, Kind, Names, explain, explain_output, explain_time, fault_of_line, input_of, look,
-    look_at_records, shown,
+    Found, Kind, Names, explain, explain_output, explain_time, input_of, look, look_at_records,
+    shown,
 };
 use pcap_reader::CaptureFault;
-use report::{Input, RunFault, deliver, read_input};
+use report::{Conclusion, Input, RunFault, deliver, read_input};
 use std::alloc::{AllocError, Global};
 use std::fs;
 use std::fs::{File, Files};
@@ -28,21 +28,20 @@ const FRONT: usize = 64;
 /// What stands behind a fault line at a terminal, unless it was asked to say more.
 const HINT: &[u8] = b"  (--human says more)\n";
 
-/// Says in words what stands in the line that was written on standard error, or, if there is none,
-/// what looks like a slip of the pen in what was answered. Where memory is refused nothing is said:
-/// the run is over, and its answer or its line is out.
+/// Says in words which fault was reported, or, if there was none, what looks like a slip of the pen
+/// in what was answered. Where memory is refused nothing is said: the run is over, and its answer
+/// or its line is out.
 pub(crate) fn say(
     rt: &HostRuntime,
     asked: &Asked,
     hindrance: &Option<Hindrance>,
-    line: &[u8],
-    code: u8,
+    conclusion: &Conclusion,
 ) {
     if asked.is_for_a_person() {
-        if let Ok(words) = words_of(rt, asked, hindrance, line, code) {
+        if let Ok(words) = words_of(rt, asked, hindrance, conclusion) {
             write(rt, words.as_slice());
         }
-    } else if !line.is_empty() && asked.has_a_fault_line() && rt.stderr().is_terminal() {
+    } else if 1 < conclusion.code && asked.has_a_fault_line() && rt.stderr().is_terminal() {
         write(rt, HINT);
     }
 }
@@ -57,21 +56,14 @@ fn words_of(
     rt: &HostRuntime,
     asked: &Asked,
     hindrance: &Option<Hindrance>,
-    line: &[u8],
-    code: u8,
+    conclusion: &Conclusion,
 ) -> Result<Vec<u8>, AllocError> {
     let alloc = rt.alloc();
-    if line.is_empty() {
-        return if code < 2 {
-            warnings(rt, &asked.names())
-        } else {
-            Ok(Vec::new(alloc))
-        };
-    }
-    let words = match (asked, hindrance) {
-        (Asked::Time(Some(time)), _) => explain_time(alloc, time.as_str())?,
-        (_, Some(hindrance)) => words_of_hindrance(alloc, asked.output(), hindrance)?,
-        _ => words_of_line(rt, &asked.names(), line)?,
+    let words = match (asked, hindrance, &conclusion.fault) {
+        (Asked::Time(Some(time)), _, _) => explain_time(alloc, time.as_str())?,
+        (_, Some(hindrance), _) => words_of_hindrance(alloc, asked.output(), hindrance)?,
+        (_, None, Some(fault)) => words_of_fault(rt, &asked.names(), fault)?,
+        (_, None, None) => return warnings(rt, &asked.names()),
     };
     Ok(words.into_bytes())
 }
@@ -88,19 +80,6 @@ fn words_of_hindrance(
         None => String::new(alloc),
     };
     explain_output(alloc, name.as_str(), hindrance.obstacle, seen.as_str())
-}
-
-/// The words about the fault whose line this is, and none if it is no such line.
-fn words_of_line(rt: &HostRuntime, names: &Names<'_>, line: &[u8]) -> Result<String, AllocError> {
-    let alloc = rt.alloc();
-    let line = match line {
-        [front @ .., b'\n'] => front,
-        _ => line,
-    };
-    match fault_of_line(alloc, line)? {
-        Some(fault) => words_of_fault(rt, names, &fault),
-        None => Ok(String::new(alloc)),
-    }
 }
 
 /// The words about a fault.

@@ -1,19 +1,11 @@
 //! The operand `-`.
 
-use crate::invocation::{Invocation, Paths, STDIN};
+use crate::invocation::{Invocation, Paths, STDIN, path_or_none};
 use std::alloc::{AllocError, Global};
 
 /// How many of these operands are standard input.
 fn count_of(operands: &[&str]) -> usize {
     operands.iter().filter(|operand| **operand == STDIN).count()
-}
-
-/// The path of an option, empty if it was left out.
-fn path_or_none(path: &Option<String>) -> &str {
-    match path {
-        Some(path) => path.as_str(),
-        None => "",
-    }
 }
 
 /// Whether standard input would be two inputs of a command with this second one, if it has one.
@@ -30,11 +22,6 @@ fn names_no_file(paths: &Paths) -> bool {
     }
 }
 
-/// A command line that is refused with this text.
-fn refused(alloc: Global, text: &str) -> Result<Invocation, AllocError> {
-    Ok(Invocation::Refuse(String::from_str(alloc, text)?))
-}
-
 /// What a command line calls for, refused if standard input would be two of its inputs, or if its
 /// output is no path.
 pub(crate) fn read_once(alloc: Global, invocation: Invocation) -> Result<Invocation, AllocError> {
@@ -44,13 +31,12 @@ pub(crate) fn read_once(alloc: Global, invocation: Invocation) -> Result<Invocat
         _ => return Ok(invocation),
     };
     if is_twice(paths, second) {
-        return refused(alloc, "error: standard input, -, can be one input alone\n");
+        let text = "error: standard input, -, can be one input alone\n";
+        return Invocation::refusal(alloc, text);
     }
     if names_no_file(paths) {
-        return refused(
-            alloc,
-            "error: -o takes a file's path; standard output needs no -o\n",
-        );
+        let text = "error: -o takes a file's path; standard output needs no -o\n";
+        return Invocation::refusal(alloc, text);
     }
     Ok(invocation)
 }

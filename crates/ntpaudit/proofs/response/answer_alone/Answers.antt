@@ -1,3 +1,4 @@
+use Rattle.ntpaudit.proofs.Reported.{reported}
 use Rattle.ntpaudit.proofs.response.answer_alone.Goals as goal
 
 pub returns-clause-answered : goal.returns-clause-answered
@@ -6,3 +7,6 @@ returns-clause-answered g c = record {
   answers = c.answer.ensures.answers;
   shows = c.answer.ensures.shows;
 }
+
+pub returns-clause-reported : goal.returns-clause-reported
+returns-clause-reported g c = reported c.answer.ensures.answers

@@ -30,5 +30,5 @@ returns-in-Err-clause-judged g c =
       counts_fault = c.in-Err.ensures.counts_fault;
       untouched = refl;
       concludes = c.conclude.ensures.concludes;
-      status_is = c.conclude.ensures.status;
+      conclusion_is = c.conclude.ensures.exact;
     })

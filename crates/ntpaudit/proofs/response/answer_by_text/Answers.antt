@@ -1,3 +1,4 @@
+use Rattle.ntpaudit.proofs.Reported.{reported_by_sums}
 use Rattle.ntpaudit.proofs.response.answer_by_text.Goals as goal
 
 pub returns-clause-judged : goal.returns-clause-judged
@@ -9,3 +10,6 @@ returns-clause-judged g c = record {
   };
   judges = c.answer_by_sums.ensures;
 }
+
+pub returns-clause-reported : goal.returns-clause-reported
+returns-clause-reported g c = reported_by_sums c.answer_by_sums.ensures

@@ -1,3 +1,4 @@
+use Rattle.ntpaudit.proofs.Reported.{reported}
 use Rattle.ntpaudit.proofs.response.check_alone.Goals as goal
 
 pub returns-clause-answered : goal.returns-clause-answered
@@ -10,3 +11,6 @@ returns-clause-answered g c = record {
   answers = c.answer_check.ensures.answers;
   shows = c.answer_check.ensures.shows;
 }
+
+pub returns-clause-reported : goal.returns-clause-reported
+returns-clause-reported g c = reported c.answer_check.ensures.answers

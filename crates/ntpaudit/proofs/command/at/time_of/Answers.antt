@@ -1,6 +1,6 @@
 use Rattle.std.proofs.Common.{◌∙◌, List, [], Option, ap, unwrap_or, ℕ}
 use Rattle.claim_file.specs.Time as spec
-use Rattle.ntpaudit.proofs.words.time_of.Goals as goal
+use Rattle.ntpaudit.proofs.command.at.time_of.Goals as goal
 
 pub returns-in-Some : goal.returns-in-Some
 returns-in-Some c =

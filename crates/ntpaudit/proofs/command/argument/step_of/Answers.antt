@@ -1,6 +1,6 @@
 use Rattle.std.proofs.Common.{◌∙◌, Option, Some, None, ap, sym}
 use Rattle.std.specs.Prelude.{IfSome}
-use Rattle.ntpaudit.proofs.words.step_of.Goals as goal
+use Rattle.ntpaudit.proofs.command.argument.step_of.Goals as goal
 
 weaker : {A : Type 0} (given : Option A) (P Q : A → Type 0) → ((x : A) → P x → Q x) → IfSome given P → IfSome given Q
 weaker None P Q imply held = tt

@@ -3,7 +3,7 @@ use Rattle.std.specs.Prelude.{IfSome, option_map}
 use Rattle.std.specs.Str.Parse.{ExplainsUnsignedError, HasUnsignedDigitsIfOk, ParsesUnsigned, digits_value, without_leading_plus}
 use Rattle.clap.specs.Words.{ReadsOne, found_of, one_text}
 use Rattle.clap.proofs.WalkLemmas.{one_text-rows}
-use Rattle.ntpaudit.proofs.words.seconds_of.Goals as goal
+use Rattle.ntpaudit.proofs.command.argument.seconds_of.Goals as goal
 
 -- the number that a text's digits are
 abbrev number : List ℕ → ℕ
@@ -22,7 +22,7 @@ reads E G parses (Some text) (Some seconds) none value =
 
 pub returns : goal.returns
 returns c =
-    let f = found_of c.args.matches.now in
+    let f = found_of c.args.words.now in
     subst (λ (given : Option (List ℕ)). IfSome c.get_one.result (λ seconds. option_map number given ≡ Some seconds))
     (one_text-rows f (codes "step"))
     (reads _ (λ text x. ParsesUnsigned 32 10 text x × ExplainsUnsignedError 10 text x × HasUnsignedDigitsIfOk text x)

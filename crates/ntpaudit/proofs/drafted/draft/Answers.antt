@@ -1,5 +1,5 @@
 use Rattle.std.proofs.Common.{refl, true≢false, sym, ◌∙◌}
-use Rattle.ntpaudit.proofs.drafted.draft_one.Goals as goal
+use Rattle.ntpaudit.proofs.drafted.draft.Goals as goal
 
 pub returns-then-is_human : goal.returns-then-is_human
 returns-then-is_human g c = record {

@@ -1,0 +1,84 @@
+//! The commands, each in a file of its own: its help, its operands and options, and what its words
+//! call for.
+
+ghost use Rattle.std.specs.Prelude.{IfOk};
+ghost use Rattle.clap.specs.Words.{found_of, rows_of, subcommand_rows_of};
+ghost use Rattle.ntpaudit.specs.Invocation.{IsCalled, IsCalledBy};
+
+mod argument;
+mod at;
+mod check;
+mod envelope;
+mod evidence;
+mod find;
+mod list;
+mod refute;
+mod samples;
+mod settle;
+
+use crate::invocation::Invocation;
+use clap::{ArgMatches, Command};
+use std::alloc::{AllocError, Global};
+
+const HELP: &str = "\
+Answers go to standard output, and faults to standard error, one line each.
+
+Status:   0 done, or yes; 1 no; 2 an input is refused; 3 out of memory; 4 a file can't be opened,
+          or a device failed; 5 the command line is refused
+Example:  ntpaudit list recording.pcap
+More:     man ntpaudit";
+
+/// Adds the commands that show what a capture says.
+fn with_readings<'a>(alloc: Global, program: Command<'a>) -> Result<Command<'a>, AllocError> {
+    program
+        .subcommand(list::declaration(alloc)?)?
+        .subcommand(samples::declaration(alloc)?)?
+        .subcommand(at::declaration(alloc)?)
+}
+
+/// Adds the commands that judge a claim.
+fn with_judgements<'a>(alloc: Global, program: Command<'a>) -> Result<Command<'a>, AllocError> {
+    program
+        .subcommand(settle::declaration(alloc)?)?
+        .subcommand(check::declaration(alloc)?)?
+        .subcommand(find::declaration(alloc)?)?
+        .subcommand(refute::declaration(alloc)?)?
+        .subcommand(envelope::declaration(alloc)?)
+}
+
+/// The program with its commands.
+pub(crate) fn program<'a>(alloc: Global) -> Result<Command<'a>, AllocError> {
+    let program = Command::new(alloc, "ntpaudit")
+        .version("0.8.0 (logic dac8208d650f15bf)")
+        .about("What a packet capture of NTP shows about a clock")
+        .after_help(HELP)
+        .subcommand_required(true);
+    with_judgements(alloc, with_readings(alloc, program)?)
+}
+
+/// What the words of this command call for.
+fn called(alloc: Global, name: &str, words: &ArgMatches) -> Result<Invocation, AllocError>
+    ensures { IfOk result (IsCalled name.now (rows_of (found_of words.now))) }
+{
+    match name {
+        "list" => list::invocation(alloc, words),
+        "samples" => samples::invocation(alloc, words),
+        "at" => at::invocation(alloc, words),
+        "settle" => settle::invocation(alloc, words),
+        "check" => check::invocation(alloc, words),
+        "find" => find::invocation(alloc, words),
+        "refute" => refute::invocation(alloc, words),
+        "envelope" => envelope::invocation(alloc, words),
+        _ => Invocation::refusal(alloc, "no command\n"),
+    }
+}
+
+/// What the words of a command line call for that clap has taken apart.
+pub(crate) fn invocation_of(alloc: Global, matches: &ArgMatches) -> Result<Invocation, AllocError>
+    ensures called { IfOk result (IsCalledBy (subcommand_rows_of matches.now)) }
+{
+    match matches.subcommand() {
+        Some((name, words)) => called(alloc, name, words),
+        None => Invocation::refusal(alloc, "no command\n"),
+    }
+}

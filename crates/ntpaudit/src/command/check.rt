@@ -1,0 +1,35 @@
+//! The command `check`.
+
+ghost use Rattle.std.specs.Prelude.{IfOk, codes};
+ghost use Rattle.clap.specs.Words.{found_of, rows_of};
+ghost use Rattle.ntpaudit.specs.Invocation.{IsCalled};
+
+use crate::command::evidence::{evidence_command, judged_paths, sums_option};
+use crate::invocation::{Invocation, Judgement};
+use clap::{Arg, ArgMatches, Command};
+use std::alloc::{AllocError, Global};
+
+const HELP: &str = "\
+Prints:   a report, whose last line is `verdict yes` or `verdict no piece K WHY`. With --human
+          milliseconds, and times as 2026-11-22T06:46:09Z
+Status:   0 yes; 1 no; 2 an input is refused; 3 out of memory; 4 a file or the output failed; 5 the
+          command line is refused
+Example:  ntpaudit check claim.json recording.pcap certificate.json
+More:     man ntpaudit, which says what a yes means";
+
+/// The command, its operands and options.
+pub(crate) fn declaration<'a>(alloc: Global) -> Result<Command<'a>, AllocError> {
+    let certificate = Arg::new(alloc, "CERTIFICATE").help("The certificate, a JSON file");
+    let about = "Check a certificate for a claim against a capture";
+    evidence_command(alloc, "check", about, HELP)?
+        .arg(certificate.required(true))?
+        .arg(sums_option(alloc))
+}
+
+/// What its words call for.
+pub(crate) fn invocation(alloc: Global, words: &ArgMatches) -> Result<Invocation, AllocError>
+    ensures { IfOk result (IsCalled (codes "check") (rows_of (found_of words.now))) }
+{
+    let paths = judged_paths(alloc, words, "CERTIFICATE")?;
+    Ok(Invocation::Judge(Judgement::Check, paths))
+}

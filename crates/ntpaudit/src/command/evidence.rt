@@ -1,0 +1,97 @@
+//! What commands on a claim and a capture share.
+
+ghost use Rattle.std.specs.Prelude.{IfOk};
+ghost use Rattle.clap.specs.Words.{found_of, rows_of};
+ghost use Rattle.ntpaudit.specs.Invocation.{AreJudgedNamed, AreNamed, IsAsking};
+
+use crate::command::argument::{human_option, operand, style, text_of};
+use crate::invocation::{Invocation, JudgedPaths, Paths};
+use audit::Request;
+use clap::{Arg, ArgMatches, Command};
+use std::alloc::{AllocError, Global};
+
+/// The operand CLAIM.
+fn claim_operand<'a>(alloc: Global) -> Arg<'a> {
+    Arg::new(alloc, "CLAIM")
+        .help("The claim, a JSON file")
+        .required(true)
+}
+
+/// The operand CAPTURE.
+fn capture_operand<'a>(alloc: Global) -> Arg<'a> {
+    Arg::new(alloc, "CAPTURE")
+        .help("The capture, a classic pcap file")
+        .required(true)
+}
+
+/// A command that reads a claim and a capture, with these words about it.
+pub(crate) fn evidence_command<'a>(
+    alloc: Global,
+    name: &'a str,
+    about: &'a str,
+    help: &'a str,
+) -> Result<Command<'a>, AllocError> {
+    let human = "Milliseconds, times of the day, and faults in words";
+    Command::new(alloc, name)
+        .about(about)
+        .after_help(help)
+        .arg(claim_operand(alloc))?
+        .arg(capture_operand(alloc))?
+        .arg(human_option(alloc, human))
+}
+
+/// The option `--sums`.
+pub(crate) fn sums_option<'a>(alloc: Global) -> Arg<'a> {
+    Arg::new(alloc, "sums").long("sums").value_name("SUMS").help(
+        "Hold each file to its line in SUMS, a file as sha256sum writes it",
+    )
+}
+
+/// The option `--output`.
+pub(crate) fn output_option<'a>(alloc: Global) -> Arg<'a> {
+    let help = "Write what a program reads to FILE, whole or not at all";
+    Arg::new(alloc, "output")
+        .short('o')
+        .long("output")
+        .value_name("FILE")
+        .help(help)
+}
+
+/// The claim, the capture, the file of sums and the output that are named, and for whom the answer
+/// is written.
+fn paths(alloc: Global, words: &ArgMatches) -> Result<Paths, AllocError>
+    ensures { IfOk result (AreNamed (rows_of (found_of words.now))) }
+{
+    Ok(Paths {
+        style: style(words),
+        claim: operand(alloc, words, "CLAIM")?,
+        capture: operand(alloc, words, "CAPTURE")?,
+        sums: text_of(alloc, words, "sums")?,
+        output: text_of(alloc, words, "output")?,
+    })
+}
+
+/// The same, with the second input that the operand of this name names.
+pub(crate) fn judged_paths(
+    alloc: Global,
+    words: &ArgMatches,
+    name: &str,
+) -> Result<JudgedPaths, AllocError>
+    ensures { IfOk result (AreJudgedNamed name.now (rows_of (found_of words.now))) }
+{
+    Ok(JudgedPaths {
+        evidence: paths(alloc, words)?,
+        second: operand(alloc, words, name)?,
+    })
+}
+
+/// Asks a question of the files that are named.
+pub(crate) fn ask(
+    alloc: Global,
+    request: Request,
+    words: &ArgMatches,
+) -> Result<Invocation, AllocError>
+    ensures { IfOk result (IsAsking request (rows_of (found_of words.now))) }
+{
+    Ok(Invocation::Ask(request, paths(alloc, words)?))
+}
