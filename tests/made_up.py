@@ -15,7 +15,6 @@ from collections.abc import Iterable, Sequence
 
 # What else is written, with the reason.
 EXCEPTIONS = {
-    "fault_words/src/line_fault.rt": [("RunFault::Memory,", "its line is compared with one that was written")],
     "json_text/src/text.rt": [("if fault.is_memory() { Err(AllocError) }", "serde_json says it in words of its own")],
     "ntpaudit/src/command_line.rt": [
         ("if error.kind() == error::ErrorKind::OutOfMemory { return Err(AllocError); }",

@@ -32,7 +32,7 @@ mod sample_list;
 mod sample_output;
 mod second;
 
-pub use audit_text::{Envelope, Step};
+pub use audit_text::{Envelope, PLAIN_ENVELOPE, Step};
 pub use commands::{answer_check, run_at, run_check, run_find, run_refute, run_samples, run_seek};
 pub use engine::{Outputs, answer, run};
 pub use evidence::Evidence;

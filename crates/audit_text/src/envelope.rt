@@ -34,6 +34,13 @@ pub struct Envelope {
     pub least: bool,
 }
 
+/// Pieces of 64 seconds, with nothing that has to be asked for.
+pub const PLAIN_ENVELOPE: Envelope = Envelope {
+    step: Step { seconds: 64 },
+    servers: false,
+    least: false,
+};
+
 /// The columns, the last of them for what servers say.
 const COLUMNS: [Field<'static>; 6] = [
     Field::Heading("piece", Kind::Number),

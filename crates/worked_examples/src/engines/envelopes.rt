@@ -1,35 +1,29 @@
 //! The worked rows on `envelope`, for a program and for a person.
 
-use crate::engines::trial::{Command, LONG_STEP, NO, Row, YES, hold};
+use crate::engines::trial::{Command, NO, Row, YES, hold};
 use crate::expectation::table;
 use crate::inputs::{ONE, REQUEST, SPAN, WHOLE, ZERO};
 use Command::Ask;
-use audit::{Envelope, Request, Step, Style};
+use audit::{Envelope, PLAIN_ENVELOPE, Request, Step, Style};
 
-/// Pieces of 64 seconds, with no option.
-pub(crate) const PLAIN: Envelope = Envelope {
-    step: LONG_STEP,
-    servers: false,
-    least: false,
-};
-
-const PIECES: Command<'static> = Ask(Request::Envelope(PLAIN));
+/// Pieces of 64 seconds.
+const PIECES: Command<'static> = Ask(Request::Envelope(PLAIN_ENVELOPE));
 
 /// The same with an option.
 pub(crate) const SERVERS: Command<'static> = Ask(Request::Envelope(Envelope {
     servers: true,
-    ..PLAIN
+    ..PLAIN_ENVELOPE
 }));
 
 const LEAST: Command<'static> = Ask(Request::Envelope(Envelope {
     least: true,
-    ..PLAIN
+    ..PLAIN_ENVELOPE
 }));
 
 /// Pieces of 32 seconds.
 const HALVES: Envelope = Envelope {
     step: Step { seconds: 32 },
-    ..PLAIN
+    ..PLAIN_ENVELOPE
 };
 
 const TWO_PIECES: Command<'static> = Ask(Request::Envelope(HALVES));

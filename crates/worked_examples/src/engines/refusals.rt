@@ -1,13 +1,13 @@
 //! Inputs that are refused, by every engine that reads them.
 
-use crate::engines::envelopes::{PLAIN, SERVERS};
+use crate::engines::envelopes::SERVERS;
 use crate::engines::trial::{AT, COMMANDS, Command, FIND, Row, hold};
 use crate::expectation::table;
 use crate::inputs::{Capture, Edit, REFUTATION, TO, WHOLE, padded};
 use CaptureFault::{BadFraction, Link, Magic, TooLong, TornHeader, TornRecord, Version};
 use Command::{Ask, Check, Refute};
 use Request::{FindRefutation, Samples};
-use audit::{Envelope, Find, Request, Step, Style};
+use audit::{Envelope, Find, PLAIN_ENVELOPE, Request, Step, Style};
 use certificate::{CertificateFault, RefutationFault};
 use claim_file::ClaimFault;
 use pcap_reader::CaptureFault;
@@ -69,7 +69,7 @@ const FIND_SHORT: Command<'static> = Ask(Request::Find(Find { step: SHORT_STEP }
 
 const ENVELOPE_SHORT: Command<'static> = Ask(Request::Envelope(Envelope {
     step: SHORT_STEP,
-    ..PLAIN
+    ..PLAIN_ENVELOPE
 }));
 
 const TOO_GREAT: &str = r#"{"error":9223372036854775808,"false":[],"reading":0}"#;
