@@ -1,24 +1,28 @@
-"""The commands with a claim, each with its words and what it answers to the two packets of data/: a request and its
-reply. tests/prefixes, tests/devices, tests/refused-memory and tests/human try each of them, and tests/hostile looks
-that it does.
+"""The commands with a claim, each with the options that its help names and what it answers to the two packets of data/:
+a request and its reply. tests/prefixes, tests/devices, tests/refused-memory and tests/human try each of them, and
+tests/hostile looks that it does. A command of tests/answers.py needs nothing here.
 """
 import re
-from collections.abc import Callable, Sequence
+from collections.abc import Callable, Iterator, Sequence
+from functools import partial
 from pathlib import Path
 from typing import NamedTuple
 
 import shown
-import transcript
-from answers import Answer
+from answers import READINGS, Answer, Evidence
 from claims import read_claim
-from columns import SAMPLE, counted, written
-from tally import DATA, Ran
+from exchanges import evidence_of
+from tally import DATA, Ran, program, run
 
+PROGRAM = program()
 CLAIM, CAPTURE = DATA / "two-packets.claim.json", DATA / "two-packets.pcap"
 CERTIFICATE, REFUTATION = DATA / "two-packets.certificate.json", DATA / "two-packets.refutation.json"
+PACKETS = (DATA / "two-packets.list.txt").read_bytes().splitlines(keepends=True)[:2]
 TIME = "2001-09-09T01:46:40Z"
 SECOND = {"check": "certificate", "refute": "refutation"}
 """What the second input of a command is, if it takes one."""
+OPERANDS: dict[str, Path | str] = {"<CERTIFICATE>": CERTIFICATE, "<REFUTATION>": REFUTATION, "<TIME>": TIME}
+"""What stands for an operand behind claim and capture."""
 
 
 class Command(NamedTuple):
@@ -61,15 +65,13 @@ def fault_alone(ran: Ran, options: Sequence[str], may_lack_words: bool = False) 
     return status, output, b"not the words of a fault: " + error
 
 
-def lines_of(case: str) -> list[str]:
-    """What a case of tests/run prints."""
-    return transcript.printed(case).decode().splitlines()
+# ---- what is answered to the first records
 
 
-def counts_of(records: int) -> str:
-    """The counts line of the first records."""
-    requests, replies = min(records, 1), max(records - 1, 0)
-    return counted(records=records, requests=requests, replies=replies, samples=replies)
+def evidence(records: int) -> Evidence:
+    """What they say about the claim."""
+    closing = f"records {records} packets {records}\n".encode()
+    return evidence_of(read_claim(CLAIM), b"".join(PACKETS[:records]) + closing)
 
 
 def report(records: int) -> Answer:
@@ -78,7 +80,7 @@ def report(records: int) -> Answer:
     lines = [
         "client 192.0.2.10 servers 1 false_max 0",
         "span 1000000000 1000000000 bound_ns 10001001 drift_ppb 0 reading_ns 0",
-        counts_of(records),
+        evidence(records).counts,
         f"advice sources {int(is_whole)}",
         *(["advice reference 47505300"] if is_whole else []),
         "pieces 1",
@@ -87,87 +89,55 @@ def report(records: int) -> Answer:
     return (0 if is_whole else 1), lines
 
 
-def samples(records: int) -> Answer:
-    sample = written(SAMPLE, 0, "192.0.2.1", 0, 1, -4295, 1, 85895050, 85903641, -42949674, 42953969)
-    return 0, [*([sample] if records == 2 else []), counts_of(records)]
-
-
-def at(records: int) -> Answer:
-    interval = "-42949674 42953969"
-    return 0, [f"192.0.2.1 {interval}", f"hull {interval}"] if records == 2 else ["hull unbounded"]
-
-
-def found(records: int) -> Answer:
-    if records == 2:
-        return 0, [CERTIFICATE.read_text().rstrip()]
-    return 1, ["nothing piece 0 hull unbounded"]
-
-
-def envelope(records: int) -> Answer:
-    if records == 2:
-        return 0, lines_of("envelope/bound-plays-no-part")
-    return 1, lines_of("envelope/without-its-reply")
-
-
-def with_servers(records: int) -> Answer:
-    return (0, lines_of("envelope/two-packets")) if records == 2 else envelope(records)
-
-
-def least(records: int) -> Answer:
-    """The least bound is that of the one moment."""
-    status, lines = envelope(records)
-    return status, [*lines, "least_ns 10001001 piece 0" if records == 2 else "least_ns none"]
-
-
-def for_a_person(name: str, answer: Callable[[int], Answer], *others: Path | str) -> Callable[[int], Answer]:
-    """The same lines as tests/shown.py reads them."""
-    def shown_of(records: int) -> Answer:
-        status, lines = answer(records)
-        words = [name, str(CLAIM), str(CAPTURE), *map(str, others)]
-        return status, shown.of(words, "\n".join(lines).encode()).decode().splitlines()
-    return shown_of
-
-
-def sought(records: int) -> Answer:
-    """Without an exchange any error will do, and the first beyond the bound is the one in the file."""
-    return (1, ["nothing refutation"]) if records == 2 else (0, [REFUTATION.read_text().rstrip()])
-
-
-def settled(records: int) -> Answer:
-    """Without an exchange the capture says nothing, and a refutation that is sought all the same isn't shown."""
-    return found(records) if records == 2 else (1, ["no evidence groups 0 of 1 false_max 0"])
-
-
-def told(records: int) -> Answer:
-    """What `settle` tells a person: the least bound is the claimed one."""
-    status, lines = settled(records)
-    heard = {"192.0.2.1"} if records == 2 else set[str]()
-    return status, shown.settle(lines, read_claim(CLAIM), {}, "least_ns 10001001", heard)
-
-
 def refuted(records: int) -> Answer:
+    """Without an exchange any error will do."""
     return (1, ["refuted no"]) if records == 2 else (0, ["refuted yes"])
 
 
-COMMANDS = (
-    Command("check", report, (CERTIFICATE,)),
-    Command("refute", refuted, (REFUTATION,)),
-    Command("refute", refuted, (REFUTATION,), ("--drift",)),
-    Command("refute", for_a_person("refute", refuted, REFUTATION), (REFUTATION,), ("--human",)),
-    Command("samples", samples),
-    Command("samples", for_a_person("samples", samples), (), ("--human",)),
-    Command("at", at, (TIME,)),
-    Command("find", found),
-    Command("find", for_a_person("find", found), (), ("--human",)),
-    Command("find", sought, (), ("--refutation",)),
-    Command("find", for_a_person("find", sought), (), ("--refutation", "--human")),
-    Command("settle", settled),
-    Command("settle", told, (), ("--human",)),
-    Command("envelope", envelope),
-    Command("envelope", with_servers, (), ("--servers",)),
-    Command("envelope", least, (), ("--least",)),
-    Command("envelope", for_a_person("envelope", envelope), (), ("--human",)),
-)
+def answered(name: str, words: Sequence[Path | str], records: int) -> Answer:
+    """What a command answers. A refutation that `settle` would find all the same isn't shown."""
+    if name in SECOND:
+        return {"check": report, "refute": refuted}[name](records)
+    return READINGS[name](evidence(records), *words)
+
+
+def told(name: str, words: Sequence[Path | str], records: int) -> Answer:
+    """The same for a person, as tests/shown.py reads the lines."""
+    status, lines = answered(name, words, records)
+    if name != "settle":
+        text = shown.of([name, *map(str, (CLAIM, CAPTURE, *words))], "\n".join(lines).encode())
+        return status, text.decode().splitlines()
+    said = evidence(records)
+    heard = {said.claim["servers"][sample.server] for sample in said.samples}
+    least, *_ = READINGS["envelope"](said, "--least")[1][-1].split(" piece")
+    return status, shown.settle(lines, said.claim, {}, least, heard)
+
+
+# ---- the commands
+
+
+def help_of(name: str) -> str:
+    return run([PROGRAM, name, "--help"])[1].decode()
+
+
+def flags_of(name: str) -> list[tuple[str, str]]:
+    """The options without a value that a command's help names: of each its letter, if it has one, and its word."""
+    section = help_of(name).split("Options:\n")[1].split("\n\n")[0]
+    found = re.findall(r"^  (?:(-\w), |    )(--[a-z]+)(?=  )", section, flags=re.M)
+    return [(letter, word) for letter, word in found if word != "--help"]
+
+
+def commands_of(name: str) -> Iterator[Command]:
+    """A command without an option and with each that it has, and each of these for a person too."""
+    _, _, *operands = re.findall(r"<\w+>", help_of(name).split("Usage: ")[1].split("\n")[0])
+    others = tuple(OPERANDS[word] for word in operands)
+    for options in ((), *((word,) for _, word in flags_of(name) if word != "--human")):
+        words = *others, *options
+        yield Command(name, partial(answered, name, words), others, options)
+        yield Command(name, partial(told, name, words), others, (*options, "--human"))
+
+
+COMMANDS = tuple(command for name in (*SECOND, *READINGS) for command in commands_of(name))
 PLAIN = [command for command in COMMANDS if "--human" not in command.options]
 
 
