@@ -3,6 +3,7 @@ from __future__ import annotations
 
 from collections.abc import Callable
 
+from . import allowance
 from .entry import Alert
 from .support import named
 from .text import capital, count, is_or_are, plain
@@ -69,8 +70,12 @@ def no_list(_: Alert) -> str:
 
 
 def reading(found: Alert) -> str:
-    return (f"Records were measured as late as {ns_ms(found.count)} ms after the clock was read, by the folder's own "
-            "evidence. That is more than the claim grants (`reading_ns`).")
+    return (f"Packets were stamped as much as {ns_ms(found.count)} ms after they left, by the folder's own evidence. "
+            "That is more than the claim grants (`reading_ns`).")
+
+
+def slip(found: Alert) -> str:
+    return f"The claim's {allowance.slip(found.count)}"
 
 
 def drift(found: Alert) -> str:
@@ -87,6 +92,11 @@ def torn(found: Alert) -> str:
     more = f", and so do {count(found.count - 1, 'other')}" if found.count > 1 else ""
     return (f"{plain(found.file)} ends inside a record, and counts up to there (byte {found.place:,}){more}. It was "
             "cut off, or is still being written (`tcpdump -U` writes whole records).")
+
+
+def flood(found: Alert) -> str:
+    return (f"{count(found.count, 'record')} of the capture {is_or_are(found.count)} of others than the claim's client "
+            "and servers, and left out of what is audited: the recorder's filter may name these servers.")
 
 
 def step(found: Alert) -> str:
@@ -120,7 +130,7 @@ WORDS: dict[str, Callable[[Alert], str]] = {
     "outside": outside, "no-drift": no_drift, "falls": falls, "silence": silence, "far": far, "leap": leap,
     "leap-second": leap_second, "leap-ends": leap_ends, "sources": sources, "reference": reference, "apart": apart,
     "drift": drift, "reading": reading, "step": step, "oscillator": oscillator, "torn": torn,
-    "interleaved": interleaved, "no-list": no_list,
+    "flood": flood, "interleaved": interleaved, "no-list": no_list, "slip": slip,
 }
 TO_DO = {
     "drift": "Grant as much drift as the evidence has, and audit again.",
@@ -128,6 +138,7 @@ TO_DO = {
     "step": "Claim the time before the step and the time after it by themselves.",
     "leap-second": "Claim another span.",
     "leap-ends": "Name a list that is good for the span (`--leap-seconds`), or bring the system's up to date.",
+    "no-list": "Name a list of leap seconds (`--leap-seconds`), or put the system's in place (tzdata).",
 }
 """What to do about each warning that takes a yes away."""
 

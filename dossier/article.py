@@ -18,7 +18,7 @@ from .premises import premises
 from .ranges import ranges_of
 from .signature import GOOD, NONE, UNSEEN, Signature, in_words
 from .support import support
-from .table import Row
+from .result import Row
 from .text import capital, count
 from .units import SECOND, range_ms
 from .words import fit, sentence, span, to_do
@@ -47,29 +47,23 @@ def badge(verdict: str) -> Html:
     return element("span", f"{SYMBOLS[verdict]} {verdict}", class_=f"verdict {verdict.replace(' ', '-')}")
 
 
-def article(name: str, path: str, folder: Folder, record: Record, entry: Entry, signature: Signature) -> Html:
+def article(path: str, folder: Folder, record: Record, entry: Entry, signature: Signature,
+            name: str) -> tuple[Html, Html]:
+    """The head of an article, and the rest of it."""
     day = "" if entry.part == "." else f", {entry.part}"
-    return element("article", lines([
-        "",
-        element("h2", f"{path}{day} ", badge(entry.verdict)),
-        element("p", minus(sentence(entry)), class_="lead"),
-        *signed(signature),
-        *body(name, folder, record, entry),
-        *sums(record, entry),
-        ""]), id=name)
+    head = [element("h2", f"{path}{day} ", badge(entry.verdict)), element("p", minus(sentence(entry)), class_="lead")]
+    return lines([*head, *signed(signature)]), lines([*body(name, folder, record, entry), *sums(record, entry)])
 
 
-def short_article(name: str, path: str, row: Row, line: str, signature: Signature) -> Html:
+def short_article(path: str, row: Row, line: str, signature: Signature) -> Html:
     """A folder that has no verdict here."""
     lead = "There is no verdict: the audit couldn't be made." if line else f"No verdict is shown. {row.reason}"
-    return element("article", lines([
-        "",
+    return lines([
         element("h2", f"{path} ", badge(row.verdict)),
         element("p", minus(lead), class_="lead"),
         *signed(signature),
         *([element("pre", line)] if line else []),
-        element("p", with_code(capital(row.to_do))),
-        ""]), id=name)
+        element("p", with_code(capital(row.to_do)))])
 
 
 def signed(found: Signature) -> Iterator[Html]:
@@ -192,7 +186,9 @@ def again(record: Record, entry: Entry) -> Html:
         claim = files.CLAIM if entry.answer == REFUTED else files.CLAIM_OF_0
         calls.append(["refute", claim, capture, files.REFUTATION, "--drift"])
     is_packed = not is_own and record.kept is not None and record.capture in record.kept.sums
-    unpacks = [["zstd", "-dk", f"{capture}.zst"]] if is_packed else []
+    unpacks = [["zstd", "-d", f"{capture}.zst", "-o", f"../{capture.rpartition('/')[2]}"]] if is_packed else []
+    calls = [[f"../{capture.rpartition('/')[2]}" if is_packed and word == capture else word for word in call]
+             for call in calls]
     anew = element("p", f"{files.JOINED} isn\u2019t kept: ", element("code", "ntpaudit-dossier audit --again"),
                    " makes it anew, in a copy of the folder.") if record.is_left_out(capture) else ""
     return lines([

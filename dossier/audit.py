@@ -1,20 +1,26 @@
-"""The audit of one folder: reused if it was made or verified here and nothing has changed since, or made and put in
-place."""
+"""The audit of folders: of each one reused if it was made or verified here and nothing has changed since, or made and
+put in place."""
 from __future__ import annotations
 
 from collections.abc import Iterable
 from dataclasses import dataclass
-from typing import NamedTuple
+from functools import partial
 
 from . import folder as files
-from .entry import LeapList, Options, Record, read_record, record_text
-from .fault import USAGE, Fault, fault
-from .folder import LEFT, Folder
+from .entry import REFUSED, LeapList, Options, Record, read_record, record_text
+from .fault import USAGE, Fault, fault, summed
+from .folder import LEFT, Folder, sum_of
 from .known import Known
+from .leap import record_by
+from .line import line_of, refusal_of
 from .making import Making, sums_of_inputs
-from .placing import blocks_of, place, take_away
-from .program import Program, sum_of
-from .scratch import scratch
+from .metrics import Sample, of_record, of_verdict, write_metrics
+from .placing import blocks_of, is_ones_own, place
+from .program import Program
+from .progress import Progress
+from .result import Result
+from .running import run_all
+from .text import plain
 
 
 @dataclass(frozen=True)
@@ -24,68 +30,82 @@ class Wanted:
     options: Options
     again: bool
     leaps: LeapList
-    is_own_list: bool
-    """Whether that list was named, and isn't just the system's, which may become another at any time."""
     known: Known
-
-
-class Audited(NamedTuple):
-    """What came of a folder: its record; whether it was done and nothing has changed since; and whether it was signed,
-    and the signature was removed."""
-
-    record: Record
-    is_old: bool = False
-    was_signed: bool = False
+    program: Program
 
 
 SIGNED = ("signed, and not as it would be audited now. It is audited again only with --again, which takes the "
           "signature away")
 
 
-def audit_folder(path: str, wanted: Wanted, program: Program) -> Audited:
+def audit_all(folders: list[str], wanted: Wanted, jobs: int, seconds: int, metrics: str | None) -> int:
+    """Audits all folders and prints a line for each audit, in the order of the folders. Metrics are written at the end.
+    The status is that of all."""
+    shown, worst, samples = Progress(len(folders)), 0, list[Sample]()
+    jobs = max(1, min(jobs, len(folders)))
+    try:
+        for path, found in run_all(folders, partial(audit, wanted), seconds, jobs, shown):
+            worst = summed(worst, found.status)
+            samples += found.metrics or of_verdict(path, REFUSED)
+            shown.clear()
+            print("\n".join([refusal_of(path, found.refusal.line)] if found.refusal else found.lines), flush=True)
+    finally:
+        shown.clear()
+    if len(folders) > 1:
+        print(shown.summed(", "))
+    return summed(worst, write_metrics(metrics, samples)) if metrics else worst
+
+
+def audit(wanted: Wanted, path: str, _: int) -> Result:
     """Audits a folder and leaves its files, audit.json last.
 
     A refusal is an audit too, and is written down. A fault is raised only if that isn't possible, or if the folder is
     signed and would have to be audited again.
     """
-    with Folder(path, program.limit) as folder:
+    with Folder(path) as folder:
+        is_ones_own(folder.place)
         old = known_record(folder, wanted.known)
-        if old and not wanted.again and is_same(folder, old, wanted, program):
-            return Audited(old, is_old=True)
-    with Folder(path, program.limit) as folder, scratch():
+        if old and not wanted.again and is_same(folder, old, wanted):
+            return result_of(path, old, " (unchanged)")
+    with Folder(path) as folder:
         is_signed = folder.has(files.SIGNATURE)
         if is_signed and not wanted.again:
             raise fault(SIGNED, USAGE)
-        making = Making(folder, program, wanted.options, wanted.leaps)
+        making = Making(folder, wanted.program, wanted.options, wanted.leaps)
         try:
             record = making.record()
         except Fault as found:
             record = making.refused(found)
-            program.limit.begin()  # (what is left to do doesn't depend on the folder)
-        if is_signed:
-            take_away(folder.place, files.SIGNATURE)
-        text, stale = record_text(record), [*LEFT, *(old.outputs if old else ())]
+        text, stale = record_text(record), {*LEFT, *(old.outputs if old else ()), files.SIGNATURE}
         made: dict[str, Iterable[bytes]] = {name: blocks_of(name) for name in record.outputs}
-        place(folder, {**made, files.AUDIT: [text]}, set(stale) - record.outputs.keys())
-    wanted.known.add(sum_of(text))
-    return Audited(record, was_signed=is_signed)
+        with wanted.known.alone(folder):
+            place(folder, {**made, files.AUDIT: [text]}, stale - record.outputs.keys())
+    wanted.known.add(sum_of(text), record)
+    return result_of(path, record, "", [f"{'':14}{plain(path)}: its signature was removed"] if is_signed else [])
+
+
+def result_of(path: str, record: Record, more: str, others: Iterable[str] = ()) -> Result:
+    """A folder's lines, verdicts and metrics."""
+    lines = [refusal_of(path, record.refusal.line)] if record.refusal else []
+    lines += [line_of(path, entry) + more for entry in record.entries]
+    return Result(record.status, [*lines, *others], record.verdicts, list(of_record(path, record)))
 
 
 def known_record(folder: Folder, known: Known) -> Record | None:
     """The folder's record, if it was made or verified here."""
     try:
         data = folder.data(files.AUDIT)
-        return read_record(data) if known.has(sum_of(data)) else None
+        return known.shown(sum_of(data), read_record(data))
     except Fault:
         return None
 
 
-def is_same(folder: Folder, old: Record, wanted: Wanted, program: Program) -> bool:
+def is_same(folder: Folder, old: Record, wanted: Wanted) -> bool:
     """Whether a folder would be audited as it was, and all its files are there as they were left. What was refused is
     tried again."""
-    if old.refusal or (old.program, old.options) != (program.made, wanted.options):
+    if old.refusal or (old.program, old.options) != (wanted.program.made, wanted.options):
         return False
-    if wanted.is_own_list and old.leap_seconds and old.leap_seconds.sha256 != wanted.leaps.sha256:
+    if record_by(wanted.leaps, old).entries != old.entries:
         return False
     try:
         return change_of(folder, old) == ""

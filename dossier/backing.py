@@ -1,6 +1,7 @@
 """What a folder's own evidence says of the clock, and what of it speaks against the claim.
 
-Files of JSON that evidence.json names beside a premise are read: what was measured, and what was read of the client.
+Files of JSON that evidence.json names beside a premise are read: what it was recorded by, what was measured, and what
+was read of the client.
 """
 from __future__ import annotations
 
@@ -9,19 +10,20 @@ from typing import NamedTuple, TypeVar
 
 from .claim import Claim
 from .correction import Correction
-from .entry import Alert, Leap, LeapList
+from .entry import Alert, Leap
 from .evidence import evidence, named_in
 from .fault import Fault
 from .folder import EVIDENCE, Folder
-from .leap import EXPIRED, NO_LIST, WITHIN
 from .measurement import Measurement
+from .recorder import Recorder
 from .typed import read_typed
 from .units import SECOND
 
-Kind = TypeVar("Kind", Measurement, Correction)
+Kind = TypeVar("Kind", Measurement, Correction, Recorder)
 
 
 class Backing(NamedTuple):
+    recorded: list[Recorder]
     measured: list[Measurement]
     read: list[Correction]
 
@@ -32,7 +34,9 @@ def backing(folder: Folder, inputs: Collection[str]) -> Backing:
 
     def named(premise: str) -> list[str]:
         return [name for name in named_in(kept.get(premise, "")) if name in inputs and name.endswith(".json")]
-    return Backing(all_of(Measurement, folder, named("reading")), all_of(Correction, folder, named("drift")))
+    reading = named("reading")
+    return Backing(all_of(Recorder, folder, reading), all_of(Measurement, folder, reading),
+                   all_of(Correction, folder, named("drift")))
 
 
 def all_of(kind: type[Kind], folder: Folder, names: list[str]) -> list[Kind]:
@@ -46,8 +50,8 @@ def all_of(kind: type[Kind], folder: Folder, names: list[str]) -> list[Kind]:
     return found
 
 
-def against(found: Backing, claim: Claim, leap: Leap, leaps: LeapList) -> Iterator[Alert]:
-    """What speaks against a claim, and what isn't known of it."""
+def against(found: Backing, claim: Claim, leap: Leap) -> Iterator[Alert]:
+    """What speaks against a claim."""
     reading = max((measured.greatest_ns for measured in found.measured), default=0)
     if reading > claim.reading_ns:
         yield Alert("reading", reading)
@@ -57,9 +61,3 @@ def against(found: Backing, claim: Claim, leap: Leap, leaps: LeapList) -> Iterat
     steps = sorted(time for read in found.read for time in read.steps_within(leap.from_, leap.to))
     if steps:
         yield Alert("step", len(steps), before=steps[0] * SECOND)
-    if leap.says == WITHIN:
-        yield Alert("leap-second", seconds=leap.seconds)
-    if leap.says == EXPIRED:
-        yield Alert("leap-ends", before=max(0, leaps.good_until) * SECOND)
-    if leap.says == NO_LIST:
-        yield Alert("no-list")

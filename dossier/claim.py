@@ -6,6 +6,7 @@ from collections.abc import Iterator
 from dataclasses import dataclass, field, replace
 from typing import Annotated
 
+from .fault import fault
 from .typed import Address, Small, Time, length, said, within
 from .units import DAY, civil, day_of, seconds_of
 
@@ -13,6 +14,10 @@ GREATEST_BOUND, GREATEST_DRIFT = 10**15, 500_000_000
 """What a claim can grant, in nanoseconds and in parts of 10^9."""
 OSCILLATOR = 100_000
 """Parts in 10^9 by which an oscillator alone gains or loses at most, by most data sheets."""
+UNKNOWN_READING = 100_000
+"""Nanoseconds of a reading allowance that are proposed where nothing is known of the stamps."""
+MOST_DAYS = 1100
+"""Of a span that is audited day by day."""
 COMPACT = json.JSONEncoder(separators=(",", ":"))
 
 
@@ -65,6 +70,8 @@ def parts_of(claim: Claim, days: bool) -> Iterator[Part]:
     if not days:
         yield Part(".", claim)
         return
+    if claim.last - claim.first > MOST_DAYS * DAY:
+        raise fault(f"the span has more than {MOST_DAYS:,} days: audit fewer at once")
     begin = claim.first
     while begin < claim.last or begin == claim.first:
         end = min(claim.last, begin - begin % DAY + DAY)

@@ -5,20 +5,18 @@ only widens the windows of the records.
 """
 from __future__ import annotations
 
-import mmap
-import os
 from array import array
 from bisect import bisect_left, bisect_right
 from collections.abc import Iterable, Iterator
 from heapq import merge
-from itertools import chain, pairwise
+from itertools import chain
 from operator import itemgetter
 from struct import Struct
 from typing import NamedTuple
 
 from .fault import fault
-from .folder import BLOCK, Copy
-from .limit import Limit
+from .folder import BLOCK, mapped
+from .placing import Copy
 from .units import SECOND
 
 MAGICS = {bytes.fromhex(magic): form for magic, form in (
@@ -28,15 +26,8 @@ HEADER, HEAD = 24, 16
 """Bytes of a capture's header, and of a record's."""
 MOST_RECORDS, MOST_CAPTURED = 4_000_000, 262_144
 """Records of a capture, and bytes of each, that the program takes."""
-MOST_RUNS = 1 << 20
+MOST_RUNS = 1 << 19
 """Of records that follow one another in time there are some for each day, however long a capture is."""
-OFTEN = 1 << 16
-"""Records between two looks at the time."""
-TIME = 8
-"""Bytes of a record's time, which is followed by its length, of 4."""
-AT_ONCE, ONE_BY_ONE, LONG = 4096, 64, 512
-"""Records of one length that are looked at together at most; those that aren't after another length; and the bytes of a
-record from which on it is long."""
 NEW_HEADER, NEW_HEAD = Struct("<IHHIIII"), Struct("<IIII")
 NEW_MAGIC = {10**6: 0xA1B2C3D4, 10**9: 0xA1B23C4D}
 
@@ -57,13 +48,9 @@ class Extent(NamedTuple):
 class Classic:
     """A capture in a file of one's own; nothing has to be one. Its extent may be known already."""
 
-    def __init__(self, path: str, limit: Limit, extent: Extent | None = None):
-        self.path, self.limit, self.found = path, limit, extent
-        with open(path, "rb") as opened:
-            self.size = os.fstat(opened.fileno()).st_size
-            self.data: bytes | mmap.mmap = b""
-            if self.size:
-                self.data = mmap.mmap(opened.fileno(), self.size, access=mmap.ACCESS_READ)
+    def __init__(self, path: str, extent: Extent | None = None):
+        self.found, self.data = extent, mapped(path)
+        self.size = len(self.data)
         self.order, self.unit = MAGICS.get(self.data[:4], ("<", 0))
         self.is_one = self.unit > 0 and self.size >= HEADER
 
@@ -76,7 +63,6 @@ class Classic:
     def rows(self) -> Iterator[Row]:
         """Its records, as far as they can be told apart."""
         head, size, at, unit = Struct(f"{self.order}III").unpack_from, self.size - HEAD, HEADER, self.unit
-        number = 0
         while at <= size:
             seconds, part, captured = head(self.data, at)
             end = at + HEAD + captured
@@ -84,9 +70,6 @@ class Classic:
                 return
             yield seconds * unit + part, at, end
             at = end
-            number += 1
-            if number % OFTEN == 0:
-                self.limit.left()
 
     @property
     def extent(self) -> Extent:
@@ -94,39 +77,16 @@ class Classic:
         return self.found
 
     def look(self) -> Extent:
-        """Goes from record to record. Records of NTP are mostly of one length, so more and more of them are tried at
-        once; long ones, and some after one of another length, are taken one by one."""
-        data, captured, heads, at, number = self.data, Struct(f"{self.order}I").unpack_from, bytearray(), HEADER, 1
-        while at + HEAD <= self.size and len(heads) < MOST_RECORDS * TIME:
-            length = HEAD + captured(data, at + TIME)[0]
-            if length > HEAD + MOST_CAPTURED or length > self.size - at:
+        """Goes from record to record."""
+        head, at, stamps, are_times = Struct(f"{self.order}III").unpack_from, HEADER, array("Q"), True
+        while self.is_one and at + HEAD <= self.size and len(stamps) < MOST_RECORDS:
+            seconds, part, captured = head(self.data, at)
+            if captured > MOST_CAPTURED or captured > self.size - at - HEAD:
                 break
-            if number < 2 or length > LONG:
-                heads += data[at : at + TIME]
-                at, number = at + length, min(number + 1, 2)
-                continue
-            self.limit.left()
-            count = min(number, (self.size - at) // length, MOST_RECORDS - len(heads) // TIME)
-            block = data[at : at + count * length]
-            if any(block[k::length].count(block[k]) < count for k in range(TIME, TIME + 4)):
-                number = -ONE_BY_ONE
-                continue
-            own = bytearray(TIME * count)
-            for k in range(TIME):
-                own[k::TIME] = block[k::length]
-            heads += own
-            at, number = at + len(block), min(2 * number, AT_ONCE)
-        return Extent(at, self.stamps_of(heads))
-
-    def stamps_of(self, heads: bytearray) -> array[int]:
-        """The times of an extent, each of which is two numbers in a record's head."""
-        numbers = array("I", bytes(heads))
-        if self.order == ">":
-            numbers.byteswap()
-        if max(numbers[1::2], default=0) >= self.unit:
-            return array("Q")
-        numbers[::2], numbers[1::2] = numbers[1::2], numbers[::2]
-        return array("Q", numbers.tobytes())
+            stamps.append(seconds << 32 | part)
+            are_times = are_times and part < self.unit
+            at += HEAD + captured
+        return Extent(at, stamps if are_times else array("Q"))
 
     def nanoseconds(self, stamps: Iterable[int]) -> list[int]:
         """Times since 1970."""
@@ -146,22 +106,15 @@ class Classic:
         seconds, part, captured, length = Struct(f"{self.order}IIII").unpack_from(self.data, begin)
         return NEW_HEAD.pack(seconds, part * unit // self.unit, captured, length) + self.data[begin + HEAD : end]
 
-    def all_renewed(self, unit: int) -> Iterator[bytes]:
-        """All of its records, some at once, if each is whole."""
-        if (self.order, self.unit) == ("<", unit):
-            yield from (self.data[at : at + BLOCK] for at in range(HEADER, self.size, BLOCK))
-        else:
-            yield from (self.renewed(begin, end, unit) for _, begin, end in self.rows())
-
 
 def new_header(unit: int, kind: tuple[int, int, int]) -> bytes:
     major, minor, link = kind
     return NEW_HEADER.pack(NEW_MAGIC[unit], major, minor, 0, 0, MOST_CAPTURED, link)
 
 
-def write(path: str, blocks: Iterable[bytes], limit: Limit) -> None:
+def write(path: str, blocks: Iterable[bytes]) -> None:
     """Writes a file of one's own, many small blocks at once."""
-    with Copy(path, limit) as copy:
+    with Copy(path) as copy:
         held, size = [], 0
         for block in blocks:
             held.append(block)
@@ -172,7 +125,7 @@ def write(path: str, blocks: Iterable[bytes], limit: Limit) -> None:
         copy.take(b"".join(held))
 
 
-def join(captures: dict[str, Classic], path: str, limit: Limit) -> None:
+def join(captures: dict[str, Classic], path: str) -> None:
     """Joins captures, by their names, in order of time. Of records of one time those of the first capture come
     first."""
     first = next(iter(captures.values()))
@@ -189,28 +142,8 @@ def join(captures: dict[str, Classic], path: str, limit: Limit) -> None:
             yield time * of, number, capture.renewed(begin, end, unit)
         if end != capture.size:
             raise fault(f"{name} is damaged from byte {end} on, so it can't be joined with the others")
-    blocks: Iterator[bytes]
-    if ordered := one_after_another(list(captures.values())):
-        blocks = chain.from_iterable(capture.all_renewed(unit) for capture in ordered)
-    else:
-        rows = merge(*(records(number, *each) for number, each in enumerate(captures.items())), key=itemgetter(0, 1))
-        blocks = map(itemgetter(2), rows)
-    write(path, chain([new_header(unit, first.kind)], blocks), limit)
-
-
-def one_after_another(captures: list[Classic]) -> list[Classic]:
-    """Captures in order of time, if none begins before the one before it has ended, and all are whole; else nothing."""
-    spans = []
-    for number, capture in enumerate(captures):
-        end, stamps = capture.extent
-        if end != capture.size or (not stamps and end > HEADER):
-            return []
-        if stamps:
-            first, greatest = capture.nanoseconds([stamps[0], max(stamps)])
-            spans.append((first, number, greatest, capture))
-    spans.sort(key=itemgetter(0, 1))
-    is_so = all((high, number) < (low, after) for (_, number, high, _), (low, after, _, _) in pairwise(spans))
-    return [capture for _, _, _, capture in spans] if is_so else []
+    rows = merge(*(records(number, *each) for number, each in enumerate(captures.items())), key=itemgetter(0, 1))
+    write(path, chain([new_header(unit, first.kind)], map(itemgetter(2), rows)))
 
 
 def runs_of(capture: Classic, spans: list[tuple[int, int]]) -> list[Runs]:

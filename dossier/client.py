@@ -9,9 +9,7 @@ from fractions import Fraction
 from typing import Annotated, Final, Literal
 
 from .fault import fault
-from .folder import data_named
-from .limit import Limit
-from .program import sum_of
+from .folder import data_named, sum_of
 from .typed import Sum, Text, within
 
 CHRONY: Final = "chronyd"
@@ -50,7 +48,7 @@ class Configuration:
 
 
 def lines_of(path: str) -> tuple[bytes, list[str]]:
-    data = data_named(path, Limit(), MOST_BYTES)
+    data = data_named(path, MOST_BYTES)
     return data, data.decode("utf-8", "replace").splitlines()
 
 
@@ -70,6 +68,8 @@ def read_chrony(paths: list[str]) -> Configuration:
             others += words[1:] if name in ("include", "confdir") else []
     rate, step = said.get("maxslewrate"), said.get("makestep")
     slew = SLEW if rate is None else number_of("maxslewrate", rate, 0) * 1000
+    if slew < 0:
+        raise fault("maxslewrate is below zero in the configuration")
     if step is not None:
         number_of("makestep", step, 0)
         number_of("makestep", step, 1)

@@ -2,29 +2,33 @@
 from __future__ import annotations
 
 import argparse
+import io
 import os
+import signal
 import sys
 from collections.abc import Callable
 from typing import TYPE_CHECKING, NoReturn
 
 from . import VERSION
-from .claim import GREATEST_BOUND, GREATEST_DRIFT, OSCILLATOR
+from .claim import GREATEST_BOUND, GREATEST_DRIFT, OSCILLATOR, UNKNOWN_READING
 from .fault import DEVICE, MEMORY, MISSING, USAGE, Fault, Stopped, fault
 from .known import Known, state_of
-from .limit import SECONDS, Limit
-from .measurement import LEAST_READING, read_measurement
-from .program import Program, find_program, now
+from .program import Program, find_program
+from .result import Result
+from .running import SECONDS, answer
+from .text import plain
+from .units import now
 
 if TYPE_CHECKING:
+    from .allowance import Proposal
     from .correction import Correction
 
 INTERRUPTED = 130
 
 ABOUT = """Puts many audits by ntpaudit together: folders with a claim and captures, and one page for a person to read.
 
-  tcpdump -i eth0 -U --time-stamp-precision=nano -w web-1/f.pcap 'udp port 123 or (vlan and udp port 123)'
-                                                                              record (Ctrl-C when it is enough)
-  ntpaudit-dossier draft --chrony /etc/chrony/chrony.conf web-1/f.pcap > web-1/claim.json
+  ntpaudit-dossier record --interface eth0 web-1                              record (Ctrl-C when it is enough)
+  ntpaudit-dossier draft --chrony /etc/chrony/chrony.conf web-1/*.pcap > web-1/claim.json
                                                                               a claim to start from: read it, fix it
   ntpaudit-dossier audit web-1                                                the audit
   ntpaudit-dossier page web-1 > dossier.html                                  the page
@@ -38,12 +42,44 @@ FOLDER = "a folder with claim.json and captures, and what an audit wrote beside 
 
 
 class Parser(argparse.ArgumentParser):
+    commands: dict[str, Parser]
+
     def error(self, message: str) -> NoReturn:
-        self.exit(USAGE, f"{self.prog}: {message}\n")
+        self.exit(USAGE, f"{self.prog}: {plain(message)}\n")
+
+    def look_at(self, words: list[str]) -> None:
+        """Sees that no name of a stranger's file is taken for an option, as a shell's `*` would have it: options stand
+        before all else, and each but once."""
+        seen, others = set[str](), 0
+        left = iter(words)
+        for word in left:
+            if not word.startswith("-") or word == "-":
+                others += 1
+                continue
+            if os.path.lexists(word):
+                self.error(f"{word} is the name of a file here: write ./{word}, or -- before it")
+            if word == "--":
+                return
+            name, is_joined, _ = word.partition("=")
+            option = self._option_string_actions.get(name)
+            if option is None:
+                self.error(f"no option {name}: options are written out, and their values stand apart or behind a =")
+            if others:
+                self.error(f"{name} has to stand before {self.operands}")
+            if option.dest in seen and not isinstance(option, argparse._AppendAction):
+                self.error(f"{name} stands there twice")
+            seen.add(option.dest)
+            if option.nargs is None and not is_joined:
+                next(left, None)
+
+    @property
+    def operands(self) -> str:
+        return next((str(action.metavar) for action in self._actions if not action.option_strings), "all else")
 
 
 def parser() -> Parser:
-    top = Parser(prog="ntpaudit-dossier", description=ABOUT, formatter_class=argparse.RawDescriptionHelpFormatter)
+    top = Parser(prog="ntpaudit-dossier", description=ABOUT, formatter_class=argparse.RawDescriptionHelpFormatter,
+                 allow_abbrev=False)
     top.add_argument("--version", action="store_true", help="print the versions of dossier and program")
     commands = top.add_subparsers(dest="command", metavar="COMMAND", prog=top.prog)
     add_draft(commands.add_parser("draft", help="print a claim to start from"))
@@ -68,6 +104,8 @@ def parser() -> Parser:
                              help="write what came of it to FILE too, for Prometheus, whole or not at all")
     keep.add_argument("--years", type=in_range(1, 100), metavar="N",
                       help="take away folders whose span ended so many years ago; none if it is left out")
+    keep.add_argument("--force", action="store_true",
+                      help="take away as many folders as there are, whatever the clock did meanwhile")
     for command in (audit, page, verify, sign, keep):
         command.add_argument("--state", metavar="DIR",
                              help="where it is recorded which audits were made or verified here; else below "
@@ -80,7 +118,10 @@ def parser() -> Parser:
                      help="where the days' folders are, with the claim of any day, and evidence")
     day.add_argument("--date", metavar="DATE",
                      help="the day (UTC), such as 2026-11-22; each whole day before today if it is left out")
-    add_measure(commands.add_parser("measure", help="measure how far the times of records are from the clock"))
+    add_record(commands.add_parser("record", help="record an interface by tcpdump, with evidence of its stamps"))
+    own_filter = commands.add_parser("filter", help="print a recorder's filter, which names the servers of a claim")
+    own_filter.add_argument("claim", metavar="CLAIM", help="a JSON file; if it isn't there, all servers are recorded")
+    add_measure(commands.add_parser("measure", help="measure whether a packet's stamp comes after it left"))
     picture = commands.add_parser("picture", help="print the picture of a claim and a capture, as SVG")
     picture.add_argument("claim", metavar="CLAIM", help="a JSON file")
     picture.add_argument("capture", metavar="CAPTURE", help="a capture")
@@ -88,6 +129,7 @@ def parser() -> Parser:
                          help="seconds of each piece; 64 if it is left out")
     own_help = commands.add_parser("help", help="print help")
     own_help.add_argument("topic", nargs="?", choices=list(commands.choices), metavar="COMMAND", help="a command")
+    top.commands = dict(commands.choices)
     return top
 
 
@@ -110,9 +152,9 @@ def add_draft(draft: argparse.ArgumentParser) -> None:
     draft.add_argument("--evidence", metavar="FILE",
                        help="write what was read from the client's files to FILE, for evidence.json")
     reading = draft.add_mutually_exclusive_group()
-    reading.add_argument("--reading-ns", type=in_range(0, 10**9), default=LEAST_READING, metavar="N",
-                         help="how far records' times may be from the clock, in nanoseconds; "
-                              f"{LEAST_READING} if it is left out")
+    reading.add_argument("--reading-ns", type=in_range(0, 10**9), metavar="N",
+                         help="how long before its record's time a request may have left, or after it a reply arrived, "
+                              f"in nanoseconds; 0 if `record` recorded it, else {UNKNOWN_READING}, if it is left out")
     reading.add_argument("--measured", metavar="FILE", help="what `measure -o` left, which has that number")
 
 
@@ -140,12 +182,19 @@ def add_page(page: argparse.ArgumentParser) -> None:
 
 
 def add_measure(measure: argparse.ArgumentParser) -> None:
-    measure.add_argument("--interface", default="lo", metavar="NAME", help="where to record; the loopback if left out")
     measure.add_argument("--count", type=in_range(10, 100_000), default=1000, metavar="N",
                          help="how many packets; 1000 if left out")
     measure.add_argument("--load", action="store_true", help="keep all processors busy meanwhile")
     measure.add_argument("-o", "--output", metavar="FILE",
                          help="write it as JSON to FILE too, for evidence.json to name")
+
+
+def add_record(record: argparse.ArgumentParser) -> None:
+    record.add_argument("folder", metavar="FOLDER", help="where the captures are left; it is made if it isn't there")
+    record.add_argument("--interface", required=True, metavar="NAME", help="which interface to record")
+    record.add_argument("--hourly", action="store_true", help="begin a new file each hour, and at 1 GB")
+    record.add_argument("--claim", metavar="FILE",
+                        help="record only a claim's servers; all if it is left out, or isn't there")
 
 
 def in_range(least: int, most: int) -> Callable[[str], int]:
@@ -159,6 +208,10 @@ def in_range(least: int, most: int) -> Callable[[str], int]:
 
 def main(words: list[str]) -> int:
     """Runs a command, and gives its status."""
+    if sys.stdout is None:
+        return DEVICE
+    sys.stdout.reconfigure(errors="backslashreplace")  # type: ignore
+    signal.signal(signal.SIGTERM, stop)
     try:
         status = run(parsed(words))
         sys.stdout.flush()
@@ -167,7 +220,7 @@ def main(words: list[str]) -> int:
         say(found.line)
         return found.status
     except OSError as error:
-        sys.stdout = open(os.devnull, "w")
+        sys.stdout = io.StringIO()
         say(f"ntpaudit-dossier: the output can't be written ({error.strerror})")
         return DEVICE
     except MemoryError:
@@ -183,9 +236,15 @@ def main(words: list[str]) -> int:
         return MISSING
 
 
+def stop(number: int, _: object) -> None:
+    raise Stopped(number)
+
+
 def parsed(words: list[str]) -> argparse.Namespace:
     """The command line, or an end with help or with a fault."""
     top = parser()
+    if words and (command := top.commands.get(words[0])):
+        command.look_at(words[1:])
     given = top.parse_args(words)
     if given.command == "help":
         top.parse_args([*filter(None, [given.topic]), "--help"])
@@ -195,7 +254,6 @@ def parsed(words: list[str]) -> argparse.Namespace:
 
 
 def say(line: str) -> None:
-    from .text import plain
     try:
         print(plain(line), file=sys.stderr, flush=True)
     except OSError:
@@ -203,58 +261,66 @@ def say(line: str) -> None:
 
 
 def run(given: argparse.Namespace) -> int:
-    limit = Limit(getattr(given, "limit", SECONDS))
     if given.command in ("audit", "page", "verify", "sign", "keep"):
-        return run_on_folders(given, [tidy(folder) for folder in given.folders], limit)
+        return run_on_folders(given, [tidy(folder) for folder in given.folders])
     if given.command == "day":
         from .day import make_days
-        return make_days(given.source, given.target, given.date, limit)
-    program = find_program(limit)
+        return make_days(given.source, given.target, given.date, SECONDS)
+    if given.command in ("filter", "record"):
+        from .recorder import Wanted as Recording
+        from .recorder import filter_of, record
+        if given.command == "record":
+            record(Recording(given.interface, given.folder, given.hourly, given.claim))
+        print(filter_of(given.claim))
+        return 0
+    program = find_program()
     if given.version:
         print(f"ntpaudit-dossier, form {VERSION} of audit.json\n{program.made.version}, SHA-256 {program.made.sha256}")
         return 0
     if given.command == "measure":
         from .measuring import Wanted, measure
-        return measure(program, Wanted(given.interface, given.count, given.load), given.output)
+        return measure(program, Wanted(given.count, given.load), given.output)
     if given.command == "draft":
         return run_draft(given, program)
-    from .figure import print_picture
-    return print_picture(program, given.claim, given.capture, given.step)
+    from .figure import picture_of
+    sys.stdout.write(answer(lambda *_: Result(text=picture_of(program, given.claim, given.capture, given.step))).text)
+    return 0
 
 
-def run_on_folders(given: argparse.Namespace, folders: list[str], limit: Limit) -> int:
+def run_on_folders(given: argparse.Namespace, folders: list[str]) -> int:
     if given.command == "page" and given.split and given.output:
         raise fault("--split takes no --output: it writes into a folder", USAGE)
     known = Known(state_of(given.state), writes=given.command != "page" or given.verify)
     if given.command == "sign":
         from .signing import sign_all
-        return sign_all(folders, given.key, known, limit)
+        return sign_all(folders, given.key, known, given.limit)
     if given.command == "keep":
         from .keeping import keep_all
-        return keep_all(folders, given.years, known, limit)
+        return keep_all(folders, given.years, given.force, known, given.limit)
+    from .leap import read_list
+    leaps = read_list(given.leap_seconds)
     if given.command == "page" and not given.verify:
         from .page import write_page
-        return write_page(folders, given, known, limit)
-    from .leap import read_list
-    program, leaps = find_program(limit), read_list(given.leap_seconds, limit)
+        return write_page(folders, given, known, leaps)
+    program = find_program()
     if given.command == "audit":
-        from .audit import Wanted as Audit
+        from .audit import Wanted as Audit, audit_all
         from .entry import Options
-        from .task import Task
-        from .work import audit_all
-        wanted = Audit(Options(given.step, given.days), given.again, leaps, given.leap_seconds is not None, known)
-        return audit_all(Task(folders, wanted, program, given.metrics), given.jobs or len(os.sched_getaffinity(0)))
+        wanted = Audit(Options(given.step, given.days), given.again, leaps, known, program)
+        return audit_all(folders, wanted, given.jobs or len(os.sched_getaffinity(0)), given.limit, given.metrics)
     from .verify import Verifier, verify_all
     verifier = Verifier(program, known, leaps)
     if given.command == "page":
         from .page import write_page
-        return write_page(folders, given, known, limit, verifier)
+        return write_page(folders, given, known, leaps, verifier)
     from .signature import Signers
-    return verify_all(folders, verifier, Signers(given.signers, program.caller))
+    return verify_all(folders, verifier, Signers(given.signers), given.limit)
 
 
 def tidy(folder: str) -> str:
     """A folder's path without slashes at its end."""
+    if not folder:
+        raise fault("an operand is empty", USAGE)
     return folder.rstrip("/") or "/"
 
 
@@ -272,26 +338,36 @@ def correction_of(given: argparse.Namespace) -> Correction | None:
     return correction(given.oscillator_ppb, found, log, now())
 
 
+def reading_of(given: argparse.Namespace) -> Proposal:
+    from .allowance import measured, named, proposed
+    from .measurement import read_measurement
+    from .recorder import recorders_of
+    if given.measured:
+        return measured(read_measurement(given.measured))
+    return named(given.reading_ns) if given.reading_ns is not None else proposed(recorders_of(given.captures))
+
+
 def run_draft(given: argparse.Namespace, program: Program) -> int:
     from .correction import correction_text
     from .draft import Wanted, claim_text, draft
     from .placing import write_named
     found = correction_of(given)
-    measured = read_measurement(given.measured, program.limit) if given.measured else None
     proposed = found.drift_ppb if found else given.oscillator_ppb
     drift_ppb = proposed if given.drift_ppb is None else given.drift_ppb
-    wanted = Wanted(given.client, given.day, drift_ppb, found is None and given.drift_ppb is None,
-                    measured.reading_ns if measured else given.reading_ns, bool(measured), given.bound_ns)
-    claim, remarks = draft(program, given.captures, wanted)
-    if claim and measured:
-        remarks.append(f"reading_ns is {claim.reading_ns}: {measured.sentence()}")
-    if claim and found:
-        remarks += found.sentences() + found.cautions(claim.first, claim.last)
-    for remark in remarks:
+
+    def work(*_: object) -> Result:
+        wanted = Wanted(given.client, given.day, drift_ppb, found is None and given.drift_ppb is None,
+                        reading_of(given), given.bound_ns)
+        claim, remarks = draft(program, given.captures, wanted)
+        if claim and found:
+            remarks += found.sentences() + found.cautions(claim.first, claim.last)
+        return Result(lines=remarks, text=claim_text(claim) if claim else "")
+    drafted = answer(work)
+    for remark in drafted.lines:
         say(remark)
-    if claim is None:
+    if not drafted.text:
         return 1
     if found and given.evidence:
         write_named(given.evidence, correction_text(found))
-    sys.stdout.write(claim_text(claim))
+    sys.stdout.write(drafted.text)
     return 0

@@ -8,15 +8,15 @@ from collections import defaultdict
 from dataclasses import dataclass, replace
 
 from .alerts import warning_words
+from .allowance import Allowance, Proposal, slip
 from .answers import read_hulls
 from .captures import audited
 from .claim import Claim
 from .entry import Alert
-from .folder import CLAIM, Copy, copy_named
-from .limit import Limit
+from .folder import CLAIM
+from .placing import copy_named, keep
 from .program import Program
 from .recording import Recording, read_recording
-from .scratch import scratch
 from .text import count, plain
 from .text import reference as letters
 from .traffic import Traffic, number_of, read_traffic
@@ -45,8 +45,7 @@ class Wanted:
     drift_ppb: int
     is_oscillator: bool
     """Whether that is the oscillator's part alone, since nothing is known of the client."""
-    reading_ns: int
-    is_measured: bool
+    reading: Proposal
     bound_ns: int | None
     """The bound that is to be shown; the least one if none is named."""
 
@@ -111,8 +110,9 @@ class Draft:
         servers = sorted((server for server, _ in seen.answered[client].most_common(MOST_SERVERS)), key=number_of)
         if len(seen.answered[client]) > MOST_SERVERS:
             self.remark(f"A claim names at most {MOST_SERVERS} servers: those that answered least are left out.")
-        claim = Claim(client, servers, 0, civil(0), civil(0), 0, wanted.drift_ppb, wanted.reading_ns)
-        keep(claim, self.program.limit)
+        reading = wanted.reading(client)
+        claim = Claim(client, servers, 0, civil(0), civil(0), 0, wanted.drift_ppb, reading.ns)
+        keep(CLAIM, claim.text)
         recording = read_recording(self.program, CLAIM, self.capture)
         if recording.first_request is None:
             self.remark(f"None of {client}'s servers gave a sample: {counted(recording.counts)}.")
@@ -120,9 +120,9 @@ class Draft:
         claim = self.named(claim, recording, {server: seen.references[client, server] for server in servers})
         first, last = span_of(recording.first_request, recording.times[-1], wanted.whole_days)
         claim = replace(claim, from_=civil(first), to=civil(last))
-        keep(claim, self.program.limit)
+        keep(CLAIM, claim.text)
         claim = replace(claim, bound_ns=self.bound(wanted.bound_ns))
-        self.leave_to_a_person(claim, wanted)
+        self.leave_to_a_person(claim, wanted, reading)
         return claim
 
     def choose(self, seen: Traffic, client: str | None) -> str | None:
@@ -183,16 +183,16 @@ class Draft:
         self.remark(f"bound_ns: the least bound that a certificate carries is {least} ms;", asked or "rounded up.")
         return round_up(envelope.least_ns) if wanted is None else wanted
 
-    def leave_to_a_person(self, claim: Claim, wanted: Wanted) -> None:
+    def leave_to_a_person(self, claim: Claim, wanted: Wanted, reading: Allowance) -> None:
         """What only a person can answer for."""
         groups = count(len(claim.grouped), "group")
         if not wanted.is_oscillator:
             self.remark(f"drift_ppb is {claim.drift_ppb}: how fast the clock may gain or lose,",
                         "its oscillator's data sheet and the NTP client's corrections together.",
                         "Nothing in a capture shows it.")
-        if not wanted.is_measured:
-            self.remark(f"reading_ns is {claim.reading_ns}: how far a record's time may be from what the clock showed.",
-                        "It has to be measured on that machine.")
+        self.remark(f"reading_ns is {claim.reading_ns}: {reading.why}")
+        if words := slip(claim.reading_ns):
+            self.remark(words)
         self.remark(f"false_max is {claim.false_max}: fewer than half of {groups} of servers may be wrong.",
                     "Whether no more were is for a person to say.")
         self.remark("groups: servers of one operator, or on one reference clock, belong together.",
@@ -205,27 +205,20 @@ def counted(counts: dict[str, int]) -> str:
     return ", ".join(f"{name} {counts[name]}" for name in names if counts.get(name))
 
 
-def keep(claim: Claim, limit: Limit) -> None:
-    """Writes a claim for the program."""
-    with Copy(CLAIM, limit) as copy:
-        copy.take(claim.text)
-
-
 def draft(program: Program, captures: list[str], wanted: Wanted) -> tuple[Claim | None, list[str]]:
     """A claim for captures, which are joined if there are several; and remarks for a person."""
-    with scratch():
-        copies = {f"{number}.pcap": path for number, path in enumerate(captures)}
-        for copy, path in copies.items():
-            copy_named(path, copy, program.limit)
-        whole = audited({f"{os.path.basename(path)} ({copy})" if len(copies) > 1 else os.path.basename(path): copy
-                         for copy, path in copies.items()}, program.caller)
-        drafting = Draft(program, whole.path)
-        for warning in whole.torn:
-            drafting.remark(warning_words(warning))
-        if len(copies) > 1:
-            drafting.remark(f"{len(copies)} captures were joined in order of time.")
-        claim = drafting.claim(wanted)
-        return claim, drafting.remarks
+    copies = {f"{number}.pcap": path for number, path in enumerate(captures)}
+    for copy, path in copies.items():
+        copy_named(path, copy)
+    whole = audited({f"{os.path.basename(path)} ({copy})" if len(copies) > 1 else os.path.basename(path): copy
+                     for copy, path in copies.items()})
+    drafting = Draft(program, whole.path)
+    for warning in whole.alerts:
+        drafting.remark(warning_words(warning))
+    if len(copies) > 1:
+        drafting.remark(f"{len(copies)} captures were joined in order of time.")
+    claim = drafting.claim(wanted)
+    return claim, drafting.remarks
 
 
 def claim_text(claim: Claim) -> str:

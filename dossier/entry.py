@@ -11,6 +11,7 @@ from .fault import DEVICE, REFUSED as INPUT_REFUSED, fault
 from .folder import AUDIT, CLAIM, JOINED, LEFT, LIMITS, is_capture
 from .typed import (Address, Count, Mangled, Name, Nanoseconds, Seconds, Small, Sum, Text, Ticks, Time, is_name,
                     is_time, length, mangled, matching, or_nothing, parsed, said, typed, within)
+from .units import now
 
 Answer = Literal["yes", "refuted", "nothing fits", "no evidence", "open"]
 """What the program says."""
@@ -100,7 +101,8 @@ class Alert:
     """A warning that stands beside a verdict."""
 
     kind: Literal["outside", "no-drift", "falls", "silence", "far", "leap", "leap-second", "leap-ends", "sources",
-                  "reference", "apart", "drift", "reading", "step", "oscillator", "torn", "interleaved", "no-list"]
+                  "reference", "apart", "drift", "reading", "step", "oscillator", "torn", "interleaved", "no-list",
+                  "flood", "slip"]
     count: Count = 0
     record: Count = 0
     before: Nanoseconds = 0
@@ -114,10 +116,12 @@ class Alert:
     place: Count = 0
 
 
+OF_LEAPS = {"leap-second": "a leap second", "leap-ends": "the list of leap seconds has ended",
+            "no-list": "no list of leap seconds"}
 AGAINST = {"drift": "more drift than is granted", "reading": "a greater allowance than is granted",
-           "step": "a logged step", "leap-second": "a leap second", "leap-ends": "the list of leap seconds has ended"}
-"""The warnings that take a yes away, in short: by the folder's own evidence something that the claim grants isn't so,
-or isn't known."""
+           "step": "a logged step", **OF_LEAPS}
+"""The warnings that take a yes away, in short: by the folder's own evidence or by the list of leap seconds something
+that the claim grants isn't so, or isn't known."""
 
 
 @dataclass(frozen=True)
@@ -250,12 +254,21 @@ class Record:
         return self.kept is not None and name.rpartition("/")[2] == JOINED
 
     @property
+    def captures(self) -> frozenset[str]:
+        """The sums of the captures."""
+        return frozenset(sum_ for name, sum_ in self.inputs.items() if is_capture(name))
+
+    @property
     def verdicts(self) -> list[str]:
         return [entry.verdict for entry in self.entries] or [REFUSED]
 
     @property
     def outputs(self) -> dict[str, str]:
         return {name: sum_ for entry in self.entries for name, sum_ in entry.outputs.items()}
+
+
+SKEW = 300
+"""Seconds by which another machine's clock may be ahead."""
 
 
 def record_text(record: Record) -> bytes:
@@ -275,6 +288,8 @@ def read_record(data: bytes) -> Record:
         if isinstance(found, dict) and type(found.get("dossier")) is int and found["dossier"] != VERSION:
             raise fault("not audited", DEVICE)
         record: Record = typed(Record, found, "")
+        if max(record.made, record.signed) > now(SKEW):
+            raise fault(f"{AUDIT} is dated in the future")
         return record
     except Mangled as error:
         raise mangled(AUDIT, str(error)) from None

@@ -7,7 +7,6 @@ picture that is stretched, and the words stand beside it at parts of the width.
 from __future__ import annotations
 
 import os
-import sys
 from collections.abc import Callable, Collection
 
 from .answers import Envelope, read_envelope
@@ -15,12 +14,12 @@ from .captures import audited
 from .cells import Cell, cells_of
 from .claim import Claim
 from .entry import Hull
-from .folder import CLAIM, LIMITS, copy_named
+from .folder import CLAIM, LIMITS, own_data
 from .judgement import is_beyond
 from .markup import Html, element, lines, minus
+from .placing import copy_named
 from .program import Program
 from .scale import ms_marks, time_marks
-from .scratch import scratch
 from .style import PICTURE
 from .text import count
 from .typed import read_typed
@@ -285,15 +284,12 @@ def standing_alone(envelope: Envelope, bound_ns: int, label: str, wide: int = 90
     return element("svg", parts, xmlns=XMLNS, width=wide, height=height)
 
 
-def print_picture(program: Program, claim: str, capture: str, step: int) -> int:
-    """Prints the picture of a claim and a capture, from what `envelope` says about them."""
-    with scratch():
-        copy_named(claim, CLAIM, program.limit, LIMITS[CLAIM])
-        copy_named(capture, "0.pcap", program.limit)
-        whole = audited({os.path.basename(capture): "0.pcap"}, program.caller)
-        text = program.run("envelope", CLAIM, whole.path, "--servers", "--step", str(step)).text
-        with open(CLAIM, "rb") as opened:
-            given: Claim = read_typed(CLAIM, Claim, opened.read())
+def picture_of(program: Program, claim: str, capture: str, step: int) -> str:
+    """The picture of a claim and a capture, from what `envelope` says about them."""
+    copy_named(claim, CLAIM, LIMITS[CLAIM])
+    copy_named(capture, "0.pcap")
+    whole = audited({os.path.basename(capture): "0.pcap"})
+    text = program.run("envelope", CLAIM, whole.path, "--servers", "--step", str(step)).text
+    given: Claim = read_typed(CLAIM, Claim, own_data(CLAIM))
     label = f"The error of the clock of {given.client}"
-    sys.stdout.write(standing_alone(read_envelope(text), given.bound_ns, label) + "\n")
-    return 0
+    return standing_alone(read_envelope(text), given.bound_ns, label) + "\n"

@@ -1,20 +1,20 @@
-"""A folder that is a stranger's: how its files are opened, and that each is read as one and the same.
-
-A file is opened by the folder's descriptor. No link is followed, it has to be a regular file, and no larger than its
-kind may be. What is parsed, shown, summed or handed on is what was read: its bytes, or a private copy of them.
+"""How files are opened: by descriptor below the folder that is named, with no link in any part of a path, each a
+regular file and no larger than its kind may be. What is parsed, shown, summed or handed on is what was read: its bytes,
+or a private copy of them.
 """
 from __future__ import annotations
 
 import hashlib
+import mmap
 import os
 import re
 import stat
 from collections.abc import Callable, Iterator
 from contextlib import contextmanager
 from itertools import islice
+from typing import BinaryIO
 
-from .fault import DEVICE, MEMORY, Fault, fault
-from .limit import Limit
+from .fault import DEVICE, Fault, fault
 
 CLAIM = "claim.json"
 EVIDENCE = "evidence.json"
@@ -43,10 +43,11 @@ MOST_OF_A_CAPTURE, MOST_NAMES = 1 << 32, 100_000
 """The program holds a capture in memory for as long as it takes to hold it to its sum."""
 
 KINDS = {stat.S_IFIFO: "a FIFO", stat.S_IFLNK: "a link", stat.S_IFDIR: "a folder", stat.S_IFSOCK: "a socket",
-         stat.S_IFCHR: "a device", stat.S_IFBLK: "a device"}
+         stat.S_IFCHR: "a device", stat.S_IFBLK: "a block device"}
+FILE = "a file"
 BLOCK = 1 << 20
 """Bytes of a file that are read at once."""
-OF_A_FOLDER = os.O_RDONLY | os.O_DIRECTORY | os.O_CLOEXEC
+OF_A_FOLDER = os.O_RDONLY | os.O_DIRECTORY | os.O_NOFOLLOW | os.O_CLOEXEC
 OF_A_FILE = os.O_RDONLY | os.O_NONBLOCK | os.O_NOCTTY | os.O_CLOEXEC
 
 HOME = os.open(".", os.O_PATH | os.O_DIRECTORY | os.O_CLOEXEC)
@@ -79,6 +80,25 @@ def held(name: str, place: int, flags: int) -> Iterator[int]:
 
 
 @contextmanager
+def folder_at(path: str, make: Callable[[int, str], None] | None = None) -> Iterator[int]:
+    """The descriptor of a folder, for a while, which is opened part by part: none of them may be a link. What isn't
+    there is made first, if there is a way to."""
+    place = os.open("/" if path.startswith("/") else ".", OF_A_FOLDER, dir_fd=HOME)
+    try:
+        for part in filter(None, path.split("/")):
+            if make and not kind_of(place, part):
+                make(place, part)
+            if kind_of(place, part) == KINDS[stat.S_IFLNK]:
+                what = "the folder" if path.rstrip("/").endswith(part) else f"{part} in its path"
+                raise fault(f"{what} is a link: name the folder itself")
+            place, above = os.open(part, OF_A_FOLDER, dir_fd=place), place
+            os.close(above)
+        yield place
+    finally:
+        os.close(place)
+
+
+@contextmanager
 def parent_of(place: int, name: str) -> Iterator[tuple[int, str]]:
     """The folder of a file, and the file's name in it. A day's folder is one and no link to one."""
     day, _, file = name.rpartition("/")
@@ -88,7 +108,7 @@ def parent_of(place: int, name: str) -> Iterator[tuple[int, str]]:
     seen = os.stat(day, dir_fd=place, follow_symlinks=False)
     if not stat.S_ISDIR(seen.st_mode):
         raise fault(f"{day} is {KINDS.get(stat.S_IFMT(seen.st_mode), 'no folder')}")
-    with held(day, place, OF_A_FOLDER | os.O_NOFOLLOW) as parent:
+    with held(day, place, OF_A_FOLDER) as parent:
         yield parent, file
 
 
@@ -104,7 +124,7 @@ def too_big(name: str, most: int) -> Fault:
     return fault(f"{name} is too big: it has more than {most:,} bytes")
 
 
-def read_once(place: int, file: str, name: str, limit: Limit, take: Callable[[bytes], object], most: int,
+def read_once(place: int, file: str, name: str, take: Callable[[bytes], object], most: int,
               follow: int = os.O_NOFOLLOW) -> str:
     """Hands all bytes of a file on, a block at a time, and gives their SHA-256. A device isn't opened."""
     found, size = hashlib.sha256(), 0
@@ -113,7 +133,6 @@ def read_once(place: int, file: str, name: str, limit: Limit, take: Callable[[by
         with held(file, place, OF_A_FILE | follow) as opened:
             has_kind(name, os.fstat(opened), most)
             while block := os.read(opened, BLOCK):
-                limit.left()
                 size += len(block)
                 if size > most:
                     raise too_big(name, most)
@@ -127,7 +146,7 @@ def read_once(place: int, file: str, name: str, limit: Limit, take: Callable[[by
 def kind_of(place: int, name: str) -> str:
     """What stands there, such as `a file` or `a link`; nothing if there is nothing."""
     try:
-        return KINDS.get(stat.S_IFMT(os.stat(name, dir_fd=place, follow_symlinks=False).st_mode), "no file")
+        return KINDS.get(stat.S_IFMT(os.stat(name, dir_fd=place, follow_symlinks=False).st_mode), FILE)
     except (OSError, ValueError):
         return ""
 
@@ -135,29 +154,21 @@ def kind_of(place: int, name: str) -> str:
 class Folder:
     """A folder, held by its descriptor. What is read of a file is the same each time, or the folder is refused."""
 
-    def __init__(self, path: str, limit: Limit):
-        self.limit = limit
+    def __init__(self, path: str):
+        self.path, self.sums, self.kept = path, dict[str, str](), dict[str, bytes]()
+
+    def __enter__(self) -> Folder:
         try:
-            self.place = os.open(path, OF_A_FOLDER | os.O_NOFOLLOW, dir_fd=HOME)
+            self.opened = folder_at(self.path)
+            self.place = self.opened.__enter__()
         except (FileNotFoundError, NotADirectoryError):
-            if kind_of(HOME, path) == KINDS[stat.S_IFLNK]:
-                raise fault("the folder is a link: name the folder itself") from None
             raise fault("no such folder", DEVICE) from None
         except OSError as error:
             raise fault(f"the folder can't be read ({error.strerror})", DEVICE) from None
-        self.sums: dict[str, str] = {}
-        self.kept: dict[str, bytes] = {}
-
-    def __enter__(self) -> Folder:
         return self
 
-    def __exit__(self, _: object, error: BaseException | None, trace: object) -> None:
-        """Whatever goes wrong with a folder is the fault of this folder alone."""
-        os.close(self.place)
-        if isinstance(error, MemoryError):
-            raise fault("out of memory", MEMORY) from None
-        if isinstance(error, OSError):
-            raise fault(f"it can't be worked on ({error.strerror})", DEVICE) from None
+    def __exit__(self, *_: object) -> None:
+        self.opened.__exit__(None, None, None)
 
     def names(self) -> list[str]:
         """The names in the folder, sorted."""
@@ -181,6 +192,10 @@ class Folder:
     def is_folder(self, name: str) -> bool:
         return kind_of(self.place, name) == KINDS[stat.S_IFDIR]
 
+    def written(self, name: str) -> int:
+        """When something was written last, in Unix seconds."""
+        return int(os.stat(name, dir_fd=self.place, follow_symlinks=False).st_mtime)
+
     def data(self, name: str) -> bytes:
         """The bytes of a file."""
         if name not in self.kept:
@@ -193,15 +208,10 @@ class Folder:
         """The SHA-256 of a file, of any size that its kind may have."""
         return self.sums[name] if name in self.sums else self.read(name, lambda _: None)
 
-    def copy(self, name: str, to: str) -> str:
-        """Makes a private copy of a file, and gives its SHA-256."""
-        with Copy(to, self.limit) as copy:
-            return self.read(name, copy.take)
-
     def read(self, name: str, take: Callable[[bytes], object]) -> str:
         try:
             with parent_of(self.place, name) as (parent, file):
-                sum_ = read_once(parent, file, name, self.limit, take, limit_of(name))
+                sum_ = read_once(parent, file, name, take, limit_of(name))
         except OSError as error:
             raise unreadable(name, error) from None
         if self.sums.setdefault(name, sum_) != sum_:
@@ -209,55 +219,50 @@ class Folder:
         return sum_
 
 
-class Copy:
-    """A file in a folder of one's own. A block of zeros becomes a hole in it; the others take of the folder's room."""
-
-    def __init__(self, path: str, limit: Limit):
-        self.path, self.size, self.limit = path, 0, limit
-
-    def __enter__(self) -> Copy:
-        try:
-            self.file = os.open(self.path, os.O_WRONLY | os.O_CREAT | os.O_TRUNC | os.O_CLOEXEC, 0o600)
-        except OSError as error:
-            raise self.unwritable(error) from None
-        return self
-
-    def take(self, block: bytes) -> None:
-        self.size += len(block)
-        try:
-            if block[:1] in (b"", b"\0") and block.count(0) == len(block):
-                os.ftruncate(self.file, self.size)
-                os.lseek(self.file, self.size, os.SEEK_SET)
-            else:
-                self.limit.take(len(block))
-                write(self.file, block)
-        except OSError as error:
-            raise self.unwritable(error) from None
-
-    def unwritable(self, error: OSError) -> Fault:
-        return unwritable(f"a private copy ({self.path})", error)
-
-    def __exit__(self, *_: object) -> None:
-        os.close(self.file)
+def read_named(path: str, take: Callable[[bytes], object], most: int) -> str:
+    """Reads a file that the command line names. A link is followed: it isn't a stranger's choice."""
+    return read_once(HOME, path, os.path.basename(path), take, most, follow=0)
 
 
-def unwritable(name: str, error: OSError) -> Fault:
-    return fault(f"{name} can't be written ({error.strerror})", DEVICE)
-
-
-def write(file: int, data: bytes) -> None:
-    while data:
-        data = data[os.write(file, data) :]
-
-
-def copy_named(path: str, to: str, limit: Limit, most: int = MOST_OF_A_CAPTURE) -> None:
-    """Makes a private copy of a file that the command line names. A link is followed: it isn't a stranger's choice."""
-    with Copy(to, limit) as copy:
-        read_once(HOME, path, os.path.basename(path), limit, copy.take, most, follow=0)
-
-
-def data_named(path: str, limit: Limit, most: int = JSON) -> bytes:
+def data_named(path: str, most: int = JSON) -> bytes:
     """The bytes of a file that the command line names."""
     blocks: list[bytes] = []
-    read_once(HOME, path, os.path.basename(path), limit, blocks.append, most, follow=0)
+    read_named(path, blocks.append, most)
     return b"".join(blocks)
+
+
+# ---- private copies, which nobody else may write
+
+Mapped = bytes | mmap.mmap
+
+
+def own(path: str) -> BinaryIO:
+    return open(path, "rb")
+
+
+def size_of(path: str) -> int:
+    return os.stat(path).st_size
+
+
+def own_data(path: str) -> bytes:
+    with own(path) as opened:
+        return opened.read()
+
+
+def sum_of(data: bytes) -> str:
+    return hashlib.sha256(data).hexdigest()
+
+
+def sum_of_file(path: str) -> str:
+    """The SHA-256 of a file of one's own."""
+    found = hashlib.sha256()
+    with own(path) as opened:
+        while block := opened.read(BLOCK):
+            found.update(block)
+    return found.hexdigest()
+
+
+def mapped(path: str) -> Mapped:
+    """The bytes of a file of one's own, without a copy of them."""
+    with own(path) as opened:
+        return mmap.mmap(opened.fileno(), 0, access=mmap.ACCESS_READ) if os.fstat(opened.fileno()).st_size else b""

@@ -9,12 +9,13 @@ from itertools import pairwise
 from operator import sub
 from typing import NamedTuple
 
+from .allowance import slip
 from .answers import Envelope, Settled, read_advice, read_between, read_envelope, read_settled
 from .backing import Backing, against
 from .claim import GREATEST_DRIFT, OSCILLATOR, Claim, Part
-from .entry import (AGAINST, FEW, NO_EVIDENCE, NOTHING_FITS, OPEN, REFUTED, UNSUPPORTED, YES, Alert, Entry, Hull,
-                    LeapList, Piece, Reason, Server, Verdict)
-from .leap import look_up
+from .entry import (FEW, NO_EVIDENCE, NOTHING_FITS, OPEN, REFUTED, YES, Alert, Answer, Entry, Hull, LeapList, Piece,
+                    Reason, Server)
+from .leap import entry_by, look_up, stretch
 from .ranges import ranges_of
 from .recording import Recording
 from .traffic import Traffic, number_of
@@ -46,12 +47,11 @@ class Texts(NamedTuple):
 
 
 class Beside(NamedTuple):
-    """What a verdict is seen beside: a list of leap seconds, the folder's own evidence, and captures that were cut
-    off."""
+    """What a verdict is seen beside: a list of leap seconds, the folder's own evidence, and what became of captures."""
 
     leaps: LeapList
     backing: Backing
-    torn: list[Alert]
+    alerts: list[Alert]
 
 
 def more_drift(claim: Claim) -> int:
@@ -62,20 +62,18 @@ def more_drift(claim: Claim) -> int:
 def judge(part: Part, recording: Recording, beside: Beside, texts: Texts, step: int,
           outputs: dict[str, str]) -> Entry:
     """The entry that the program's texts come to, beside what else is known."""
-    claim, leap = part.claim, look_up(beside.leaps, part.claim, recording)
+    claim, leap = part.claim, look_up(beside.leaps, *stretch(part.claim, recording))
     settled, envelope = read_settled(texts.settled), read_envelope(texts.envelope)
     advice = read_advice(texts.report) if settled.answer == YES else {}
     servers = servers_of(claim, recording)
-    warned = [*beside.torn, *warnings(claim, recording, envelope, advice),
-              *against(beside.backing, claim, leap, beside.leaps)]
+    warned = [*beside.alerts, *warnings(claim, recording, envelope, advice),
+              *against(beside.backing, claim, leap)]
     if texts.traffic and (mode := texts.traffic.interleaving(claim.client, claim.servers)):
         warned.append(Alert("interleaved", servers=mode))
     if 0 < claim.drift_ppb <= OSCILLATOR and not beside.backing.read:
         warned.append(Alert("oscillator", claim.drift_ppb))
     reason = reason_of(claim, servers, settled, envelope, texts, recording)
-    if settled.answer == YES and any(warning.kind in AGAINST for warning in warned):
-        reason = Reason("evidence")
-    return Entry(
+    return entry_by(beside.leaps, Entry(
         part=part.name,
         verdict=verdict_of(settled, reason),
         claim=claim,
@@ -89,13 +87,11 @@ def judge(part: Part, recording: Recording, beside: Beside, texts: Texts, step: 
         refutation=read_settled(texts.other).refutation if settled.answer == YES else settled.refutation,
         warnings=warned,
         outputs=outputs,
-    )
+    ))
 
 
-def verdict_of(settled: Settled, reason: Reason | None) -> Verdict:
-    """The program's answer, but where a yes has evidence against it, or nothing was recorded within the span."""
-    if reason and reason.why == "evidence":
-        return UNSUPPORTED
+def verdict_of(settled: Settled, reason: Reason | None) -> Answer:
+    """The program's answer, but where nothing was recorded within the span."""
     return NO_EVIDENCE if reason and reason.why == "beside" else settled.answer
 
 
@@ -187,6 +183,8 @@ def warnings(claim: Claim, recording: Recording, envelope: Envelope, advice: dic
             yield Alert("outside", before=max(0, before), after=max(0, after))
     if claim.drift_ppb == 0:
         yield Alert("no-drift")
+    if slip(claim.reading_ns):
+        yield Alert("slip", claim.reading_ns)
     if recording.fall:
         record, before, after = recording.fall
         yield Alert("falls", recording.falls, record, before, after)

@@ -1,16 +1,20 @@
-"""The user's own record of audits that were made or verified here: a line for the SHA-256 of each audit.json.
+"""The user's own record of audits that were made or verified here: a line for each audit.json, with its SHA-256, and by
+which program it was made or verified here, when, and in how many seconds.
 
-Nothing else makes an audit.json more than a stranger's word.
+Nothing else makes an audit.json more than a stranger's word, and what stands in the line is what is shown.
 """
 from __future__ import annotations
 
-import fcntl
 import os
+from contextlib import AbstractContextManager
+from dataclasses import replace
 
+from .entry import Made, Record
 from .fault import DEVICE, fault
-from .folder import HOME
+from .folder import Folder
+from .placing import Journal
 
-FILE = "audits"
+FILE, LOCKS = "audits", "locks"
 
 
 def state_of(given: str | None) -> str:
@@ -24,35 +28,46 @@ class Known:
     """The record, as it stood when this was made, and what was added since."""
 
     def __init__(self, state: str, writes: bool):
-        """Reads the record. What will be written has to be writable before anything is begun."""
-        self.state, self.added = state, set[str]()
         try:
-            if writes:
-                os.makedirs(os.path.join(f"/proc/self/fd/{HOME}", state), 0o700, exist_ok=True)
-            self.place = os.open(state, os.O_RDONLY | os.O_DIRECTORY | os.O_CLOEXEC, dir_fd=HOME)
-            flags = os.O_RDWR | os.O_CREAT | os.O_APPEND if writes else os.O_RDONLY
-            self.file = os.open(FILE, flags | os.O_NOFOLLOW | os.O_CLOEXEC, 0o600, dir_fd=self.place)
-            with open(self.file, "rb", closefd=False) as opened:
-                self.lines = b"\n" + opened.read()
-        except FileNotFoundError:
-            self.lines = b""
+            self.journal = Journal(state, FILE, writes)
         except OSError as error:
             why = f"the record of audits in {state} can't be used ({error.strerror})"
             raise fault(f"{why}: --state names another folder", DEVICE) from None
+        self.lines = self.by_sum(self.journal.text)
 
-    def has(self, sum_: str) -> bool:
-        return sum_ in self.added or f"\n{sum_}\n".encode() in self.lines
+    def alone(self, folder: Folder) -> AbstractContextManager[None]:
+        """Waits until no other call that has this record writes in a folder."""
+        return self.journal.alone(LOCKS, folder)
 
-    def add(self, sum_: str) -> None:
-        """Adds a line, unless it is there."""
-        if self.has(sum_):
-            return
+    def last_call(self) -> int:
+        """The time of the last call that took folders away, in Unix seconds; 0 if there was none."""
+        times = [line.split()[1] for line in self.journal.text.splitlines() if line.startswith("kept ")]
+        return int(times[-1]) if times else 0
+
+    def note_call(self, now: int) -> None:
+        self.append(f"kept {now}")
+
+    def by_sum(self, text: str) -> dict[str, list[str]]:
+        """The lines that are whole."""
+        rows = (line.split(" ", 4) for line in text.split("\n"))
+        return {row[0]: row for row in rows if len(row) == 5}
+
+    def shown(self, sum_: str, record: Record) -> Record | None:
+        """A record as it was made or verified here, if it was."""
+        if sum_ not in self.lines:
+            return None
+        _, program, made, seconds, version = self.lines[sum_]
+        return replace(record, program=Made(version, program), made=made, seconds=float(seconds))
+
+    def add(self, sum_: str, found: Record) -> None:
+        """Adds a line: what was found of an audit.json of this sum."""
+        line = f"{sum_} {found.program.sha256} {found.made} {found.seconds} {found.program.version}"
+        if sum_ not in self.lines:
+            self.append(line)
+            self.lines |= self.by_sum(line)
+
+    def append(self, line: str) -> None:
         try:
-            fcntl.flock(self.file, fcntl.LOCK_EX)
-            try:
-                os.write(self.file, f"{sum_}\n".encode())
-            finally:
-                fcntl.flock(self.file, fcntl.LOCK_UN)
+            self.journal.append(line)
         except OSError as error:
             raise fault(f"the record of audits can't be written ({error.strerror})", DEVICE) from None
-        self.added.add(sum_)

@@ -1,22 +1,24 @@
 """The list of leap seconds, as the IERS publishes it and systems keep it: read, and looked up over a stretch of time.
 
-What a list says is kept in audit.json, so that a lookup can be made again years later, whatever the system's list says
-by then.
+Only one's own list counts: the system's, or one that is named here. Which one an audit was made by stands in
+audit.json; whoever looks at it later looks the span up in a list of his own.
 """
 from __future__ import annotations
 
 import hashlib
+import json
 import os
+from collections.abc import Iterator
+from dataclasses import replace
 from typing import Final
 
 from .claim import Claim
-from .entry import Leap, LeapList
+from .entry import AGAINST, OF_LEAPS, UNSUPPORTED, YES, Alert, Entry, Leap, LeapList, Reason, Record
 from .fault import Fault, fault
-from .folder import AUDIT, data_named
-from .limit import Limit
+from .folder import data_named
 from .recording import Recording
-from .typed import is_text
-from .units import SECOND, civil
+from .typed import said, typed
+from .units import SECOND
 
 SYSTEM = os.environ.get("NTPAUDIT_LEAP_SECONDS") or "/usr/share/zoneinfo/leap-seconds.list"
 """The system's list, or the one that the environment names."""
@@ -29,38 +31,28 @@ EXPIRED: Final = "expired"
 NO_LIST: Final = "no list"
 
 
-def read_list(path: str | None, limit: Limit) -> LeapList:
+def read_list(path: str | None) -> LeapList:
     """What a list says; or, if none is named and the system has none, why not. A list that is named has to be one."""
     try:
-        return list_of(path or SYSTEM, limit)
+        return list_of(path or SYSTEM)
     except Fault as found:
         if path is not None:
             raise
         return LeapList(SYSTEM, fault=found.words)
 
 
-def list_of(path: str, limit: Limit) -> LeapList:
+def list_of(path: str) -> LeapList:
     try:
-        data = data_named(path, limit)
+        data = data_named(path)
     except Fault as found:
         raise found.of("the list of leap seconds") from None
     try:
         good_until, seconds = parsed(data.decode("utf-8"))
-        if not is_text(path):
-            raise ValueError
+        own = LeapList(path, "", hashlib.sha256(data).hexdigest(), good_until, seconds)
+        typed(LeapList, json.loads(json.dumps(said(own))), "")
     except (ValueError, IndexError):
         raise fault("the list of leap seconds isn't one") from None
-    return LeapList(path, "", hashlib.sha256(data).hexdigest(), good_until, seconds)
-
-
-def differing(kept: LeapList, own: LeapList) -> str:
-    """How a list that somebody kept differs from one's own, as far as both are good; nothing if it doesn't."""
-    until = min(kept.good_until, own.good_until)
-    one, other = ([row for row in list_.seconds if row[0] <= until] for list_ in (kept, own))
-    if kept.fault or own.fault or one == other:
-        return ""
-    end = f"at its end until {civil(until)}"
-    return f"{AUDIT}: the list of leap seconds has {one[-3:]} {end}, and this machine's {other[-3:]}"
+    return own
 
 
 def parsed(text: str) -> tuple[int, list[tuple[int, int]]]:
@@ -84,14 +76,45 @@ def parsed(text: str) -> tuple[int, list[tuple[int, int]]]:
     return good_until, [(time, offset - before) for (_, before), (time, offset) in zip(rows, rows[1:])]
 
 
-def look_up(leaps: LeapList, claim: Claim, recording: Recording) -> Leap:
-    """What a list says of a span and of all exchanges, wider by the claimed bound at both ends."""
+def stretch(claim: Claim, recording: Recording) -> tuple[int, int]:
+    """The first and the last whole Unix second of the span and all exchanges, wider by the claimed bound."""
     times = [claim.first * SECOND, claim.last * SECOND, *recording.exchanges()]
-    first, last = min(times) - claim.bound_ns, max(times) + claim.bound_ns
-    begin, end = first // SECOND, -(-last // SECOND)
+    return -((claim.bound_ns - min(times)) // SECOND), (max(times) + claim.bound_ns) // SECOND
+
+
+def look_up(leaps: LeapList, begin: int, end: int) -> Leap:
+    """What a list says of such a stretch."""
     if leaps.fault:
         return Leap(NO_LIST, begin, end)
-    within = [row for row in leaps.seconds if first <= row[0] * SECOND and (row[0] - 1) * SECOND <= last]
+    within = [row for row in leaps.seconds if begin <= row[0] and row[0] - 1 <= end]
     if within:
         return Leap(WITHIN, begin, end, within)
-    return Leap(NONE if last < leaps.good_until * SECOND else EXPIRED, begin, end)
+    return Leap(NONE if end < leaps.good_until else EXPIRED, begin, end)
+
+
+def alerts_of(leap: Leap, leaps: LeapList) -> Iterator[Alert]:
+    """What takes a yes away."""
+    if leap.says == WITHIN:
+        yield Alert("leap-second", seconds=leap.seconds)
+    if leap.says == EXPIRED:
+        yield Alert("leap-ends", before=max(0, leaps.good_until) * SECOND)
+    if leap.says == NO_LIST:
+        yield Alert("no-list")
+
+
+def entry_by(leaps: LeapList, entry: Entry) -> Entry:
+    """An entry by a list: its yes is one if nothing speaks against it."""
+    leap = look_up(leaps, entry.leap.from_, entry.leap.to)
+    warned = [warning for warning in entry.warnings if warning.kind not in OF_LEAPS]
+    entry = replace(entry, leap=leap, warnings=[*warned, *alerts_of(leap, leaps)])
+    if entry.answer != YES:
+        return entry
+    is_yes = not any(warning.kind in AGAINST for warning in entry.warnings)
+    return replace(entry, verdict=YES if is_yes else UNSUPPORTED, reason=None if is_yes else Reason("evidence"))
+
+
+def record_by(leaps: LeapList, record: Record) -> Record:
+    """A record by a list, whatever list its audit was made by."""
+    if record.refusal:
+        return record
+    return replace(record, leap_seconds=leaps, entries=[entry_by(leaps, entry) for entry in record.entries])

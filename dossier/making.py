@@ -5,25 +5,25 @@ it.
 """
 from __future__ import annotations
 
-import os
 import time
 from collections.abc import Callable
 from dataclasses import dataclass
 
 from . import VERSION
 from .backing import Backing, backing
-from .call import Caller
-from .captures import audited, cut, unpacked
+from .captures import audited, cut, thinned, unpacked
 from .claim import Claim, parts_of
 from .entry import Entry, Kept, LeapList, Options, Record, Refusal
 from .evidence import evidence_files
 from .fault import DEVICE, Fault, fault
-from .folder import CLAIM, JOINED, Folder, is_capture
+from .folder import CLAIM, JOINED, MOST_OF_A_CAPTURE, Folder, is_capture, own_data, size_of, sum_of_file, too_big
 from .judgement import Beside
-from .program import Program, now, sum_of_file
+from .placing import copy_of, move
+from .program import Program
 from .settling import Settling
 from .text import plain
 from .typed import read_typed
+from .units import now
 
 Earlier = Callable[[str], bytes]
 """The refutation that was found earlier of the part of this name; nothing if there is none to be taken."""
@@ -76,16 +76,16 @@ class Inputs:
         return plain({copy: name for name, copy in self.copies.items()}.get(copy, copy)) + colon + said
 
 
-def take_inputs(folder: Folder, kept: Kept | None, caller: Caller) -> Inputs:
+def take_inputs(folder: Folder, kept: Kept | None) -> Inputs:
     """Copies claim and captures into the current folder, under names of one's own, and takes all sums. What is kept is
     unpacked."""
     taken = Inputs({}, {})
     for name, file in inputs_of(folder, kept).items():
         copy = CLAIM if name == CLAIM else f"{len(taken.copies)}.pcap" if is_capture(name) else ""
-        taken.sums[name] = folder.copy(file, copy) if copy else folder.sum(file)
+        taken.sums[name] = copy_of(folder, file, copy) if copy else folder.sum(file)
         if file != name:
-            path, _ = unpacked(name, copy, caller)
-            os.rename(path, copy)
+            path, _ = unpacked(name, copy)
+            move(path, copy)
             taken.sums[name] = sum_of_file(copy)
         if is_capture(name):
             taken.copies[name] = copy
@@ -96,13 +96,16 @@ def make(taken: Inputs, options: Options, leaps: LeapList, backed: Backing, prog
          earlier: Earlier) -> list[Entry]:
     """All answers, and their files in the current folder."""
     name, copy = next(iter(taken.copies.items()))
-    parts = list(parts_of(read_claim(program, copy), options.days))
-    whole = audited(taken.copies, program.caller)
+    claim = read_claim(program, copy)
+    parts = list(parts_of(claim, options.days))
+    whole = thinned(audited(taken.copies), claim, program)
+    if size_of(whole.path) > MOST_OF_A_CAPTURE:
+        raise too_big(JOINED, MOST_OF_A_CAPTURE)
     taken.capture = JOINED if whole.is_made else name
     made = {JOINED: sum_of_file(JOINED)} if whole.is_made else {}
     sums = {CLAIM: taken.sums[CLAIM], whole.path: made.get(JOINED) or taken.sums[name]}
-    beside = Beside(leaps, backed, whole.torn)
-    cuts = cut(whole.path, parts, program.limit) if options.days else [None]
+    beside = Beside(leaps, backed, whole.alerts)
+    cuts = cut(whole.path, parts) if options.days else [None]
     entries = []
     for part, cut_to in zip(parts, cuts):
         settling = Settling(part, whole, program, options.step, sums, earlier(part.name))
@@ -114,8 +117,7 @@ def make(taken: Inputs, options: Options, leaps: LeapList, backed: Backing, prog
 def read_claim(program: Program, capture: str) -> Claim:
     """The claim. If it is none, the program says so in its own words."""
     try:
-        with open(CLAIM, "rb") as opened:
-            claim: Claim = read_typed(CLAIM, Claim, opened.read())
+        claim: Claim = read_typed(CLAIM, Claim, own_data(CLAIM))
         return claim
     except Fault:
         program.run("samples", CLAIM, capture)
@@ -131,7 +133,7 @@ class Making:
 
     def record(self, earlier: Earlier = no_earlier) -> Record:
         """What the program answers; a fault if there is no verdict."""
-        self.taken = take_inputs(self.folder, self.kept, self.program.caller)
+        self.taken = take_inputs(self.folder, self.kept)
         backed = backing(self.folder, self.taken.sums)
         try:
             return self.of(make(self.taken, self.options, self.leaps, backed, self.program, earlier))

@@ -1,4 +1,4 @@
-"""What was measured of the times of records, as `measure` prints it, leaves it as JSON, and a page shows it."""
+"""What was measured of stamps, as `measure` prints it, leaves it as JSON, and a page shows it."""
 from __future__ import annotations
 
 import json
@@ -7,37 +7,35 @@ from dataclasses import dataclass, field
 from typing import Literal
 
 from .folder import data_named
-from .limit import Limit
 from .text import count
 from .typed import Count, Text, Time, read_typed, said
-
-LEAST_READING = 100_000
-"""Nanoseconds below which none is proposed: what is received isn't measured."""
 
 
 @dataclass(frozen=True)
 class Measurement:
-    interface: Text
     packets: Count
     busy: Count
     """How many processes kept processors busy."""
-    least_ns: Count
-    median_ns: Count
-    percent_99_ns: Count
+    late: Count
+    """How many packets had a later stamp where they left than where they arrived."""
     greatest_ns: Count
+    """By how much at the most."""
+    median_ns: Count
+    """How much earlier the stamps were where packets left, in the median; 0 if they were later."""
     reading_ns: Count
     """What may be claimed by it."""
+    tool: Text
     machine: Text
     kernel: Text
     made: Time
-    kind: Literal["reading"]
+    kind: Literal["late"]
     reason: Text = field(default="", compare=False)
-    """Why so much is to be claimed, and what isn't measured."""
+    """What was seen, in words."""
 
     def lines(self) -> list[str]:
-        return [f"packets {self.packets} on {self.interface}{f', {self.under}' if self.busy else ''}",
-                f"least {self.least_ns}", f"median {self.median_ns}", f"percent_99 {self.percent_99_ns}",
-                f"greatest {self.greatest_ns}", f"reading_ns {self.reading_ns}", f"({self.why})"]
+        return [f"packets {self.packets}{f', {self.under}' if self.busy else ''}", f"late {self.late}",
+                f"greatest {self.greatest_ns}", f"median {self.median_ns}", f"reading_ns {self.reading_ns}",
+                f"({self.why})"]
 
     @property
     def under(self) -> str:
@@ -45,24 +43,21 @@ class Measurement:
 
     @property
     def why(self) -> str:
-        of = f"the greatest of {self.packets:,} packets that were sent, rounded up to two digits"
-        if self.reading_ns <= LEAST_READING:
-            return (f"no less than {LEAST_READING:,}, though the greatest of {self.packets:,} packets that were sent "
-                    "is less: nothing was measured of what is received, nor of busier times")
-        return f"{of}. Nothing was measured of what is received, nor of busier times"
+        seen = f"none of {self.packets:,} packets was stamped later where it left than where it arrived"
+        if self.late:
+            seen = (f"{self.late:,} of {self.packets:,} packets were stamped later where they left than where they "
+                    f"arrived, by {self.greatest_ns:,} ns at the most")
+        return f"{seen}. A link within one machine shows the kernel and tcpdump, and no network card"
 
     def sentence(self) -> str:
         """What a page says."""
         beside = f" {self.under}" if self.busy else ""
-        return (f"{self.packets:,} packets that {self.machine} sent itself on {self.interface}{beside} at {self.made} "
-                f"were recorded {self.least_ns:,} ns after the clock was read at the least, {self.median_ns:,} in the "
-                f"median, {self.percent_99_ns:,} for 99 percent, and {self.greatest_ns:,} at the most. What is "
-                "received wasn't measured.")
+        return (f"On {self.machine}, at {self.made}{beside}, {self.why} ({self.tool}, Linux {self.kernel}).")
 
 
-def read_measurement(path: str, limit: Limit) -> Measurement:
+def read_measurement(path: str) -> Measurement:
     """What a file holds that the command line names."""
-    found: Measurement = read_typed(os.path.basename(path), Measurement, data_named(path, limit))
+    found: Measurement = read_typed(os.path.basename(path), Measurement, data_named(path))
     return found
 
 

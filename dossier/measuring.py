@@ -1,114 +1,127 @@
-"""How far the times of records are from the clock, measured for what is sent: packets to this machine itself, recorded
-by tcpdump, each record's time against what the clock read just before.
+"""Whether a packet's stamp comes after it left, measured where that can be seen: packets go over a link whose two ends
+are on this machine, so that one clock makes both stamps. tcpdump records both ends. Where a packet's stamp is later at
+the end that it left than at the end where it arrived, it came too late by as much at least, or the other too early.
 """
 from __future__ import annotations
 
-import errno
+import ctypes
 import os
 import signal
 import socket
 import subprocess
 import time
 from collections.abc import Iterator
-from contextlib import contextmanager
+from contextlib import ExitStack, contextmanager
 from typing import NamedTuple
 
-from .call import ENVIRONMENT, find_tool
 from .draft import round_up
-from .fault import DEVICE, Fault, fault
-from .measurement import LEAST_READING, Measurement, measurement_text
-from .placing import undisturbed, write_named
-from .program import Program, now
-from .scratch import scratch
+from .fault import DEVICE, fault
+from .measurement import Measurement, measurement_text
+from .placing import keep, write_named
+from .program import Program
+from .recorder import version_of
+from .result import Result
+from .running import PIPE, answer, begun, find_tool, run
 from .text import plain
+from .units import now
 
-LOOPBACK = "lo"
 APART = 0.001
 """Seconds between two packets."""
 PATIENCE = 2.0
 """Seconds for which tcpdump is waited for at its end."""
-NO_ROUTE = (errno.ENETUNREACH, errno.EHOSTUNREACH)
-ELSEWHERE = "192.0.2.1"
-"""An address of nobody's, for packets that leave by another interface. They live for one hop."""
+CLONE_NEWNET = 0x40000000
+ENDS = ("ntp0", "ntp1")
+HERE, THERE, CARD = "192.0.2.1", "192.0.2.2", "02:00:00:00:00:02"
+"""Addresses of both ends, and the other end's on the link."""
+LINK = f"""link add name {ENDS[0]} type veth peer name {ENDS[1]} address {CARD}
+link set {ENDS[0]} up
+link set {ENDS[1]} up
+addr add {HERE}/24 dev {ENDS[0]}
+neigh add {THERE} lladdr {CARD} nud permanent dev {ENDS[0]}
+"""
+"""The link, in the words of ip(8)."""
 
 
 class Wanted(NamedTuple):
-    interface: str
     packets: int
     is_loaded: bool
 
 
 def measure(program: Program, wanted: Wanted, output: str | None) -> int:
     """Measures, prints what came of it, and leaves it in a file if one is named."""
-    busy = len(os.sched_getaffinity(0)) if wanted.is_loaded else 0
-    delays = sorted(delays_of(program, wanted, busy))
-    greatest = delays[-1]
-    found = Measurement(
-        interface=wanted.interface, packets=len(delays), busy=busy, least_ns=delays[0],
-        median_ns=delays[len(delays) // 2], percent_99_ns=delays[(len(delays) * 99 - 1) // 100],
-        greatest_ns=greatest, reading_ns=max(LEAST_READING, round_up(greatest)), machine=plain(os.uname().nodename),
-        kernel=plain(os.uname().release), made=now(), kind="reading")
-    for line in found.lines():
+    def work(*_: object) -> Result:
+        busy = len(os.sched_getaffinity(0)) if wanted.is_loaded else 0
+        tool, system = find_tool("tcpdump", "tcpdump isn't installed, which records the packets"), os.uname()
+        make_link()
+        earlier = sorted(sent_over(program, tool, wanted.packets, busy))
+        found = measurement(earlier, busy, version_of(tool), plain(system.nodename), plain(system.release), now())
+        return Result(lines=found.lines(), text=measurement_text(found).decode())
+    measured = answer(work)
+    for line in measured.lines:
         print(line)
     if output:
-        write_named(output, measurement_text(found))
+        write_named(output, measured.text.encode())
     return 0
 
 
-def delays_of(program: Program, wanted: Wanted, busy: int) -> list[int]:
-    """Nanoseconds from each reading of the clock to the time of the packet that was sent right then."""
-    udp = socket.socket(socket.AF_INET, socket.SOCK_DGRAM)
-    with scratch(), udp as sending:
-        bind(sending, wanted.interface)
-        capture = "f.pcap"
-        with recorder(wanted, sending.getsockname()[1], capture) as recording:
-            with load(busy):
-                sent = send(sending, wanted)
-            end(recording)
-        return matched(sent, recorded(program, capture), wanted.interface)
+def measurement(earlier: list[int], busy: int, tool: str, machine: str, kernel: str, made: str) -> Measurement:
+    """What it comes to, of how much earlier packets were stamped where they left, in order."""
+    greatest = max(0, -earlier[0])
+    return Measurement(len(earlier), busy, sum(each < 0 for each in earlier), greatest,
+                       max(0, earlier[len(earlier) // 2]), round_up(greatest), tool, machine, kernel, made, "late")
 
 
-def bind(sending: socket.socket, interface: str) -> None:
-    """Binds to a port of this machine, and to an interface if it isn't the loopback."""
-    try:
-        if interface == LOOPBACK:
-            sending.bind(("127.0.0.1", 0))
-            return
-        sending.setsockopt(socket.SOL_SOCKET, socket.SO_BINDTODEVICE, interface.encode())
-        sending.setsockopt(socket.IPPROTO_IP, socket.IP_TTL, 1)
-        sending.bind(("", 0))
-    except OSError as error:
-        raise unsendable(interface, error) from None
+def make_link() -> None:
+    """Puts this process into a network of its own, which goes when it has ended, and makes the link there."""
+    tool = find_tool("ip", "ip isn't installed (iproute2), which makes the link")
+    libc = ctypes.CDLL(None, use_errno=True)
+    if libc.unshare(CLONE_NEWNET):
+        raise fault("no network of its own can be made for the link "
+                    f"({os.strerror(ctypes.get_errno())}): it takes root", DEVICE)
+    keep("link", LINK.encode())
+    status, _, error = run([tool, "-batch", "link"])
+    if status:
+        said = error.decode("utf-8", "replace").splitlines() or [f"status {status}"]
+        raise fault(f"no link can be made ({plain(said[0])})", DEVICE)
+
+
+def sent_over(program: Program, tool: str, packets: int, busy: int) -> list[int]:
+    """Sends packets over the link, and gives how much earlier each was stamped where it left than where it arrived."""
+    with ExitStack() as held, socket.socket(socket.AF_INET, socket.SOCK_DGRAM) as sending:
+        sending.bind((HERE, 0))
+        port = sending.getsockname()[1]
+        recording = [held.enter_context(recorder(tool, end, port, packets)) for end in ENDS]
+        with load(busy):
+            send(sending, packets)
+        for call in recording:
+            end_of(call)
+    left, arrived = (recorded(program, f"{end}.pcap") for end in ENDS)
+    return matched(left, arrived, packets)
 
 
 @contextmanager
-def recorder(wanted: Wanted, port: int, capture: str) -> Iterator[subprocess.Popen[bytes]]:
+def recorder(tool: str, interface: str, port: int, packets: int) -> Iterator[subprocess.Popen[bytes]]:
     """tcpdump, as soon as it listens. It ends by itself when it has all packets."""
-    tool = find_tool("tcpdump", "tcpdump isn't installed, which records the packets")
-    words = [tool, "-i", wanted.interface, "-n", "-U", "--immediate-mode", "--time-stamp-precision=nano", "-s", "128",
-             "-c", str(wanted.packets), "-w", "-", "--", f"udp src port {port} and dst port 123"]
-    with open(capture, "wb") as file:
-        call = subprocess.Popen(words, env=ENVIRONMENT, stdin=subprocess.DEVNULL, stdout=file, stderr=subprocess.PIPE)
+    words = [tool, "-i", interface, "-n", "-U", "--immediate-mode", "-j", "host", "--time-stamp-precision=nano", "-s",
+             "128", "-c", str(packets), "-w", "-", "--", f"udp src port {port} and dst port 123"]
+    with open(f"{interface}.pcap", "wb") as file:
+        call = begun(words, stdout=file, stderr=PIPE)
     with call:
         try:
-            wait_for(call, wanted.interface)
+            wait_for(call)
             yield call
         finally:
             call.kill()
 
 
-def wait_for(call: subprocess.Popen[bytes], interface: str) -> None:
-    """Waits until tcpdump says that it listens. If it ends before, it hasn't the right to, or there is no interface."""
+def wait_for(call: subprocess.Popen[bytes]) -> None:
+    """Waits until tcpdump says that it listens. If it ends before, it hasn't the right to."""
     said = []
     for line in call.stderr or ():
         said.append(line.decode("utf-8", "replace").strip())
         if "listening on" in said[-1]:
             return
-    words = " ".join(said)
-    if "permi" in words or "socket:" in words:
-        raise fault(f"there is no right to record on {interface}: it takes root, or the capability "
-                    "CAP_NET_RAW for tcpdump", DEVICE)
-    raise fault(f"tcpdump doesn't record on {interface} ({words})", DEVICE)
+    raise fault(f"tcpdump doesn't record ({plain(' '.join(said))})", DEVICE)
 
 
 @contextmanager
@@ -117,11 +130,10 @@ def load(number: int) -> Iterator[list[int]]:
     busy: list[int] = []
     try:
         for _ in range(number):
-            with undisturbed():  # (Ctrl-C is for the process that forks)
-                process = os.fork()
-                if not process:
-                    spin()
-                busy.append(process)
+            process = os.fork()
+            if not process:
+                spin()
+            busy.append(process)
         yield busy
     finally:
         for process in busy:
@@ -131,34 +143,24 @@ def load(number: int) -> Iterator[list[int]]:
 
 def spin() -> None:
     """Counts until this process is ended, or the one that began it is."""
+    signal.signal(signal.SIGINT, signal.SIG_IGN)  # (it is for the process that forks)
     parent = os.getppid()
     while os.getppid() == parent:
         sum(range(100_000))
     os._exit(0)
 
 
-def send(sending: socket.socket, wanted: Wanted) -> list[int]:
-    """Sends packets that have their numbers as transmit timestamps, and gives what the clock read before each."""
-    to = ("127.0.0.1" if wanted.interface == LOOPBACK else ELSEWHERE, 123)
-    read = []
+def send(sending: socket.socket, packets: int) -> None:
+    """Sends packets that have their numbers as transmit timestamps."""
     try:
-        for number in range(1, wanted.packets + 1):
-            packet = bytes([0x23]) + bytes(39) + number.to_bytes(8, "big")
-            at = time.time_ns()
-            sending.sendto(packet, to)
-            read.append(at)
+        for number in range(1, packets + 1):
+            sending.sendto(bytes([0x23]) + bytes(39) + number.to_bytes(8, "big"), (THERE, 123))
             time.sleep(APART)
     except OSError as error:
-        raise unsendable(wanted.interface, error) from None
-    return read
+        raise fault(f"nothing can be sent over the link ({error.strerror})", DEVICE) from None
 
 
-def unsendable(interface: str, error: OSError) -> Fault:
-    why = f"no route to {ELSEWHERE} leads over it" if error.errno in NO_ROUTE else error.strerror
-    return fault(f"nothing can be sent by {interface} ({why})", DEVICE)
-
-
-def end(recording: subprocess.Popen[bytes]) -> None:
+def end_of(recording: subprocess.Popen[bytes]) -> None:
     try:
         recording.wait(PATIENCE)
     except subprocess.TimeoutExpired:
@@ -178,15 +180,10 @@ def recorded(program: Program, capture: str) -> dict[int, int]:
     return found
 
 
-def matched(sent: list[int], times: dict[int, int], interface: str = LOOPBACK) -> list[int]:
-    """What lies between the reading of the clock and the record's time, of each packet that was recorded. A busy
-    machine may drop some."""
-    delays = [times[number] - at for number, at in enumerate(sent, 1) if number in times]
-    if 10 * len(delays) < 9 * len(sent):
-        why = f": no route to {ELSEWHERE} leads over {interface}, or nobody answers for its gateway" \
-            if interface != LOOPBACK and not delays else ""
-        raise fault(f"{len(delays)} of {len(sent)} packets were recorded, so nothing is measured{why}", DEVICE)
-    if min(delays) < 0:
-        raise fault("a packet was recorded before the clock read the time at which it was sent, so "
-                    "the clock was set meanwhile: measure again", DEVICE)
-    return delays
+def matched(left: dict[int, int], arrived: dict[int, int], packets: int) -> list[int]:
+    """How much earlier each packet was stamped where it left, of those that were recorded at both ends. A busy machine
+    may drop some."""
+    found = [arrived[number] - at for number, at in left.items() if number in arrived]
+    if not found or 10 * len(found) < 9 * packets:
+        raise fault(f"{len(found)} of {packets} packets were recorded at both ends, so nothing is measured", DEVICE)
+    return found

@@ -2,30 +2,34 @@
 from __future__ import annotations
 
 import argparse
+import os
 import sys
 from collections import Counter
-from dataclasses import dataclass, replace
+from collections.abc import Iterator, Sequence
+from dataclasses import replace
+from typing import NamedTuple
 
 from .article import article, badge, short_article
 from .audit import change_of
-from .call import Caller
-from .entry import (NO_EVIDENCE, NOT_VERIFIED, NOTHING_FITS, OPEN, REFUSED, REFUTED, UNSUPPORTED, YES, Made,
+from .entry import (FEW, NO_EVIDENCE, NOT_VERIFIED, NOTHING_FITS, OPEN, REFUSED, REFUTED, UNSUPPORTED, YES, LeapList,
                     Refusal, read_record)
 from .fault import REFUSED as INPUT_REFUSED, Fault, fault
-from .folder import Folder
+from .folder import Folder, sum_of
 from .known import Known
-from .limit import Limit
+from .leap import record_by
 from .markup import Html, element, html, joined, lines, minus, with_code
 from .metrics import Sample, of_record, of_verdict, write_metrics
-from .placing import make_folder, write_in, write_named
-from .program import now, sum_of
+from .placing import write_named
 from .remedies import remedy
+from .result import Result, Row, Section
+from .running import run_all
 from .signature import GOOD, NONE, STRANGER, UNFIT, UNSEEN, Signature, Signers
 from .style import PAGE
-from .table import Row, as_csv, badness_of, as_json, row_of, row_without_verdict
-from .text import capital, count
-from .units import ns_ms, ns_up_ms
+from .table import as_csv, badness_of, as_json, row_of, row_without_verdict
+from .text import capital, count, plain
+from .units import now, ns_ms, ns_up_ms
 from .verify import Verifier, audit_json
+from .words import TWICE
 
 MEANINGS = {
     YES: "shown: in every course of events that fits the capture",
@@ -44,124 +48,159 @@ UNKNOWN = "It was neither made nor verified here, so nothing that its audit.json
 VERIFY = "`ntpaudit-dossier verify` the folder, or call `page --verify`."
 
 
-@dataclass(frozen=True)
-class Section:
-    """An audit on the page: the name of its place, its line in the table, its article, and the program that made it;
-    and where the table leads, if that is another page."""
+class Shown(NamedTuple):
+    """A section on the page: the name of its place, and where the table leads, if that is another page."""
 
+    section: Section
     name: str
-    row: Row
-    article: Html
-    made: Made | None = None
     file: str = ""
 
+    @property
+    def row(self) -> Row:
+        return self.section.row
 
-class Looking:
-    """How folders are looked at: what is known here, who may sign, and whether they are verified first."""
+    @property
+    def article(self) -> Html:
+        warned = element("ul", *(element("li", words) for words in self.row.twice), class_="warnings") \
+            if self.row.twice else ""
+        parts = [Html(self.section.head), warned, Html(self.section.rest)]
+        return element("article", lines(["", *parts, ""]), id=self.name)
 
-    def __init__(self, known: Known, signers: Signers, limit: Limit, verifier: Verifier | None):
-        self.known, self.signers, self.limit, self.verifier = known, signers, limit, verifier
-        self.sections: list[Section] = []
-        self.status, self.has_audit = 0, False
-        self.metrics: list[Sample] = []
 
-    def look(self, path: str) -> None:
-        """Adds the sections of a folder, whatever stands in it."""
-        self.limit.begin()
+class Looking(NamedTuple):
+    """How folders are looked at: what is known here, who may sign, whether they are verified first, and whether more is
+    to be shown than the table."""
+
+    known: Known
+    signers: Signers
+    leaps: LeapList
+    verifier: Verifier | None
+    has_articles: bool
+
+    def look(self, path: str, number: int) -> Result:
+        """The sections of a folder, whatever stands in it. Its status is 2 if it was refused for that."""
         signature = Signature(NONE)
         try:
-            with Folder(path, self.limit) as folder:
+            with Folder(path) as folder:
                 signature = self.signers.signature_of(folder)
-                self.look_in(path, folder, signature)
+                return self.look_in(path, folder, signature, number)
         except Fault as found:
-            self.status = max(self.status, INPUT_REFUSED if found.status == INPUT_REFUSED else 0)
-            self.refuse(path, found, signature)
+            return refused(path, found, signature)
 
-    def part(self, given: argparse.Namespace, file: str) -> None:
-        """Writes the sections of the last folder as a page of their own, and leaves their lines."""
-        own = [section for section in self.sections if not section.file]
-        data = page(own, given.title, 1, given.signers is not None, INDEX).encode("utf-8", "backslashreplace")
-        write_in(given.split, file, data)
-        self.sections[-len(own):] = [replace(section, article=Html(), file=file) for section in own]
-
-    def look_in(self, path: str, folder: Folder, signature: Signature) -> None:
+    def look_in(self, path: str, folder: Folder, signature: Signature, number: int) -> Result:
         data = audit_json(folder)
-        record, self.has_audit = read_record(data), True
+        written = read_record(data)
         if self.verifier:
-            why, _ = self.verifier.verify(folder)
-        elif not self.known.has(sum_of(data)):
-            why = UNKNOWN
-        elif record.refusal:
-            self.metrics += of_record(path, record)
-            self.refuse(path, record.refusal, signature)
-            return
+            why, _, record = self.verifier.verify(folder)
         else:
-            why = change_of(folder, record)
-        if why:
-            self.add_short(path, row_without_verdict(path, NOT_VERIFIED, f"{why}.", VERIFY, signature), "", signature)
-            return
-        self.metrics += of_record(path, record)
-        for entry in record.entries:
-            name, row = f"a{len(self.sections)}", row_of(path, entry, signature)
-            said = article(name, path, folder, record, entry, signature)
-            self.sections.append(Section(name, row, said, record.program))
-
-    def refuse(self, path: str, found: Fault | Refusal, signature: Signature) -> None:
-        why, what = (f"{found.why}.", capital(found.what)) if found.why else remedy(found.line)
-        row = row_without_verdict(path, REFUSED, f"{found.line}. {why}", what, signature)
-        self.add_short(path, row, found.line, signature)
-
-    def add_short(self, path: str, row: Row, line: str, signature: Signature) -> None:
-        self.metrics += of_verdict(path, row.verdict)
-        name = f"a{len(self.sections)}"
-        self.sections.append(Section(name, row, short_article(name, path, row, line, signature)))
+            record = self.known.shown(sum_of(data), written)
+            why = UNKNOWN if not record else "" if record.refusal else change_of(folder, record)
+        if why or not record:
+            return short(path, row_without_verdict(path, NOT_VERIFIED, f"{why}.", VERIFY, signature), "", signature)
+        if record.refusal:
+            return refused(path, record.refusal, signature, list(of_record(path, record)))
+        record, found = record_by(self.leaps, record), []
+        for part, entry in enumerate(record.entries):
+            name, said = name_of(number, part), ("", "")
+            if self.has_articles:
+                said = article(path, folder, record, entry, signature, name)
+            found.append(Section(row_of(path, entry, signature), *said, record.program, sorted(record.captures)))
+        return Result(sections=found, metrics=list(of_record(path, record)), verdicts=record.verdicts)
 
 
-def write_page(folders: list[str], given: argparse.Namespace, known: Known, limit: Limit,
+def name_of(number: int, part: int) -> str:
+    return f"a{number}-{part}" if part else f"a{number}"
+
+
+def refused(path: str, found: Fault | Refusal, signature: Signature, metrics: Sequence[Sample] = ()) -> Result:
+    why, what = (f"{found.why}.", capital(found.what)) if found.why else remedy(found.line)
+    row = row_without_verdict(path, REFUSED, f"{found.line}. {why}", what, signature)
+    is_for_input = found.status == INPUT_REFUSED and not metrics
+    return replace(short(path, row, found.line, signature, metrics), status=INPUT_REFUSED if is_for_input else 0)
+
+
+def short(path: str, row: Row, line: str, signature: Signature, metrics: Sequence[Sample] = ()) -> Result:
+    """A folder without a verdict. It has an audit, unless there is no other reason why nothing is shown."""
+    section = Section(row, short_article(path, row, line, signature))
+    is_audit = row.verdict == NOT_VERIFIED or bool(metrics)
+    return Result(sections=[section], metrics=[*metrics, *of_verdict(path, row.verdict)],
+                  verdicts=[row.verdict] if is_audit else [])
+
+
+def mark_twins(found: list[Shown]) -> set[str]:
+    """Warns of a capture that is in several folders, which are given by the names of their lines."""
+    where: dict[str, dict[str, None]] = {}
+    for one in found:
+        for sum_ in one.section.captures:
+            where.setdefault(sum_, {})[one.row.machine] = None
+    for one in found:
+        for sum_ in one.section.captures:
+            if others := [other for other in where[sum_] if other != one.row.machine]:
+                one.row.twice.append(f"{TWICE} {', '.join(others[:FEW])}{' ..' if others[FEW:] else ''}.")
+        one.row.warnings[:0] = one.row.twice
+    return {one.row.machine for one in found if one.row.twice}
+
+
+def write_page(folders: list[str], given: argparse.Namespace, known: Known, leaps: LeapList,
                verifier: Verifier | None = None) -> int:
     """Prints the page or the table, or writes it whole. The status is 2 if a folder was refused for what stands in
     it, or if none has an audit."""
-    caller = verifier.program.caller if verifier else Caller(limit)
-    looking = Looking(known, Signers(given.signers, caller), limit, verifier)
+    looking = Looking(known, Signers(given.signers), leaps, verifier, not (given.json or given.csv))
+    worst, has_audit, found, metrics = 0, False, list[Shown](), list[Sample]()
+    for number, (path, result) in enumerate(run_all(folders, looking.look, given.limit)):
+        if result.refusal:
+            result = refused(path, result.refusal, Signature(NONE))
+        worst, has_audit = max(worst, result.status), has_audit or bool(result.verdicts)
+        metrics += result.metrics
+        shown = [Shown(section, name_of(number, part), f"{number + 1:05}.html" if given.split else "")
+                 for part, section in enumerate(result.sections)]
+        found += list(written(shown, given)) if given.split else shown
+    twins = mark_twins(found)
     if given.split:
-        make_folder(given.split)
-    for number, folder in enumerate(folders, 1):
-        looking.look(folder)
-        if given.split:
-            looking.part(given, f"{number:05}.html")
-    data = text_of(worst_first(looking.sections), given, len(folders)).encode("utf-8", "backslashreplace")
-    if given.split:
-        write_in(given.split, INDEX, data)
-    elif given.output:
-        write_named(given.output, data)
+        again = [number for number, path in enumerate(folders) if plain(path) in twins]
+        looked_at = run_all([folders[number] for number in again], looking.look, given.limit)
+        for number, (_, result) in zip(again, looked_at):
+            rows = [one.row for one in found if one.file == f"{number + 1:05}.html"]
+            list(written([Shown(replace(section, row=row), name_of(number, part), f"{number + 1:05}.html")
+                          for part, (section, row) in enumerate(zip(result.sections, rows))], given))
+    data = text_of(worst_first(found), given, len(folders)).encode("utf-8", "backslashreplace")
+    if given.split or given.output:
+        write_named(os.path.join(given.split, INDEX) if given.split else given.output, data, bool(given.split))
     else:
         sys.stdout.buffer.write(data)
-    status = write_metrics(given.metrics, looking.metrics) if given.metrics else 0
-    if not looking.has_audit:
+    status = write_metrics(given.metrics, metrics) if given.metrics else 0
+    if not has_audit:
         raise fault("none of these folders has an audit")
-    return max(looking.status, status)
+    return max(worst, status)
 
 
-def text_of(found: list[Section], given: argparse.Namespace, folders: int) -> str:
+def written(own: list[Shown], given: argparse.Namespace) -> Iterator[Shown]:
+    """Writes the sections of a folder as a page of their own, and leaves their lines."""
+    text = page([one._replace(file="") for one in own], given.title, 1, given.signers is not None, INDEX)
+    write_named(os.path.join(given.split, own[0].file), text.encode("utf-8", "backslashreplace"), True)
+    return (one._replace(section=replace(one.section, head="", rest="")) for one in own)
+
+
+def text_of(found: list[Shown], given: argparse.Namespace, folders: int) -> str:
     """What is asked for, of sections: the table as JSON or CSV, or a page."""
     if given.json:
-        return as_json([section.row for section in found])
+        return as_json([one.row for one in found])
     if given.csv:
-        return as_csv([section.row for section in found])
+        return as_csv([one.row for one in found])
     return page(found, given.title, folders, given.signers is not None)
 
 
-def worst_first(found: list[Section]) -> list[Section]:
+def worst_first(found: list[Shown]) -> list[Shown]:
     """The sections folder by folder, those of the worst folder first, and of two that are as bad in their own order."""
     badness: dict[str, tuple[int, int]] = {}
-    for row in (section.row for section in found):
+    for row in (one.row for one in found):
         badness[row.machine] = min(badness_of(row), badness.get(row.machine, badness_of(row)))
-    return sorted(found, key=lambda section: badness[section.row.machine])
+    return sorted(found, key=lambda one: badness[one.row.machine])
 
 
-def page(found: list[Section], title: str, folders: int, is_looked_at: bool, above: str = "") -> str:
+def page(found: list[Shown], title: str, folders: int, is_looked_at: bool, above: str = "") -> str:
     """A page of sections, which leads back to the one above it, if there is one."""
-    rows = [section.row for section in found]
+    rows = [one.row for one in found]
     head = element("head", lines([
         "",
         element("meta", charset="utf-8"),
@@ -174,15 +213,16 @@ def page(found: list[Section], title: str, folders: int, is_looked_at: bool, abo
     header = element("header", lines([
         "", element("h1", title), *([element("p", element("a", "All folders", href=above))] if above else []),
         element("p", made_by(found, folders), class_="soft"), tally(rows), ""]))
-    links = [section.file or f"#{section.name}" for section in found]
-    main = element("main", lines(["", table(rows, links, is_looked_at), *(section.article for section in found), ""]))
+    links = [one.file or f"#{one.name}" for one in found]
+    articles = (one.article for one in found if one.section.head)
+    main = element("main", lines(["", table(rows, links, is_looked_at), *articles, ""]))
     body = element("body", lines(["", header, main, ""]))
     return f"<!DOCTYPE html>\n{element('html', lines(['', head, body, '']), lang='en')}\n"
 
 
-def made_by(found: list[Section], folders: int) -> str:
+def made_by(found: list[Shown], folders: int) -> str:
     """Which programs made the audits."""
-    programs = {section.made.sha256: section.made.version for section in found if section.made}
+    programs = {one.section.made.sha256: one.section.made.version for one in found if one.section.made}
     which = "; ".join(f"{version or 'ntpaudit'}, SHA-256 {sum_[:16]} and on" for sum_, version in programs.items())
     said = f"{count(folders, 'folder')}, put together at {now()}. Audited by {which or 'nothing known'}."
     return f"{said} All times are UTC."
@@ -194,8 +234,9 @@ def tally(rows: list[Row]) -> Html:
                            for verdict, meaning in MEANINGS.items() if counts[verdict]), class_="tally")
 
 
-COLUMNS = {"Machine": "machine", "Day": "", "Verdict": "", "Claimed": "number", "Least bound": "number",
-           "Worst piece": "time", "Samples": "number", "Servers": "", "Granted": "", "Signed": "signer"}
+COLUMNS = {"Machine": "machine", "Day": "", "Verdict": "", "Client": "", "From": "time", "To": "time",
+           "Claimed": "number", "Least bound": "number", "Worst piece": "time", "Samples": "number", "Servers": "",
+           "Granted": "", "Signed": "signer"}
 """The columns of the table, each with its class."""
 
 
@@ -222,8 +263,8 @@ def cells_of(row: Row, link: str) -> list[object]:
         return [*cells, *[""] * (len(COLUMNS) - 1 - len(cells))]
     least = "none" if row.least_bound_ns is None else f"{ns_up_ms(row.least_bound_ns)} ms"
     servers = f"{row.servers}" if row.groups == row.servers else f"{row.servers} in {count(row.groups or 0, 'group')}"
-    return [*cells, f"{ns_ms(row.bound_ns)} ms", least, two_lines(row.worst_begin), f"{row.samples:,}", servers,
-            f"{row.false_max or 'none'} wrong"]
+    return [*cells, row.client, two_lines(row.begin), two_lines(row.end), f"{ns_ms(row.bound_ns)} ms", least,
+            two_lines(row.worst_begin), f"{row.samples:,}", servers, f"{row.false_max or 'none'} wrong"]
 
 
 def two_lines(time: str) -> Html:

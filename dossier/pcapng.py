@@ -1,25 +1,24 @@
 """A pcapng capture, a private copy, rewritten as a classic one (draft-ietf-opsawg-pcapng).
 
-Its unit is nanoseconds if all of its interfaces have them, else microseconds: no time becomes more exact than it was.
+Its unit is nanoseconds if all of its interfaces have them, else microseconds: no time becomes more exact than it was. A
+time is cut, so its unit has to be a whole number of those that were read: then what is written may mean each time that
+what was read may mean.
 """
 from __future__ import annotations
 
 from collections.abc import Iterator
 from itertools import islice
-from mmap import mmap
 from struct import Struct, error
 from typing import NamedTuple
 
 from .classic import NEW_HEAD, new_header, write
 from .fault import fault
-from .limit import Limit
+from .folder import Mapped
 
 MAGIC = bytes.fromhex("0a0d0d0a")
 SECTION, INTERFACE, OLD_PACKET, SIMPLE_PACKET, PACKET = 0x0A0D0D0A, 1, 2, 3, 6
 OPTION_RESOLUTION, OPTION_OFFSET = 9, 14
 MOST_INTERFACES, MOST_IN_A_BLOCK = 1000, 1 << 24
-OFTEN = 1 << 16
-"""Blocks between two looks at the time."""
 
 
 class Interface(NamedTuple):
@@ -41,14 +40,14 @@ class Packet(NamedTuple):
 class Pcapng:
     """A capture in a file of one's own."""
 
-    def __init__(self, name: str, data: mmap, limit: Limit):
-        self.name, self.data, self.limit = name, data, limit
+    def __init__(self, name: str, data: Mapped):
+        self.name, self.data = name, data
         self.torn_at: int | None = None
         """Where the last block begins, if the file ends inside it."""
 
     def blocks(self) -> Iterator[tuple[int, str, bytes]]:
         """The kind of each block, the order of its bytes, and what stands in it."""
-        at, order, number = 0, "<", 0
+        at, order = 0, "<"
         while at < len(self.data):
             if self.data[at : at + 4] == MAGIC:
                 order = "<" if self.data[at + 8 : at + 12] == bytes.fromhex("4d3c2b1a") else ">"
@@ -61,9 +60,6 @@ class Pcapng:
                 return
             yield kind, order, self.data[at + 8 : at + length - 4]
             at += length
-            number += 1
-            if number % OFTEN == 0:
-                self.limit.left()
 
     def interfaces(self) -> list[Interface]:
         """All of its interfaces, of all sections."""
@@ -108,9 +104,9 @@ def interface_of(order: str, body: bytes) -> Interface:
     return Interface(link, resolution, offset)
 
 
-def convert(name: str, data: mmap, path: str, limit: Limit) -> int | None:
+def convert(name: str, data: Mapped, path: str) -> int | None:
     """Writes it as a classic capture. Where its last block begins, if it ends inside it."""
-    capture = Pcapng(name, data, limit)
+    capture = Pcapng(name, data)
     try:
         known = capture.interfaces()
         links = {interface.link for interface in known}
@@ -120,7 +116,9 @@ def convert(name: str, data: mmap, path: str, limit: Limit) -> int | None:
         if coarsest < 10**6:
             raise fault(f"{name} has times that are coarser than microseconds")
         unit = 10**9 if coarsest >= 10**9 else 10**6
-        write(path, records(capture, unit, links.pop() if links else 1), limit)
+        if any(interface.resolution % unit for interface in known):
+            raise fault(f"{name} has times that are no decimal parts of a second")
+        write(path, records(capture, unit, links.pop() if links else 1))
     except error:
         raise fault(f"{name} has a block that is damaged") from None
     return capture.torn_at

@@ -16,15 +16,15 @@ class Premise:
 
 
 def premises(claim: Claim) -> list[Premise]:
-    most, groups, within = claim.false_max, len(claim.grouped), ns_ms(claim.reading_ns)
+    most, groups = claim.false_max, len(claim.grouped)
+    by = f", by more than {ns_ms(claim.reading_ns)} ms (reading_ns)" if claim.reading_ns else " (reading_ns is 0)"
     wrong = f"At most {most} of {groups} groups of servers held one that was wrong, or whose packets somebody " \
             "altered (false_max, groups)." if most \
         else "No server was wrong, and nobody altered any packets (false_max is 0)."
     return [
-        Premise("reading", f"The times of the records are readings of the clock of {claim.client}, each within "
-                f"{within} ms (reading_ns).",
-                "The capture was made on that machine, by the system's clock; the delay from packet to stamp was "
-                "measured under load."),
+        Premise("reading", f"By the clock of {claim.client} no request left before its record's time, and no reply "
+                f"arrived after its record's time{by}.",
+                "By what it was recorded, on that machine, with stamps of which kind (GUIDE.md has a table)."),
         Premise("capture", "The capture is what passed: nobody made up or changed packets, times or order.",
                 "Who recorded it, and who kept it since; a signature over the file."),
         Premise("servers", wrong, "How the servers are run and by whom; servers of one reference are in one group."),

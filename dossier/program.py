@@ -1,22 +1,21 @@
 """The program `ntpaudit`: where it is, and how it is called."""
 from __future__ import annotations
 
-import hashlib
 import os
 import shutil
-import time
 from collections.abc import Callable
-from contextlib import suppress
 from typing import NamedTuple
 
-from .call import ENVIRONMENT, SUMS, Caller
 from .entry import Made
 from .fault import MEMORY, MISSING, Fault
-from .folder import BLOCK
-from .limit import Limit
+from .folder import sum_of_file
+from .placing import keep
+from .running import DEVNULL, ENVIRONMENT, begun, private_folder, run, stream
 from .text import plain
 
 ROOT = os.path.dirname(os.path.dirname(os.path.realpath(__file__)))
+SUMS = "sums"
+"""A private file with the sums of the operands of a call."""
 MOST_OF_WORDS = 1000
 """Characters of a line of the program's words that are kept."""
 
@@ -31,22 +30,17 @@ class Ran(NamedTuple):
 class Program(NamedTuple):
     path: str
     made: Made
-    caller: Caller
-
-    @property
-    def limit(self) -> Limit:
-        return self.caller.limit
 
     def run(self, *words: str, sums: dict[str, str] | None = None) -> Ran:
         """Calls the program, and has it hold its operands to their sums, if these are given by the operands' names: all
         of them are names of one's own, so none has anything in it that `sha256sum` would escape."""
-        called, text_of_sums = [self.path, *words], b""
+        called = [self.path, *words]
         if sums:
-            called += ["--sums", f"/dev/fd/{SUMS}"]
-            text_of_sums = "".join(f"{sum_}  {name}\n" for name, sum_ in sums.items()).encode()
-        status, text, error = self.caller.run(called, sums=text_of_sums)
+            keep(SUMS, "".join(f"{sum_}  {name}\n" for name, sum_ in sums.items()).encode())
+            called += ["--sums", SUMS]
+        status, text, error = run(called)
         if status not in (0, 1):
-            raise self.in_words(fault_of(status, error), called, text_of_sums)
+            raise in_words(fault_of(status, error), called)
         return Ran(status, text)
 
     def blocks(self, take: Callable[[bytes], object], *words: str) -> None:
@@ -60,20 +54,20 @@ class Program(NamedTuple):
             rest = block[end:]
             if end:
                 take(block[:end] if rest else block)
-        status, error = self.caller.stream([self.path, *words], take_block)
+        status, error = stream([self.path, *words], take_block)
         if status not in (0, 1):
-            raise self.in_words(fault_of(status, error), [self.path, *words])
+            raise in_words(fault_of(status, error), [self.path, *words])
 
-    def in_words(self, found: Fault, called: list[str], sums: bytes = b"") -> Fault:
-        """The fault of a call with what the program says about it, if it says the same again. What took all memory
-        isn't called again."""
-        if found.status != MEMORY:
-            with suppress(Fault):
-                _, error = self.caller.stream([*called, "--human"], lambda _: None, sums=sums)
-                line, *words = lines_of(error) or [""]
-                if line == found.line and len(words) == 2 and all(said.startswith("  ") for said in words):
-                    found.why, found.what = (plain(said.strip()[:MOST_OF_WORDS]) for said in words)
-        return found
+
+def in_words(found: Fault, called: list[str]) -> Fault:
+    """The fault of a call with what the program says about it, if it says the same again. What took all memory isn't
+    called again."""
+    if found.status != MEMORY:
+        _, error = stream([*called, "--human"], lambda _: None)
+        line, *words = lines_of(error) or [""]
+        if line == found.line and len(words) == 2 and all(said.startswith("  ") for said in words):
+            found.why, found.what = (plain(said.strip()[:MOST_OF_WORDS]) for said in words)
+    return found
 
 
 def fault_of(status: int, error: bytes) -> Fault:
@@ -88,16 +82,16 @@ def lines_of(error: bytes) -> list[str]:
     return [line for line in error.decode("utf-8", "replace").split("\n") if line]
 
 
-def find_program(limit: Limit) -> Program:
+def find_program() -> Program:
     """The program under which all is done, with its version and its sum."""
     path = path_of_program()
     if not path or not os.access(path, os.X_OK):
         where = path or "neither beside ntpaudit-dossier nor on the PATH"
         raise Fault(f"ntpaudit: the program is not there ({where}): set NTPAUDIT to its path", MISSING)
-    caller = Caller(limit)
-    status, version, _ = caller.run([path, "--version"])
+    with private_folder() as place:
+        status, version, _ = run([path, "--version"], cwd=place)
     lines = version.decode("utf-8", "replace").splitlines()
-    return Program(path, Made(lines[0] if lines and not status else "", sum_of_file(path)), caller)
+    return Program(path, Made(lines[0] if lines and not status else "", sum_of_file(path)))
 
 
 def path_of_program() -> str | None:
@@ -116,26 +110,10 @@ def path_of_program() -> str | None:
 
 
 def path_of_launcher() -> str:
-    import subprocess
-    built = subprocess.run([f"{ROOT}/ntpaudit", "--version"], stdin=subprocess.DEVNULL, stdout=subprocess.DEVNULL)
+    home = {name: os.environ[name] for name in ("HOME",) if name in os.environ}
+    with begun([f"{ROOT}/ntpaudit", "--version"], env=ENVIRONMENT | home, stdout=DEVNULL) as built:
+        pass
     if built.returncode:
         raise Fault("ntpaudit: the program is not built", MISSING)
     kept = f"{ROOT}/out/ntpaudit"
     return kept if os.path.exists(kept) else f"{ROOT}/dist/ntpaudit"
-
-
-def sum_of_file(path: str) -> str:
-    """The SHA-256 of a file of one's own."""
-    found = hashlib.sha256()
-    with open(path, "rb") as opened:
-        while block := opened.read(BLOCK):
-            found.update(block)
-    return found.hexdigest()
-
-
-def sum_of(data: bytes) -> str:
-    return hashlib.sha256(data).hexdigest()
-
-
-def now() -> str:
-    return time.strftime("%Y-%m-%dT%H:%M:%SZ", time.gmtime())

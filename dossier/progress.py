@@ -5,7 +5,7 @@ import sys
 import time
 
 from .entry import ANSWERED, REFUSED
-from .task import Done
+from .result import Result
 
 WIDTH = 30
 
@@ -18,9 +18,9 @@ class Progress:
         self.tally = dict.fromkeys([*ANSWERED, REFUSED], 0)
         self.is_shown = sys.stderr.isatty() and total > 1
 
-    def add(self, done: Done) -> None:
+    def add(self, done: Result) -> None:
         self.finished += 1
-        for verdict in done.verdicts:
+        for verdict in done.verdicts or [REFUSED]:
             self.tally[verdict] += 1
 
     def summed(self, between: str) -> str:

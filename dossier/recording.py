@@ -73,7 +73,7 @@ class Recording:
 def read_recording(program: Program, claim: str, capture: str, extent: Extent | None = None) -> Recording:
     samples, packets = Samples(), array("I")
     program.blocks(samples.take, "samples", claim, capture)
-    whole, counts = Classic(capture, program.limit, extent), samples.counts
+    whole, counts = Classic(capture, extent), samples.counts
     if counts["requests"] + counts["replies"] == counts["records"]:
         return Recording(samples, whole, None)
 

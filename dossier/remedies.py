@@ -16,7 +16,7 @@ class Remedy:
 
 REMEDIES = [
     Remedy(r"folder is a link", "The folder isn't there itself.", "Name the folder to which the link leads."),
-    Remedy(r"take more than", "The copies and the answers of the folder have no end.", "Cut the span, or the capture."),
+    Remedy(r"take more room", "The copies and the answers of the folder have no end.", "Cut the span, or the capture."),
     Remedy(r"can't be worked on", "Something failed that stands in parentheses.",
            "See who may write where, and make room."),
     Remedy(r"memory|ended by signal", "The program was refused memory, or was ended from outside.",
@@ -34,12 +34,12 @@ REMEDIES = [
     Remedy(r"can't be unpacked", "The packed capture is damaged.", "Fetch the file again, in binary mode."),
     Remedy(r"frames of several kinds", "The capture is of several interfaces, not all of them Ethernet.",
            "Record on one Ethernet interface by its name."),
-    Remedy(r"packets without a time|coarser than microseconds", "The times of the capture are of no use.",
+    Remedy(r"packets without a time|coarser than micro|no decimal parts", "The times of the capture are of no use.",
            "Record by tcpdump."),
     Remedy(r"damaged", "The capture is damaged.", "Fetch the file again, in binary mode."),
     Remedy(r"back and forth", "The capture isn't in order of time.", "`reordercap f.pcap g.pcap` sorts it."),
     Remedy(r"can't be written", "The files of the audit can't be written.", "Make room, or see who may write there."),
-    Remedy(r"worker", "The process that audited this folder was ended from outside.",
+    Remedy(r"process of this folder", "The process that audited this folder was ended from outside.",
            "Call again: what is done isn't done again."),
     Remedy(r"not audited", "There is no audit.json of this form in the folder.",
            "`ntpaudit-dossier audit FOLDER` first."),

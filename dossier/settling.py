@@ -1,7 +1,6 @@
 """How one claim is settled: the program's calls, in order, and the files that they leave in the current folder."""
 from __future__ import annotations
 
-import os
 from collections.abc import Callable
 from contextlib import suppress
 from dataclasses import replace
@@ -12,12 +11,15 @@ from .captures import Audited
 from .claim import GREATEST_BOUND, Part
 from .entry import NO_EVIDENCE, NOTHING_FITS, REFUTED, YES, Entry
 from .fault import MISSING, Fault, fault
-from .folder import Copy
 from .judgement import Beside, Texts, judge, more_drift
-from .program import Program, sum_of, sum_of_file
+from .folder import sum_of, sum_of_file
+from .placing import keep, make_private
+from .program import Program
 from .recording import Recording, read_recording
 from .traffic import read_traffic
 
+MOST_LINES = 1_000_000
+"""Of an envelope: a line for each piece and for each server in it."""
 MANY_PIECES = 10_000
 """The envelope has pieces of 1, 4, 16, .. s, the least with which it has no more than these."""
 
@@ -33,13 +35,16 @@ class Settling:
         self.extent = whole.extent
         self.claim = part.within(files.CLAIM)
         self.step = step or envelope_step_of(part)
+        size = ((part.claim.last - part.claim.first) // self.step + 1) * (len(part.claim.servers) + 1)
+        if size > MOST_LINES:
+            raise fault(f"the envelope has {size:,} lines, and a folder may have {MOST_LINES:,}: --step makes fewer")
         self.sums = dict(sums)
         self.left: dict[str, str] = {}
 
     def settle(self, beside: Beside, cut_to: Callable[[str], bool] | None) -> Entry:
         """Makes all calls and leaves all files. A day is settled on its own records."""
         if self.part.name != ".":
-            os.mkdir(self.part.name)
+            make_private(self.part.name)
             self.keep(files.CLAIM, self.part.claim.text)
         own = self.part.within(files.JOINED)
         if cut_to and cut_to(own):
@@ -48,7 +53,8 @@ class Settling:
         recording = read_recording(self.program, self.claim, self.capture, self.extent)
         texts = self.decide()
         if read_settled(texts.settled).answer == NO_EVIDENCE or do_many_miss(recording, len(self.part.claim.servers)):
-            texts = texts._replace(traffic=read_traffic(self.program, self.capture))
+            with suppress(Fault):  # (too many ask in it)
+                texts = texts._replace(traffic=read_traffic(self.program, self.capture))
         words = ("envelope", self.claim, self.capture, "--servers", "--least", "--step", str(self.step))
         texts = texts._replace(envelope=self.keep(files.ENVELOPE, self.call(*words)))
         return judge(self.part, recording, beside, texts, self.step, self.left)
@@ -56,8 +62,7 @@ class Settling:
     def keep(self, name: str, data: bytes) -> bytes:
         """Leaves a file of this part."""
         path = self.part.within(name)
-        with Copy(path, self.program.limit) as copy:
-            copy.take(data)
+        keep(path, data)
         self.sums[path] = self.left[path] = sum_of(data)
         return data
 

@@ -8,11 +8,11 @@ import re
 from datetime import datetime
 from typing import NamedTuple
 
-from .call import Caller, find_tool
 from .entry import read_record
 from .fault import Fault
-from .folder import AUDIT, SIGNATURE, Copy, Folder, data_named
-from .scratch import scratch
+from .folder import AUDIT, SIGNATURE, Folder, data_named
+from .placing import keep
+from .running import find_tool, run
 from .typed import is_time
 
 NAMESPACE = "ntpaudit-dossier"
@@ -43,10 +43,9 @@ class Signature(NamedTuple):
 class Signers:
     """Who may sign, as a file of allowed signers says, if one is named."""
 
-    def __init__(self, path: str | None, caller: Caller):
-        self.caller = caller
+    def __init__(self, path: str | None):
         try:
-            self.given = data_named(path, caller.limit) if path is not None else None
+            self.given = data_named(path) if path is not None else None
         except Fault as found:
             raise found.of("the file of signers") from None
 
@@ -59,11 +58,9 @@ class Signers:
         at = time_of(data)
         if self.given is None:
             return Signature(UNSEEN, at)
-        with scratch():
-            for name, text in ((SIGNED, data), (SIGNATURE, signature), (SIGNERS, self.given)):
-                with Copy(name, self.caller.limit) as copy:
-                    copy.take(text)
-            return self.looked_at(at)
+        for name, text in ((SIGNED, data), (SIGNATURE, signature), (SIGNERS, self.given)):
+            keep(name, text)
+        return self.looked_at(at)
 
     def looked_at(self, at: str) -> Signature:
         status, said, _ = self.keygen("check-novalidate", "-n", NAMESPACE)
@@ -82,7 +79,7 @@ class Signers:
 
     def keygen(self, *words: str) -> tuple[int, str, str]:
         tool = find_tool("ssh-keygen", NO_KEYGEN)
-        status, said, error = self.caller.run([tool, "-Y", *words, "-s", SIGNATURE], SIGNED)
+        status, said, error = run([tool, "-Y", *words, "-s", SIGNATURE], SIGNED)
         return status, said.decode("utf-8", "replace"), error.decode("utf-8", "replace")
 
 

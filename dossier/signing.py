@@ -2,24 +2,23 @@
 from __future__ import annotations
 
 import os
-import subprocess
 import sys
 from dataclasses import replace
+from functools import partial
 from typing import IO
 
 from . import folder as files
 from .audit import change_of
-from .call import ENVIRONMENT, find_tool
 from .entry import read_record, record_text
 from .fault import DEVICE, NOT_SHOWN, USAGE, Fault, fault, summed
-from .folder import Copy, Folder
+from .folder import Folder, own_data, sum_of
 from .known import Known
-from .limit import Limit
-from .placing import place
-from .program import now, sum_of
-from .scratch import scratch
+from .placing import is_ones_own, keep, place
+from .result import Result
+from .running import DEVNULL, ENVIRONMENT, PIPE, begun, find_tool, private_folder, run_all, run_one
 from .signature import NAMESPACE, NO_KEYGEN
 from .text import plain
+from .units import now
 from .verify import audit_json
 
 OF_A_PERSON = ("HOME", "TERM", "DISPLAY", "WAYLAND_DISPLAY", "XDG_RUNTIME_DIR", "SSH_AUTH_SOCK", "SSH_ASKPASS",
@@ -28,40 +27,53 @@ OF_A_PERSON = ("HOME", "TERM", "DISPLAY", "WAYLAND_DISPLAY", "XDG_RUNTIME_DIR", 
 PROGRESS = (b"Signing file ", b"Write signature to ")
 
 
-def sign_all(folders: list[str], key: str, known: Known, limit: Limit) -> int:
-    """Signs each folder, and prints a line for each. The status is the worst."""
+def sign_all(folders: list[str], key: str, known: Known, seconds: int) -> int:
+    """Signs each folder, and prints a line for each. The status is the worst. The key is asked for between two looks at
+    a folder, by the process that has the terminal."""
     worst, key = 0, os.path.abspath(key)
-    for path in folders:
-        limit.begin()
-        try:
-            with Folder(path, limit) as folder:
-                line = sign(folder, key, known)
-                status = NOT_SHOWN if line else 0
-        except Fault as found:
-            line, status = found.line, found.status
-        print(f"{plain(path)}: {plain(line or 'signed')}", flush=True)
-        worst = summed(worst, status)
+    for path, found in run_all(folders, partial(to_be_signed, known), seconds):
+        if found.text:
+            try:
+                signature = signature_by(key, found.text.encode())
+                found = run_one(path, partial(sign, known, found.text.encode(), signature), seconds)
+            except Fault as refused:
+                found = Result(refused.status, [refused.line])
+        lines = [found.refusal.line] if found.refusal else found.lines
+        print(f"{plain(path)}: {plain(lines[0])}", flush=True)
+        worst = summed(worst, found.status)
     return worst
 
 
-def sign(folder: Folder, key: str, known: Known) -> str:
-    """Signs a folder's audit.json, with the time in it, if it was made or verified here. If a file isn't what it says,
-    that is said, and nothing is signed."""
-    data = audit_json(folder)
-    record = read_record(data)
-    if folder.has(files.SIGNATURE):
-        raise fault(f"signed already; who wants another signature takes {files.SIGNATURE} away", DEVICE)
-    if record.refusal:
-        raise fault("the audit was refused, so there is nothing to sign", DEVICE)
-    if not known.has(sum_of(data)):
-        raise fault("neither made nor verified here, so it isn't signed: `ntpaudit-dossier verify` comes first", USAGE)
-    changed = change_of(folder, record)
-    if not changed:
-        signed = record_text(replace(record, signed=now()))
-        signature = signature_by(key, signed)
+def to_be_signed(known: Known, path: str, _: int) -> Result:
+    """A folder's audit.json with the time in it, which is to be signed, if it was made or verified here. If a file
+    isn't what it says, that is said."""
+    with Folder(path) as folder:
+        is_ones_own(folder.place)
+        data = audit_json(folder)
+        record = read_record(data)
+        if folder.has(files.SIGNATURE):
+            raise fault(f"signed already; who wants another signature takes {files.SIGNATURE} away", DEVICE)
+        if record.refusal:
+            raise fault("the audit was refused, so there is nothing to sign", DEVICE)
+        if not known.shown(sum_of(data), record):
+            raise fault("neither made nor verified here, so it isn't signed: `ntpaudit-dossier verify` comes first",
+                        USAGE)
+        if changed := change_of(folder, record):
+            return Result(NOT_SHOWN, [changed])
+        return Result(text=record_text(replace(record, signed=now())).decode())
+
+
+def sign(known: Known, signed: bytes, signature: bytes, path: str, _: int) -> Result:
+    """Puts what was signed in its place, with the signature, if the folder's audit.json is still the same but for the
+    time."""
+    with Folder(path) as folder, known.alone(folder):
+        data, record = audit_json(folder), read_record(signed)
+        seen = known.shown(sum_of(data), record)
+        if folder.has(files.SIGNATURE) or not seen or replace(read_record(data), signed=record.signed) != record:
+            raise fault(f"{files.AUDIT} has changed meanwhile")
         place(folder, {files.AUDIT: [signed], files.SIGNATURE: [signature]})
-        known.add(sum_of(signed))
-    return changed
+        known.add(sum_of(signed), seen)
+    return Result(lines=["signed"])
 
 
 def hand_on(said: IO[bytes] | None) -> None:
@@ -77,13 +89,11 @@ def signature_by(key: str, data: bytes) -> bytes:
     touch of a key, or for a PIN, so it has no limit of time."""
     tool = find_tool("ssh-keygen", NO_KEYGEN)
     environment = ENVIRONMENT | {name: os.environ[name] for name in OF_A_PERSON if name in os.environ}
-    with scratch():
-        with Copy(files.AUDIT, Limit()) as copy:
-            copy.take(data)
-        with subprocess.Popen([tool, "-Y", "sign", "-f", key, "-n", NAMESPACE, files.AUDIT], env=environment,
-                              stdout=subprocess.DEVNULL, stderr=subprocess.PIPE) as call:
+    with private_folder() as own:
+        keep(f"{own}/{files.AUDIT}", data)
+        with begun([tool, "-Y", "sign", "-f", key, "-n", NAMESPACE, files.AUDIT], env=environment, stdin=None, cwd=own,
+                   stdout=DEVNULL, stderr=PIPE) as call:
             hand_on(call.stderr)
         if call.returncode:
             raise fault(f"ssh-keygen didn't sign it (status {call.returncode})", DEVICE)
-        with open(files.SIGNATURE, "rb") as made:
-            return made.read()
+        return own_data(f"{own}/{files.SIGNATURE}")

@@ -15,6 +15,8 @@ def support(name: str, found: Backing, record: Record, entry: Entry) -> Iterator
     """The sentences for a premise, as they stand on the page."""
     if name == "leap" and record.leap_seconds:
         yield said("Looked up:", looked_up(record.leap_seconds, entry))
+    for recorded in found.recorded if name == "reading" else ():
+        yield said("Recorded:", recorded.sentence())
     for measured in found.measured if name == "reading" else ():
         yield said("Measured:", measured.sentence())
         yield from more(measured.greatest_ns > entry.claim.reading_ns)

@@ -4,39 +4,16 @@ from __future__ import annotations
 import csv
 import io
 import json
-from dataclasses import asdict, dataclass, field
+import re
+from dataclasses import asdict
 
 from .alerts import warning_words
 from .entry import NO_EVIDENCE, NOT_VERIFIED, NOTHING_FITS, OPEN, REFUSED, REFUTED, UNSUPPORTED, YES, Entry
+from .result import Row
 from .signature import Signature
 from .text import plain
 from .units import civil
 from .words import reason, to_do
-
-
-@dataclass
-class Row:
-    machine: str
-    day: str
-    client: str = ""
-    begin: str = ""
-    end: str = ""
-    verdict: str = ""
-    bound_ns: int | None = None
-    least_bound_ns: int | None = None
-    worst_begin: str = ""
-    worst_end: str = ""
-    samples: int | None = None
-    servers: int | None = None
-    groups: int | None = None
-    false_max: int | None = None
-    reason: str = ""
-    to_do: str = ""
-    warnings: list[str] = field(default_factory=list)
-    leap_seconds: str = ""
-    signature: str = ""
-    signer: str = ""
-    signed_at: str = ""
 
 
 WORST_FIRST = (REFUTED, NOTHING_FITS, UNSUPPORTED, NO_EVIDENCE, OPEN, REFUSED, NOT_VERIFIED, YES)
@@ -74,6 +51,10 @@ def as_json(rows: list[Row]) -> str:
     return json.dumps([asdict(row) for row in rows], indent=1) + "\n"
 
 
+FORMULA = re.compile(r"(^|[;,\t|])(\s*[\"']*\s*[=+@\uff1d\uff0b\uff20\uff0d-])")
+"""What a spreadsheet takes for a formula, at the begin of a cell, or of what another separator makes one."""
+
+
 def as_csv(rows: list[Row]) -> str:
     """One line a row. A text that a spreadsheet would take for a formula gets an apostrophe before it."""
     out = io.StringIO()
@@ -89,4 +70,4 @@ def as_cell(value: object) -> object:
         return ""
     if isinstance(value, list):
         value = "; ".join(value)
-    return f"'{value}" if isinstance(value, str) and value[:1] in ("=", "+", "-", "@") else value
+    return FORMULA.sub(r"\1'\2", value) if isinstance(value, str) else value

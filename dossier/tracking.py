@@ -13,7 +13,7 @@ from fractions import Fraction
 
 from .client import lines_of
 from .fault import fault
-from .program import sum_of
+from .folder import sum_of
 from .text import count
 from .typed import Count, Sum, Text, Time, is_time
 from .units import EPOCH, FORM, seconds_of, shown_time

@@ -69,8 +69,8 @@ Sum = Annotated[str, matching("[0-9a-f]{64}")]
 Address = Annotated[str, matching(r"[0-9]{1,3}(\.[0-9]{1,3}){3}")]
 Small = Annotated[int, within(0, 31)]
 Count = Annotated[int, within(0, 2**40)]
-Seconds = Annotated[int, within(-(2**40), 2**40)]
-"""Unix seconds."""
+Seconds = Annotated[int, within(-(2**35), 2**37)]
+"""Unix seconds that have a civil time."""
 Ticks = Annotated[int, within(-(2**100), 2**100)]
 """Ticks of 2^-32 s, of an error or since 1970."""
 Nanoseconds = Annotated[int, within(0, 10**25)]

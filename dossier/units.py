@@ -4,6 +4,7 @@ A low end is rounded down and a high end up, so that what is shown never says mo
 """
 from __future__ import annotations
 
+import time
 from datetime import datetime, timedelta
 from functools import cache
 
@@ -61,6 +62,11 @@ def bound_ticks(bound_ns: int) -> int:
 def civil(seconds: int) -> str:
     """Unix seconds in the form of a claim's times."""
     return (EPOCH + timedelta(seconds=seconds)).strftime(FORM)
+
+
+def now(more: int = 0) -> str:
+    """The time, or one that comes so many seconds later."""
+    return civil(int(time.time()) + more)
 
 
 def shown_time(seconds: int) -> str:

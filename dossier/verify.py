@@ -1,60 +1,74 @@
 """A year later, or at a stranger's: does an audit of the inputs alone come to what stands in the folder?"""
 from __future__ import annotations
 
+from collections import Counter
 from dataclasses import replace
+from functools import partial
+from typing import NamedTuple
 
 from . import folder as files
 from .audit import change_of
-from .entry import LeapList, Record, read_record
+from .entry import UNSUPPORTED, LeapList, Record, read_record
 from .fault import DEVICE, NOT_SHOWN, Fault, fault, summed
-from .folder import Folder
+from .folder import Folder, own, sum_of
 from .known import Known
-from .leap import NONE as NO_LEAP, differing
+from .leap import record_by
 from .making import Earlier, Making, no_earlier
-from .program import Program, sum_of
-from .scratch import scratch
+from .program import Program
+from .result import Result
+from .running import run_all
 from .signature import GOOD, NONE, UNSEEN, Signers, in_words
 from .text import plain
 from .typed import first_difference, said
+from .words import TWICE, reason
 
 SHOWN = 80
 """Characters of a value that are shown of a difference."""
 
 
+class Verified(NamedTuple):
+    """The first difference between what stands in a folder and what its inputs come to, nothing if there is none; what
+    is worth a note and is no difference; and the record of these inputs, made now and here."""
+
+    difference: str
+    notes: list[str]
+    made: Record | None
+
+
 class Verifier:
-    """Verifies folders, each in a scratch folder of its own, and records those that are."""
+    """Verifies folders, and records those that are."""
 
     def __init__(self, program: Program, known: Known, leaps: LeapList):
         self.program, self.known, self.leaps = program, known, leaps
 
-    def verify(self, folder: Folder) -> tuple[str, list[str]]:
-        """The first difference between what stands in a folder and what its inputs come to, nothing if there is none;
-        and what is worth a note and is no difference."""
+    def verify(self, folder: Folder) -> Verified:
+        """What the inputs of a folder come to, and how that differs from what stands in it."""
         data = audit_json(folder)
         record = read_record(data)
-        with scratch():
-            found, notes = self.difference(folder, record), self.notes(record)
-        if not found:
-            self.known.add(sum_of(data))
-        return found, notes
+        found, made = self.difference(folder, record)
+        if made and not found:
+            self.known.add(sum_of(data), made)
+        return Verified(found, self.notes(record, made), made)
 
-    def notes(self, record: Record) -> list[str]:
+    def notes(self, record: Record, made: Record | None) -> list[str]:
         other = record.program.sha256 != self.program.made.sha256
-        unseen = record.leap_seconds is not None and (record.leap_seconds.fault or self.leaps.fault)
-        later = any(entry.leap.says == NO_LEAP and entry.leap.to >= self.leaps.good_until for entry in record.entries)
-        return [*(["by another build of the program than the audit's"] if other else []),
-                *(["nothing is known of leap seconds, since there is no list of them"] if unseen else []),
-                *(["the list of leap seconds here ends before the span does"] if later and not unseen else [])]
+        against = {reason(entry) for entry in made.entries if entry.verdict == UNSUPPORTED} if made else ()
+        return [*(["by another build of the program than the audit's"] if other else []), *sorted(against)]
 
-    def difference(self, folder: Folder, record: Record) -> str:
-        """An audit that was refused is tried again: it is refused for the same reason, or there is a difference."""
-        leaps = record.leap_seconds or self.leaps
-        found = "" if record.refusal else change_of(folder, record) or differing(leaps, self.leaps)
+    def difference(self, folder: Folder, record: Record) -> tuple[str, Record | None]:
+        """The first difference, nothing if there is none; and what was made of the inputs, by one's own list of leap
+        seconds. An audit that was refused is tried again: it is refused for the same reason, or there is one."""
+        found = "" if record.refusal else change_of(folder, record)
         if found:
-            return found
+            return found, None
         is_other = record.program.sha256 != self.program.made.sha256
-        making = Making(folder, self.program, record.options, leaps, record.kept)
+        making = Making(folder, self.program, record.options, self.leaps, record.kept)
         made = making.record(earlier_of(folder, record) if is_other else no_earlier)
+        return self.compared(folder, record, made, is_other), replace(made, signed=record.signed)
+
+    def compared(self, folder: Folder, record: Record, made: Record, is_other: bool) -> str:
+        """What stands in a folder that isn't so by the record that was made now. Another list of leap seconds may say
+        more or less than one's own, but the verdicts are the same."""
         made = replace(made, made=record.made, seconds=record.seconds, signed=record.signed,
                        program=record.program if is_other else made.program)
         for name, sum_ in made.outputs.items():
@@ -63,7 +77,10 @@ class Verifier:
                 comparison = Comparison(name)
                 folder.read(name, comparison.take)
                 return f"{name}: {comparison.end()}"
-        differs = first_difference(said(record), said(made))
+        other_list = record.leap_seconds and record.leap_seconds.sha256 != self.leaps.sha256
+        by_own = record_by(self.leaps, record) if other_list else record
+        kept, own = ({"entries": [{"verdict": verdict} for verdict in one.verdicts]} for one in (record, made))
+        differs = first_difference(said(by_own), said(made)) or first_difference(kept, own)
         return f"{files.AUDIT}:{in_words_of(*differs)}" if differs else ""
 
 
@@ -94,7 +111,7 @@ class Comparison:
     """The first difference between a file that is read, block by block, and one of one's own."""
 
     def __init__(self, path: str):
-        self.opened = open(path, "rb")
+        self.opened = own(path)
         self.at, self.line, self.found = 0, 1, ""
 
     def take(self, block: bytes) -> None:
@@ -116,33 +133,37 @@ class Comparison:
         return self.found or f"after {self.at} bytes it{in_words_of('', '', rest)}"
 
 
-def verify_all(folders: list[str], verifier: Verifier, signers: Signers) -> int:
-    """Prints `verified` or the first difference, a line for each folder, and notes. The status is 0 if all is verified,
-    and 1 if something differs; or a fault's. With a file of signers, a folder that nobody signed differs too."""
-    worst = 0
-    for path in folders:
-        verifier.program.limit.begin()
-        lines, status = lines_of(path, verifier, signers)
-        for line in lines:
+def verify_all(folders: list[str], verifier: Verifier, signers: Signers, seconds: int) -> int:
+    """Prints `verified` and the verdict, or the first difference, a line for each folder, and notes. The status is 0 if
+    all is verified and shown, and 1 if something isn't; or a fault's."""
+    worst, seen = 0, dict[str, str]()
+    for path, found in run_all(folders, partial(verify, verifier, signers), seconds):
+        copies = [seen[sum_] for sum_ in found.captures if seen.setdefault(sum_, path) != path]
+        lines = [found.refusal.line] if found.refusal else found.lines
+        for line in [*lines, *(f"({TWICE} {copy})" for copy in copies)]:
             print(f"{plain(path)}: {plain(line)}", flush=True)
-        worst = summed(worst, status)
+        worst = summed(worst, found.status)
     return worst
 
 
-def lines_of(path: str, verifier: Verifier, signers: Signers) -> tuple[list[str], int]:
+def verify(verifier: Verifier, signers: Signers, path: str, _: int) -> Result:
+    """What verifying a folder comes to. With a file of signers, a folder that nobody signed differs too."""
     findings: list[str] = []
     notes: list[str] = []
     try:
-        with Folder(path, verifier.program.limit) as folder:
+        with Folder(path) as folder:
             signature = signers.signature_of(folder)
             if signature.state in (GOOD, UNSEEN):
                 notes.append(in_words(signature))
             elif signature.state != NONE or signers.given is not None:
                 findings.append(in_words(signature))
-            found, others = verifier.verify(folder)
-            notes += others
-            findings += [found] if found else []
-        status = NOT_SHOWN if findings else 0
-    except Fault as found_fault:
-        findings, status = [*findings, found_fault.line], found_fault.status
-    return [*(findings or ["verified"]), *(f"({note})" for note in notes)], status
+            difference, others, made = verifier.verify(folder)
+    except Fault as found:
+        return Result(found.status, [*findings, found.line, *(f"({note})" for note in notes)])
+    findings += [difference] if difference else []
+    verdicts = Counter(made.verdicts if made else ())
+    words = ", ".join(f"{number} {verdict}" if len(made.entries) > 1 else verdict
+                      for verdict, number in verdicts.items()) if made else ""
+    lines = [*(findings or [f"verified: {words}"]), *(f"({note})" for note in [*notes, *others])]
+    status, captures = (made.status, sorted(made.captures)) if made else (NOT_SHOWN, [])
+    return Result(NOT_SHOWN if findings else status, lines, captures=captures)

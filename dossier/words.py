@@ -14,6 +14,9 @@ from .text import capital, count, is_or_are
 from .units import TICKS, between, high_ms, low_ms, ns_ms, ns_up_ms, range_ms, shown_time
 
 
+TWICE = "Its capture is that of another folder too, so one of them is a copy:"
+
+
 def span(claim: Claim) -> str:
     first, last = shown_time(claim.first), shown_time(claim.last)
     if first == last:

@@ -62,9 +62,9 @@ def capture_of(path: Path, *words: object) -> Path:
     return path
 
 
-def table(*folders: Path) -> list[dict[str, Any]]:
+def table(*folders: Path, words: Sequence[object] = ()) -> list[dict[str, Any]]:
     """The table's lines, in the order of the folders."""
-    rows = json.loads(dossier("page", "--json", *folders)[1])
+    rows = json.loads(dossier("page", "--json", *words, *folders)[1])
     names = list(map(str, folders))
     return sorted(rows, key=lambda row: names.index(row["machine"]) if row["machine"] in names else 0)
 

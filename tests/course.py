@@ -17,14 +17,19 @@ CLIENT = bytes((192, 0, 2, 10))
 
 
 class Record:
-    """A record of the capture, whose time window holds a reading of the client's clock."""
+    """A record of the capture, with the window of its stamp."""
 
-    def __init__(self, reading: int, unit: int, allowance: int, rng: random.Random) -> None:
-        moved = reading + FINE * rng.randint(-allowance, allowance)
-        self.sec, self.sub = divmod(moved * unit // (TICKS * FINE), unit)
+    def __init__(self, stamped: int, unit: int) -> None:
+        self.sec, self.sub = divmod(stamped * unit // (TICKS * FINE), unit)
         self.low = self.sec * TICKS + self.sub * TICKS // unit
         self.high = self.sec * TICKS + ceiling((self.sub + 1) * TICKS, unit)
-        assert FINE * (self.low - allowance) <= reading <= FINE * (self.high + allowance)
+
+
+def right_record(reading: int, unit: int, allowance: int, rng: random.Random) -> Record:
+    """A record whose window, with the allowance, holds a reading of the client's clock."""
+    record = Record(reading + FINE * rng.randint(-allowance, allowance), unit)
+    assert FINE * (record.low - allowance) <= reading <= FINE * (record.high + allowance)
+    return record
 
 
 class Clock:
@@ -85,19 +90,20 @@ class Exchange:
         self.distance = self.delay * 32768 + self.dispersion * 65536 + tick
 
 
-def make_exchange(server: int, honest: bool, mean: int, start: int, rng: random.Random) -> Exchange:
+def make_exchange(server: int, honest: bool, mean: int, start: int, rng: random.Random, *,
+                  quick: bool = False) -> Exchange:
     """An exchange that begins about `start`: within its root distance where the server is honest.
 
     A mean course goes to the edge of what is allowed: the way out (or back) takes no time, and the server's stamp there
-    is off by its whole root distance.
+    is off by its whole root distance. Of a quick one no delay and no root distance is over a millisecond.
     """
-    tail = rng.choice((0, TICKS // 1000, TICKS // 20, TICKS))
+    tail = rng.choice((0, TICKS // 1000) if quick else (0, TICKS // 1000, TICKS // 20, TICKS))
     gaps = [rng.randint(0, tail) * FINE if rng.random() < 0.8 else 0 for _ in range(3)]
     if mean and honest:
         gaps[0 if mean < 0 else 2] = 0
     t1 = start
     t2, t3, t4 = t1 + gaps[0], t1 + gaps[0] + gaps[1], t1 + sum(gaps)
-    distance = (rng.choice((0, 1, 40)), rng.choice((0, 3, 700)), rng.choice((-32, -24, -20)))
+    distance = (rng.choice((0, 1, 40)), rng.choice((0, 3, 7 if quick else 700)), rng.choice((-32, -24, -20)))
     room = Exchange(server, (t1, t2, t3, t4), (0, 0), distance).distance
     if honest and mean:
         says = [ceiling(t2, FINE) - room, t3 // FINE + room]
@@ -142,8 +148,8 @@ class Course:
         error = self.mean * TICKS or rng.choice((0, 1, -1)) * rng.randint(0, TICKS // 50)
         self.clock = Clock(times, self.ppb, error * FINE, rng)
         for x in self.exchanges:
-            x.request = Record(self.clock.reading(x.t1), self.unit, self.allowance, rng)
-            x.reply = Record(self.clock.reading(x.t4), self.unit, self.allowance, rng)
+            x.request = right_record(self.clock.reading(x.t1), self.unit, self.allowance, rng)
+            x.reply = right_record(self.clock.reading(x.t4), self.unit, self.allowance, rng)
 
     def worst(self) -> int:
         """The greatest error, in fine parts, at the moments whose reading lies in the span."""
@@ -216,11 +222,38 @@ class PartedCourse(Course):
         for server in range(count):
             moment = begin - rng.randint(50, 150) * TICKS * FINE
             self.add(x := make_exchange(server, True, 0, moment, rng), None)
-            x.request, x.reply = (Record(time + jump, self.unit, self.allowance, rng) for time in (x.t1, x.t4))
+            x.request, x.reply = (right_record(time + jump, self.unit, self.allowance, rng) for time in (x.t1, x.t4))
 
     def add(self, exchange: Exchange, half: int | None) -> None:
         exchange.half = half
         self.exchanges.append(exchange)
+
+
+class StampedCourse(Course):
+    """A course whose stamps are off by up to 20 ms, with no allowance for it. Its paths and servers are quick."""
+
+    def __init__(self, rng: random.Random) -> None:
+        count = rng.randint(1, 6)
+        self.groups = split_into_groups(count, rng)
+        self.false_max = rng.randint(0, (len(self.groups) - 1) // 2)
+        false = rng.sample(range(len(self.groups)), self.false_max)
+        self.liars = sorted(server for group in false for server in self.groups[group])
+        self.ppb, self.unit = rng.choice((0, 1000, 50000)), rng.choice((10**6, 10**9))
+        self.reading_ns = self.allowance = 0
+        self.first, self.seconds, self.mean = rng.choice((10**9, 2085978490)), rng.choice((1, 5, 10)), 0
+        begin, self.exchanges = self.first * TICKS * FINE, []
+        for server in range(count):
+            for _ in range(rng.randint(1, 4)):
+                moment = begin + rng.randint(0, self.seconds * TICKS) * FINE + rng.randint(0, FINE - 1)
+                self.exchanges.append(make_exchange(server, server not in self.liars, 0, moment, rng, quick=True))
+        self.run(begin, rng)
+
+    def stamp(self, way: int, rng: random.Random) -> None:
+        """Requests are stamped 5 to 20 ms early and replies as much late, or the other way about (-1)."""
+        for x in self.exchanges:
+            early, late = (way * FINE * rng.randint(TICKS // 200, TICKS // 50) for _ in range(2))
+            x.request = Record(self.clock.reading(x.t1) - early, self.unit)
+            x.reply = Record(self.clock.reading(x.t4) + late, self.unit)
 
 
 def spelled(second: int) -> str:

@@ -17,7 +17,7 @@ from calendar import timegm
 
 from audits import ENVIRONMENT, PROGRAM, SCRIPT, capture_of, check, check_page, dossier, folder_of, skipped, table
 from captures import records_of
-from evidence import key_of, why_no_recording
+from evidence import key_of, until_it_listens, why_no_recording
 from tally import DATA, ROOT, run
 from verdicts import GOOD, SETUP, good_folder, logged
 
@@ -83,7 +83,8 @@ def test_metrics(place):
                    {**least, "clock_off": str(int(folder.name == "off")),
                     "claimed_bound_seconds": seconds(row["bound_ns"]), "samples": str(row["samples"]),
                     "servers_apart": str(sum("apart" in words for words in row["warnings"])),
-                    "warnings": str(len(row["warnings"])), "span_end_timestamp_seconds": seconds(span_end * 10**9),
+                    "warnings": str(sum("is a copy" not in words for words in row["warnings"])),
+                    "span_end_timestamp_seconds": seconds(span_end * 10**9),
                     "leap_list_end_timestamp_seconds": seconds(end),
                     "last_audit_timestamp_seconds": seconds(made * 10**9),
                     "audit_duration_seconds": seconds(round(record["seconds"] * 10**9))}))
@@ -125,9 +126,8 @@ def test_metrics_written(place):
     check("metrics on a full disk", told=(b"can't be written" in err, True), kept=(kept.read_bytes(), text),
           left=([path.name for path in place.iterdir() if path.name.startswith(".")], []))
     (place / "link.prom").symlink_to(kept)
-    dossier("audit", "--metrics", place / "link.prom", good)
-    check("metrics through a link that is named", link=((place / "link.prom").is_symlink(), True),
-          changed=(kept.read_bytes() != text, True))
+    status = dossier("audit", "--metrics", place / "link.prom", good)[0]
+    check("metrics through a link that is named", status=(status, 4), kept=(kept.read_bytes(), text))
 
 
 ALERTS = {"good": [], "wrong": ["ClockNotShown"], "off": ["ClockOff"], "apart": ["ClockServerApart"],
@@ -290,7 +290,8 @@ def test_day_of_others(place):
     (recorder / names[1]).symlink_to(recorder / names[2])
     (days / "2001-09-09" / names[1]).unlink()
     check("a recorder's file that is a link",
-          run=(dossier(*words), (2, b"", f"ntpaudit-dossier: {names[1]} is a link\n".encode())),
+          run=(dossier(*words), (2, f"{days}/2001-09-09\n".encode(),
+                                 f"ntpaudit-dossier: {names[1]} is a link\n".encode())),
           files=(names[1] in kept_in(days / "2001-09-09"), False))
     shutil.rmtree(days / "2001-09-09")
     (place / "victim").mkdir()
@@ -322,7 +323,7 @@ def test_odd_day(place):
     text = "".join(check_page("a page of an odd day", dossier("page", folder)[1].decode()).words)
     check("an odd day", status=((status, row["verdict"]), (1, "refuted")),
           told=([any(words in warning for warning in row["warnings"]) for words in said], [True] * 4),
-          page=([words in text for words in said], [True] * 4), verified=(dossier("verify", folder)[0], 0))
+          page=([words in text for words in said], [True] * 4), verified=(dossier("verify", folder)[0], 1))
     even = capture_of(place / "even.pcap", *(f"1:0..9@{NIGHT + 600 * k}" for k in range(20)))
     quiet = {"from": "2001-09-09T00:00:00Z", "to": "2001-09-09T03:10:00Z", "servers": ["192.0.2.1"]}
     for name, capture, is_told in (("polls as usual", even, False), ("a poll that is missing", capture_of(
@@ -342,8 +343,9 @@ def listed(folder):
 
 def seen_of(*folders):
     """The rows of folders, and their pages without the sums of files, the time, and how a capture is unpacked."""
-    pages = [re.sub(r"put together at \S+|<h3>Files</h3>.*?</table>|zstd -dk \S+\n|<p>joined\.pcap isn.t kept.*?</p>\n",
-                    "", dossier("page", folder)[1].decode(), flags=re.S) for folder in folders]
+    differs = r"put together at \S+|<h3>Files</h3>.*?</table>|zstd -d [^\n]*\n|<p>joined\.pcap isn.t kept.*?</p>\n"
+    pages = [re.sub(differs, "", dossier("page", folder)[1].decode().replace("../f.pcap", "f.pcap"), flags=re.S)
+             for folder in folders]
     return table(*folders), pages
 
 
@@ -373,9 +375,12 @@ def test_keep(place):
     for folder, had, off, new in zip(folders, files, gone, came):
         check(f"what is kept of {folder.name}", files=(set(listed(folder)), had - off | new))
     check("what is kept is shown as before", same=(seen_of(*folders) == before, True))
-    verified = (0, "".join(f"{folder}: verified\n" for folder in folders).encode(), b"")
-    check("what is kept is verified", run=(dossier("verify", *folders), verified),
-          elsewhere=(dossier("verify", *folders, env={**ENVIRONMENT, "XDG_STATE_HOME": str(place / "x")}), verified))
+    words = ("yes", "yes", "yes", "1 refuted, 1 no evidence")
+    verified = [f"{folder}: verified: {word}\n" for folder, word in zip(folders, words)]
+    for where in ("x", "y"):
+        own = {**ENVIRONMENT, "XDG_STATE_HOME": str(place / where)}
+        check("what is kept is verified", run=([dossier("verify", folder, env=own) for folder in folders],
+                                               [(int("refuted" in line), line.encode(), b"") for line in verified]))
     check("what is kept isn't audited again", lines=(dossier("audit", one, two, packed)[1].count(b"(unchanged)"), 3),
           days=(dossier("audit", "--days", of_days)[1].count(b"(unchanged)"), 2))
     dossier("audit", two)
@@ -394,11 +399,11 @@ def test_keep(place):
     check("a keeping that was broken off is ended", files=("f.pcap" in listed(one), False))
     key = key_of(place, "key")[0] if shutil.which("ssh-keygen") else None
     if key:
-        check("what is kept is signed", run=(dossier("sign", one, "--key", key)[0], 0),
+        check("what is kept is signed", run=(dossier("sign", "--key", key, one)[0], 0),
               verified=(dossier("verify", one)[0], 0))
         signed = folder_of(place, "signed")
         dossier("audit", signed)
-        dossier("sign", signed, "--key", key)
+        dossier("sign", "--key", key, signed)
         check("what is signed isn't kept", run=(dossier("keep", signed)[:2], (
             5, f"{signed}: ntpaudit-dossier: signed: a folder is kept before it is signed\n".encode())),
             files=("f.pcap" in listed(signed), True))
@@ -496,12 +501,12 @@ def test_years(place):
     (changed / "report.txt").write_text("mine")
     for name in ("notes.txt", "claim.json.zst"):
         (more / name).write_text("mine")
-    status, out, _ = dossier("keep", "--years", "20", old, kept, changed, more)
+    status, out, _ = dossier("keep", "--force", "--years", "20", old, kept, changed, more, lately)
     check("years", status=(status, 2),
           gone=([path.exists() for path in (old, kept, changed, more)], [False, False, True, True]),
           left=(listed(more), ["claim.json.zst", "notes.txt"]), changed=("f.pcap" in listed(changed), True),
           said=(out.decode().splitlines()[0], f"{old}: taken away"))
-    dossier("keep", "--years", "1", lately)
+    dossier("keep", "--force", "--years", "1", lately)
     check("what ended lately", there=("claim.json" in listed(lately), True))
 
 
@@ -524,7 +529,7 @@ def test_systemd_units(place):
     names = (RECORDER, "ntpaudit-daily.service", "ntpaudit-daily.timer")
     for name in names:
         text = (UNITS / name).read_text().replace("=ntpaudit-dossier ", f"={SCRIPT} ")
-        (place / name.replace("@.", "@lo.")).write_text(text.replace("=tcpdump ", f"={shutil.which('true')} "))
+        (place / name.replace("@.", "@lo.")).write_text(text)
     own = [place / name.replace("@.", "@lo.") for name in names]
     check("systemd-analyze verify", run=(run(["systemd-analyze", "verify", "--man=no", *own]), (0, b"", b"")))
     for unit in own[:2]:
@@ -535,23 +540,28 @@ def test_systemd_units(place):
 def test_recorder(place):
     """The recorder's command, called by hand: the names of its files are read by `day`."""
     command, = started_by(RECORDER)
-    check("the recorder keeps tagged frames", filter=("'udp port 123 or (vlan and udp port 123)'" in command, True),
-          own=(all(word in command for word in (" -U ", " -G 3600 ", "--time-stamp-precision=nano")), True),
+    from dossier.recorder import Wanted, words_of
+    called = " ".join(words_of(Wanted("eth0", "/100%", True, None)))
+    check("the recorder keeps tagged frames",
+          filter=(called.endswith(" -- (udp port 123) or (vlan and udp port 123)"), True),
+          own=([word for word in (" -U ", " -G 3600 ", " -C 1000 ", " -j host ", " --time-stamp-precision=nano ",
+                                  " -w /100%%/eth0-%Y-%m-%dT%H%M%SZ.pcap ") if word not in called], []),
           claim=("ntpaudit/days\n" in re.findall(r"StateDirectory=.*\n", (UNITS / RECORDER).read_text())[0], True))
     if why := why_no_recording():
         skipped("the recorder's command", why)
         return
     (place / "ntpaudit" / "record").mkdir(parents=True)
-    words = shlex.split(command.replace("%S", str(place)).replace("%I", "lo").replace("%i", "lo").replace("%%", "%"))
-    run(["timeout", "-s", "INT", "3", *words, "-Z", "root"] if os.geteuid() == 0
-        else ["timeout", "-s", "INT", "3", *words], env={**ENVIRONMENT, "TZ": "UTC"})
+    words = shlex.split(command.replace("%S", str(place)).replace("%I", "lo").replace("%%", "%"))
+    words[0] = shutil.which(words[0], path=ROOT)
+    until_it_listens(words, ENVIRONMENT)
     from dossier.day import recordings
     from dossier.folder import Folder
-    from dossier.limit import Limit
-    with Folder(str(place / "ntpaudit" / "record"), Limit()) as folder:
+    with Folder(str(place / "ntpaudit" / "record")) as folder:
         found = recordings(folder)
-        check("the recorder's files", read=(([one.name for one in found], len(found) < 2), (folder.names(), True)),
-              now=([abs(one.begin - time.time()) < 60 and one.grows for one in found], [True] * len(folder.names())))
+        captures = [name for name in folder.names() if name.endswith(".pcap")]
+        check("the recorder's files", read=([one.name for one in found], captures), some=(len(captures), 1),
+              now=([abs(one.begin - time.time()) < 60 and one.grows for one in found], [True] * len(captures)),
+              beside=([name for name in folder.names() if name not in captures], ["evidence.json", "lo.recorder.json"]))
 
 
 def test_daily(place):
@@ -563,7 +573,7 @@ def test_daily(place):
     commands = [command.replace("%S", str(place)).replace("%%", "%")
                 for command in started_by("ntpaudit-daily.service")]
     check("the daily unit", commands=(len(commands), lambda count: count >= 4))
-    commands[0] += " --date 2001-09-09"
+    commands = [command.replace("day --from", "day --date 2001-09-09 --from") for command in commands]
     for command in commands:
         status, _, err = run(shlex.split(command), env=environment, cwd=days)
         check(f"the daily command {command[:60]}", run=((status, err), (0, b"")))

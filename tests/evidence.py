@@ -39,20 +39,20 @@ def test_signatures(place):
                                                   for name in ("good", "altered", "unsigned", "strange")]
     dossier("audit", *folders)
     check("sign",
-          run=(dossier("sign", good, altered, "--key", key), (0, f"{good}: signed\n{altered}: signed\n".encode(), b"")),
+          run=(dossier("sign", "--key", key, good, altered), (0, f"{good}: signed\n{altered}: signed\n".encode(), b"")),
           left=(parts_left(place), []))
-    check("sign by another key", status=(dossier("sign", strange, "--key", other)[0], 0))
+    check("sign by another key", status=(dossier("sign", "--key", other, strange)[0], 0))
     at = json.loads((good / "audit.json").read_text())["signed"]
     check("the time of a signature", seen=(at, re.compile(r"20\d\d-\d\d-\d\dT\d\d:\d\d:\d\dZ").fullmatch))
     status, out, _ = dossier("verify", *folders)
     check("verify without signers", status=(status, 0), seen=(out.count(b"wasn't looked at"), 3),
           verified=(out.count(b": verified"), 4))
-    status, out, _ = dossier("verify", good, "--signers", signers)
-    check("a good signature", status=(status, 0), verified=(f"{good}: verified\n" in out.decode(), True),
+    status, out, _ = dossier("verify", "--signers", signers, good)
+    check("a good signature", status=(status, 0), verified=(f"{good}: verified: yes\n" in out.decode(), True),
           who=(f"signed at {at} by alice@example.org, with the key ED25519 SHA256:" in out.decode(), True))
     record = (altered / "audit.json").read_text()
     (altered / "audit.json").write_text(record.replace('"version": "ntpaudit', '"version": "ntpaudi7'))
-    said = {folder: dossier("verify", folder, "--signers", signers) for folder in folders}
+    said = {folder: dossier("verify", "--signers", signers, folder) for folder in folders}
     check("an altered folder", status=(said[altered][0], 1),
           words=(b"the signature doesn't fit" in said[altered][1], True),
           unsigned=(b"nobody" in said[altered][1], False), verified=(b": verified" in said[altered][1], False))
@@ -66,7 +66,7 @@ def test_signatures(place):
           row=(f">alice@example.org <span>{day}</span> <span>{hour}</span></span></td>" in text, True),
           said=(f'<p class="signed">Signed at {at} by alice@example.org, with the key' in text, True),
           others=([text.count(f">{words}<") for words in ("nobody", "doesn\u2019t fit", "by a stranger")], [1, 1, 1]))
-    rows = table(*folders, "--signers", signers)
+    rows = table(*folders, words=("--signers", signers))
     check("signatures as JSON", rows=([row["signature"] for row in rows], ["good", "unfit", "none", "stranger"]),
           signer=((rows[0]["signer"], rows[0]["signed_at"]), ("alice@example.org", at)))
     text = dossier("page", good, unsigned)[1].decode()
@@ -83,7 +83,7 @@ def test_ended_keys(place):
     key, line = key_of(place, "alice")
     folder = folder_of(place, "signed")
     dossier("audit", folder)
-    dossier("sign", folder, "--key", key)
+    dossier("sign", "--key", key, folder)
     record, local = json.loads((folder / "audit.json").read_text()), {**ENVIRONMENT, "TZ": "XYZ-5"}
     at = datetime.fromisoformat(record["signed"])
     for name, ends, wanted in (("after it", 5, 0), ("before it", -5, 1)):
@@ -91,16 +91,16 @@ def test_ended_keys(place):
         (place / "signers").write_text(f'alice valid-before="{end}" {line.split(" ", 1)[1]}')
         time.sleep(max(0, (at + timedelta(seconds=ends + 1) - datetime.now(timezone.utc)).total_seconds()))
         check(f"a key that ended just {name}",
-              status=(dossier("verify", folder, "--signers", place / "signers", env=local)[0], wanted))
-    for forged, is_time in (("9999-99-99T99:99:99Z", False), ("9999-12-31T23:59:59Z", True), ("x", False)):
+              status=(dossier("verify", "--signers", place / "signers", folder, env=local)[0], wanted))
+    for forged, is_time in (("2026-99-99T99:99:99Z", False), ("2001-12-31T23:59:59Z", True), ("x", False)):
         (folder / "audit.json").write_text(json.dumps({**record, "signed": forged}))
         check(f"a signature at {forged}",
-              status=(dossier("verify", folder, "--signers", place / "signers")[0], 1 if is_time else 2))
+              status=(dossier("verify", "--signers", place / "signers", folder)[0], 1 if is_time else 2))
         (folder / "audit.json.sig").unlink()
         run(["ssh-keygen", "-q", "-Y", "sign", "-f", key, "-n", "ntpaudit-dossier", folder / "audit.json"])
         (place / "signers").write_text(line)
         check(f"a signature by hand at {forged}",
-              status=(dossier("verify", folder, "--signers", place / "signers")[0], 0 if is_time else 2))
+              status=(dossier("verify", "--signers", place / "signers", folder)[0], 0 if is_time else 2))
 
 
 def test_allowed_signers(place):
@@ -112,7 +112,7 @@ def test_allowed_signers(place):
     kind = line.split(" ", 1)[1]
     folder = folder_of(place, "signed")
     dossier("audit", folder)
-    dossier("sign", folder, "--key", key)
+    dossier("sign", "--key", key, folder)
     cases = {"two names": (f"alice,bob {kind}", 0, b"by alice, with"),
              "a pattern": (f"*@example.org {kind}", 0, b"by *@example.org, with"),
              "this purpose": (f'alice namespaces="ntpaudit-dossier" {kind}', 0, b"by alice, with"),
@@ -123,11 +123,11 @@ def test_allowed_signers(place):
              "an escape": (f"\x1b[31mred {kind}", 0, b"by \\x1b[31mred, with")}
     for name, (text, wanted, words) in cases.items():
         (place / "signers").write_text(text)
-        status, out, _ = dossier("verify", folder, "--signers", place / "signers")
+        status, out, _ = dossier("verify", "--signers", place / "signers", folder)
         check(f"allowed signers: {name}", status=(status, wanted), words=(words in out, True),
               escape=(b"\x1b" in out, False))
     check("no file of signers",
-          run=(dossier("verify", folder, "--signers", place / "missing")[::2],
+          run=(dossier("verify", "--signers", place / "missing", folder)[::2],
                (4, b"ntpaudit-dossier: the file of signers: missing can't be read (No such file or directory)\n")))
     (place / "signers").write_text(line)
     purpose = ["ssh-keygen", "-q", "-Y", "sign", "-f", key, "-n", "file", folder / "audit.json"]
@@ -136,10 +136,10 @@ def test_allowed_signers(place):
                         ("that is empty", lambda: (folder / "audit.json.sig").write_text(""))):
         (folder / "audit.json.sig").unlink()
         forge()
-        status, out, _ = dossier("verify", folder, "--signers", place / "signers")
+        status, out, _ = dossier("verify", "--signers", place / "signers", folder)
         check(f"a signature {name}", status=(status, 1), words=(b"the signature doesn't fit" in out, True))
     (folder / "audit.json").write_text("{")
-    status, out, _ = dossier("verify", folder, "--signers", place / "signers")
+    status, out, _ = dossier("verify", "--signers", place / "signers", folder)
     check("a signed folder whose record is gone", status=(status, 2),
           words=(b"the signature doesn't fit" in out and b"audit.json isn't one that is taken (no JSON)" in out, True))
 
@@ -153,23 +153,23 @@ def test_signing_again(place):
     (place / "signers").write_text(line)
     folder, signature = folder_of(place, "signed"), place / "signed" / "audit.json.sig"
     check("nothing to sign",
-          run=(dossier("sign", folder, "--key", key)[:2], (4, f"{folder}: ntpaudit-dossier: not audited\n".encode())))
+          run=(dossier("sign", "--key", key, folder)[:2], (4, f"{folder}: ntpaudit-dossier: not audited\n".encode())))
     dossier("audit", folder)
     before = (folder / "audit.json").read_bytes()
     check("a key that isn't there",
-          run=(dossier("sign", folder, "--key", place / "missing")[:2],
+          run=(dossier("sign", "--key", place / "missing", folder)[:2],
                (4, f"{folder}: ntpaudit-dossier: ssh-keygen didn't sign it (status 255)\n".encode())),
           same=((folder / "audit.json").read_bytes() == before, True), left=(parts_left(place), []))
-    dossier("sign", folder, "--key", key)
+    dossier("sign", "--key", key, folder)
     if shutil.which("ssh-agent") and shutil.which("ssh-add"):
         held = folder_of(place, "held")
         dossier("audit", held)
-        by_agent = (f'ssh-add -q "{key}" && mv "{key}" "{key}.away" && "{SCRIPT}" sign "{held}" --key "{key}.pub"; '
+        by_agent = (f'ssh-add -q "{key}" && mv "{key}" "{key}.away" && "{SCRIPT}" sign --key "{key}.pub" "{held}"; '
                     f'status=$?; mv "{key}.away" "{key}"; exit $status')
         check("a key that an agent holds",
               run=(run(["ssh-agent", "sh", "-c", by_agent], env=ENVIRONMENT)[:2], (0, f"{held}: signed\n".encode())),
-              verified=(dossier("verify", held, "--signers", place / "signers")[0], 0))
-    check("signed already", status=(dossier("sign", folder, "--key", key)[0], 4))
+              verified=(dossier("verify", "--signers", place / "signers", held)[0], 0))
+    check("signed already", status=(dossier("sign", "--key", key, folder)[0], 4))
     kept = {path.name: path.read_bytes() for path in folder.iterdir()}
     check("a signed folder that is unchanged",
           run=(dossier("audit", folder)[:2],
@@ -184,7 +184,7 @@ def test_signing_again(place):
           gone=(signature.exists(), False), signed=(json.loads((folder / "audit.json").read_text())["signed"], ""))
     was = json.loads((folder / "audit.json").read_text())["entries"][0]["outputs"]["report.txt"][:16]
     (folder / "report.txt").write_text("")
-    status, out, _ = dossier("sign", folder, "--key", key)
+    status, out, _ = dossier("sign", "--key", key, folder)
     check("a changed folder isn't signed",
           run=((status, out),
                (1,
@@ -192,14 +192,14 @@ def test_signing_again(place):
                 f"SHA-256 {was}..)\n".encode())), gone=(signature.exists(), False))
     (folder / "claim.json").write_text("{}")
     dossier("audit", folder)
-    check("a refusal isn't signed", status=(dossier("sign", folder, "--key", key)[0], 4),
+    check("a refusal isn't signed", status=(dossier("sign", "--key", key, folder)[0], 4),
           gone=(signature.exists(), False))
     bare = place / "bin"
     bare.mkdir()
     for name in ("python3", "env"):
         (bare / name).symlink_to(shutil.which(name))
     dossier("audit", good := folder_of(place, "good"))
-    status, out, _ = dossier("sign", good, "--key", key, env={**ENVIRONMENT, "PATH": str(bare)})
+    status, out, _ = dossier("sign", "--key", key, good, env={**ENVIRONMENT, "PATH": str(bare)})
     check("without ssh-keygen", status=(status, 70), line=(b"ssh-keygen isn't installed" in out, True))
 
 
@@ -251,7 +251,7 @@ def test_older_records(place):
     (folder / "audit.json").write_text(json.dumps({**record, "dossier": record["dossier"] - 1}))
     check("an older record",
           verify=(dossier("verify", folder)[:2], (4, f"{folder}: ntpaudit-dossier: not audited\n".encode())),
-          sign=(dossier("sign", folder, "--key", "any")[0], 4),
+          sign=(dossier("sign", "--key", "any", folder)[0], 4),
           row=((table(folder)[0]["verdict"], "audit FOLDER" in table(folder)[0]["to_do"]), ("refused", True)))
     check("an older record is audited again", unchanged=(b"(unchanged)" in dossier("audit", folder)[1], False),
           form=(json.loads((folder / "audit.json").read_text())["dossier"], record["dossier"]))
@@ -286,16 +286,17 @@ def test_leap_seconds(place):
         status, says, kinds, out = leap_of(folder, list_)
         check(f"leap seconds {wanted} until {until} {seconds}", status=(status, int(wanted != "none")),
               says=(says, wanted), warned=("leap-second" in kinds, wanted == "within"),
-              again=(b"(unchanged)" in out, False), verified=(dossier("verify", "--leap-seconds", list_, folder)[0], 0))
-        text = dossier("page", folder)[1].decode()
+              verified=(dossier("verify", "--leap-seconds", list_, folder)[0], status))
+        text = dossier("page", "--leap-seconds", list_, folder)[1].decode()
         page = "".join(check_page(f"a page with leap seconds {wanted}", text).words)
         day = datetime.fromtimestamp(until, timezone.utc).strftime("%Y-%m-%d")
         kind = "A second left out" if seconds and seconds[0][1] < 10 else "A leap second"
-        said = {"none": f"no leap second from 2001-09-09 01:46:39 to 2001-09-09 01:47:45, by the list {list_}",
+        said = {"none": f"no leap second from 2001-09-09 01:46:40 to 2001-09-09 01:47:44, by the list {list_}",
                 "expired": f"was good until {day} only",
                 "within": f"{kind} at the end of 2001-09-09 lies in the span or among the exchanges"}[wanted]
         check(f"the page says {wanted} until {until} {seconds}", said=(said in page, True),
-              until=(f"good until {day}" in page, wanted != "within"), row=(table(folder)[0]["leap_seconds"], wanted))
+              until=(f"good until {day}" in page, wanted != "within"),
+              row=(table(folder, words=("--leap-seconds", list_))[0]["leap_seconds"], wanted))
     around = capture_of(place / "around.pcap", f"1:-1000..1000@{FIRST - 100}", f"1:-1000..1000@{FIRST + 10}",
                         f"1:-1000..1000@{LAST + 100}")
     wide = folder_of(place, "wide", around, **MINUTE)
@@ -304,14 +305,14 @@ def test_leap_seconds(place):
         check(f"a leap second at {time_} among exchanges", says=(says, wanted))
     day = folder_of(place, "days", around, **{**MINUTE, "from": "2001-09-08T01:46:40Z"})
     dossier("audit", "--days", "--leap-seconds", leap_list(place / "days.list", later, (LAST + 300, 11)), day)
-    check("leap seconds of days", says=([row["leap_seconds"] for row in table(day)], ["none", "none"]),
-          verified=(dossier("verify", "--leap-seconds", place / "days.list", day)[0], 0))
+    words = ("--leap-seconds", place / "days.list")
+    check("leap seconds of days", says=([row["leap_seconds"] for row in table(day, words=words)], ["none", "none"]),
+          verified=(dossier("verify", *words, day)[0], max(row["verdict"] != "yes" for row in table(day, words=words))))
 
 
 def test_lists(place):
     """Which lists are taken, and when a folder is audited again for one."""
     from dossier import leap
-    from dossier.limit import Limit
     folder, good = folder_of(place, "lists"), leap_list(place / "good.list", 2_000_000_000)
     spoilt = {"torn": good.read_text().rsplit("#h", 1)[0],
               "another sum": good.read_text().replace("# a day", "5 # a day").replace(" 10", " 11"), "empty": "",
@@ -331,42 +332,36 @@ def test_lists(place):
     other = leap_list(place / "other.list", 2_100_000_000)
     seen = [is_unchanged("--leap-seconds", good), is_unchanged("--leap-seconds", good), is_unchanged(),
             is_unchanged("--leap-seconds", other), is_unchanged()]
-    check("audited again for a list", seen=(seen, [False, True, True, False, True]))
-    record = json.loads((folder / "audit.json").read_text())
     early = leap_list(place / "early.list", 1_700_000_000)
+    check("audited again for a list that says another thing", seen=(seen, [False, True, True, True, True]),
+          early=(is_unchanged("--leap-seconds", early), False), late=(is_unchanged("--leap-seconds", other), False))
+    record = json.loads((folder / "audit.json").read_text())
     check("a list that ends earlier than the audit's",
           run=(dossier("verify", "--leap-seconds", early, folder)[:2],
-               (0,
-                f"{folder}: verified\n{folder}: (the list of leap seconds here ends before the span does)\n".encode())))
+               (1, f"{folder}: audit.json: entries 0 verdict is `yes`, and by the inputs `unsupported`\n"
+                f"{folder}: (The list of leap seconds was good until 2023-11-14 only, and the span or the exchanges go "
+                "on beyond that.)\n".encode())))
     (folder / "audit.json").write_text(json.dumps({**record,
                                                    "leap_seconds": {**record["leap_seconds"],
                                                                     "seconds": [[1795331020, 1]]}}))
     status, out, _ = dossier("verify", "--leap-seconds", other, folder)
     check("a list that was changed in a record", status=(status, 1),
-          line=(b"audit.json: the list of leap seconds has [(1795331020, 1)] at its end" in out, True))
+          line=(b"audit.json: leap_seconds seconds is `[[1795331020, 1]]`" in out, True))
     system, leap.SYSTEM = leap.SYSTEM, str(place / "missing")
-    none = leap.read_list(None, Limit())
+    none = leap.read_list(None)
     leap.SYSTEM = system
     check("no list",
           seen=((none.file, none.fault),
                 (str(place / "missing"),
                  "the list of leap seconds: missing can't be read (No such file or directory)")))
-    entry = record["entries"][0]
-    unknown = {**entry, "leap": {**entry["leap"], "says": "no list"},
-               "warnings": [*entry["warnings"][:-1], {"kind": "no-list"}, *entry["warnings"][-1:]]}
-    (folder / "audit.json").write_text(json.dumps({**record, "leap_seconds": {"file": none.file, "fault": none.fault},
-                                                   "entries": [unknown]}))
-    text = dossier("page", "--verify", folder)[1].decode()
-    check("no list in the table",
-          row=([table(folder)[0]["verdict"],
-                any(words.startswith("Nothing is known of leap seconds") for words in table(folder)[0]["warnings"])],
-               ["yes", True]))
-    check("no list on the page",
-          said=("nothing, since the list of leap seconds: missing can&#x27;t be read" in text, True),
-          verified=(dossier("verify", folder)[:2],
-                    (0,
-                     f"{folder}: verified\n{folder}: (nothing is known of leap seconds, since there is no list of "
-                     "them)\n".encode())))
+    nowhere = {**ENVIRONMENT, "NTPAUDIT_LEAP_SECONDS": str(place / "missing")}
+    status, out, _ = dossier("audit", folder, env=nowhere)
+    text = dossier("page", folder, env=nowhere)[1].decode()
+    page = "".join(check_page("a page by no list", text).words)
+    check("no list here", status=(status, 1), line=(b"(no list of leap seconds)" in out, True),
+          badge=('class="verdict unsupported"' in text, True), said=("Nothing is known of leap seconds" in page, True),
+          why=("nothing, since the list of leap seconds: missing can't be read" in page, True),
+          verified=(dossier("verify", folder, env=nowhere)[1].startswith(f"{folder}: verified: unsup".encode()), True))
 
 
 # ---- what is measured
@@ -381,37 +376,82 @@ def why_no_recording(*user):
     return "" if ran[0] == "no end" else "there is no right to record"
 
 
+def until_it_listens(words, environment):
+    """Calls a recorder, ends it as it listens, and lets a second go by: its file has the second in its name."""
+    said = []
+    with subprocess.Popen(words, env=environment, stdout=subprocess.PIPE, stderr=subprocess.PIPE) as call:
+        for line in call.stderr:
+            said.append(line)
+            if b"listening on" in line:
+                call.send_signal(signal.SIGINT)
+        out = call.stdout.read()
+    time.sleep(1)
+    return call.returncode, out, b"".join(said)
+
+
+def why_no_link():
+    """Why no link can be made here; nothing if one can."""
+    if run(["unshare", "-n", "true"])[0] or not shutil.which("ip"):
+        return "there are no namespaces, or no ip"
+    return why_no_recording()
+
+
+LATE = """#!/usr/bin/env python3
+# stands in for tcpdump: what is recorded where packets leave is stamped 5 ms later, but for every third packet
+import subprocess, struct, sys
+call = subprocess.run(["{tool}", *sys.argv[1:]], stdout=subprocess.PIPE)
+data = bytearray(call.stdout)
+place, number = 24, 0
+while "ntp0" in sys.argv and place < len(data):
+    second, part, size, _ = struct.unpack_from("<4I", data, place)
+    if number % 3:
+        second, part = divmod(second * 10**9 + part + 5_000_000, 10**9)
+        struct.pack_into("<2I", data, place, second, part)
+    place, number = place + 16 + size, number + 1
+sys.stdout.buffer.write(data)
+"""
+
+
 def test_measure(place):
-    """The distribution that is printed, its JSON, and the page that shows it."""
-    if why := why_no_recording():
+    """What is printed, its JSON, and stamps that come too late."""
+    if why := why_no_link():
         skipped("measure", why)
         return
-    for number, words in enumerate(([], ["--load"], ["--interface", "lo"])):
-        status, out, err = dossier("measure", "--count", "40", *words, "-o", place / "measured.json")
+    own = place / "late"
+    own.mkdir()
+    (own / "tcpdump").write_text(LATE.format(tool=shutil.which("tcpdump")))
+    (own / "tcpdump").chmod(0o755)
+    late = {**ENVIRONMENT, "PATH": f"{own}:{os.environ['PATH']}"}
+    for name, words, env in (("", [], ENVIRONMENT), ("under load", ["--load"], ENVIRONMENT),
+                             ("of late stamps", [], late)):
+        status, out, err = dossier("measure", "--count", "40", *words, "-o", place / "measured.json", env=env)
         found = json.loads((place / "measured.json").read_text())
-        numbers = dict(line.split() for line in out.decode().splitlines()[1:6])
-        order = [int(numbers[name]) for name in ("least", "median", "percent_99", "greatest")]
-        check(f"measure {words}", status=(status, 0), error=(err, b""),
-              order=(order == sorted(order) and 0 < order[0] < 10**9, True),
-              packets=(out.startswith(b"packets 40 on lo"), True),
-              load=((found["busy"] > 0, b"busy process" in out), (number == 1,) * 2),
-              same=([str(found[f"{name}_ns"]) for name in ("least", "median", "percent_99", "greatest", "reading")],
-                    list(numbers.values())), reading=(found["reading_ns"] >= max(100_000, found["greatest_ns"]), True),
-              unsaid=(b"Nothing was measured of what is received" in out or b"nothing was measured of what is received"
-                      in out, True), left=(run(["pgrep", "-f", f"{place}"])[1], b""))
-    for words, line in ((["--interface", "nope"], b"nothing can be sent by nope"),
-                        (["--count", "5"], b"a number from 10 to 100000")):
-        status, out, err = dossier("measure", *words)
-        check(f"measure {words}", status=(status, lambda status: status in (4, 5)),
-              line=(line in err and err.count(b"\n") == 1, True), output=(out, b""))
+        numbers = dict(line.split() for line in out.decode().splitlines()[1:5])
+        packets = found["packets"]
+        check(f"measure {name}", run=((status, err), (0, b"")),
+              packets=(out.startswith(b"packets %d" % packets) and 36 <= packets <= 40, True),
+              load=((found["busy"] > 0, b"busy process" in out), (bool(words),) * 2),
+              same=([str(found[key]) for key in ("late", "greatest_ns", "median_ns", "reading_ns")],
+                    list(numbers.values())), left=(run(["pgrep", "-f", f"{place}"])[1], b""))
+        if env is late:
+            check("late stamps", seen=(found["late"], lambda seen: 0.6 * packets < seen < 0.7 * packets),
+                  by=(found["greatest_ns"], lambda by: 4_000_000 < by < 5_000_000),
+                  claim=(found["reading_ns"], lambda claimed: found["greatest_ns"] <= claimed <= 5_000_000),
+                  said=(b"packets were stamped later where they left" in out, True))
+        else:
+            check(f"no late stamps {name}",
+                  seen=((found["late"], found["greatest_ns"], found["reading_ns"]), (0, 0, 0)),
+                  earlier=(found["median_ns"], lambda earlier: 0 < earlier < 10**9))
+    status, out, err = dossier("measure", "--count", "5")
+    check("measure too few", run=((status, out), (5, b"")), line=(b"a number from 10 to 100000" in err, True))
 
 
 def test_measuring(place):
-    """What the records' times come to, and what is refused."""
+    """What stamps come to, and what is refused."""
     from dataclasses import asdict, replace
     from dossier.fault import Fault
     from dossier.measurement import Measurement
-    from dossier.measuring import load, matched
+    from dossier.measuring import load, matched, measurement
     from dossier.typed import read_typed
 
     def is_measurement(value):
@@ -425,22 +465,26 @@ def test_measuring(place):
                 for process in busy]
     check("processors that are kept busy", used=(len(used) == 2 and min(used) > 0, True),
           left=([process for process in busy if Path(f"/proc/{process}").exists()], []))
-    check("delays", seen=(matched([100, 200], {2: 205, 1: 103, 9: 1}), [3, 5]),
-          some=(matched([100] * 10, {k: 101 for k in range(1, 10)}), [1] * 9))
-    for name, sent, times in (("a packet that wasn't recorded", [100, 200], {1: 103}),
-                              ("a clock that was set", [100, 200], {1: 103, 2: 199})):
+    check("stamps of two ends", seen=(matched({1: 100, 2: 200}, {2: 205, 1: 97, 9: 1}, 2), [-3, 5]),
+          some=(matched({k: 100 for k in range(1, 10)}, {k: 101 for k in range(1, 11)}, 10), [1] * 9))
+    for name, left, arrived, packets in (("a packet that wasn't recorded", {1: 100, 2: 200}, {1: 103}, 2),
+                                         ("nothing recorded", {}, {}, 9)):
         try:
-            seen = matched(sent, times)
+            seen = matched(left, arrived, packets)
         except Fault as fault:
-            seen = fault.status
-        check(f"delays with {name}", seen=(seen, 4))
-    small = Measurement("lo", 1000, 0, 1, 2, 3, 99, 100_000, "web-1", "6.1", "2026-11-25T12:00:00Z", "reading")
-    large = replace(small, greatest_ns=123_456, reading_ns=130_000, busy=1)
-    check("the reason of a reading", small=("no less than 100,000" in small.why, True),
-          large=("no less" in large.why, False), line=(large.lines()[0], "packets 1000 on lo, beside 1 busy process"))
+            seen = fault.words
+        check(f"stamps with {name}", seen=(seen, f"{len(arrived)} of {packets} packets were recorded at both ends, so "
+                                                 "nothing is measured"))
+    made = ("tcpdump 4.99", "web-1", "6.1", "2026-11-25T12:00:00Z")
+    small, large = measurement([0, 3, 4], 0, *made), measurement([-123_456, -1, 0, 7], 1, *made)
+    check("what stamps come to",
+          none=((small.late, small.greatest_ns, small.reading_ns, small.median_ns), (0, 0, 0, 3)),
+          some=((large.late, large.greatest_ns, large.reading_ns, large.median_ns), (2, 123_456, 130_000, 0)),
+          said=((small.why[:21], large.why[:21]), ("none of 3 packets was", "2 of 4 packets were s")),
+          line=(large.lines()[0], "packets 4, beside 1 busy process"))
     check("a measurement in a file", same=(is_measurement(asdict(small)), True),
           other=([is_measurement(value)
-                  for value in ({}, {**asdict(small), "kind": "drift"}, {**asdict(small), "least_ns": "<b>"},
+                  for value in ({}, {**asdict(small), "kind": "reading"}, {**asdict(small), "late": "<b>"},
                                 {**asdict(small), "machine": 1}, {**asdict(small), "more": 1})], [False] * 5))
     folder = folder_of(place, "measured")
     (folder / "evidence.json").write_text(json.dumps({"reading": "measured.json, by Ann"}))
@@ -449,8 +493,8 @@ def test_measuring(place):
         dossier("audit", folder)
         text = dossier("page", folder)[1].decode()
         said = "".join(check_page("a page with a measurement", text).words)
-        check("a measurement on a page", said=(f"{found.greatest_ns} at the most" in said.replace(",", ""), True),
-              machine=(f"that {found.machine} sent itself" in said, True),
+        check("a measurement on a page", said=(found.why in said, True),
+              machine=(f"On {found.machine}, at" in said, True),
               more=("That is more than the claim grants." in said, is_more),
               where=("measured.json, by Ann" in said, True))
     for name, (text, status, reading) in {"a measurement": (json.dumps(asdict(large)), 0, 130_000),
@@ -458,16 +502,135 @@ def test_measuring(place):
         (place / "measured.json").write_text(text)
         got, claim, err = drafted(folder / "f.pcap", "--measured", place / "measured.json")
         check(f"a draft by {name}", status=(got, status), reading=(claim.get("reading_ns"), reading),
-              said=("reading_ns is 130000: 1,000 packets that web-1" in err, not status))
+              said=("reading_ns is 130000: On web-1, at" in err, not status))
     check("a draft by a number and a measurement",
           status=(drafted(folder / "f.pcap", "--measured", place / "measured.json", "--reading-ns", "5")[0], 5))
-    (folder / "measured.json").write_text(json.dumps({**asdict(small), "greatest_ns": 1}))
+    (folder / "measured.json").write_text(json.dumps({**asdict(small), "median_ns": 1}))
     check("a measurement that was changed", shown=(b"Measured:" in dossier("page", folder)[1], False))
+
+
+# ---- by what it is recorded
+
+RECORDER = {"kind": "recorder", "interface": "eth0", "stamp": "host", "tool": "tcpdump 4.99", "kernel": "Linux 6.1.0",
+            "machine": "web-1", "addresses": ["192.0.2.10"], "since": "2026-11-22T07:00:00Z"}
+BEGUN = "eth0-2026-11-22T070000Z.pcap"
+
+
+def test_allowance(place):
+    """A draft proposes no allowance only where evidence beside each capture says that the client itself recorded it."""
+    def folder(name, recorder=RECORDER, capture=BEGUN, evidence={"reading": "eth0.recorder.json"}):
+        own = place / name
+        own.mkdir()
+        shutil.copy(ROOT / "data/clients-us.pcap", own / capture)
+        if evidence:
+            (own / "evidence.json").write_text(json.dumps(evidence))
+        if recorder:
+            (own / "eth0.recorder.json").write_text(json.dumps(recorder))
+        return own / capture
+    cases = {
+        "a recorder": (folder("good"), 0),
+        "a recorder in words": (folder("words", evidence={"reading": "see eth0.recorder.json, by Ann"}), 0),
+        "a recorder of more addresses": (folder("more", {**RECORDER, "addresses": ["10.0.0.1", "192.0.2.10"]}), 0),
+        "no evidence": (folder("none", None, evidence=None), 100_000),
+        "a recorder that evidence.json doesn't name": (folder("unnamed", evidence={"capture": "eth0.recorder.json"}),
+                                                       100_000),
+        "a recorder without evidence.json": (folder("bare", evidence=None), 100_000),
+        "a file that isn't there": (folder("missing", None), 100_000),
+        "a recorder of another name": (folder("other", capture="eth1-2026-11-22T070000Z.pcap"), 100_000),
+        "a capture of another name": (folder("f", capture="f.pcap"), 100_000),
+        "a capture that is older": (folder("old", {**RECORDER, "since": "2026-11-22T07:00:01Z"}), 100_000),
+        "another machine's recorder": (folder("tap", {**RECORDER, "addresses": ["192.0.2.11"]}), 100_000),
+        "a card's stamps": (folder("card", {**RECORDER, "stamp": "adapter"}), 100_000),
+        "another system": (folder("bsd", {**RECORDER, "kernel": "FreeBSD 14.1"}), 100_000),
+        "a recorder that says more": (folder("says", {**RECORDER, "more": 1}), 100_000),
+        "evidence that is none": (folder("broken", evidence={"reading": 1}), 100_000),
+    }
+    for name, (capture, reading) in cases.items():
+        status, claim, err = drafted(capture)
+        check(f"a draft by {name}", status=(status, 0), reading=(claim.get("reading_ns"), reading),
+              said=(("\nreading_ns is 0: tcpdump 4.99 recorded eth0" in err, "\nreading_ns is 100000: since" in err,
+                     err.count("reading_ns is"), "GUIDE.md, `What to claim`" in err),
+                    (not reading, bool(reading), 1, True)))
+    good, none = cases["a recorder"][0], cases["no evidence"][0]
+    later = [capture_of(cases[name][0].parent / BEGUN.replace("T07", "T08"), f"1:-1000..1000@{unix('13:02:55')}")
+             for name in ("a recorder", "a recorder of more addresses", "no evidence")]
+    for name, words, reading in (("one recorder", [later[0]], 0), ("two recorders", [later[1]], 0),
+                                 ("a recorder and nothing", [later[2]], 100_000),
+                                 ("a number", ["--reading-ns", "7000"], 7000)):
+        check(f"a draft by {name}", reading=(drafted(good, *words)[1].get("reading_ns"), reading))
+    for number, asked in ((0, ""), (1, "did you mean 1000?"), (999, "did you mean 999000?"), (1000, "")):
+        err = drafted(none, "--reading-ns", str(number))[2]
+        check(f"a draft of {number} ns", asked=(f"reading_ns is {number} ns; {asked}" in err, bool(asked)),
+              at_all=("did you mean" in err, bool(asked)))
+        own = folder_of(place, f"slip {number}", reading_ns=number)
+        dossier("audit", own)
+        text = dossier("page", own)[1].decode()
+        check(f"an audit of {number} ns", asked=("did you mean" in text, bool(asked)),
+              said=(f"reading_ns is {number} ns; {asked}" in text, bool(asked)), row=(table(own)[0]["verdict"], "yes"))
+    own = place / "good"
+    shutil.copy(ROOT / "data/clients-us.claim.json", own / "claim.json")
+    dossier("audit", own)
+    page = "".join(check_page("a page with a recorder", dossier("page", own)[1].decode()).words)
+    line, later = "tcpdump 4.99 recorded eth0 (192.0.2.10) on web-1, since", "The capture is what passed"
+    check("a recorder on a page", said=(0 < page.find(line) < page.find(later), True),
+          input=("eth0.recorder.json" in json.loads((own / "audit.json").read_text())["inputs"], True))
+
+
+def test_record(place):
+    """`record` leaves captures that a draft knows, keeps what stands there, and records without evidence too."""
+    if why := why_no_recording():
+        skipped("record", why)
+        return
+
+    def recorded(folder, *words, interface="lo"):
+        return until_it_listens([SCRIPT, "record", "--interface", interface, *words, folder], ENVIRONMENT)
+    folder = place / "made here"
+    recorded(folder)
+    first = json.loads((folder / "lo.recorder.json").read_text())
+    captures = sorted(folder.glob("lo-*.pcap"))
+    check("record", evidence=(json.loads((folder / "evidence.json").read_text()), {"reading": "lo.recorder.json"}),
+          seen=((first["kernel"], first["stamp"], first["addresses"], first["machine"]),
+                (f"Linux {os.uname().release}", "host", ["127.0.0.1"], os.uname().nodename)),
+          tool=(first["tool"].split(", ")[0], run(["tcpdump", "--version"])[1].decode().split("\n")[0]),
+          captures=(len(captures), 1), header=(captures[0].read_bytes()[:4], bytes.fromhex("4d3cb2a1")))
+    from dossier.recorder import recorders_of
+    check("what record made", known=(len(recorders_of(list(map(str, captures))) or []), 1))
+    (folder / "evidence.json").write_text(json.dumps({"reading": "by Ann", "drift": "sheet.pdf"}))
+    (folder / "lo.recorder.json").write_text(json.dumps({**first, "since": "2026-11-22T07:00:00Z"}))
+    recorded(folder, "--hourly")
+    check("record again", evidence=(json.loads((folder / "evidence.json").read_text()),
+                                    {"reading": "by Ann lo.recorder.json", "drift": "sheet.pdf"}),
+          since=(json.loads((folder / "lo.recorder.json").read_text())["since"], "2026-11-22T07:00:00Z"),
+          captures=(len(list(folder.glob("lo-*.pcap"))), 2))
+    older = {**first, "kernel": "Linux 5.0", "since": "2026-11-22T07:00:00Z"}
+    (folder / "lo.recorder.json").write_text(json.dumps(older))
+    recorded(folder)
+    check("record under another kernel", since=(json.loads((folder / "lo.recorder.json").read_text())["since"],
+                                                lambda since: since > "2026-11-22T07:00:00Z"))
+    (folder / "evidence.json").write_text("{")
+    _, _, err = recorded(folder)
+    check("record beside evidence that is none",
+          told=(b"no evidence of the recorder is left: evidence.json isn't" in err, True),
+          captures=(len(list(folder.glob("lo-*.pcap"))), 4), kept=((folder / "evidence.json").read_text(), "{"))
+    from dossier.fault import Fault
+    from dossier.recorder import Recorder, keep
+    try:
+        keep(str(place), Recorder(**{**RECORDER, "addresses": [f"10.0.0.{k}" for k in range(65)]}))
+        said = ""
+    except Fault as fault:
+        said = fault.words
+    check("a recorder that can't be read", said=(said, "eth0.recorder.json and evidence.json don't stay as they are "
+                                                       "written"))
+    for name in ("e th", "", "-x", "a/b", "a" * 16):
+        status, out, err = recorded(place / "none", interface=name) if name != "-x" else \
+            dossier("record", "--interface=-x", place / "none")
+        check(f"record {name!r}", status=(status, 5), made=((place / "none").exists(), False),
+              line=(err, b"ntpaudit-dossier: --interface takes the name of one, such as eth0\n"))
 
 
 STILL = """#!/bin/sh
 # stands in for tcpdump: listens, and never records
-echo "listening on lo" >&2
+echo "listening on ntp0" >&2
 : >"$0.listens"
 exec sleep 60
 """
@@ -475,6 +638,9 @@ exec sleep 60
 
 def test_measure_broken_off(place):
     """Ctrl-C in `measure` prints one line, whatever it keeps busy."""
+    if why := why_no_link():
+        skipped("Ctrl-C in measure", why)
+        return
     (place / "tcpdump").write_text(STILL)
     (place / "tcpdump").chmod(0o755)
     call = subprocess.Popen([SCRIPT, "measure", "--load", "--count", "100000"],
@@ -490,32 +656,8 @@ def test_measure_broken_off(place):
           said=((out, err), (b"", b"ntpaudit-dossier: broken off; what is done isn't done again by the next call\n")))
 
 
-def test_no_route(place):
-    """Where nothing can be sent, or nothing leaves, the line says why."""
-    from dossier.fault import Fault
-    from dossier.measuring import matched
-    for interface, said in (("eth7",
-                             "0 of 9 packets were recorded, so nothing is measured: no route to 192.0.2.1 leads over "
-                             "eth7, or nobody answers for its gateway"),
-                            ("lo", "0 of 9 packets were recorded, so nothing is measured")):
-        try:
-            seen = matched([1] * 9, {}, interface)
-        except Fault as fault:
-            seen = fault.words
-        check(f"nothing recorded on {interface}", said=(seen, said))
-    if run(["unshare", "-n", "true"])[0] or not shutil.which("ip") or why_no_recording():
-        skipped("measure without a route", "there are no namespaces, no ip, or no right to record")
-        return
-    make = ("ip link add one type veth peer name two && ip link set one up && ip link set two up && ip addr add "
-            "10.1.1.1/24 dev one")
-    status, out, err = run(["unshare", "-n", "sh", "-c", f'{make} && exec "$0" measure --interface one --count 10',
-                            SCRIPT], env=ENVIRONMENT)
-    check("measure without a route", run=((status, out, err.count(b"\n")), (4, b"", 1)),
-          said=(b"no route to 192.0.2.1 leads over" in err, True))
-
-
 def test_no_right(place):
-    """Without the right to record one line says so."""
+    """Without the right to make a link one line says so."""
     nobody = [] if os.geteuid() else ["setpriv", "--reuid=65534", "--regid=65534", "--clear-groups"]
     if not shutil.which("tcpdump") or (nobody and not shutil.which("setpriv")):
         skipped("measure without the right to record", "tcpdump or setpriv isn't installed")
@@ -527,8 +669,8 @@ def test_no_right(place):
     check("measure without the right",
           run=(run([*nobody, SCRIPT, "measure", "--count", "10"], env=ENVIRONMENT),
                (4, b"",
-                (b"ntpaudit-dossier: there is no right to record on lo: it takes root, or the capability "
-                 b"CAP_NET_RAW for tcpdump\n"))))
+                (b"ntpaudit-dossier: no network of its own can be made for the link (Operation not permitted): "
+                 b"it takes root\n"))))
     bare = place / "bin"
     bare.mkdir()
     for name in ("python3", "env"):
@@ -688,7 +830,7 @@ def test_copies(place):
                (70, b"", f"ntpaudit: the program is not there ({place}/missing): set NTPAUDIT to its path\n".encode())))
     check("a script with NTPAUDIT", status=(run(called, env={**bare, "NTPAUDIT": PROGRAM})[0], 0))
     shutil.copy(PROGRAM, place / "ntpaudit")
-    check("a script beside the program", status=(run([*called, "--again"], env=bare)[0], 0))
+    check("a script beside the program", status=(run([*called[:2], "--again", *called[2:]], env=bare)[0], 0))
 
 
 def test_auditing(place):
@@ -704,5 +846,5 @@ def test_auditing(place):
 
 EVIDENCE_TESTS = [test_signatures, test_ended_keys, test_allowed_signers, test_signing_again, test_signed_evidence,
                   test_older_records, test_elsewhere, test_leap_seconds, test_lists, test_measure, test_measuring,
-                  test_no_right, test_measure_broken_off, test_no_route, test_client, test_steps, test_copies,
-                  test_auditing]
+                  test_no_right, test_measure_broken_off, test_allowance, test_record, test_client, test_steps,
+                  test_copies, test_auditing]

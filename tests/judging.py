@@ -14,6 +14,7 @@ import answers
 import families
 import marks
 import pieces
+import rechecked
 import rules
 import settlement
 from answers import Evidence
@@ -157,7 +158,7 @@ def settle_wrong(question: Question, ran: Ran, kind: str) -> str:
     if kind == "shown":
         return certificate_wrong(question, claim, ran)
     if kind == "refuted":
-        is_right = ran[0] == 1 and ran[2] == b"" and marks.stands_with_drift(claim, samples, json.loads(ran[1]))
+        is_right = ran[0] == 1 and ran[2] == b"" and rechecked.stands_with_drift(claim, samples, json.loads(ran[1]))
         return "" if is_right else f"{short(ran)}, which doesn't stand"
     if kind not in ("open", "over"):
         return kind
@@ -320,8 +321,8 @@ def refute_case(question: Question) -> Iterator[Case]:
         greatest = marks.greatest_error(claim, samples, named, reading)
         for error in (greatest, greatest + 1) if greatest is not None and abs(greatest) < 2**62 else ():
             tried: Refutation = {"error": error, "false": named, "reading": reading}
-            for words, is_right in ((("--drift",), marks.stands_with_drift(claim, samples, tried)),
-                                    ((), rules.stands(claim, samples, tried))):
+            for words, is_right in ((("--drift",), rechecked.stands_with_drift(claim, samples, tried)),
+                                    ((), rechecked.stands(claim, samples, tried))):
                 ran = question.call("refute", "/dev/stdin", *words, given=json.dumps(tried).encode())
                 wanted = ["refuted yes" if is_right else "refuted no"]
                 yield f"refute {' '.join(words)} of {tried}", differs(ran, int(not is_right), wanted)
@@ -341,7 +342,7 @@ def sought_wrong(question: Question, ran: Ran) -> str:
         found = rules.refutation(claim, samples)
     else:
         found = None if ran[0] else json.loads(ran[1])
-        if found and not rules.stands(claim, samples, found):
+        if found and not rechecked.stands(claim, samples, found):
             return f"{found}, which doesn't stand"
     return differs(ran, int(not found), [rules.compact(found) if found else "nothing refutation"])
 

@@ -1,5 +1,6 @@
 """The rules of docs/DEFINITIONS.md on the samples of a claim, restated: what an exchange says of the clock's error, and
-what hulls, certificates, envelopes and refutations have to be.
+what hulls, envelopes and the certificates and refutations that are found have to be. What `check` and `refute` say of
+others is second/recheck's (tests/rechecked.py).
 
 This shares nothing with the program, and it is slow: it looks at every sample, and at every point that an interval's
 end could be. tests/answers.py makes of it what the commands print.
@@ -11,7 +12,7 @@ import json
 from collections.abc import Callable, Collection, Iterable
 from itertools import accumulate
 
-from claims import Certificate, Claim, Refutation
+from claims import Claim, Refutation
 from columns import NO_ENDS, TICKS
 
 BILLION = 10**9
@@ -170,32 +171,6 @@ def compact(value: object) -> str:
     return json.dumps(value, separators=(",", ":"))
 
 
-def verdict(claim: Claim, samples: list[Sample], certificate: Certificate) -> str:
-    """What `check` says of a certificate."""
-    begin, last = span_of(claim)
-    for number, piece in enumerate(certificate["pieces"]):
-        end, seen = piece["upto"], set()
-        if not begin <= end <= last:
-            return f"no piece {number} cut"
-        for a, b in piece["entries"]:
-            if max(a, b) >= len(samples):
-                return f"no piece {number} bad-sample"
-            if samples[a].server != samples[b].server:
-                return f"no piece {number} mixed-servers"
-            if samples[a].server in seen:
-                return f"no piece {number} repeated-server"
-            seen.add(samples[a].server)
-        found = hull(claim, samples, piece["entries"], begin, end)
-        if not found:
-            return f"no piece {number} " + ("unbounded" if found is None else "contradiction")
-        if not is_inside(bound_of(claim), found):
-            return f"no piece {number} exceeds"
-        begin = end
-    if not certificate["pieces"] or begin != last:
-        return f"no piece {len(certificate['pieces'])} uncovered"
-    return "yes"
-
-
 # ---- refutations
 
 
@@ -229,13 +204,3 @@ def refutation(claim: Claim, samples: list[Sample]) -> Refutation | None:
         if group_count(claim, named) <= claim["false_max"] and -2**63 <= error < 2**63:
             return {"error": error, "false": named, "reading": span_of(claim)[0]}
     return None
-
-
-def stands(claim: Claim, samples: list[Sample], refutation: Refutation) -> bool:
-    """Whether `refute` accepts a refutation."""
-    error, named, reading = refutation["error"], refutation["false"], refutation["reading"]
-    begin, last = span_of(claim)
-    return (abs(error) > bound_of(claim) and begin <= reading <= last
-            and len(set(named)) == len(named) and all(server < len(claim["servers"]) for server in named)
-            and group_count(claim, named) <= claim["false_max"]
-            and all(admits(sample, error) for sample in samples if sample.server not in named))

@@ -85,10 +85,11 @@ def refutation(said: Refutation, claim: Claim) -> list[str]:
     at = said["reading"] * 10**9 // TICKS
     when = moment(at) if at < 2**32 * 10**9 else str(said["reading"])
     is_beyond = abs(error) > bound_ns * TICKS // 10**9
-    wrong = [f"wrong {servers[k]}" if k < len(servers) else f"wrong server {k} not in the claim" for k in said["false"]]
+    wrong = [f"if wrong {servers[k]}" if k < len(servers) else f"if wrong server {k} not in the claim"
+             for k in said["false"]]
     return [f"error {milliseconds(-size if error < 0 else size)} ms at {when}", bound_of(claim),
             f"beyond the bound by {milliseconds(size - bound_ns)} ms" if is_beyond else "not beyond the bound",
-            *(wrong or ["wrong none"])]
+            *(wrong or ["if wrong none"])]
 
 
 def refute(lines: list[str], claim: Claim, said: Refutation) -> list[str]:

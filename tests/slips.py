@@ -35,6 +35,8 @@ def lines_of(name: str, claim: dict[str, Any], times: tuple[int, int] | None) ->
         found.append('"bound_ns" is below 1000, which are 0.001 ms; 5 ms are 5000000')
     if claim["drift_ppb"] < 1000:
         found.append('"drift_ppb" is below 1000, which are 1 ppm; 100 ppm are 100000')
+    if 0 < claim["reading_ns"] < 1000:
+        found.append('"reading_ns" is below 1000, which are 0.001 ms; 0.1 ms are 100000')
     if claim["false_max"] >= len(claim.get("groups", claim["servers"])):
         found.append('"false_max" is no less than the number of groups, so that nothing can be shown')
     begin, end = second_of(claim["from"]), second_of(claim["to"])

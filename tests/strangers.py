@@ -20,7 +20,7 @@ import time
 from pathlib import Path
 
 from audits import ENVIRONMENT, PROGRAM, SCRIPT, check, check_page, dossier, folder_of, parts_left, skipped, table
-from evidence import key_of, why_no_recording
+from evidence import key_of, why_no_link
 from tally import DATA, SECONDS, run
 
 KILOBYTES = 3_000_000
@@ -82,13 +82,13 @@ def test_forged_audit(place):
     stranger = folder_of(place, "true", bound_ns=5_000_001)
     dossier("audit", stranger, env=elsewhere(place))
     check("an audit of somebody else's that is true", row=(table(stranger)[0]["verdict"], "not verified"),
-          signed=(dossier("sign", stranger, "--key", "any")[0], 5),
+          signed=(dossier("sign", "--key", "any", stranger)[0], 5),
           at_once=(json.loads(dossier("page", "--json", "--verify", stranger,
                                       env={**ENVIRONMENT, "XDG_STATE_HOME": str(place / "third")})[1])[0]["verdict"],
                    "yes"), verified=(dossier("verify", stranger)[0], 0), known=(table(stranger)[0]["verdict"], "yes"))
     state = Path(ENVIRONMENT["XDG_STATE_HOME"]) / "ntpaudit" / "audits"
     check("the record of audits", mode=(stat.S_IMODE(state.stat().st_mode), 0o600),
-          line=(f"{hashlib.sha256((stranger / 'audit.json').read_bytes()).hexdigest()}\n" in state.read_text(), True))
+          line=(f"{hashlib.sha256((stranger / 'audit.json').read_bytes()).hexdigest()} " in state.read_text(), True))
     by_state = ("--state", place / "own state")
     check("a record of one's own", before=(b"unchanged" in dossier("audit", *by_state, stranger)[1], False),
           after=(b"unchanged" in dossier("audit", *by_state, stranger)[1], True))
@@ -133,7 +133,7 @@ def test_swapped_record(place):
     (place / "signers").write_text(line)
     folder = folder_of(place, "swapped")
     dossier("audit", folder)
-    dossier("sign", folder, "--key", key)
+    dossier("sign", "--key", key, folder)
     signed, record = folder.parent / "signed.json", folder / "audit.json"
     record.rename(signed)
     forged = json.loads(signed.read_text())
@@ -143,21 +143,21 @@ def test_swapped_record(place):
     for command in ("page", "verify"):
         turns = subprocess.Popen(["sh", "-c", 'cat "$1" > "$3"; while :; do cat "$2" > "$3"; done', "sh",
                                   place / "forged.json", signed, record])
-        status, out, _ = limited(command, folder, "--signers", place / "signers", timeout=10)
+        status, out, _ = limited(command, "--signers", place / "signers", folder, timeout=10)
         turns.kill()
         turns.wait()
         check(f"a record that is swapped, by {command}", status=(status, 2), good=(b"alice@example.org" in out, False),
               said=(b"audit.json is a FIFO" in out, True))
     from dossier.fault import Fault
     from dossier.folder import Folder
-    from dossier.limit import Limit
+    from dossier.placing import copy_of
     record.unlink()
     record.write_text("one")
-    with Folder(str(folder), Limit()) as held:
+    with Folder(str(folder)) as held:
         first = held.data("audit.json")
         record.write_text("two")
         try:
-            second = held.copy("audit.json", str(place / "copy"))
+            second = copy_of(held, "audit.json", str(place / "copy"))
         except Fault as fault:
             second = fault.line
         check("a file that changes between two readings", first=(first, b"one"), kept=(held.data("audit.json"), b"one"),
@@ -220,13 +220,13 @@ def test_no_files(place):
         lines = out.decode().splitlines()
         check(f"verify of {kind}", ended=(isinstance(status, int) and status > 0, True),
               trace=(b"Traceback" in err, False),
-              verified=([line for line in lines if line.endswith("verified")], [f"{good}: verified"]),
+              verified=([line for line in lines if ": verified" in line], [f"{good}: verified: yes"]),
               lines=(len(lines), len(folders) + 1))
         status, out, err = limited("page", "--json", *folders, good)
         verdicts = [row["verdict"] for row in json.loads(out or "[]")]
         check(f"page of {kind}", status=(status in (0, 2), True), trace=(b"Traceback" in err, False),
               verdicts=((set(verdicts[:-1]) <= {"refused", "not verified"}, verdicts[-1:]), (True, ["yes"])))
-        status, out, err = limited("sign", *folders, "--key", place / "no key")
+        status, out, err = limited("sign", "--key", place / "no key", *folders)
         check(f"sign of {kind}", ended=(isinstance(status, int) and status > 0, True),
               trace=(b"Traceback" in err, False), signed=(b": signed\n" in out, False),
               lines=(out.count(b"\n"), len(folders)))
@@ -326,7 +326,7 @@ def test_names_of_outputs(place):
         text = json.dumps({**record, "entries": [{**record["entries"][0], "outputs": outputs}]}).encode()
         (folder / "audit.json").write_bytes(text)
         with open(state / "audits", "a") as opened:
-            opened.write(f"{hashlib.sha256(text).hexdigest()}\n")
+            opened.write(f"{hashlib.sha256(text).hexdigest()} {'0' * 64} 2026-01-01T00:00:00Z 1 x\n")
         status, out, _ = dossier("verify", "--state", state, folder)
         check(f"an output {name}", verify=((status, b"audit.json isn't one that is taken" in out), (2, True)),
               page=(json.loads(dossier("page", "--json", "--state", state, folder)[1])[0]["verdict"], "refused"),
@@ -336,13 +336,16 @@ def test_names_of_outputs(place):
 
 
 def test_named_outputs(place):
-    """-o: a link is followed first, and what is no regular file is written into."""
+    """-o: no link is followed, and what is a device or a FIFO is written into."""
     folder, target, link = folder_of(place, "host"), place / "target.html", place / "link.html"
     dossier("audit", folder)
     target.write_text("old")
     link.symlink_to(target)
-    check("-o to a link", status=(dossier("page", "-o", link, folder)[0], 0), link=(link.is_symlink(), True),
-          whole=(target.read_bytes().endswith(b"</html>\n"), True), left=(parts_left(place), []))
+    for where, said in ((link, b"link.html is a link"), ("/proc/self/fd/1", b"self in its path is a link")):
+        status, out, err = dossier("page", "-o", where, folder)
+        check(f"-o to a link {where}", status=(status, lambda status: status in (2, 4)), said=(said in err, True),
+              link=(link.is_symlink(), True), target=(target.read_text(), "old"), left=(parts_left(place), []),
+              out=(out, b""))
     fifo = place / "fifo"
     os.mkfifo(fifo)
     reader = subprocess.Popen(["timeout", "20", "cat", fifo], stdout=subprocess.PIPE)
@@ -350,11 +353,9 @@ def test_named_outputs(place):
     out = reader.communicate()[0]
     check("-o to a FIFO", status=(status, 0), whole=(out.endswith(b"</html>\n"), True),
           there=(stat.S_ISFIFO(fifo.lstat().st_mode), True))
-    check("-o to standard output",
-          whole=(dossier("page", "-o", "/proc/self/fd/1", folder)[1].endswith(b"</html>\n"), True))
-    if not why_no_recording():
-        check("measure -o to a link", status=(dossier("measure", "--count", "10", "-o", link)[0], 0),
-              link=(link.is_symlink(), True), target=(json.loads(target.read_text())["kind"], "reading"))
+    if not why_no_link():
+        check("measure -o to a link", status=(dossier("measure", "--count", "10", "-o", link)[0], 4),
+              link=(link.is_symlink(), True), target=(target.read_text(), "old"))
     if os.geteuid():
         skipped("-o to a device", "it takes root to make one")
         return
@@ -370,11 +371,9 @@ def test_named_outputs(place):
 
 def test_every_write(place):
     """A full disk and Ctrl-C at every write: a folder is as it was, or has all that was made, and nothing else."""
-    from dossier import folder as files
     from dossier import placing
     from dossier.fault import Fault
     from dossier.folder import Folder
-    from dossier.limit import Limit
     made = place / "made"
     made.mkdir()
     names = ("report.txt", "envelope.txt")
@@ -397,34 +396,39 @@ def test_every_write(place):
                 if len(count) > last:
                     raise error
                 return write(file, data[:2])
-            files.os.write = failing
+            placing.os.write = failing
             try:
-                with Folder(str(folder), Limit()) as held:
+                with Folder(str(folder)) as held:
                     placing.place(held, {name: placing.blocks_of(name) for name in names} | {"audit.json": [b"new"]},
                                   ["certificate.json"])
             except (Fault, KeyboardInterrupt) as found:
                 seen.append(type(found))
             finally:
-                files.os.write = write
+                placing.os.write = write
             kept = {path.name: path.read_bytes() for path in folder.iterdir()}
             check(f"{type(error).__name__} at write {last}", kept=(kept in (old, new), True))
     check("both came", seen=(set(seen), {Fault, KeyboardInterrupt}), both=(len(seen), 10))
-    folder, mkdir, handler = place / "new", os.mkdir, signal.signal(signal.SIGINT, signal.default_int_handler)
-    folder.mkdir()
+    folder, link, handler = place / "new", os.link, signal.signal(signal.SIGINT, signal.default_int_handler)
+    for tmpfile in (os.O_TMPFILE, 0):
+        folder.mkdir()
 
-    def stopped(*words, **how):
-        mkdir(*words, **how)
-        os.kill(os.getpid(), signal.SIGINT)
-    placing.os.mkdir = stopped
-    try:
-        with Folder(str(folder), Limit()) as held:
-            placing.place(held, {name: placing.blocks_of(name) for name in names})
-    except KeyboardInterrupt:
-        seen.append(KeyboardInterrupt)
-    finally:
-        placing.os.mkdir = mkdir
-        signal.signal(signal.SIGINT, handler)
-    check("Ctrl-C where a folder is made", seen=(len(seen), 11), left=(sorted(os.listdir(folder)), sorted(names)))
+        def stopped(*words, **how):
+            (link if tmpfile else rename)(*words, **how)
+            os.kill(os.getpid(), signal.SIGINT)
+        rename = os.rename
+        placing.os.O_TMPFILE = tmpfile
+        placing.os.link, placing.os.rename = (stopped, rename) if tmpfile else (link, stopped)
+        try:
+            with Folder(str(folder)) as held:
+                placing.place(held, {name: placing.blocks_of(name) for name in names})
+        except KeyboardInterrupt:
+            seen.append(KeyboardInterrupt)
+        finally:
+            placing.os.link, placing.os.rename, placing.os.O_TMPFILE = link, rename, os.O_TMPFILE
+        check(f"Ctrl-C where a file is put: {tmpfile}", left=(parts_left(folder), []))
+        shutil.rmtree(folder)
+    signal.signal(signal.SIGINT, handler)
+    check("Ctrl-C where files are put", seen=(len(seen), 12))
 
 
 def test_at_once(place):
@@ -437,25 +441,31 @@ def test_at_once(place):
           left=(parts_left(place), []))
     held = os.open(folder, os.O_RDONLY)
     fcntl.flock(held, fcntl.LOCK_EX)
-    (folder / "audit.json").unlink()
-    call = subprocess.Popen([SCRIPT, "audit", folder], env=ENVIRONMENT, stdout=subprocess.DEVNULL)
-    time.sleep(1.5)
-    check("an audit while another writes", waits=((call.poll(), (folder / "audit.json").exists()), (None, False)))
+    check("an audit of a folder that somebody holds", status=(dossier("audit", "--again", folder, timeout=30)[0], 0))
     os.close(held)
-    check("an audit after another wrote", status=(call.wait(SECONDS), 0), made=((folder / "audit.json").exists(), True))
+    from dossier.entry import read_record
+    from dossier.folder import Folder
     from dossier.known import Known
     state = place / "state"
-    known = [Known(str(state), True) for _ in range(4)]
+    known, record = [Known(str(state), True) for _ in range(4)], read_record((folder / "audit.json").read_bytes())
+    with Folder(str(folder)) as held, known[0].alone(held):
+        (folder / "audit.json").unlink()
+        call = subprocess.Popen([SCRIPT, "audit", "--state", state, folder], env=ENVIRONMENT, stdout=subprocess.DEVNULL)
+        time.sleep(1.5)
+        check("an audit while another writes", waits=((call.poll(), (folder / "audit.json").exists()), (None, False)))
+    check("an audit after another wrote", status=(call.wait(SECONDS), 0), made=((folder / "audit.json").exists(), True))
+    (state / "audits").write_text("")
     sums = [[hashlib.sha256(f"{one} {k}".encode()).hexdigest() for k in range(200)] for one in range(4)]
-    threads = [threading.Thread(target=lambda own=own, one=one: [own.add(sum_) for sum_ in sums[one]])
+    threads = [threading.Thread(target=lambda own=own, one=one: [own.add(sum_, record) for sum_ in sums[one]])
                for one, own in enumerate(known)]
     for thread in threads:
         thread.start()
     for thread in threads:
         thread.join()
     check("a record that several write",
-          lines=(sorted((state / "audits").read_text().split()), sorted(sum_ for own in sums for sum_ in own)),
-          again=(Known(str(state), False).has(sums[3][199]), True))
+          lines=(sorted(line.split()[0] for line in (state / "audits").read_text().splitlines()),
+                 sorted(sum_ for own in sums for sum_ in own)),
+          again=(Known(str(state), False).shown(sums[3][199], record), record))
 
 
 # ---- what is called
@@ -607,10 +617,10 @@ def test_hostile_records(place):
           badges=(out.count(b'class="verdict yes"'), 3), step=(b"--step 1; touch" in out, False),
           said=("<u>Ann's</u> \\x1b[31m" in "".join(page.words), True))
     for command in ("verify", "sign"):
-        status, out, err = limited(command, *folders, *(("--key", "any") if command == "sign" else ()))
+        status, out, err = limited(command, *(("--key", "any") if command == "sign" else ()), *folders)
         lines = out.decode().splitlines()
         check(f"hostile fields by {command}", error=(err, b""), lines=(len(lines) >= len(folders), True),
-              good=([line for line in lines if line.endswith((": verified", ": signed"))], []),
+              good=([line for line in lines if line.endswith((": verified: yes", ": signed"))], []),
               escape=(b"\x1b" in out, False))
     status, out, err = limited("audit", "--jobs", "2", *folders, good)
     check("hostile fields, audited", status=(status, 0), error=(err, b""),
@@ -637,7 +647,7 @@ def test_hostile_inputs(place):
     os.mkfifo(fifo)
     capture, claim = DATA / "clients-us.pcap", DATA / "clients-us.claim.json"
     for words in (["draft", fifo], ["draft", "--chrony", fifo, capture], ["draft", "--measured", fifo, capture],
-                  ["picture", claim, fifo], ["picture", fifo, capture], ["verify", place, "--signers", fifo],
+                  ["picture", claim, fifo], ["picture", fifo, capture], ["verify", "--signers", fifo, place],
                   ["audit", "--leap-seconds", fifo, place], ["draft", "/dev/zero"], ["picture", "/dev/zero", capture]):
         status, out, err = limited(*words, timeout=20)
         check(f"a file that is none: {words[0]} {[str(word) for word in words[1:]]}", status=(status, 2),
@@ -674,37 +684,47 @@ exit 2
 
 def test_own_faults(place):
     """What goes wrong within one folder is that folder's alone, and never has the status of a no."""
-    from dossier import making
-    from dossier.audit import Wanted
-    from dossier.call import Caller
+    from dossier import audit, making, placing, running
     from dossier.entry import LeapList, Made, Options
     from dossier.known import Known
-    from dossier.limit import Limit
     from dossier.program import Program
     from dossier.remedies import remedy
-    from dossier.task import Task
-    folders = [folder_of(place, name) for name in ("one", "two")]
-    wanted = Wanted(Options(), False, LeapList("none", fault="none"), False, Known(str(place / "state"), True))
-    task, make = Task([str(folder) for folder in folders], wanted,
-                      Program(PROGRAM, Made("ntpaudit", "0" * 64), Caller(Limit()))), making.make
-    for error, status, line in ((MemoryError(), 3, "out of memory"),
-                                (OSError(errno.ENOSPC, "No space left on device"), 4,
-                                 "it can't be worked on (No space left on device)")):
-        def failing(*given, error=error):
-            raise error
+    folders = [str(folder_of(place, name)) for name in ("one", "two")]
+    wanted = audit.Wanted(Options(), False, LeapList("none", good_until=4_000_000_000),
+                          Known(str(place / "state"), True), Program(PROGRAM, Made("ntpaudit", "0" * 64)))
+    make, first = making.make, []
+
+    def all_memory():
+        first.append(bytearray(1 << 62))
+
+    def crash():
+        os.kill(os.getpid(), signal.SIGSEGV)
+    for kind, status, line in ((MemoryError, 3, "out of memory"), (all_memory, 3, "out of memory"),
+                               (lambda: OSError(errno.ENOSPC, "No space left on device"), 4,
+                                "it can't be worked on (No space left on device)"),
+                               (lambda: IndexError("x"), 2, "it can't be worked on (IndexError: x)"),
+                               (crash, 3, "the process of this folder was ended"),
+                               (lambda: time.sleep(60), 2, "not done within 3 s (--limit)")):
+        def failing(*given, kind=kind):
+            if os.path.exists("/tmp") and failing.first in given[0].sums.values():
+                raise kind()
+            return make(*given)
+        (Path(folders[0]) / "f.pcap").write_bytes((DATA / "vlan-ns.pcap").read_bytes())
+        failing.first = sums_of(Path(folders[0]), "f.pcap")["f.pcap"]
         making.make = failing
-        first = task.audit(0)
+        found = dict(running.run_all(folders, lambda path, number: audit.audit(wanted, path, number), 3, 2))
         making.make = make
-        check(f"a folder with {type(error).__name__}", first=((first.status, first.verdicts), (status, ["refused"])),
-              line=(first.lines, [f"refused       {folders[0]}: ntpaudit-dossier: {line}"]),
-              other=(task.audit(1).status, 0))
-    limit = Limit()
-    limit.room = 100
-    check("room", over=(is_taken(lambda data: limit.take(101), ""), False))
+        refusal = found[folders[0]].refusal
+        lines = [refusal.line.partition(": ")[2]] if refusal else found[folders[0]].lines
+        check(f"a folder with {line}", status=(found[folders[0]].status, status), line=(line in lines[0], True),
+              other=(found[folders[1]].status, 0))
+    room = placing.Room()
+    room.left = 100
+    check("room", over=(is_taken(lambda data: room.take(101), ""), False))
     lines = ["f.pcap is a FIFO", "f.pcap is too big: it has more than 1 bytes",
              "audit.json isn't one that is taken (inputs)", "not done within 600 s (--limit)",
              "f.pcap has changed meanwhile", "the folder is a link: name the folder itself", "out of memory",
-             "it can't be worked on (x)", "its copies and answers take more than 1 bytes",
+             "it can't be worked on (x)", "its copies and answers take more room than a folder may",
              "no folder for private copies can be made (x): TMPDIR names another place",
              "report.txt can't be written (x)", "f.pcap can't be read (x)",
              "f.pcap is damaged from byte 24 on, so it can't be joined with the others",
@@ -715,15 +735,6 @@ def test_own_faults(place):
              "the times of the capture go back and forth between days too often",
              "f.pcapng has a block that is damaged", "f.pcapng has a packet that is damaged"]
     check("remedies of these", missing=([line for line in lines if not remedy(f"ntpaudit-dossier: {line}")[0]], []))
-    pidfd_open = os.pidfd_open
-
-    def missing(_):
-        raise OSError(errno.ENOSYS, "Function not implemented")
-    os.pidfd_open = missing
-    said = [Caller(Limit()).run(["/bin/sh", "-c", "echo x; exit 7"]),
-            is_taken(lambda data: Caller(Limit(1)).run(["/bin/sleep", "30"]), "")]
-    os.pidfd_open = pidfd_open
-    check("a call on an older kernel", said=(said, [(7, b"x\n", b""), False]))
     script = (f'import sys; sys.path.insert(0, {str(Path(SCRIPT).parent)!r}); from dossier import command_line as c; '
               'c.run = lambda given: 1 / 0; sys.exit(c.main(["page", "x"]))')
     check("an error of one's own", status=(run(["python3", "-c", script], env=ENVIRONMENT)[0], 70))
@@ -748,7 +759,7 @@ def test_no_evidence(place):
                 in words, True),
           to_do=("names the right client" in row["to_do"] and "names the right client" in words, True),
           csv=(",no evidence," in dossier("page", "--csv", folder)[1].decode(), True),
-          verified=(dossier("verify", folder), (0, f"{folder}: verified\n".encode(), b"")))
+          verified=(dossier("verify", folder), (1, f"{folder}: verified: no evidence\n".encode(), b"")))
 
 
 def test_browser(place):

@@ -31,9 +31,8 @@ def logged(*times):
 
 
 def measured(greatest):
-    return {"interface": "lo", "packets": 1000, "busy": 0, "least_ns": 1, "median_ns": 2, "percent_99_ns": 3,
-            "greatest_ns": greatest, "reading_ns": 100_000, "machine": "web-1", "kernel": "6.1",
-            "made": "2001-09-09T00:00:00Z", "kind": "reading"}
+    return {"packets": 1000, "busy": 0, "late": 3, "greatest_ns": greatest, "median_ns": 2, "reading_ns": 100_000,
+            "tool": "tcpdump 4.99", "machine": "web-1", "kernel": "6.1", "made": "2001-09-09T00:00:00Z", "kind": "late"}
 
 
 def good_folder(place, name, evidence=None, words=GOOD, **changes):
@@ -46,7 +45,7 @@ def good_folder(place, name, evidence=None, words=GOOD, **changes):
 
 
 AGAINST = {"drift": ({"drift": SETUP}, {}, "may move the clock by 600,000 parts in 10^9", "Grant as much drift"),
-           "reading": ({"reading": measured(70_000)}, {"reading_ns": 60_000}, "as late as 0.07 ms after",
+           "reading": ({"reading": measured(70_000)}, {"reading_ns": 60_000}, "as much as 0.07 ms after they left",
                        "Grant as much as was measured"),
            "step": ({"drift": {**SETUP,
                                "tracking": logged("2001-09-09T01:47:00Z", "2001-09-09T01:46:50Z",
@@ -72,10 +71,10 @@ def test_unsupported(place):
     for kind, (evidence, changes, said, to_do, words) in cases.items():
         folder = good_folder(place, kind, evidence, **changes)
         status, out, _ = dossier("audit", *words, folder)
-        record, row = json.loads((folder / "audit.json").read_text())["entries"][0], table(folder)[0]
-        text = dossier("page", folder)[1].decode()
+        record, row = json.loads((folder / "audit.json").read_text())["entries"][0], table(folder, words=words)[0]
+        text = dossier("page", *words, folder)[1].decode()
         page = "".join(check_page(f"a page of evidence against a yes: {kind}", text).words)
-        line = next(csv.DictReader(io.StringIO(dossier("page", "--csv", folder)[1].decode())))
+        line = next(csv.DictReader(io.StringIO(dossier("page", "--csv", *words, folder)[1].decode())))
         check(f"evidence against a yes: {kind}", status=(status, 1),
               line=((out.decode().startswith(f"unsupported   {folder}: "), out.decode().partition(" ms (")[2]),
                     (True, f"{IN_SHORT[kind]})\n")),
@@ -87,7 +86,7 @@ def test_unsupported(place):
               badge=('class="verdict unsupported"' in text and 'class="verdict yes"' not in text, True),
               said=("It isn't shown that" in page and said in page, True),
               certificate=((folder / "certificate.json").exists() and "ntpaudit check claim.json" in page, True),
-              verified=(dossier("verify", *words, folder)[0], 0), again=(dossier("audit", *words, folder)[0], 1))
+              verified=(dossier("verify", *words, folder)[0], 1), again=(dossier("audit", *words, folder)[0], 1))
     for kind, (evidence, changes) in SUPPORTED.items():
         folder = good_folder(place, f"{kind} supported", evidence, **changes)
         check(f"evidence for a yes: {kind}", status=(dossier("audit", folder)[0], 0),
@@ -131,7 +130,7 @@ def test_no_audit(place):
     status, out, err = dossier("--version")
     program = run([PROGRAM, "--version"])[1].splitlines()[0]
     check("version", run=((status, err), (0, b"")),
-          lines=(out.splitlines()[0], b"ntpaudit-dossier, form 8 of audit.json"),
+          lines=(out.splitlines()[0], b"ntpaudit-dossier, form 9 of audit.json"),
           program=(out.splitlines()[1].startswith(program + b", SHA-256 "), True))
 
 
@@ -147,12 +146,12 @@ def test_interleaved(place):
     for name, changes, is_warned in (("both", {}, True), ("one", {"servers": ["10.9.0.1"]}, True),
                                      ("other", {"servers": ["10.9.0.3"]}, False)):
         folder = folder_of(place, name, capture, **{**CLAIM, **claim, **changes})
-        dossier("audit", folder)
+        status = dossier("audit", folder)[0]
         row, text = table(folder)[0], dossier("page", folder)[1].decode()
         shown = "".join(check_page(f"a page of interleaved mode: {name}", text).words)
         check(f"interleaved mode: {name}", json=(any(said in words for words in row["warnings"]), is_warned),
               page=("10.9.0.1 mostly answers in interleaved mode" in shown, is_warned),
-              verified=(dossier("verify", folder)[0], 0))
+              verified=(dossier("verify", folder)[0], status))
 
 
 def test_split(place):
@@ -231,7 +230,7 @@ def test_ten(place):
                     {name: verdict for name, (_, _, verdict) in TEN.items()}),
           warned=([name for name, row in zip(TEN, rows)
                    if any("stands apart" in words or "ends inside a record" in words for words in row["warnings"])],
-                  ["outvoted server", "torn"]), verified=(dossier("verify", *folders)[0], 0))
+                  ["outvoted server", "torn"]), verified=(dossier("verify", *folders)[0], 1))
 
 
 def silent_folders(place):
@@ -265,7 +264,7 @@ def test_nothing_seen(place):
         page = "".join(check_page(f"a page of no evidence: {folder.name}", dossier("page", folder)[1].decode()).words)
         check(f"no evidence: {folder.name}", status=(status, 1), row=(row["verdict"], "no evidence"),
               said=(said in row["reason"] and said in page, True), to_do=(len(row["to_do"]) > 20, True),
-              verified=(dossier("verify", folder), (0, f"{folder}: verified\n".encode(), b"")))
+              verified=(dossier("verify", folder), (1, f"{folder}: verified: no evidence\n".encode(), b"")))
     off = good_folder(place, "off", words=[word.replace("-1000..1000", "9000000000..9000001000") for word in GOOD],
                       **{"from": "2001-09-09T02:46:45Z", "to": "2001-09-09T02:47:20Z"})
     dossier("audit", off)
@@ -291,7 +290,7 @@ def test_many_together(place):
     check("the status of verify", differs=(dossier("verify", missing, wrong, good)[0], 1),
           missing=(dossier("verify", missing, good)[0], 4))
     dossier("audit", wrong)
-    order = ["wrong", "contrary", "nothing", "missing", "refused", "apart", "good"]
+    order = ["wrong", "contrary", "nothing", "missing", "refused", "good", "apart"]  # (the capture of good is a copy)
     rows = json.loads(dossier("page", "--json", *folders)[1])
     lines = list(csv.DictReader(io.StringIO(dossier("page", "--csv", *folders)[1].decode())))
     text = dossier("page", *folders)[1].decode()
@@ -302,8 +301,8 @@ def test_many_together(place):
           page=(sorted(order, key=lambda name: text.index(f"/{name}</a>")), order),
           articles=(sorted(order, key=lambda name: text.index(f"<h2>{place / name} ")), order))
     check("what stands apart reaches machines",
-          json=("192.0.2.4 stands apart: its range never meets the hull." in rows[5]["warnings"], True),
-          csv=("192.0.2.4 stands apart" in lines[5]["warnings"], True))
+          json=("192.0.2.4 stands apart: its range never meets the hull." in rows[6]["warnings"], True),
+          csv=("192.0.2.4 stands apart" in lines[6]["warnings"], True))
     day = folder_of(place, "days", DATA / "clients-us.pcap", DATA / "clients-us.claim.json",
                     **{"from": "2026-11-22T07:03:36Z", "to": "2026-11-24T00:00:00Z"})
     dossier("audit", "--days", day)

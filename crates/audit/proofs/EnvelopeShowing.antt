@@ -20,7 +20,7 @@ use Rattle.finder.specs.Answer.{FindsEnvelope}
 use Rattle.finder.specs.Entry.{best_hull}
 use Rattle.finder.specs.Envelope.{EnvelopeData, PieceHullData, data_of, envelope_of, envelope_to, piece_data, piece_hull_at}
 use Rattle.finder.specs.Piece.{count_of}
-use Rattle.finder.specs.Samples.{AreSamplesOf}
+use Rattle.checker.specs.Samples.{AreSamplesOf}
 use Rattle.report.specs.declared.fault.Outcome.{Outcome}
 use Rattle.report.specs.declared.fault.RunFault.{RunFault}
 use Rattle.report.specs.Publication.{IsMadeFor, Ready}
@@ -107,7 +107,7 @@ envelope_refused style asked e TooManyPieces told is (inr same) =
 -- the law that the hull of a piece holds the error
 abbrev pub HullLaw : Type 0
 HullLaw = (claim : ClaimData) (samples : List Sample) (stretch : Stretch) → IsLawful claim
-    → All (λ sample. sample.server < length claim.servers) samples
+    → AreSamplesOf claim samples
     → HoldsError claim samples stretch (best_hull samples claim stretch)
 
 module _ (law : HullLaw) (step : ℕ) (e : EvidenceData) (lawful : IsLawful e.claim) where
@@ -121,7 +121,7 @@ module _ (law : HullLaw) (step : ℕ) (e : EvidenceData) (lawful : IsLawful e.cl
       let at = piece_hull_at samples e.claim step in
       let Holds = λ (piece : PieceHullData). HoldsError e.claim samples piece.stretch piece.hull in
       let Void = λ (piece : PieceHullData). piece.hull ≡ Empty → IsContradicted e.claim samples piece.stretch in
-      let held_at = λ (k : ℕ). law e.claim samples (at k).stretch lawful are.listed in
+      let held_at = λ (k : ℕ). law e.claim samples (at k).stretch lawful are in
       record {
         envelope = data_of envelope;
         envelope_is = finds.exact;

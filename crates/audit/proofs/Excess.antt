@@ -18,7 +18,7 @@ use Rattle.claim_file.specs.Claim.{ClaimData}
 use Rattle.pairing.specs.Answer.{AreGiven}
 use Rattle.pairing.specs.declared.exchange.Exchange.{Exchange}
 use Rattle.sample_interval.specs.Moment.{error_of}
-use Rattle.checker.specs.Course.{Course, Fits}
+use Rattle.checker.specs.Course.{Course, FitsInWindows}
 use Rattle.checker.specs.Refutation.{IsAgainst, HasCourse, SharesRequests}
 use Rattle.audit.specs.Captured.{frame_of}
 use Rattle.audit.specs.Claimed.{IsClaimText}
@@ -65,7 +65,7 @@ module _ (text : List ℕ) (claim : ClaimData) (said : IsClaimText text claim) (
   pub beyond_in_ticks : IsBeyond has.course claim.bound
   beyond_in_ticks =
       let n = has.course.fineness in
-      let less : said.bound * n < size * n = times_lt said.bound size n has.fits.some_fineness beyond_ticks in
+      let less : said.bound * n < size * n = times_lt said.bound size n has.fits.fits.some_fineness beyond_ticks in
       rw (said.bound_in_ticks, size_is) (omega (arith, ints))
 
   pub beyond_in_nanoseconds : IsBeyondNanoseconds has.course claim.bound_ns
@@ -73,14 +73,14 @@ module _ (text : List ℕ) (claim : ClaimData) (said : IsClaimText text claim) (
       let n = has.course.fineness in
       let above = above_floor claim.bound_ns said.bound size said.bound_is beyond_ticks in
       let less = times_lt (claim.bound_ns * ticks_per_second) (size * nanoseconds_per_second) n
-      has.fits.some_fineness above in
+      has.fits.fits.some_fineness above in
       rw size_is (omega (arith, less))
 
 -- ---- refutations
 
 -- a course that is observed at a refutation's reading, off by its error
 observed_beyond : (claim : ClaimData) (xs : List Exchange) (r : RefutationData) → IsAgainst claim r
-    → (course : Course) → Fits claim xs course → SharesRequests xs course
+    → (course : Course) → FitsInWindows claim xs course → SharesRequests xs course
     → course.observation.reading ≡ (pos r.reading *ℤ pos course.fineness)
     → error_of course.observation ≡ (r.error *ℤ pos course.fineness) → HasCourseBeyond claim xs
 observed_beyond claim xs r against course fits shares reading error =

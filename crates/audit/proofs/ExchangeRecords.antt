@@ -29,9 +29,6 @@ use Rattle.pairing.specs.Message.{Request, Reply, IsRequestTo, IsReplyOf, reques
 use Rattle.pairing.specs.Pair.{IsExchangeOf}
 use Rattle.pairing.specs.Pairing.{requests_of, replies_of, requests_for, answers, exchange_of, exchanges_of, low_of, high_of, distance_of}
 use Rattle.pairing.specs.Refusal.{refusal_of}
-use Rattle.sample_interval.specs.Sample.{sample_of}
-use Rattle.sample_interval.specs.declared.kinds.Sample.{Sample}
-use Rattle.checker.specs.Traceability.{samples_of}
 use Rattle.audit.specs.Captured.{CapturedFrame, frame_of}
 use Rattle.audit.specs.FramedPacket.{HoldsPacket, HoldsShown, packet_with}
 use Rattle.audit.specs.Exchanged.{HoldsRequest, IsUsable, IsWindowOf, IsExchangeIn}
@@ -345,16 +342,3 @@ in_place bytes format records all capture = record {
   bytes = bytes_of_each format.order records
       (bytes_after capture.header (spelling format.order records) (subst IsBytes capture.joined all));
 }
-
--- ---- servers
-
-pub listed_servers : (claim : ClaimData) (unit : TimeUnit) (frames : List CapturedFrame) (xs : List Exchange)
-    → ((k : ℕ) (x : Exchange) → slice_get xs k ≡ Some x → IsExchangeIn claim unit frames x)
-    → All (λ sample. sample.server < length claim.servers) (samples_of xs claim)
-listed_servers claim unit frames xs are =
-    All-map (λ (sample : Sample). sample.server < length claim.servers) (λ x. sample_of x claim.reading) xs
-    (λ k d below.
-    let x = get_or xs k d in
-    let is : x ≡ get_or xs k x = grind (arith, common_steps) in
-    let found = are k x (slice_get_read xs (length xs) k x refl below is) in
-    slice_get_within claim.servers x.server found.server found.server_listed)

@@ -1,11 +1,11 @@
 -- What is shown and what is contested never meet.
-use Rattle.std.proofs.Common.{◌≡◌, ℕ, ℤ, inl, inr, ⊎_elim, List, length, Option, Some, None, refl, sym, ap, ◌∙◌, subst, arith}
+use Rattle.std.proofs.Common.{◌≡◌, ℕ, ℤ, pos, ◌*ℤ◌, ◌≤ℤ◌, inl, inr, ⊎_elim, List, length, Option, Some, None, refl, sym, ap, ◌∙◌, subst, arith}
 use Rattle.std.specs.Prelude.{slice_get}
 use Rattle.std.proofs.lemmas.Option.{slice_get_cases, slice_get_within}
 use Rattle.claim_file.specs.Claim.{ClaimData}
 use Rattle.pairing.specs.declared.exchange.Exchange.{Exchange}
-use Rattle.sample_interval.specs.Moment.{Moment, IsInWindow, IsWithinDistance}
-use Rattle.sample_interval.specs.Window.{request_start, request_end, reply_start, reply_end}
+use Rattle.sample_interval.specs.Moment.{Moment, IsWithinDistance}
+use Rattle.sample_interval.specs.Window.{request_start, reply_end}
 use Rattle.checker.specs.Course.{Course, Fits, IsClientMoment}
 use Rattle.checker.specs.PieceFit.{FitsPiece}
 use Rattle.audit.specs.Contested.{IsContestedShown}
@@ -15,12 +15,13 @@ use Rattle.audit.specs.Headline.{IsShown}
 -- ---- exchanges that agree
 
 module _ (x y : Exchange) (same : SameExchange x y) (n : ℕ) where
-  windows_as : (allowance leaving arriving : ℤ)
-      → IsInWindow n (request_start y allowance) (request_end y allowance) leaving
-      × IsInWindow n (reply_start y allowance) (reply_end y allowance) arriving
-      → IsInWindow n (request_start x allowance) (request_end x allowance) leaving
-      × IsInWindow n (reply_start x allowance) (reply_end x allowance) arriving
-  windows_as allowance leaving arriving h = rw (same.t1_low, same.t1_high, same.t4_low, same.t4_high) h
+  leaves_as : (allowance leaving : ℤ) → (request_start y allowance *ℤ pos n) ≤ℤ leaving
+      → (request_start x allowance *ℤ pos n) ≤ℤ leaving
+  leaves_as allowance leaving h = rw same.t1_low h
+
+  arrives_as : (allowance arriving : ℤ) → arriving ≤ℤ (reply_end y allowance *ℤ pos n)
+      → arriving ≤ℤ (reply_end x allowance *ℤ pos n)
+  arrives_as allowance arriving h = rw same.t4_high h
 
   distances_as : (received sent : ℤ)
       → IsWithinDistance n y.t2 y.distance received × IsWithinDistance n y.t3 y.distance sent
@@ -82,10 +83,14 @@ module _ (xs ys : List Exchange) (among : (k : ℕ) (x : Exchange) → slice_get
   still_fits claim course fits = record {
     some_fineness = fits.some_fineness;
     few_false = fits.few_false;
-    in_windows = λ k x at.
+    leaves_after_stamp = λ k x at.
         let there = has k x at in
-        windows_as x there.0 there.2 course.fineness claim.reading (course.request (place k)).reading
-        (course.reply (place k)).reading (fits.in_windows (place k) there.0 there.1);
+        leaves_as x there.0 there.2 course.fineness claim.reading (course.request (place k)).reading
+        (fits.leaves_after_stamp (place k) there.0 there.1);
+    arrives_before_stamp = λ k x at.
+        let there = has k x at in
+        arrives_as x there.0 there.2 course.fineness claim.reading (course.reply (place k)).reading
+        (fits.arrives_before_stamp (place k) there.0 there.1);
     drift = λ a b is_a is_b. fits.drift a b (moment_of course a is_a) (moment_of course b is_b);
     ordered = λ k x at true'.
         let there = has k x at in
@@ -111,7 +116,8 @@ module _ (fit : PieceFitLaw) (claim_bytes capture_bytes : List ℕ) (shown : IsS
       λ k x at. contested.none_is_missing x
       (rw (claim_same, unit_same, frames_same) at (shown.exchanges_are k x at)) in
       let course = renumbered shown.exchanges contested.exchanges among contested.course in
-      let fits = still_fits shown.exchanges contested.exchanges among contested.claim contested.course contested.fits in
+      let fits = still_fits shown.exchanges contested.exchanges among contested.claim contested.course
+      contested.fits.fits in
       let at = shown.within course.fineness course.observation.reading (rw claim_same contested.in_span) in
       let within = at.6 course refl refl (fit shown.claim shown.exchanges at.0 course (rw claim_same fits)) in
       let beyond = rw (← claim_same) at contested.beyond_nanoseconds in

@@ -45,7 +45,7 @@ module _ (e : EvidenceData) (agree : AllPairs SameRequest e.collection.exchanges
   }
   settled_of (settles.fitted_by_none conflicts) h = h
   settled_of (settles.no_evidence groups) h = h
-  settled_of (settles.left_open begin end hull) h = h
+  settled_of (settles.left_open begin end hull covers) h = h
 
 -- nothing was looked for, and nothing is said
 pub nothing_found : (e : EvidenceData) → IsFindingOf e no_finding

@@ -11,7 +11,7 @@ use Rattle.pairing.specs.Pairing.{Collection}
 use Rattle.pairing.specs.declared.exchange.Exchange.{Exchange}
 use Rattle.report.specs.ClaimInput.{claim_read}
 use Rattle.sample_interval.specs.Moment.{error_of, IsInWindow}
-use Rattle.checker.specs.Course.{Course, Fits}
+use Rattle.checker.specs.Course.{Course, FitsInWindows}
 use Rattle.checker.specs.Refutation.{SharesRequests}
 use Rattle.checker.specs.RefutationTest.{is_refuted}
 use Rattle.audit.specs.CaptureInput.{capture_read}
@@ -36,7 +36,7 @@ IsBeyondNanoseconds course bound_ns =
 -- the bound.
 pub record HasCourseBeyond (claim : ClaimData) (xs : List Exchange) : Type 0 where
   pub course : Course
-  pub fits : Fits claim xs course
+  pub fits : FitsInWindows claim xs course
   pub shares_requests : SharesRequests xs course
   pub in_span : IsInWindow course.fineness claim.first claim.last course.observation.reading
   pub error : ℤ
@@ -61,7 +61,7 @@ pub record IsContestedShown (claim_bytes capture_bytes : List ℕ) : Type 0 wher
       → IsExchangeIn claim unit frames x
   pub none_is_missing : (x : Exchange) → IsExchangeIn claim unit frames x → IsAmong exchanges x
   pub course : Course
-  pub fits : Fits claim exchanges course
+  pub fits : FitsInWindows claim exchanges course
   pub shares_requests : SharesRequests exchanges course
   pub in_span : IsInWindow course.fineness claim.first claim.last course.observation.reading
   pub beyond : IsBeyond course claim.bound

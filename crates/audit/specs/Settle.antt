@@ -37,7 +37,7 @@ settled_text e (refuted refutation) = refutation_text refutation ++ codes "\n"
 settled_text e (fitted_by_none conflicts) =
     conflicts_text Plain e.claim e.collection.exchanges conflicts
 settled_text e (no_evidence groups) = evidence_text Plain e.claim groups
-settled_text e (left_open begin end hull) = open_text Plain begin end hull
+settled_text e (left_open begin end hull covers) = open_text Plain begin end hull
 
 -- for a person: what was found, on the least bound in nanoseconds that a certificate carries
 unfoldable pub settled_answer : EvidenceData → Option ℕ → SettledData → List ℕ
@@ -49,13 +49,13 @@ settled_answer e least (fitted_by_none conflicts) =
     conflicts_text Human e.claim e.collection.exchanges conflicts
 settled_answer e least (no_evidence groups) =
     evidence_answer e.claim e.collection.exchanges groups
-settled_answer e least (left_open begin end hull) =
-    open_answer e.claim begin end hull least
+settled_answer e least (left_open begin end hull covers) =
+    open_answer e.claim begin end hull covers least
 
 -- the answer is on the least bound
 abbrev pub names_least : SettledData → Bool
 names_least (shown certificate) = true
-names_least (left_open begin end hull) = true
+names_least (left_open begin end hull covers) = true
 names_least settled = false
 
 -- an answer for a person that names the least bound, or that needs none; there is none if it needs
@@ -118,8 +118,8 @@ IsSettledOf e (refuted refutation) = IsContestedOf true refutation e
 IsSettledOf e (fitted_by_none conflicts) =
     IsFittedByNone e.claim e.collection.exchanges conflicts
 IsSettledOf e (no_evidence groups) = IsUnheard e.claim e.collection.exchanges groups
-IsSettledOf e (left_open begin end hull) =
-    IsLeftOpen e.claim e.collection.exchanges begin end hull
+IsSettledOf e (left_open begin end hull covers) =
+    IsLeftOpen e.claim e.collection.exchanges begin end hull covers
 
 -- ---- what it shows of bytes
 

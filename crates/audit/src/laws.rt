@@ -161,6 +161,7 @@ pub fn yes_shows_the_headline()
     what_is_read_is_a_capture();
     records_are_frames();
     exchanges_are_in_the_frames();
+    exchanges_keep_their_limits();
     verdicts_are_traceable();
     yes_is_acceptance();
     pieces_hold_every_reading();

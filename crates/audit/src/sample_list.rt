@@ -2,7 +2,7 @@
 
 ghost use Rattle.std.specs.Prelude.{◌≡◌, ◌≤◌, length};
 ghost use Rattle.claim_file.specs.Claim.{data_of};
-ghost use Rattle.finder.specs.Samples.{AreSamplesOf};
+ghost use Rattle.checker.specs.Samples.{AreSamplesOf};
 ghost use Rattle.audit.specs.Evidence.{IsLawfulEvidence, evidence_data, samples_in};
 
 use crate::evidence::Evidence;

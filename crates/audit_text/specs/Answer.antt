@@ -1,5 +1,5 @@
 -- What `settle`, `find` and `refute` say to a person: one line a fact.
-use Rattle.std.specs.Prelude.{ℕ, ℤ, Option, List, [], ◌∷◌, ◌++◌, codes}
+use Rattle.std.specs.Prelude.{ℕ, ℤ, Option, List, [], ◌∷◌, ◌++◌, codes, if◌then◌else◌, nat_lt}
 use Rattle.line_writer.specs.Field.{line_of, Word, Named}
 use Rattle.line_writer.specs.declared.field.Style.TheVariants.{Human}
 use Rattle.certificate.specs.Refutation.{RefutationData}
@@ -37,8 +37,13 @@ refutation_answer answer claim refutation =
 unfoldable pub evidence_answer : ClaimData → List Exchange → ℕ → List ℕ
 evidence_answer claim xs groups = evidence_text Human claim groups ++ silent_lines claim xs
 
--- the claim stays open: where, and how much wider the least bound is
-unfoldable pub open_answer : ClaimData → ℤ → ℤ → Hull → Option ℕ → List ℕ
-open_answer claim begin end hull least_ns =
+-- how many minimal covers were looked at, if there may be others
+unfoldable pub covers_line : ℕ → List ℕ
+covers_line covers = if nat_lt covers 64 then [] else line_of Human
+    (Named (codes "covers") covers ∷ Word (codes "looked at, there may be others") ∷ [])
+
+-- the claim stays open: where, how much wider the least bound is, and whether covers were left out
+unfoldable pub open_answer : ClaimData → ℤ → ℤ → Hull → ℕ → Option ℕ → List ℕ
+open_answer claim begin end hull covers least_ns =
     open_text Human begin end hull ++ claimed_line claim.bound_ns ++ carried_line least_ns ++
-    wider_line claim.bound_ns least_ns
+    wider_line claim.bound_ns least_ns ++ covers_line covers

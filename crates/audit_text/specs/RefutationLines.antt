@@ -1,5 +1,5 @@
 -- What a refutation says, for a person: its error and when, how that stands to the claim's bound,
--- and which servers would be wrong.
+-- and which servers it takes for false.
 use Rattle.std.specs.Prelude.{ℕ, ℤ, pos, List, [], ◌∷◌, ◌++◌, codes, Option, Some, None, flat_map, slice_get, if◌then◌else◌}
 use Rattle.line_writer.specs.Field.{line_of, Word, Named, Nanoseconds, TimeBelow, Address}
 use Rattle.line_writer.specs.declared.field.Style.TheVariants.{Human}
@@ -22,11 +22,11 @@ excess_line bound_ns error =
     Word (codes "beyond the bound by") ∷ Nanoseconds (excess bound_ns error) ∷ [])
     else line_of Human (Word (codes "not beyond the bound") ∷ [])
 
--- a server that would be wrong, by its address, or by its number if the claim has no such server
+-- a server that is taken for false, by its address, or by its number if the claim hasn't it
 unfoldable pub wrong_line : ℕ → Option (List ℕ) → List ℕ
-wrong_line number (Some address) = line_of Human (Word (codes "wrong") ∷ Address address ∷ [])
+wrong_line number (Some address) = line_of Human (Word (codes "if wrong") ∷ Address address ∷ [])
 wrong_line number None = line_of Human (
-    Named (codes "wrong server") number ∷ Word (codes "not in the claim") ∷ [])
+    Named (codes "if wrong server") number ∷ Word (codes "not in the claim") ∷ [])
 
 -- the line of the server with this number
 abbrev pub liar_line : ClaimData → ℕ → List ℕ
@@ -34,7 +34,7 @@ liar_line claim number = wrong_line number (slice_get claim.servers number)
 
 -- each of them, or that there is none
 unfoldable pub liar_lines : ClaimData → List ℕ → List ℕ
-liar_lines claim [] = line_of Human (Word (codes "wrong none") ∷ [])
+liar_lines claim [] = line_of Human (Word (codes "if wrong none") ∷ [])
 liar_lines claim (liar ∷ liars) = flat_map (liar_line claim) (liar ∷ liars)
 
 -- all of it

@@ -45,8 +45,8 @@ fn add_excess(text: &mut Vec<u8>, bound_ns: u64, error: i64) -> Result<(), Alloc
     }
 }
 
-/// Adds the line of a server that would be wrong, by its address, or by its number if the claim has
-/// no such server.
+/// Adds the line of a server that is taken for false, by its address, or by its number if the claim
+/// has no such server.
 #[tactic(auto, unfolding(crate::specs::RefutationLines::wrong_line))]
 fn add_liar(text: &mut Vec<u8>, claim: &Claim, number: u8) -> Result<(), AllocError>
     ensures { IfOk result (λ _. text.new.items ≡
@@ -54,12 +54,12 @@ fn add_liar(text: &mut Vec<u8>, claim: &Claim, number: u8) -> Result<(), AllocEr
 {
     match claim.servers.get(usize::from(number)) {
         Some(address) => {
-            let fields = [Field::Word("wrong"), Field::Address(*address)];
+            let fields = [Field::Word("if wrong"), Field::Address(*address)];
             add_line(text, Style::Human, &fields)
         }
         None => {
             let fields = [
-                Field::Named("wrong server", u64::from(number)),
+                Field::Named("if wrong server", u64::from(number)),
                 Field::Word("not in the claim"),
             ];
             add_line(text, Style::Human, &fields)
@@ -78,20 +78,20 @@ fn add_each(text: &mut Vec<u8>, claim: &Claim, liars: &[u8]) -> Result<(), Alloc
     Ok(())
 }
 
-/// Adds the line of each server that would be wrong, or that there is none.
+/// Adds the line of each server that is taken for false, or that there is none.
 #[tactic(auto, unfolding(crate::specs::RefutationLines::liar_lines))]
 fn add_liars(text: &mut Vec<u8>, claim: &Claim, liars: &[u8]) -> Result<(), AllocError>
     ensures { IfOk result (λ _. text.new.items ≡
         text.old.items ++ liar_lines (data_of claim.now) liars.now) }
 {
     match liars {
-        [] => add_line(text, Style::Human, &[Field::Word("wrong none")]),
+        [] => add_line(text, Style::Human, &[Field::Word("if wrong none")]),
         _ => add_each(text, claim, liars),
     }
 }
 
 /// Adds what a refutation says: its error and when, how that stands to the claim's bound, and which
-/// servers would be wrong.
+/// servers it takes for false.
 #[tactic(auto, unfolding(crate::specs::RefutationLines::refutation_lines))]
 pub(crate) fn add_refutation(
     text: &mut Vec<u8>,

@@ -1,5 +1,5 @@
 -- Courses that fit.
-use Rattle.std.proofs.Common.{◌≡◌, ℕ, zero, suc, ◌+◌, ◌<◌, ℤ, pos, ◌-ℤ◌, ◌+ℤ◌, ◌*ℤ◌, ◌≤ℤ◌, unsigned_abs, Bool, true, false, ◌&&◌, ◌⊎◌, inl, inr, ⊎_elim, List, [], ◌∷◌, length, Some, count_by, refl, sym, ap, ◌∙◌, subst, arith}
+use Rattle.std.proofs.Common.{◌≡◌, ℕ, zero, suc, ◌+◌, ◌-◌, ◌<◌, ℤ, pos, ◌-ℤ◌, ◌+ℤ◌, ◌*ℤ◌, ◌≤ℤ◌, unsigned_abs, Bool, true, false, ◌&&◌, ◌⊎◌, inl, inr, ⊎_elim, List, [], ◌∷◌, length, Some, count_by, refl, sym, ap, ◌∙◌, subst, arith}
 use Rattle.std.specs.Prelude.{slice_get, slice_index, ◌==◌}
 use Rattle.std.specs.List.{list_any}
 use Rattle.std.proofs.lemmas.Int.{ints}
@@ -7,14 +7,15 @@ use Rattle.std.proofs.lemmas.List.Sums.{sum_by-cons}
 use Rattle.claim_file.specs.Claim.{ClaimData, IsLawful}
 use Rattle.pairing.specs.declared.exchange.Exchange.{Exchange}
 use Rattle.sample_interval.specs.Moment.{Moment, error_of, error_change, DriftsWithin, IsInWindow, IsWithinDistance}
-use Rattle.checker.specs.Course.{Fits, IsClientMoment, ReadsInWindows, KeepsRootDistance}
+use Rattle.checker.specs.Course.{Fits, FitsInWindows, IsClientMoment, OfEach, ReadsInWindows, KeepsRootDistance}
+use Rattle.checker.specs.Course.{LeavesAfterStamp, ArrivesBeforeStamp}
 use Rattle.checker.specs.Groups.{holds_false, false_group_count}
 use Rattle.span_cover.specs.Group.{numbers_below}
 use Rattle.checker.specs.PieceFit.{OfEachEntry, FitsPiece}
 use Rattle.checker.specs.Traceability.{IsTraceable}
 use Rattle.checker.proofs.PieceFit.{few_from_count}
 use Rattle.claim_file.specs.Worked.{worked_second, worked_claim}
-use Rattle.checker.specs.WorkedCourse.{worked_exchange, moment_with, served_course, slow_reply, slow_course, slow_claim, earlier_exchange, stepped_course, lone_course}
+use Rattle.checker.specs.WorkedCourse.{worked_exchange, moment_with, served_course, slow_reply, slow_course, slow_claim, stamped_course, earlier_exchange, stepped_course, lone_course}
 
 -- ---- no false server
 
@@ -82,19 +83,78 @@ module _ (error reply_reading served : ℤ) where
       → reply_reading ≤ℤ pos (worked_second + 85903641)
       → pos (worked_second + 42949672) ≤ℤ served → served ≤ℤ pos (worked_second + 42949674)
       → (pos worked_second -ℤ error) ≤ℤ served → served ≤ℤ (reply_reading -ℤ error)
-      → Fits worked_claim (worked_exchange ∷ []) (served_course error reply_reading served)
-  worked_fits from to no_sooner no_later sent_before arrived_after = record {
+      → FitsInWindows worked_claim (worked_exchange ∷ []) (served_course error reply_reading served)
+  worked_fits from to no_sooner no_later sent_before arrived_after =
+      let windows : OfEach (worked_exchange ∷ [])
+      (ReadsInWindows (pos 0) (served_course error reply_reading served)) =
+      λ k x at. subst (λ (y : Exchange). ReadsInWindows (pos 0) (served_course error reply_reading served) k y)
+      (only_one k x at) (in_its_windows from to) in
+      record {
+        fits = record {
+          some_fineness = omega arith;
+          few_false = rw (no_false_group (0 ∷ [])) (omega arith);
+          leaves_after_stamp = λ k x at. (windows k x at).0.0;
+          arrives_before_stamp = λ k x at. (windows k x at).1.1;
+          drift = λ a b at_a at_b. one_error 0 a b error (client_error 1 a at_a) (client_error 1 b at_b);
+          ordered = λ k x at true'. (sent_before, omega (arith, ints), arrived_after);
+          within_root_distance = λ k x at true'.
+              subst (λ (y : Exchange). KeepsRootDistance (served_course error reply_reading served) k y)
+              (only_one k x at) (keeps_its_distance no_sooner no_later);
+        };
+        in_windows = windows;
+      }
+
+-- ---- stamps that are early or late
+
+module _ (allowance error left arrived served : ℤ) where
+  stamped_error : (count : ℕ) (m : Moment) → IsClientMoment (stamped_course error left arrived served) count m
+      → error_of m ≡ error
+  stamped_error count m = ⊎_elim
+      (λ e. ap error_of e ∙ reads_back error (pos worked_second))
+      (λ found. ⊎_elim
+      (λ e. ap error_of e ∙ reads_back error left)
+      (λ e. ap error_of e ∙ reads_back error arrived) found.2)
+
+  pub stamped_fits : (pos worked_second -ℤ allowance) ≤ℤ left
+      → arrived ≤ℤ (pos (worked_second + 85903641) +ℤ allowance)
+      → pos (worked_second + 42949672) ≤ℤ served → served ≤ℤ pos (worked_second + 42949674)
+      → (left -ℤ error) ≤ℤ served → served ≤ℤ (arrived -ℤ error)
+      → Fits (record worked_claim { reading = allowance }) (worked_exchange ∷ [])
+      (stamped_course error left arrived served)
+  stamped_fits after before no_sooner no_later sent_before arrived_after = record {
     some_fineness = omega arith;
     few_false = rw (no_false_group (0 ∷ [])) (omega arith);
-    in_windows = λ k x at.
-        subst (λ (y : Exchange). ReadsInWindows (pos 0) (served_course error reply_reading served) k y)
-        (only_one k x at) (in_its_windows from to);
-    drift = λ a b at_a at_b. one_error 0 a b error (client_error 1 a at_a) (client_error 1 b at_b);
+    leaves_after_stamp = λ k x at.
+        subst (λ (y : Exchange). LeavesAfterStamp allowance (stamped_course error left arrived served) k y)
+        (only_one error arrived served k x at) (omega (arith, ints, after));
+    arrives_before_stamp = λ k x at.
+        subst (λ (y : Exchange). ArrivesBeforeStamp allowance (stamped_course error left arrived served) k y)
+        (only_one error arrived served k x at) (omega (arith, ints, before));
+    drift = λ a b at_a at_b. one_error 0 a b error (stamped_error 1 a at_a) (stamped_error 1 b at_b);
     ordered = λ k x at true'. (sent_before, omega (arith, ints), arrived_after);
     within_root_distance = λ k x at true'.
-        subst (λ (y : Exchange). KeepsRootDistance (served_course error reply_reading served) k y) (only_one k x at)
-        (keeps_its_distance no_sooner no_later);
+        subst (λ (y : Exchange). KeepsRootDistance (stamped_course error left arrived served) k y)
+        (only_one error arrived served k x at) (keeps_its_distance error arrived served no_sooner no_later);
   }
+
+pub stamped_out_of_windows : FitsInWindows worked_claim (worked_exchange ∷ [])
+    (stamped_course (pos 0) (pos (worked_second + 21474836)) (pos (worked_second + 60129542))
+    (pos (worked_second + 42949673))) → ⊥
+stamped_out_of_windows narrow =
+    let window = (narrow.in_windows 0 worked_exchange refl).0.1 in
+    omega (arith, ints, window)
+
+pub late_at_request : (error reply served : ℤ) → FitsPiece worked_claim (worked_exchange ∷ []) ((0, 0) ∷ [])
+    (stamped_course error (pos (worked_second - 1)) reply served) → ⊥
+late_at_request error reply served fits =
+    let after = fits.leaves_after_stamp 0 0 0 worked_exchange worked_exchange refl refl refl in
+    omega (arith, ints, after)
+
+pub early_at_reply : (error request served : ℤ) → FitsPiece worked_claim (worked_exchange ∷ []) ((0, 0) ∷ [])
+    (stamped_course error request (pos (worked_second + 85903642)) served) → ⊥
+early_at_reply error request served fits =
+    let before = fits.arrives_before_stamp 0 0 0 worked_exchange worked_exchange refl refl refl in
+    omega (arith, ints, before)
 
 -- ---- the slow clock
 
@@ -109,22 +169,27 @@ slow_drift a b (inl p) (inr q) = rw (p, q) (omega (arith, ints))
 slow_drift a b (inr p) (inl q) = rw (p, q) (omega (arith, ints))
 slow_drift a b (inr p) (inr q) = rw (p, q) (omega (arith, ints))
 
-pub slow_fits : Fits slow_claim (worked_exchange ∷ []) slow_course
+pub slow_fits : FitsInWindows slow_claim (worked_exchange ∷ []) slow_course
 slow_fits =
     let error = pos 0 in
     let reading = pos (worked_second + 85899345) in
     let served = pos (worked_second + 42949673) in
+    let windows : OfEach (worked_exchange ∷ []) (ReadsInWindows (pos 0) slow_course) =
+    λ k x at. subst (λ (y : Exchange). ReadsInWindows (pos 0) slow_course k y) (only_one error reading served k x at)
+    (in_its_windows error reading served (omega (arith, ints)) (omega (arith, ints))) in
     record {
-      some_fineness = omega arith;
-      few_false = rw (no_false_group (0 ∷ [])) (omega arith);
-      in_windows = λ k x at.
-          subst (λ (y : Exchange). ReadsInWindows (pos 0) slow_course k y) (only_one error reading served k x at)
-          (in_its_windows error reading served (omega (arith, ints)) (omega (arith, ints)));
-      drift = λ a b at_a at_b. slow_drift a b (slow_moment 1 a at_a) (slow_moment 1 b at_b);
-      ordered = λ k x at true'. (omega (arith, ints), omega (arith, ints), omega (arith, ints));
-      within_root_distance = λ k x at true'.
-          subst (λ (y : Exchange). KeepsRootDistance slow_course k y) (only_one error reading served k x at)
-          (keeps_its_distance error reading served (omega (arith, ints)) (omega (arith, ints)));
+      fits = record {
+        some_fineness = omega arith;
+        few_false = rw (no_false_group (0 ∷ [])) (omega arith);
+        leaves_after_stamp = λ k x at. (windows k x at).0.0;
+        arrives_before_stamp = λ k x at. (windows k x at).1.1;
+        drift = λ a b at_a at_b. slow_drift a b (slow_moment 1 a at_a) (slow_moment 1 b at_b);
+        ordered = λ k x at true'. (omega (arith, ints), omega (arith, ints), omega (arith, ints));
+        within_root_distance = λ k x at true'.
+            subst (λ (y : Exchange). KeepsRootDistance slow_course k y) (only_one error reading served k x at)
+            (keeps_its_distance error reading served (omega (arith, ints)) (omega (arith, ints)));
+      };
+      in_windows = windows;
     }
 
 -- ---- the clock that is stepped
@@ -176,10 +241,10 @@ stepped_fits =
       few_false = few_from_count worked_claim (earlier_exchange ∷ worked_exchange ∷ []) ((1, 1) ∷ []) stepped_course
           stepped_course.is_false (rw (no_false_group (0 ∷ [])) (omega arith))
           (λ j a b x y named at_a at_b false'. false');
-      in_windows = of_worked
-          (λ a x b y. IsInWindow 1 (x.t1_low -ℤ pos 0) (x.t1_high +ℤ pos 0) (stepped_course.request a).reading
-          × IsInWindow 1 (y.t4_low -ℤ pos 0) (y.t4_high +ℤ pos 0) (stepped_course.reply b).reading)
-          ((omega (arith, ints), omega (arith, ints)), (omega (arith, ints), omega (arith, ints)));
+      leaves_after_stamp = of_worked
+          (λ a x b y. ((x.t1_low -ℤ pos 0) *ℤ pos 1) ≤ℤ (stepped_course.request a).reading) (omega (arith, ints));
+      arrives_before_stamp = of_worked
+          (λ a x b y. (stepped_course.reply b).reading ≤ℤ ((y.t4_high +ℤ pos 0) *ℤ pos 1)) (omega (arith, ints));
       drift = of_worked
           (λ a x b y. DriftsWithin 0 (stepped_course.request a) stepped_course.observation
           × DriftsWithin 0 (stepped_course.reply b) stepped_course.observation) (
@@ -212,15 +277,19 @@ lone_moment : (n : ℕ) (observation m : Moment) → IsClientMoment (lone_course
 lone_moment n observation m = ⊎_elim (λ e. e) (λ found. absurd (let below = found.1 in omega arith))
 
 pub lone_fits : (claim : ClaimData) (n : ℕ) (observation : Moment) → 0 < n
-    → Fits claim [] (lone_course n observation)
+    → FitsInWindows claim [] (lone_course n observation)
 lone_fits claim n observation some = record {
-  some_fineness = some;
-  few_false = rw (no_false_group claim.groups) (omega arith);
+  fits = record {
+    some_fineness = some;
+    few_false = rw (no_false_group claim.groups) (omega arith);
+    leaves_after_stamp = λ k x at. absurd cc;
+    arrives_before_stamp = λ k x at. absurd cc;
+    drift = λ a b at_a at_b. one_error claim.drift_ppb a b (error_of observation)
+        (ap error_of (lone_moment n observation a at_a)) (ap error_of (lone_moment n observation b at_b));
+    ordered = λ k x at true'. absurd cc;
+    within_root_distance = λ k x at true'. absurd cc;
+  };
   in_windows = λ k x at. absurd cc;
-  drift = λ a b at_a at_b. one_error claim.drift_ppb a b (error_of observation)
-      (ap error_of (lone_moment n observation a at_a)) (ap error_of (lone_moment n observation b at_b));
-  ordered = λ k x at true'. absurd cc;
-  within_root_distance = λ k x at true'. absurd cc;
 }
 
 -- a span holds its first reading
@@ -237,5 +306,5 @@ pub untraceable : (claim : ClaimData) → IsLawful claim → IsTraceable claim [
 untraceable claim lawful traceable =
     let observation = moment_with (claim.bound +ℤ pos 1) claim.first in
     too_far claim.bound claim.first lawful.bound_not_negative
-    (traceable [] (lone_course 1 observation) refl (lone_fits claim 1 observation (omega arith))
+    (traceable [] (lone_course 1 observation) refl (lone_fits claim 1 observation (omega arith)).fits
     (at_first claim.first claim.last lawful.span_forward))

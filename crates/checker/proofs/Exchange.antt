@@ -1,5 +1,5 @@
 -- The limits of exchanges, one by one and of their samples.
-use Rattle.std.proofs.Common.{◌≡◌, ℕ, ◌<◌, ℤ, List, map, Some, sym, ◌∙◌, ap, subst}
+use Rattle.std.proofs.Common.{◌≡◌, ℕ, ◌<◌, ℤ, List, length, map, Some, sym, ◌∙◌, ap, subst}
 use Rattle.std.specs.Prelude.{All, slice_get}
 use Rattle.std.proofs.lemmas.Option.{get_or_from_slice_get, slice_get_within}
 use Rattle.std.proofs.lemmas.List.{get_or-map, length-map}
@@ -9,6 +9,7 @@ use Rattle.pairing.specs.Exchange.{IsLawful as IsLawfulExchange}
 use Rattle.pairing.specs.declared.exchange.Exchange.{Exchange}
 use Rattle.sample_interval.specs.Sample.{sample_of, IsLawfulSample}
 use Rattle.sample_interval.proofs.ExchangeSample as sample
+use Rattle.checker.specs.Samples.{AreSamplesOf}
 use Rattle.checker.specs.Traceability.{samples_of}
 
 -- what the element at a place shows is lawful, if all that is shown is
@@ -32,6 +33,14 @@ pub lawful_samples : (xs : List Exchange) (claim : ClaimData) (servers : ℕ) �
     All (IsLawfulExchange servers) xs → All IsLawfulSample (samples_of xs claim)
 lawful_samples xs claim servers lawful each =
     sample.lawful_samples servers xs claim.reading each lawful.reading_not_negative lawful.reading_in_range
+
+-- so they are those of the claim
+pub are_samples : (xs : List Exchange) (claim : ClaimData) → IsLawful claim →
+    All (IsLawfulExchange (length claim.servers)) xs → AreSamplesOf claim (samples_of xs claim)
+are_samples xs claim lawful each = record {
+  lawful = lawful_samples xs claim (length claim.servers) lawful each;
+  listed = listed_samples xs claim (length claim.servers) each;
+}
 
 -- they are those with an allowance that is the claim's
 pub same_samples : (xs : List Exchange) (claim : ClaimData) (reading : ℤ) → reading ≡ claim.reading →

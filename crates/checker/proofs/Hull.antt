@@ -10,9 +10,10 @@ use Rattle.intersection.specs.declared.kinds.Interval.{Interval}
 use Rattle.intersection.specs.declared.kinds.Hull.{Hull}
 use Rattle.pairing.specs.declared.exchange.Exchange.{Exchange}
 use Rattle.sample_interval.specs.Moment.{Moment, error_of, DriftsWithin, DriftsWithinByReading, IsInWindow, IsWithinDistance}
-use Rattle.sample_interval.specs.Sample.{sample_of, least_error, greatest_error}
-use Rattle.sample_interval.specs.Widening.{billion}
-use Rattle.sample_interval.specs.Window.{request_start, request_end, reply_start, reply_end}
+use Rattle.sample_interval.specs.Moment.{IsOffAtLeast, IsOffAtMost}
+use Rattle.sample_interval.specs.Sample.{sample_of, least_error, greatest_error, IsLawfulSample}
+use Rattle.sample_interval.specs.Widening.{IsRate, billion}
+use Rattle.sample_interval.specs.Window.{request_start, reply_end}
 use Rattle.sample_interval.specs.declared.kinds.Sample.{Sample}
 use Rattle.span_cover.specs.Piece.{piece_interval_of}
 use Rattle.checker.specs.Acceptance.{IsSaidBy, AreSaidBy}
@@ -21,6 +22,7 @@ use Rattle.checker.specs.Course.{Course, Fits}
 use Rattle.checker.specs.Groups.{false_group_count}
 use Rattle.span_cover.specs.Group.{group_intervals, piece_hull}
 use Rattle.checker.specs.PieceFit.{FitsPiece}
+use Rattle.checker.specs.Samples.{AreSamplesOf}
 use Rattle.checker.specs.Traceability.{samples_of, IsObservedIn, IsInHull, HoldsError, HoldsErrorOfPiece}
 use Rattle.span_cover.specs.declared.part.Part.{Part}
 use Rattle.span_cover.specs.declared.stretch.Stretch.{Stretch}
@@ -32,25 +34,23 @@ use Rattle.checker.proofs.EntryStatement.{zip_all}
 -- the law on the error throughout a piece
 abbrev pub PieceLaw : Type 0
 PieceLaw =
-    (n ppb : ℕ) (low high : Sample) (p q : ℤ) (request reply observed : Moment) → ppb < billion
-    → IsInWindow n p q observed.reading
-    → IsInWindow n low.low_from low.low_to request.reading
-    → (low.low *ℤ pos n) ≤ℤ error_of request → DriftsWithinByReading ppb request observed
-    → IsInWindow n high.high_from high.high_to reply.reading
-    → error_of reply ≤ℤ (high.high *ℤ pos n) → DriftsWithinByReading ppb reply observed
+    (n ppb : ℕ) (low high : Sample) (p q : ℤ) (request reply observed : Moment) → IsRate ppb
+    → low.low_from ≤ℤ low.low_to → high.high_from ≤ℤ high.high_to → IsInWindow n p q observed.reading
+    → (low.low_from *ℤ pos n) ≤ℤ request.reading
+    → IsOffAtLeast n low.low low.low_from request → DriftsWithinByReading ppb request observed
+    → reply.reading ≤ℤ (high.high_to *ℤ pos n)
+    → IsOffAtMost n high.high high.high_to reply → DriftsWithinByReading ppb reply observed
     → HoldsFraction (piece_interval_of low high p q ppb) (error_of observed) n
 
 -- the laws of the layers below that the argument stands on
 pub record Laws : Type 0 where
   pub drift : (ppb : ℕ) (a b : Moment) → ppb ≤ billion → DriftsWithin ppb a b → DriftsWithinByReading ppb a b
   pub request : (x : Exchange) (allowance : ℤ) (n : ℕ) (request : Moment) (received : ℤ)
-      → IsInWindow n (request_start x allowance) (request_end x allowance) request.reading
       → request.time ≤ℤ received → IsWithinDistance n x.t2 x.distance received
-      → (least_error x allowance *ℤ pos n) ≤ℤ error_of request
+      → IsOffAtLeast n (least_error x allowance) (request_start x allowance) request
   pub reply : (x : Exchange) (allowance : ℤ) (n : ℕ) (reply : Moment) (sent : ℤ)
-      → IsInWindow n (reply_start x allowance) (reply_end x allowance) reply.reading
       → sent ≤ℤ reply.time → IsWithinDistance n x.t3 x.distance sent
-      → error_of reply ≤ℤ (greatest_error x allowance *ℤ pos n)
+      → IsOffAtMost n (greatest_error x allowance) (reply_end x allowance) reply
   pub piece : PieceLaw
   pub fine : (list : List Interval) (f : ℕ) (hull : Hull) (e : ℤ) (n : ℕ) → 0 < n
       → IsAdmissibleFraction list f e n → IsHull list f hull → HullHoldsFraction hull e n
@@ -80,7 +80,7 @@ module _ (xs : List Exchange) (claim : ClaimData) (samples : List Sample) where
 -- ---- one course
 
 module _ (laws : Laws) (claim : ClaimData) (samples : List Sample) (lawful : IsLawful claim) (xs : List Exchange)
-    (course : Course) (made : samples ≡ samples_of xs claim) where
+    (course : Course) (made : samples ≡ samples_of xs claim) (are : AreSamplesOf claim samples) where
   -- the error when the clock is observed
   abbrev error : ℤ
   error = error_of course.observation
@@ -95,6 +95,13 @@ module _ (laws : Laws) (claim : ClaimData) (samples : List Sample) (lawful : IsL
       let rate = lawful.drift_in_range in
       laws.drift claim.drift_ppb moment course.observation (omega arith) drifts
 
+  -- the sample of an exchange that one is made of keeps its limits
+  made_lawful : (k : ℕ) (sample : Sample) (at : slice_get samples k ≡ Some sample)
+      → IsLawfulSample (sample_of (made_of xs claim samples k sample made at).exchange claim.reading)
+  made_lawful k sample at =
+      subst IsLawfulSample (sym (made_of xs claim samples k sample made at).is)
+      (All-slice_get IsLawfulSample samples k sample are.lawful at)
+
   -- a part's server is that of the exchange for its low end
   server_of : (stretch : Stretch) (entry : ℕ × ℕ) (part : Part)
       (said : IsSaidBy samples stretch claim.drift_ppb entry part)
@@ -108,22 +115,23 @@ module _ (laws : Laws) (claim : ClaimData) (samples : List Sample) (lawful : IsL
     -- the interval of two exchanges with a server that isn't false
     exchanges_hold : (j a b : ℕ) (x y : Exchange) → slice_get entries j ≡ Some (a, b) → slice_get xs a ≡ Some x
         → slice_get xs b ≡ Some y → course.is_false x.server ≡ false → course.is_false y.server ≡ false
+        → IsLawfulSample (sample_of x claim.reading) → IsLawfulSample (sample_of y claim.reading)
         → HoldsFraction
         (piece_interval_of (sample_of x claim.reading) (sample_of y claim.reading) stretch.begin stretch.end
         claim.drift_ppb)
         error course.fineness
-    exchanges_hold j a b x y named at_a at_b true_x true_y =
+    exchanges_hold j a b x y named at_a at_b true_x true_y lawful_x lawful_y =
         let rate = lawful.drift_in_range in
-        let windows = fits.in_windows j a b x y named at_a at_b in
         let drifts = fits.drift j a b x y named at_a at_b in
         let order = fits.ordered j a b x y named at_a at_b true_x true_y in
         let near = fits.within_root_distance j a b x y named at_a at_b true_x true_y in
         laws.piece course.fineness claim.drift_ppb (sample_of x claim.reading) (sample_of y claim.reading)
-        stretch.begin stretch.end (course.request a) (course.reply b) course.observation (omega arith) observed
-        windows.0
-        (laws.request x claim.reading course.fineness (course.request a) (course.received a) windows.0 order.0 near.0)
-        (by_reading (course.request a) drifts.0) windows.1
-        (laws.reply y claim.reading course.fineness (course.reply b) (course.sent b) windows.1 order.1 near.1)
+        stretch.begin stretch.end (course.request a) (course.reply b) course.observation (omega arith)
+        lawful_x.low_window_in_order lawful_y.high_window_in_order observed
+        (fits.leaves_after_stamp j a b x y named at_a at_b)
+        (laws.request x claim.reading course.fineness (course.request a) (course.received a) order.0 near.0)
+        (by_reading (course.request a) drifts.0) (fits.arrives_before_stamp j a b x y named at_a at_b)
+        (laws.reply y claim.reading course.fineness (course.reply b) (course.sent b) order.1 near.1)
         (by_reading (course.reply b) drifts.1)
 
     -- what an entry says holds the error, if its server isn't false
@@ -139,7 +147,8 @@ module _ (laws : Laws) (claim : ClaimData) (samples : List Sample) (lawful : IsL
         let true_y : course.is_false y.server ≡ false =
         ap (λ (s : Sample). course.is_false s.server) second.is ∙ ap course.is_false (sym said.one_server)
         ∙ ap (λ (s : Sample). course.is_false s.server) (sym first.is) ∙ true_x in
-        let holds = exchanges_hold j entry.0 entry.1 x y named first.at second.at true_x true_y in
+        let holds = exchanges_hold j entry.0 entry.1 x y named first.at second.at true_x true_y
+        (made_lawful entry.0 said.low said.low_is) (made_lawful entry.1 said.high said.high_is) in
         let at_first : (s : Sample) → Type 0 = λ s. HoldsFraction
         (piece_interval_of s (sample_of y claim.reading) stretch.begin stretch.end claim.drift_ppb)
         error course.fineness in
@@ -184,10 +193,9 @@ module _ (laws : Laws) (claim : ClaimData) (samples : List Sample) (lawful : IsL
   -- ---- the hull
 
   listed_at : (stretch : Stretch) (entry : ℕ × ℕ) (part : Part)
-      → All (λ sample. sample.server < length claim.servers) samples
       → IsSaidBy samples stretch claim.drift_ppb entry part → part.server < length claim.groups
-  listed_at stretch entry part listed said =
-      let low = All-slice_get (λ (s : Sample). s.server < length claim.servers) samples entry.0 said.low listed
+  listed_at stretch entry part said =
+      let low = All-slice_get (λ (s : Sample). s.server < length claim.servers) samples entry.0 said.low are.listed
       said.low_is in
       let same = ap (λ (p : Part). p.server) said.is in
       let count = lawful.group_for_each in
@@ -206,40 +214,38 @@ module _ (laws : Laws) (claim : ClaimData) (samples : List Sample) (lawful : IsL
       (laws.hull list claim.false_max)
 
   pub holds_of_piece : (entries : List (ℕ × ℕ)) (parts : List Part) (stretch : Stretch)
-      → All (λ sample. sample.server < length claim.servers) samples → FitsPiece claim xs entries course
-      → IsObservedIn course stretch.begin stretch.end → AreSaidBy samples stretch claim.drift_ppb entries parts
+      → FitsPiece claim xs entries course → IsObservedIn course stretch.begin stretch.end
+      → AreSaidBy samples stretch claim.drift_ppb entries parts
       → IsInHull course (piece_hull claim.groups claim.false_max parts)
-  holds_of_piece entries parts stretch listed fits observed said =
+  holds_of_piece entries parts stretch fits observed said =
       let used : ℕ → Bool = counts_as_false claim xs entries course fits.few_false in
       hull_of_parts used parts fits.some_fineness (count_from_few claim xs entries course fits.few_false)
       (zip_all (IsSaidBy samples stretch claim.drift_ppb) (λ part. part.server < length claim.groups) entries parts said
-      (λ j entry part named is. listed_at stretch entry part listed is))
+      (λ j entry part named is. listed_at stretch entry part is))
       (zip_all (IsSaidBy samples stretch claim.drift_ppb) (λ part. used part.server ≡ false → Holds part) entries parts
       said
       (λ j entry part named is unused. entry_holds entries fits stretch observed j entry part named is
-      (entry_is_true entries fits stretch observed j entry part named is (listed_at stretch entry part listed is)
-      unused)))
+      (entry_is_true entries fits stretch observed j entry part named is (listed_at stretch entry part is) unused)))
 
-  pub holds_of_capture : (parts : List Part) (stretch : Stretch)
-      → All (λ sample. sample.server < length claim.servers) samples → Fits claim xs course
+  pub holds_of_capture : (parts : List Part) (stretch : Stretch) → Fits claim xs course
       → IsObservedIn course stretch.begin stretch.end → All (IsOfSamples samples stretch claim.drift_ppb) parts
       → IsInHull course (piece_hull claim.groups claim.false_max parts)
-  holds_of_capture parts stretch listed fits observed of_samples =
+  holds_of_capture parts stretch fits observed of_samples =
       hull_of_parts course.is_false parts fits.some_fineness fits.few_false
-      (λ k d below. listed_at stretch _ _ listed (said_of stretch _ (of_samples k d below)))
+      (λ k d below. listed_at stretch _ _ (said_of stretch _ (of_samples k d below)))
       (λ k d below. lone_holds fits stretch observed _ (of_samples k d below))
 
 -- ---- the law
 
 module _ (laws : Laws) (claim : ClaimData) (samples : List Sample) (lawful : IsLawful claim)
-    (listed : All (λ sample. sample.server < length claim.servers) samples) where
+    (are : AreSamplesOf claim samples) where
   pub piece_holds : (stretch : Stretch) (entries : List (ℕ × ℕ)) (parts : List Part)
       → AreSaidBy samples stretch claim.drift_ppb entries parts
       → HoldsErrorOfPiece claim samples entries stretch (piece_hull claim.groups claim.false_max parts)
   piece_holds stretch entries parts said xs course made fits observed =
-      holds_of_piece laws claim samples lawful xs course made entries parts stretch listed fits observed said
+      holds_of_piece laws claim samples lawful xs course made are entries parts stretch fits observed said
 
   pub capture_holds : (stretch : Stretch) (parts : List Part) → All (IsOfSamples samples stretch claim.drift_ppb) parts
       → HoldsError claim samples stretch (piece_hull claim.groups claim.false_max parts)
   capture_holds stretch parts of_samples xs course made fits observed =
-      holds_of_capture laws claim samples lawful xs course made parts stretch listed fits observed of_samples
+      holds_of_capture laws claim samples lawful xs course made are parts stretch fits observed of_samples

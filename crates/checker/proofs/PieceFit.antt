@@ -123,7 +123,8 @@ fits_piece claim xs entries course fits =
       some_fineness = fits.some_fineness;
       few_false = few_from_count claim xs entries course course.is_false fits.few_false
           (λ j a b x y named at_a at_b false'. false');
-      in_windows = λ j a b x y named at_a at_b. ((fits.in_windows a x at_a).0, (fits.in_windows b y at_b).1);
+      leaves_after_stamp = λ j a b x y named at_a at_b. fits.leaves_after_stamp a x at_a;
+      arrives_before_stamp = λ j a b x y named at_a at_b. fits.arrives_before_stamp b y at_b;
       drift = λ j a b x y named at_a at_b. ((drifts_from a x at_a).0, (drifts_from b y at_b).1);
       ordered = λ j a b x y named at_a at_b true_x true_y.
           ((fits.ordered a x at_a true_x).0, (fits.ordered b y at_b true_y).2);

@@ -12,7 +12,7 @@ use Rattle.pairing.specs.Exchange.{IsLawful as IsLawfulExchange, SameRequest}
 use Rattle.pairing.specs.declared.exchange.Exchange.{Exchange}
 use Rattle.sample_interval.specs.Moment.{Moment, error_of, error_change, DriftsWithin, IsInWindow, IsWithinDistance}
 use Rattle.sample_interval.specs.Window.{request_start, reply_end}
-use Rattle.checker.specs.Course.{Course, Fits, IsClientMoment, ReadsInWindows, ComesInOrder, KeepsRootDistance}
+use Rattle.checker.specs.Course.{Course, Fits, FitsInWindows, IsClientMoment, ReadsInWindows, ComesInOrder, KeepsRootDistance}
 use Rattle.checker.specs.Refutation.{is_liar, AdmitsError, Admits, IsRefuted, SharesRequests, HasCourse, SomeCourseFits}
 use Rattle.checker.specs.Traceability.{IsObservedIn, IsTraceable, samples_of}
 use Rattle.checker.specs.WorkedCourse.{moment_with}
@@ -184,14 +184,18 @@ module _ (claim : ClaimData) (xs : List Exchange) (r : RefutationData) where
         rw at (near_stamps (start_of x) (end_of x) x.t2 x.t3 x.distance r.error (room k x at true')
         lawful.distance_not_negative)
 
-    fits : Fits claim xs course
+    fits : FitsInWindows claim xs course
     fits = record {
-      some_fineness = omega arith;
-      few_false = refuted.against.few_false;
+      fits = record {
+        some_fineness = omega arith;
+        few_false = refuted.against.few_false;
+        leaves_after_stamp = λ k x at. (windows k x at).0.0;
+        arrives_before_stamp = λ k x at. (windows k x at).1.1;
+        drift = λ a b at_a at_b. one_error claim.drift_ppb a b r.error (client_error a at_a) (client_error b at_b);
+        ordered = order;
+        within_root_distance = distances;
+      };
       in_windows = windows;
-      drift = λ a b at_a at_b. one_error claim.drift_ppb a b r.error (client_error a at_a) (client_error b at_b);
-      ordered = order;
-      within_root_distance = distances;
     }
 
     shared : AllPairs SameRequest xs → SharesRequests xs course
@@ -225,7 +229,7 @@ module _ (claim : ClaimData) (xs : List Exchange) (r : RefutationData) where
     -- so nothing is traceable to the samples of these exchanges
     pub not_traceable : IsTraceable claim (samples_of xs claim) → ⊥
     not_traceable traceable =
-        let within' = traceable xs course refl fits observed_in_span in
+        let within' = traceable xs course refl fits.fits observed_in_span in
         beyond claim.bound r.error (pos r.reading) refuted.against.beyond_bound within'
 
 -- ---- another bound
@@ -236,18 +240,24 @@ module _ (claim : ClaimData) (bound : ℤ) (bound_ns : ℕ) (xs : List Exchange)
   other_bound course' f = record {
     some_fineness = f.some_fineness;
     few_false = f.few_false;
-    in_windows = f.in_windows;
+    leaves_after_stamp = f.leaves_after_stamp;
+    arrives_before_stamp = f.arrives_before_stamp;
     drift = f.drift;
     ordered = f.ordered;
     within_root_distance = f.within_root_distance;
   }
+
+  pub other_bound_in_windows : (course' : Course)
+      → FitsInWindows (record claim { bound = bound; bound_ns = bound_ns }) xs course' → FitsInWindows claim xs course'
+  other_bound_in_windows course' f =
+      record { fits = other_bound course' f.fits; in_windows = f.in_windows }
 
   pub some_fits_any_bound : (r : RefutationData) → pos 0 ≤ℤ claim.reading → (servers : ℕ)
       → All (IsLawfulExchange servers) xs
       → IsRefuted (record claim { bound = bound; bound_ns = bound_ns }) xs r → SomeCourseFits claim xs
   some_fits_any_bound r some servers each refuted =
       let found = some_fits (record claim { bound = bound; bound_ns = bound_ns }) xs r some servers each refuted in
-      (found.0, other_bound found.0 found.1, found.2)
+      (found.0, other_bound_in_windows found.0 found.1, found.2)
 
 further : (bound narrower error : ℤ) → narrower ≤ℤ bound → bound <ℤ error → narrower <ℤ error
 further bound narrower error p q = omega (arith, ints)

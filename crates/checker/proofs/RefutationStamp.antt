@@ -123,14 +123,13 @@ module _ (claim : ClaimData) (xs : List Exchange) (r : RefutationData) (against 
       let listed = slice_get_within xs k x at in
       let fits = shows.fits in
       let not_false : course.is_false x.server ≡ false = shows.others_true x.server true' in
-      let windows = fits.in_windows k x at in
       let near = fits.within_root_distance k x at not_false in
       room_once w z x.t2 x.t3 x.distance r.error n fits.some_fineness
       (scaled_room (w *ℤ pos n) (z *ℤ pos n) (x.t2 *ℤ pos n) (x.t3 *ℤ pos n) (x.distance *ℤ pos n) (r.error *ℤ pos n)
       (course.request k) (course.reply k) (course.received k) (course.sent k)
       (shows.one_error (course.request k) (inr (k, listed, inl refl)))
       (shows.one_error (course.reply k) (inr (k, listed, inr refl)))
-      windows.0.0 windows.1.1 (fits.ordered k x at not_false) near.0 near.1)
+      (fits.leaves_after_stamp k x at) (fits.arrives_before_stamp k x at) (fits.ordered k x at not_false) near.0 near.1)
 
   pub refuted_by_course : IsRefuted claim xs r
   refuted_by_course = record {
@@ -159,5 +158,5 @@ module _ (claim : ClaimData) (xs : List Exchange) (r : RefutationData) (course :
       let abs : pos (unsigned_abs r.error * n) ≤ℤ (claim.bound *ℤ pos n) =
       rw (error, abs_times r.error n) at within' in
       let scaled : (pos (unsigned_abs r.error) *ℤ pos n) ≡ pos (unsigned_abs r.error * n) = omega (arith, ints) in
-      let near = cancel (pos (unsigned_abs r.error)) claim.bound n of.fits.some_fineness (rw scaled abs) in
+      let near = cancel (pos (unsigned_abs r.error)) claim.bound n of.fits.fits.some_fineness (rw scaled abs) in
       not_both claim.bound (pos (unsigned_abs r.error)) against.beyond_bound near

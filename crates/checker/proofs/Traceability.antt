@@ -17,6 +17,7 @@ use Rattle.checker.specs.Acceptance.{AreSaidBy}
 use Rattle.checker.specs.Course.{Course, Fits}
 use Rattle.span_cover.specs.Group.{piece_hull}
 use Rattle.checker.specs.PieceFit.{FitsPiece}
+use Rattle.checker.specs.Samples.{AreSamplesOf}
 use Rattle.checker.specs.Stretch.{begin_of, last_end, stretch_of, stretches_of}
 use Rattle.checker.specs.Traceability.{IsObservedIn, IsWithin, IsWithinNanoseconds, IsInHull, IsTraceable, IsTraceableByPieces, IsContradicted, HoldsErrorOfPiece, HasHull, IsOfHull, IsRefusedByHull}
 use Rattle.checker.specs.Verdict.{hull_fault, verdict_of}
@@ -55,8 +56,7 @@ inside (negsuc b) n lo hi e some from to above below = absurd (omega (arith, int
 -- the law on the hull of what entries say
 abbrev pub HullLaw : Type 0
 HullLaw = (claim : ClaimData) (samples : List Sample) (stretch : Stretch) (entries : List (ℕ × ℕ)) (parts : List Part)
-    → IsLawful claim → All (λ sample. sample.server < length claim.servers) samples
-    → AreSaidBy samples stretch claim.drift_ppb entries parts
+    → IsLawful claim → AreSamplesOf claim samples → AreSaidBy samples stretch claim.drift_ppb entries parts
     → HoldsErrorOfPiece claim samples entries stretch (piece_hull claim.groups claim.false_max parts)
 
 -- the law on courses that fit the whole capture
@@ -65,13 +65,13 @@ PieceFitLaw = (claim : ClaimData) (xs : List Exchange) (entries : List (ℕ × �
     → Fits claim xs course → FitsPiece claim xs entries course
 
 module _ (hulls : HullLaw) (claim : ClaimData) (samples : List Sample) (certificate : CertificateData)
-    (lawful : IsLawful claim) (listed : All (λ sample. sample.server < length claim.servers) samples) where
+    (lawful : IsLawful claim) (are : AreSamplesOf claim samples) where
   -- what the hull of a piece is that was tested holds the error
   tested_holds : (stretch : Stretch) (entries : List (ℕ × ℕ)) (fault : Option Why)
       (found : HullGives samples claim stretch entries fault)
       → HoldsErrorOfPiece claim samples entries stretch (piece_hull claim.groups claim.false_max found.parts)
   tested_holds stretch entries fault found =
-      hulls claim samples stretch entries found.parts lawful listed
+      hulls claim samples stretch entries found.parts lawful are
       (said_from samples stretch claim.drift_ppb entries found.parts found.said).0
 
   within_hull : (course : Course) (hull : Hull) → hull_fault claim.bound hull ≡ None → IsInHull course hull

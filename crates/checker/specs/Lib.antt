@@ -1,4 +1,5 @@
 pub mod Groups
+pub mod Samples
 pub mod Course
 pub mod PieceFit
 pub mod Verdict

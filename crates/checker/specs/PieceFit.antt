@@ -7,11 +7,11 @@
 -- in another hour, other ones for each piece. A step between a moment that is used and the
 -- observation does count, as between the last exchange named and the end of the piece: a course
 -- that is observed after such a step doesn't fit.
-use Rattle.std.specs.Prelude.{◌≡◌, ℕ, ◌<◌, ◌≤◌, ◌+ℤ◌, ◌-ℤ◌, ◌≤ℤ◌, Bool, true, false, List, length, count_by, slice_get, Some}
+use Rattle.std.specs.Prelude.{◌≡◌, ℕ, ◌<◌, ◌≤◌, pos, ◌+ℤ◌, ◌-ℤ◌, ◌*ℤ◌, ◌≤ℤ◌, Bool, true, false, List, length, count_by, slice_get, Some}
 use Rattle.std.specs.List.{range_with_len}
 use Rattle.claim_file.specs.Claim.{ClaimData}
 use Rattle.pairing.specs.declared.exchange.Exchange.{Exchange}
-use Rattle.sample_interval.specs.Moment.{DriftsWithin, IsInWindow, IsWithinDistance}
+use Rattle.sample_interval.specs.Moment.{DriftsWithin, IsWithinDistance}
 use Rattle.checker.specs.Course.{Course}
 
 -- this holds of each entry: of the number and the exchange for its low end, and of those for its
@@ -44,20 +44,21 @@ pub record FitsPiece (claim : ClaimData) (xs : List Exchange) (entries : List (�
   pub some_fineness : 0 < course.fineness
   -- the false servers that have an entry are of at most `false_max` groups
   pub few_false : HasFewFalse claim xs entries course
-  -- each record time that is used is right within its unit and the claimed allowance
-  pub in_windows : OfEachEntry xs entries (λ a x b y.
-      IsInWindow course.fineness (x.t1_low -ℤ claim.reading) (x.t1_high +ℤ claim.reading)
-      (course.request a).reading
-      × IsInWindow course.fineness (y.t4_low -ℤ claim.reading) (y.t4_high +ℤ claim.reading)
-      (course.reply b).reading)
+  -- no request that is used left before its stamp by more than the claimed allowance
+  pub leaves_after_stamp : OfEachEntry xs entries (λ a x b y.
+      ((x.t1_low -ℤ claim.reading) *ℤ pos course.fineness) ≤ℤ (course.request a).reading)
+  -- no reply that is used arrived after its stamp by more than that
+  pub arrives_before_stamp : OfEachEntry xs entries (λ a x b y.
+      (course.reply b).reading ≤ℤ ((y.t4_high +ℤ claim.reading) *ℤ pos course.fineness))
   -- from each moment that is used to the observation the error changes by the claimed rate at most
   pub drift : OfEachEntry xs entries (λ a x b y.
       DriftsWithin claim.drift_ppb (course.request a) course.observation
       × DriftsWithin claim.drift_ppb (course.reply b) course.observation)
-  -- a server that isn't false gets the request after it left and answers before the reply arrives
+  -- of a server that isn't false there is a true time after the request left, and one before the
+  -- reply arrived
   pub ordered : OfEachTrueEntry xs entries course (λ a x b y.
       ((course.request a).time ≤ℤ course.received a) × (course.sent b ≤ℤ (course.reply b).time))
-  -- and its timestamps are as near to true time as it announces
+  -- to which its timestamps are as near as it announces
   pub within_root_distance : OfEachTrueEntry xs entries course (λ a x b y.
       IsWithinDistance course.fineness x.t2 x.distance (course.received a)
       × IsWithinDistance course.fineness y.t3 y.distance (course.sent b))

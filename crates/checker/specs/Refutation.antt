@@ -18,7 +18,7 @@ use Rattle.claim_file.specs.Claim.{ClaimData}
 use Rattle.pairing.specs.declared.exchange.Exchange.{Exchange}
 use Rattle.sample_interval.specs.Moment.{Moment, error_of}
 use Rattle.sample_interval.specs.Window.{request_start, reply_end}
-use Rattle.checker.specs.Course.{Course, Fits, IsClientMoment}
+use Rattle.checker.specs.Course.{Course, Fits, FitsInWindows, IsClientMoment}
 use Rattle.checker.specs.Groups.{false_group_count}
 use Rattle.checker.specs.Traceability.{IsObservedIn}
 
@@ -94,7 +94,7 @@ pub record ShowsThroughout (claim : ClaimData) (xs : List Exchange) (refutation 
 -- a course that a refutation stands for
 pub record IsCourseOf (claim : ClaimData) (xs : List Exchange) (refutation : RefutationData)
     (course : Course) : Type 0 where
-  pub fits : Fits claim xs course
+  pub fits : FitsInWindows claim xs course
   pub off_throughout : IsOffThroughout xs refutation course
   pub shares_requests : SharesRequests xs course
   pub observed : course.observation.reading ≡ (pos refutation.reading *ℤ pos course.fineness)
@@ -107,4 +107,4 @@ HasCourse claim xs refutation = (course : Course) × IsCourseOf claim xs refutat
 -- said about all such courses is said about at least one.
 abbrev pub SomeCourseFits : ClaimData → List Exchange → Type 0
 SomeCourseFits claim xs =
-    (course : Course) × Fits claim xs course × IsObservedIn course claim.first claim.last
+    (course : Course) × FitsInWindows claim xs course × IsObservedIn course claim.first claim.last

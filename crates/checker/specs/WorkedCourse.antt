@@ -52,6 +52,13 @@ abbrev pub worked_course : ℤ → ℤ → Course
 worked_course error reply_reading =
     served_course error reply_reading (pos (worked_second + 42949673))
 
+-- one in which the clock reads this at the request, and that at the reply
+abbrev pub stamped_course : ℤ → ℤ → ℤ → ℤ → Course
+stamped_course error request_reading reply_reading served =
+    record (served_course error reply_reading served) {
+      request = λ k. moment_with error request_reading;
+    }
+
 -- a clock that runs at half its speed: while true time goes on by 171,798,690 ticks from the
 -- request to the reply, it shows half of that. So its error changes by half of true time, and by
 -- all of what it shows.

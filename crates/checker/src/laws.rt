@@ -7,7 +7,7 @@
 //! reading of the span (here).
 
 ghost use Rattle.std.specs.Prelude.{◌≡◌, ◌⊎◌, ◌↔◌, Bool, true, false, None, Some, Ok};
-ghost use Rattle.std.specs.Prelude.{ℕ, ◌+◌, ◌<◌, ◌≤◌, ℤ, pos, neg_ℤ, ◌≤ℤ◌};
+ghost use Rattle.std.specs.Prelude.{ℕ, ◌+◌, ◌-◌, ◌<◌, ◌≤◌, ℤ, pos, neg_ℤ, ◌≤ℤ◌};
 ghost use Rattle.std.specs.Prelude.{List, [], ◌∷◌, length, All, slice_get};
 ghost use Rattle.certificate.specs.Certificate.{PieceData, CertificateData};
 ghost use Rattle.claim_file.specs.Claim.{ClaimData, IsLawful};
@@ -26,10 +26,11 @@ ghost use Rattle.checker.specs.BestParts.{best_parts};
 ghost use Rattle.checker.specs.Comparison.{IsYesOr, IsContradiction, IsRefusedEntry};
 ghost use Rattle.checker.specs.Comparison.{HasOneMoreEntry, HasEntriesSwapped, IsTakenApart};
 ghost use Rattle.checker.specs.Comparison.{AreNarrower, IsOfSamples};
-ghost use Rattle.checker.specs.Course.{Course, Fits};
+ghost use Rattle.checker.specs.Course.{Course, Fits, FitsInWindows};
 ghost use Rattle.checker.specs.Groups.{false_group_count};
 ghost use Rattle.span_cover.specs.Group.{group_intervals, piece_hull};
 ghost use Rattle.checker.specs.PieceFit.{FitsPiece, HasFewFalse, OfEachEntry};
+ghost use Rattle.checker.specs.Samples.{AreSamplesOf};
 ghost use Rattle.checker.specs.Span.{IsSpanWithin, claim_within, certificate_within};
 ghost use Rattle.checker.specs.Stretch.{begin_of, stretches_from, last_end};
 ghost use Rattle.checker.specs.Stretch.{SomeHoldsReading};
@@ -41,7 +42,7 @@ ghost use Rattle.checker.specs.Verdict.{PassBelow};
 ghost use Rattle.checker.specs.WorkedCapture.{worked_capture, worked_format, worked_records};
 ghost use Rattle.claim_file.specs.Worked.{worked_second, worked_claim};
 ghost use Rattle.checker.specs.WorkedCourse.{worked_exchange, worked_course, served_course, lone_course};
-ghost use Rattle.checker.specs.WorkedCourse.{slow_claim, slow_course};
+ghost use Rattle.checker.specs.WorkedCourse.{slow_claim, slow_course, stamped_course};
 ghost use Rattle.checker.specs.WorkedCourse.{earlier_exchange, stepped_course};
 ghost use Rattle.span_cover.specs.declared.part.Part.{Part};
 ghost use Rattle.span_cover.specs.declared.stretch.Stretch.{Stretch};
@@ -101,21 +102,20 @@ pub fn hulls_hold_the_error()
     // The hull of what entries say, in every course that fits what they name.
     ensures piece { (claim : ClaimData) (samples : List Sample) (stretch : Stretch)
         (entries : List (ℕ × ℕ)) (parts : List Part) → IsLawful claim →
-        All (λ sample. sample.server < length claim.servers) samples →
+        AreSamplesOf claim samples →
         AreSaidBy samples stretch claim.drift_ppb entries parts →
         HoldsErrorOfPiece claim samples entries stretch
         (piece_hull claim.groups claim.false_max parts) }
 
     // The hull of whatever parts samples give, in every course that fits the capture.
     ensures capture { (claim : ClaimData) (samples : List Sample) (stretch : Stretch)
-        (parts : List Part) → IsLawful claim →
-        All (λ sample. sample.server < length claim.servers) samples →
+        (parts : List Part) → IsLawful claim → AreSamplesOf claim samples →
         All (IsOfSamples samples stretch claim.drift_ppb) parts →
         HoldsError claim samples stretch (piece_hull claim.groups claim.false_max parts) }
 
     // That of what each server says by its best samples.
     ensures best { (claim : ClaimData) (samples : List Sample) (stretch : Stretch) →
-        IsLawful claim → All (λ sample. sample.server < length claim.servers) samples →
+        IsLawful claim → AreSamplesOf claim samples →
         HoldsError claim samples stretch
         (piece_hull claim.groups claim.false_max (best_parts claim samples stretch)) }
 {
@@ -137,7 +137,7 @@ pub fn hulls_hold_the_error()
 /// servers may be false in each.
 pub fn verdicts_are_traceable()
     ensures { (claim : ClaimData) (samples : List Sample) (certificate : CertificateData) →
-        IsLawful claim → All (λ sample. sample.server < length claim.servers) samples →
+        IsLawful claim → AreSamplesOf claim samples →
         IsVerdictOn claim samples certificate (verdict_of samples claim certificate) }
 {
     capture_fits_each_piece();
@@ -171,15 +171,43 @@ pub fn yes_is_acceptance()
 /// announces, one with each of these two errors. So neither end could be narrower. And a clock that
 /// drifts by half keeps a drift of half, which is counted by true time and not by what it shows.
 pub fn worked_courses_fit()
-    ensures exact { Fits worked_claim (worked_exchange ∷ [])
+    ensures exact { FitsInWindows worked_claim (worked_exchange ∷ [])
         (worked_course (pos 0) (pos (worked_second + 85899345))) }
-    ensures far { Fits worked_claim (worked_exchange ∷ [])
+    ensures far { FitsInWindows worked_claim (worked_exchange ∷ [])
         (worked_course (pos 42953968) (pos (worked_second + 85903641))) }
-    ensures greatest { Fits worked_claim (worked_exchange ∷ []) (served_course (pos 42953969)
-        (pos (worked_second + 85903641)) (pos (worked_second + 42949672))) }
-    ensures slow { Fits slow_claim (worked_exchange ∷ []) slow_course }
-    ensures least { Fits worked_claim (worked_exchange ∷ []) (served_course (neg_ℤ (pos 42949674))
+    ensures greatest { FitsInWindows worked_claim (worked_exchange ∷ [])
+        (served_course (pos 42953969) (pos (worked_second + 85903641))
+        (pos (worked_second + 42949672))) }
+    ensures slow { FitsInWindows slow_claim (worked_exchange ∷ []) slow_course }
+    ensures least { FitsInWindows worked_claim (worked_exchange ∷ [])
+        (served_course (neg_ℤ (pos 42949674)) (pos (worked_second + 85899345))
+        (pos (worked_second + 42949674))) }
+{}
+
+/// A stamp may be early at a request and late at a reply: a course fits in which the one left 5 ms
+/// after its stamp and the other arrived 6 ms before its own, though neither reading lies in the
+/// window of its record. The other side of each counts. No course fits what an entry names if the
+/// request left a tick before its stamp, or if the reply arrived a tick after. Were a tick allowed,
+/// one would fit, with an error a tick beyond what the exchange leaves room for.
+pub fn stamps_err_on_one_side()
+    ensures early_and_late { Fits worked_claim (worked_exchange ∷ [])
+        (stamped_course (pos 0) (pos (worked_second + 21474836)) (pos (worked_second + 60129542))
+        (pos (worked_second + 42949673))) }
+    ensures out_of_windows { ¬ (FitsInWindows worked_claim (worked_exchange ∷ [])
+        (stamped_course (pos 0) (pos (worked_second + 21474836)) (pos (worked_second + 60129542))
+        (pos (worked_second + 42949673)))) }
+    ensures late_at_request { (error reply served : ℤ) →
+        ¬ (FitsPiece worked_claim (worked_exchange ∷ []) ((0, 0) ∷ [])
+        (stamped_course error (pos (worked_second - 1)) reply served)) }
+    ensures early_at_reply { (error request served : ℤ) →
+        ¬ (FitsPiece worked_claim (worked_exchange ∷ []) ((0, 0) ∷ [])
+        (stamped_course error request (pos (worked_second + 85903642)) served)) }
+    ensures tick_at_request { Fits (record worked_claim { reading = pos 1 })
+        (worked_exchange ∷ []) (stamped_course (neg_ℤ (pos 42949675)) (pos (worked_second - 1))
         (pos (worked_second + 85899345)) (pos (worked_second + 42949674))) }
+    ensures tick_at_reply { Fits (record worked_claim { reading = pos 1 })
+        (worked_exchange ∷ []) (stamped_course (pos 42953970) (pos worked_second)
+        (pos (worked_second + 85903642)) (pos (worked_second + 42949672))) }
 {}
 
 /// A step of the clock before the exchanges that a piece names doesn't affect the piece: the
@@ -202,7 +230,7 @@ pub fn worked_exchange_is_captured()
 /// Without exchanges the clock may be off by anything, so that no certificate is accepted.
 pub fn nothing_is_known_without_exchanges()
     ensures any_error { (claim : ClaimData) (n : ℕ) (observation : Moment) → 0 < n →
-        Fits claim [] (lone_course n observation) }
+        FitsInWindows claim [] (lone_course n observation) }
     ensures refused { (claim : ClaimData) (certificate : CertificateData) → IsLawful claim →
         ¬ (verdict_of [] claim certificate ≡ Yes) }
 {

@@ -7,7 +7,7 @@ ghost use Rattle.certificate.specs.Refutation.{RefutationData};
 ghost use Rattle.claim_file.specs.Claim.{ClaimData, IsLawful};
 ghost use Rattle.pairing.specs.Exchange.{IsLawful as IsLawfulExchange, SameRequest};
 ghost use Rattle.pairing.specs.declared.exchange.Exchange.{Exchange};
-ghost use Rattle.checker.specs.Course.{Course, Fits};
+ghost use Rattle.checker.specs.Course.{Course, Fits, FitsInWindows};
 ghost use Rattle.checker.specs.Refutation.{IsAgainst, IsRefuted, IsCourseOf, ShowsThroughout};
 ghost use Rattle.checker.specs.Refutation.{Admits, HasCourse, SomeCourseFits};
 ghost use Rattle.checker.specs.RefutationTest.{admits, is_refuted};
@@ -32,9 +32,10 @@ pub fn test_is_passed_where_room_is_left()
         (admits allowance error x ≡ true) ↔ Admits allowance error x }
 {}
 
-/// An accepted refutation has a course that fits the exchanges and the claim: just the servers that
-/// it names are false, the exchanges of one request share its moment, the observed reading is the
-/// refutation's, and the error is the refutation's at every moment of the client.
+/// An accepted refutation has a course that fits the exchanges and the claim, with each reading in
+/// its record's window: just the servers that it names are false, the exchanges of one request
+/// share its moment, the observed reading is the refutation's, and the error is the refutation's at
+/// every moment of the client.
 pub fn accepted_refutations_have_a_course()
     ensures { (claim : ClaimData) (xs : List Exchange) (refutation : RefutationData) →
         IsLawful claim → All (IsLawfulExchange (length claim.servers)) xs →
@@ -71,6 +72,10 @@ pub fn courses_fit_whatever_the_bound()
         (course : Course) →
         Fits (record claim { bound = bound; bound_ns = bound_ns }) xs course →
         Fits claim xs course }
+    ensures in_windows { (claim : ClaimData) (bound : ℤ) (bound_ns : ℕ) (xs : List Exchange)
+        (course : Course) →
+        FitsInWindows (record claim { bound = bound; bound_ns = bound_ns }) xs course →
+        FitsInWindows claim xs course }
     ensures some_course { (claim : ClaimData) (bound : ℤ) (bound_ns : ℕ) (xs : List Exchange)
         (refutation : RefutationData) → IsLawful claim →
         All (IsLawfulExchange (length claim.servers)) xs →

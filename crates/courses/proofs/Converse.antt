@@ -58,14 +58,14 @@ module _ (claim : ClaimData) (xs : List Exchange) (course : Course) (k : ℕ) (x
     pub keeps_low : KeepsLow course.fineness (low_mark claim.reading x) (course.request k)
     unfolding times
     keeps_low = (
-      (fits.in_windows k x at).0.0,
+      fits.leaves_after_stamp k x at,
       leaves_in_time course.fineness (request_start x claim.reading) x.t2 x.t3 x.distance times served,
     )
 
     pub keeps_high : KeepsHigh course.fineness (high_mark claim.reading x) (course.reply k)
     unfolding times
     keeps_high = (
-      (fits.in_windows k x at).1.1,
+      fits.arrives_before_stamp k x at,
       arrives_in_time course.fineness (reply_end x claim.reading) x.t2 x.t3 x.distance times served,
     )
 
@@ -73,13 +73,12 @@ module _ (claim : ClaimData) (xs : List Exchange) (course : Course) (k : ℕ) (x
     unfolding times
     possible slow =
         let start = request_start x claim.reading in
-        let windows = fits.in_windows k x at in
         let forth = goes_on course.fineness start x.t2 x.t3 x.distance times served in
         let readings = moments_in_order claim.drift_ppb (course.request k) (course.reply k) (omega arith)
         (fits.drift (course.request k) (course.reply k) is_request is_reply) forth in
         record {
           leaves_before_arrival = cancel start (reply_end x claim.reading) course.fineness fits.some_fineness
-              (through _ _ _ _ windows.0.0 readings windows.1.1);
+              (through _ _ _ _ (fits.leaves_after_stamp k x at) readings (fits.arrives_before_stamp k x at));
           receives_before_answer = stamps_in_order course.fineness start x.t2 x.t3 x.distance times served
               fits.some_fineness;
         }

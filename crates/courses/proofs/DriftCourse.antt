@@ -8,7 +8,7 @@ use Rattle.intersection.specs.Fineness.{times_le}
 use Rattle.pairing.specs.Exchange.{IsLawful as IsLawfulExchange, SameRequest}
 use Rattle.pairing.specs.declared.exchange.Exchange.{Exchange}
 use Rattle.sample_interval.specs.Moment.{error_of}
-use Rattle.checker.specs.Course.{Course, Fits}
+use Rattle.checker.specs.Course.{Course, Fits, FitsInWindows}
 use Rattle.checker.specs.Refutation.{is_liar, IsAgainst}
 use Rattle.checker.specs.Traceability.{IsObservedIn, IsWithin, IsTraceable, samples_of}
 use Rattle.courses.specs.TrueMarks.{low_marks}
@@ -49,7 +49,7 @@ module _ (claim : ClaimData) (xs : List Exchange) (r : RefutationData) (lawful :
   abbrev pub course : Course
   course = lowest_course claim (is_liar r.liars) (mark_of r) (pos r.reading) xs
 
-  course_fits : Fits claim xs course
+  course_fits : FitsInWindows claim xs course
   course_fits =
       let needs : Needs claim (is_liar r.liars) (mark_of r) xs = record {
         lawful = lawful;
@@ -79,8 +79,8 @@ module _ (claim : ClaimData) (xs : List Exchange) (r : RefutationData) (lawful :
   pub not_traceable : IsTraceable claim (samples_of xs claim) → ⊥
   not_traceable traceable =
       let in_span = observed_in_span claim r course refuted.against observed_off in
-      observed_beyond claim r course refuted.against observed_off xs course_fits
-      (traceable xs course refl course_fits in_span)
+      observed_beyond claim r course refuted.against observed_off xs course_fits.fits
+      (traceable xs course refl course_fits.fits in_span)
 
   pub shown : Shows claim xs r course
-  shown = record { fits = course_fits; others_true = λ server true'. true'; observed = observed_off }
+  shown = record { fits = course_fits.fits; others_true = λ server true'. true'; observed = observed_off }

@@ -108,9 +108,9 @@ module _ (claim : ClaimData) (xs : List Exchange) (lawful : IsLawful claim) wher
   untraceable groups none traceable =
       let error = claim.bound +ℤ pos 1 in
       let shown : IsPossibleError claim xs claim.first error = none.any_error claim.first error in
-      beyond claim.bound error (error_of shown.course.observation) shown.course.fineness shown.fits.some_fineness
+      beyond claim.bound error (error_of shown.course.observation) shown.course.fineness shown.fits.fits.some_fineness
       (above claim.bound lawful.bound_not_negative) shown.off
-      (traceable xs shown.course refl shown.fits (seen_in_span shown.course shown.observed))
+      (traceable xs shown.course refl shown.fits.fits (seen_in_span shown.course shown.observed))
 
 -- ---- the groups that were heard so far, and what is left
 

@@ -11,6 +11,7 @@ pub mod AllowedDrift
 pub mod LowestError
 pub mod LowestMarks
 pub mod LowestCourse
+pub mod Stamps
 pub mod Pairs
 pub mod DriftCourse
 pub mod OwnMark
@@ -29,6 +30,7 @@ pub mod CoverBusiest
 pub mod CoverRows
 pub mod CoverWithin
 pub mod CoverList
+pub mod MinimalCovers
 pub mod PartialTables
 pub mod SortedMarks
 pub mod TableCovers

@@ -13,7 +13,7 @@ use Rattle.marks.specs.Mark.{low_mark, high_mark, IsPossible, AreCompatible}
 use Rattle.sample_interval.specs.Moment.{Moment, DriftsWithin, IsWithinDistance}
 use Rattle.sample_interval.specs.Widening.{billion}
 use Rattle.sample_interval.specs.Window.{request_start, request_end, reply_start, reply_end}
-use Rattle.checker.specs.Course.{Course, Fits, IsClientMoment, ReadsInWindows, ComesInOrder, KeepsRootDistance}
+use Rattle.checker.specs.Course.{Course, FitsInWindows, IsClientMoment, ReadsInWindows, ComesInOrder, KeepsRootDistance}
 use Rattle.checker.specs.Groups.{false_group_count}
 use Rattle.checker.specs.Refutation.{SharesRequests}
 use Rattle.courses.specs.Keeping.{KeepsLow, KeepsHigh}
@@ -190,14 +190,18 @@ module _ {claim : ClaimData} {is_false : ℕ → Bool} {first : Mark} {xs : List
           near n x.t3 x.distance _ (answer_between _ _ _ _ _ _ room),
         )
 
-  pub lowest_fits : false_group_count claim.groups is_false ≤ claim.false_max → Fits claim xs course
+  pub lowest_fits : false_group_count claim.groups is_false ≤ claim.false_max → FitsInWindows claim xs course
   lowest_fits few = record {
-    some_fineness = some_fineness;
-    few_false = few;
+    fits = record {
+      some_fineness = some_fineness;
+      few_false = few;
+      leaves_after_stamp = λ k x at. (windows k x at).0.0;
+      arrives_before_stamp = λ k x at. (windows k x at).1.1;
+      drift = drift;
+      ordered = order;
+      within_root_distance = distances;
+    };
     in_windows = windows;
-    drift = drift;
-    ordered = order;
-    within_root_distance = distances;
   }
 
 pub lowest_shares : (claim : ClaimData) (is_false : ℕ → Bool) (first : Mark) (reading : ℤ) (xs : List Exchange)

@@ -50,5 +50,8 @@ module _ (claim : ClaimData) (xs : List Exchange) (is_false : ℕ → Bool) (law
   )
 
   pub agreement_gives_course : FitsWithFalse claim is_false xs
-  agreement_gives_course =
-      (lowest_course claim is_false first claim.first xs, lowest_fits needs claim.first few, λ server true'. true')
+  agreement_gives_course = (
+    lowest_course claim is_false first claim.first xs,
+    (lowest_fits needs claim.first few).fits,
+    λ server true'. true',
+  )

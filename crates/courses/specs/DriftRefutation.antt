@@ -6,7 +6,7 @@
 -- is settled by pairs of marks: what the refutation says is a low mark and a high mark of its own.
 use Rattle.std.specs.Prelude.{◌≡◌, ℕ, pos, ◌*ℤ◌, Bool, false, List, ◌∷◌, All}
 use Rattle.certificate.specs.Refutation.{RefutationData}
-use Rattle.checker.specs.Course.{Course, Fits}
+use Rattle.checker.specs.Course.{Course, Fits, FitsInWindows}
 use Rattle.checker.specs.Refutation.{is_liar, IsAgainst, SharesRequests}
 use Rattle.claim_file.specs.Claim.{ClaimData}
 use Rattle.courses.specs.Cover.{is_of}
@@ -75,7 +75,7 @@ pub record Shows (claim : ClaimData) (xs : List Exchange) (refutation : Refutati
 pub record HasDriftCourse (claim : ClaimData) (xs : List Exchange) (refutation : RefutationData)
     : Type 0 where
   pub course : Course
-  pub fits : Fits claim xs course
+  pub fits : FitsInWindows claim xs course
   pub just_liars_false : (server : ℕ) → course.is_false server ≡ is_liar refutation.liars server
   pub shares_requests : SharesRequests xs course
   pub observed : IsObservedOff refutation course

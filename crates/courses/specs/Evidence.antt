@@ -5,7 +5,7 @@
 -- say nothing about the clock.
 use Rattle.std.specs.Prelude.{◌≡◌, ℕ, ◌≤◌, ◌==◌, ℤ, pos, ◌*ℤ◌, Bool, List, slice_index, AllPairs}
 use Rattle.std.specs.List.{list_any}
-use Rattle.checker.specs.Course.{Course, Fits}
+use Rattle.checker.specs.Course.{Course, FitsInWindows}
 use Rattle.checker.specs.Refutation.{SharesRequests}
 use Rattle.claim_file.specs.Claim.{ClaimData}
 use Rattle.courses.specs.Cover.{group_of, size_of}
@@ -27,7 +27,7 @@ count_with_exchange claim xs = size_of claim (has_exchange claim xs)
 pub record IsPossibleError (claim : ClaimData) (xs : List Exchange) (reading error : ℤ)
     : Type 0 where
   pub course : Course
-  pub fits : Fits claim xs course
+  pub fits : FitsInWindows claim xs course
   pub observed : course.observation.reading ≡ (reading *ℤ pos course.fineness)
   pub off : error_of course.observation ≡ (error *ℤ pos course.fineness)
   pub just_heard_false : (server : ℕ)

@@ -2,6 +2,7 @@ pub mod Keeping
 pub mod TrueMarks
 pub mod DriftRefutation
 pub mod LowestCourse
+pub mod Stamps
 pub mod Cover
 pub mod DriftSettlement
 pub mod ConflictTable

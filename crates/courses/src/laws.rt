@@ -10,7 +10,7 @@ ghost use Rattle.std.specs.Prelude.{ℕ, ◌+◌, ◌-◌, ◌*◌, ◌<◌, ◌
 ghost use Rattle.std.specs.Prelude.{ℤ, pos, ◌+ℤ◌, ◌-ℤ◌, ◌*ℤ◌, ◌≤ℤ◌};
 ghost use Rattle.std.specs.Prelude.{List, length, slice_get, slice_index, All, AllPairs};
 ghost use Rattle.claim_file.specs.Claim.{ClaimData, IsLawful};
-ghost use Rattle.checker.specs.Course.{Course, Fits};
+ghost use Rattle.checker.specs.Course.{Course, Fits, FitsInWindows};
 ghost use Rattle.checker.specs.Groups.{holds_false, false_group_count};
 ghost use Rattle.checker.specs.Refutation.{SharesRequests};
 ghost use Rattle.courses.specs.ConflictTable.{IsConflictTable, HasSmallTableCover};
@@ -20,6 +20,7 @@ ghost use Rattle.courses.specs.DriftSettlement.{SettlesFit};
 ghost use Rattle.courses.specs.Keeping.{KeepsLow, KeepsHigh};
 ghost use Rattle.courses.specs.LowestCourse.{fineness_of, most_rise, most_fall};
 ghost use Rattle.courses.specs.LowestCourse.{lowest_error, lowest_moment, lowest_course};
+ghost use Rattle.courses.specs.Stamps.{IsObservable};
 ghost use Rattle.courses.specs.TrueMarks.{high_marks, DoAgree, FitsWithFalse};
 ghost use Rattle.marks.specs.Mark.{low_mark, high_mark, IsPossible, AreCompatible};
 ghost use Rattle.marks.specs.declared.mark.Mark.{Mark};
@@ -60,7 +61,8 @@ pub fn readings_are_in_the_order_of_times()
 {}
 
 /// An exchange with a server that isn't false is possible by itself. Its request keeps its low mark
-/// and its reply its high mark, wherever in their windows the clock is read.
+/// and its reply its high mark, however far after its stamp the one left, and before its own the
+/// other arrived.
 pub fn true_exchanges_keep_their_marks()
     ensures possible { (claim : ClaimData) (xs : List Exchange) (course : Course) (k : ℕ)
         (x : Exchange) → IsLawful claim → Fits claim xs course → slice_get xs k ≡ Some x →
@@ -139,15 +141,16 @@ pub fn lowest_course_keeps_every_mark()
         ≡ first.error *ℤ pos (fineness_of ppb) }
 {}
 
-/// The lowest course fits: where nothing contradicts with these servers false, and with any first
-/// mark that is compatible with the high marks. The exchanges of one request share its moment.
+/// The lowest course fits, with each reading in its record's window: where nothing contradicts with
+/// these servers false, and with any first mark that is compatible with the high marks. The
+/// exchanges of one request share its moment.
 pub fn lowest_course_fits()
     ensures fits { (claim : ClaimData) (is_false : ℕ → Bool) (first : Mark) (reading : ℤ)
         (xs : List Exchange) → IsLawful claim →
         All (IsLawfulExchange (length claim.servers)) xs → DoAgree claim is_false xs →
         All (AreCompatible claim.drift_ppb first) (high_marks claim.reading is_false xs) →
         false_group_count claim.groups is_false ≤ claim.false_max →
-        Fits claim xs (lowest_course claim is_false first reading xs) }
+        FitsInWindows claim xs (lowest_course claim is_false first reading xs) }
     ensures shares { (claim : ClaimData) (is_false : ℕ → Bool) (first : Mark) (reading : ℤ)
         (xs : List Exchange) → AllPairs SameRequest xs →
         SharesRequests xs (lowest_course claim is_false first reading xs) }
@@ -161,6 +164,17 @@ pub fn pairs_are_enough()
         All (IsLawfulExchange (length claim.servers)) xs →
         false_group_count claim.groups is_false ≤ claim.false_max →
         FitsWithFalse claim is_false xs ↔ DoAgree claim is_false xs }
+{}
+
+/// Stamps that are early at requests or late at replies change nothing that can be observed: with
+/// the same servers false, a clock is off by an error at a reading in some course that fits exactly
+/// if it is in some course that fits and has each reading in its record's window. So what is shown
+/// of all courses of the wider sense is no weaker than what is shown of those of the narrower.
+pub fn early_and_late_stamps_change_nothing()
+    ensures { (claim : ClaimData) (xs : List Exchange) (is_false : ℕ → Bool)
+        (reading error : ℤ) → IsLawful claim → All (IsLawfulExchange (length claim.servers)) xs →
+        IsObservable (Fits claim xs) is_false reading error
+        ↔ IsObservable (FitsInWindows claim xs) is_false reading error }
 {}
 
 /// What the false groups of a course are is a cover: a group that has an impossible exchange or
@@ -194,8 +208,9 @@ pub fn some_course_fits_where_a_cover_is_small()
         SomeCourse claim xs ↔ HasSmallCover claim xs }
 {}
 
-/// If some course fits, then at every reading one is observed that fits: a whole number of ticks
-/// that the clock shows. The exchanges of one request share its moment.
+/// If some course fits, then at every reading one is observed that fits, with each reading in its
+/// record's window: a whole number of ticks that the clock shows. The exchanges of one request
+/// share its moment.
 pub fn some_course_is_observed_at_any_reading()
     ensures { (claim : ClaimData) (xs : List Exchange) (reading : ℤ) → IsLawful claim →
         All (IsLawfulExchange (length claim.servers)) xs → SomeCourse claim xs →

@@ -41,13 +41,19 @@ abbrev pub line_if : Bool → List ℕ → List ℕ → List ℕ
 line_if given name words =
     if given then codes "  " ++ name ++ codes ": " ++ words ++ codes "\n" else []
 
--- what is said of a bound below 1 microsecond, of a drift below 1 ppm, and where all groups may be
--- wrong
+-- what is said of a bound below 1 microsecond, of a drift below 1 ppm, of an allowance below 1
+-- microsecond that isn't 0, and where all groups may be wrong
 abbrev pub bound_words : List ℕ
 bound_words = codes "\"bound_ns\" is below 1000, which are 0.001 ms; 5 ms are 5000000"
 
 abbrev pub drift_words : List ℕ
 drift_words = codes "\"drift_ppb\" is below 1000, which are 1 ppm; 100 ppm are 100000"
+
+abbrev pub reading_words : List ℕ
+reading_words = codes "\"reading_ns\" is below 1000, which are 0.001 ms; 0.1 ms are 100000"
+
+abbrev pub is_small_allowance : ℕ → Bool
+is_small_allowance reading_ns = nat_lt 0 reading_ns && nat_lt reading_ns 1000
 
 abbrev pub false_words : List ℕ
 false_words =
@@ -77,5 +83,6 @@ abbrev pub slips : List ℕ → ClaimNumbers → Option Recorded → List ℕ
 slips name numbers recorded =
     line_if (nat_lt numbers.bound_ns 1000) name bound_words
     ++ line_if (nat_lt numbers.drift_ppb 1000) name drift_words
+    ++ line_if (is_small_allowance numbers.reading_ns) name reading_words
     ++ line_if (nat_le numbers.groups numbers.false_max) name false_words
     ++ span_line name numbers recorded

@@ -18,6 +18,8 @@ pub struct ClaimNumbers {
     pub bound_ns: u64,
     /// The drift, in parts of 10^9.
     pub drift_ppb: u32,
+    /// The allowance for stamps, in nanoseconds.
+    pub reading_ns: u64,
     /// How many groups may be wrong.
     pub false_max: u8,
     /// How many groups there are.
@@ -38,12 +40,14 @@ impl ClaimNumbers {
     pub fn of(claim: &Claim) -> ClaimNumbers
         ensures bound { result.bound_ns ≡ claim.now.bound_ns }
         ensures drift { result.drift_ppb ≡ claim.now.drift_ppb }
+        ensures reading { result.reading_ns ≡ claim.now.reading_ns }
         ensures false_max { result.false_max ≡ claim.now.false_max }
         ensures groups { result.groups ≡ group_count claim.now.groups.items }
     {
         ClaimNumbers {
             bound_ns: claim.bound_ns,
             drift_ppb: claim.drift_ppb,
+            reading_ns: claim.reading_ns,
             false_max: claim.false_max,
             groups: group_count(claim.groups.as_slice()),
             begin: second_at(claim.first),
@@ -162,7 +166,8 @@ fn add_span_line(
 }
 
 /// What looks like a slip of the pen in a claim of this name, a line for each: a bound below 1,000
-/// ns, a drift below 1,000 ppb, as many false groups as there are, a span outside the capture.
+/// ns, a drift below 1,000 ppb, an allowance below 1,000 ns that isn't 0, as many false groups as
+/// there are, a span outside the capture.
 pub fn slips(
     alloc: Global,
     name: &str,
@@ -177,6 +182,9 @@ pub fn slips(
     add_line_if(&mut text, numbers.bound_ns < 1000, name, small_bound)?;
     let small_drift = b"\"drift_ppb\" is below 1000, which are 1 ppm; 100 ppm are 100000";
     add_line_if(&mut text, numbers.drift_ppb < 1000, name, small_drift)?;
+    let small_reading = b"\"reading_ns\" is below 1000, which are 0.001 ms; 0.1 ms are 100000";
+    let is_small = 0 < numbers.reading_ns && numbers.reading_ns < 1000;
+    add_line_if(&mut text, is_small, name, small_reading)?;
     let all_false =
         b"\"false_max\" is no less than the number of groups, so that nothing can be shown";
     let may_all_be_false = numbers.groups <= u32::from(numbers.false_max);

@@ -14,7 +14,7 @@ use Rattle.span_cover.specs.Group.{is_inside}
 use Rattle.finder.specs.Answer.{Finds}
 use Rattle.finder.specs.Found.{data_of, IsFirstFailing, pieces_from, piece_at, hull_at, passes, first_failing, found_without, found_of}
 use Rattle.finder.specs.Piece.{IsPieceCount, count_of, stretch_at}
-use Rattle.finder.specs.Samples.{AreSamplesOf}
+use Rattle.checker.specs.Samples.{AreSamplesOf}
 use Rattle.finder.specs.declared.fault.FindFault.{FindFault}
 use Rattle.finder.specs.declared.fault.FindFault.TheVariants.{TooManyPieces, Memory}
 use Rattle.finder.specs.declared.found.Found.{Found}
@@ -131,7 +131,7 @@ module _ (samples : List Sample) (claim : ClaimData) (step : ℕ) where
             none_accepted = none_accepted laws samples claim step lawful are piece hull failing;
             contradiction = contradicted laws samples claim step lawful are piece hull failing;
             held = subst (HoldsError claim samples stretch) (sym failing.its_hull)
-                (laws.held claim samples stretch lawful are.listed);
+                (laws.held claim samples stretch lawful are);
           }
 
       pub found_few : (found : Found)

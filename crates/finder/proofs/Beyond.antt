@@ -8,7 +8,7 @@ use Rattle.sample_interval.specs.declared.kinds.Sample.{Sample}
 use Rattle.checker.specs.Verdict.{verdict_of}
 use Rattle.checker.specs.declared.verdict.Verdict.TheVariants.{Yes}
 use Rattle.finder.specs.Fewest.{AreLongest}
-use Rattle.finder.specs.Samples.{AreSamplesOf}
+use Rattle.checker.specs.Samples.{AreSamplesOf}
 use Rattle.finder.proofs.FewestPieces.{InSpan, Laws, end_in_span, first_in_span, no_further, pass_of}
 use Rattle.finder.proofs.Refusal.{Pass}
 

@@ -20,7 +20,7 @@ use Rattle.finder.specs.Entry.{best_hull}
 use Rattle.finder.specs.Envelope.{with_bound}
 use Rattle.finder.specs.Fewest.{AreLongest, IsOfLongest, NoneOfFewIsAccepted, end_after, hull_over, next_tick, pieces_over, stretch_over}
 use Rattle.finder.specs.Reach.{AreEnds, AreTablesFor, IsReach}
-use Rattle.finder.specs.Samples.{AreSamplesOf}
+use Rattle.checker.specs.Samples.{AreSamplesOf}
 use Rattle.finder.specs.declared.carried.LeastCarried.{LeastCarried}
 use Rattle.finder.specs.declared.reach.Reach.{Reach}
 use Rattle.finder.proofs.FewestAnswer.{finds_nothing, finds_too_long}

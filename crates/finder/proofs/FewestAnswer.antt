@@ -11,7 +11,7 @@ use Rattle.checker.specs.Verdict.{verdict_from}
 use Rattle.finder.specs.Fewest.{IsStuck, IsTooLong, hull_over, pieces_over, stretch_over}
 use Rattle.finder.specs.FewestAnswer.{FindsFewest}
 use Rattle.finder.specs.Reach.{AreEnds}
-use Rattle.finder.specs.Samples.{AreSamplesOf}
+use Rattle.checker.specs.Samples.{AreSamplesOf}
 use Rattle.finder.specs.declared.fault.FindFault.TheVariants.{TooManyPieces}
 use Rattle.finder.specs.declared.fewest.Fewest.TheVariants as found
 use Rattle.finder.proofs.FewestPieces.{InSpan, Laws, as_many_pieces, end_after_in_span, end_after_later, first_in_span, more_of_accepted, next_within, none_accepted_over, one_more_end, yes_from}
@@ -56,7 +56,7 @@ module _ (laws : Laws) (samples : List Sample) (claim : ClaimData) (lawful : IsL
       let later = end_after_later laws samples claim lawful are claim.first is.earlier span is.longest in
       let stretch = stretch_over begin end in
       let holds : HoldsError claim samples stretch hull =
-      subst (HoldsError claim samples stretch) (sym is.its_hull) (laws.held claim samples stretch lawful are.listed) in
+      subst (HoldsError claim samples stretch) (sym is.its_hull) (laws.held claim samples stretch lawful are) in
       record {
         exact = tt;
         stuck = is;

@@ -23,7 +23,7 @@ use Rattle.checker.specs.declared.verdict.Why.TheVariants.{Cut, Uncovered}
 use Rattle.finder.specs.Entry.{best_entries, best_hull}
 use Rattle.finder.specs.Fewest.{AreLongest, IsLongest, IsNoWider, end_after, hull_over, next_tick, piece_over, pieces_over, shows, stretch_over}
 use Rattle.finder.specs.Refusal.{HoldsWhole}
-use Rattle.finder.specs.Samples.{AreSamplesOf}
+use Rattle.checker.specs.Samples.{AreSamplesOf}
 use Rattle.finder.proofs.Best.{BestLaw}
 use Rattle.finder.proofs.Narrow.{NarrowLaw, WithinLaw}
 use Rattle.finder.proofs.Nearest.{int_cases}
@@ -42,8 +42,7 @@ pub record Laws : Type 0 where
       → verdict_of samples claim certificate ≡ Yes
       → (0 < length certificate.pieces) × (last_end claim.first certificate.pieces ≡ claim.last)
   pub held : (claim : ClaimData) (samples : List Sample) (stretch : Stretch) → IsLawful claim
-      → All (λ sample. sample.server < length claim.servers) samples
-      → HoldsError claim samples stretch (best_hull samples claim stretch)
+      → AreSamplesOf claim samples → HoldsError claim samples stretch (best_hull samples claim stretch)
 
 not_inside : (bound : ℤ) (hull : Hull) → hull ≡ Empty → is_inside bound hull ≡ true → ⊥
 not_inside bound hull empty inside = true≢false (sym inside ∙ ap (is_inside bound) empty)

@@ -17,7 +17,7 @@ use Rattle.finder.specs.Envelope.{AreInside, EnvelopeData, IsInside, envelope_of
 use Rattle.finder.specs.Found.{hull_at}
 use Rattle.finder.specs.Piece.{IsPieceCount, count_of, piece_begin_of, stretch_at}
 use Rattle.finder.specs.Refusal.{HoldsWhole}
-use Rattle.finder.specs.Samples.{AreSamplesOf}
+use Rattle.checker.specs.Samples.{AreSamplesOf}
 use Rattle.finder.specs.declared.least.LeastBound.TheVariants.{Holds, NoneHolds}
 use Rattle.finder.proofs.Bound.{Roundings, none_inside}
 use Rattle.finder.proofs.OtherBounds.{least_is}

@@ -306,6 +306,7 @@ module _ (leeways : List ℤ) (cover : ℕ → Bool) where
   none_added = record {
     added = [];
     join = λ group. or_none (cover group);
+    below = All-nil (λ a. a < 32);
     once = refl;
     others = All-nil (λ a. cover a ≡ false);
     least = λ k d below. absurd (omega arith);
@@ -318,6 +319,7 @@ module _ (leeways : List ℤ) (cover : ℕ → Bool) where
     all_limited unlimited = record {
       added = before.added;
       join = before.join;
+      below = before.below;
       once = before.once;
       others = before.others;
       least = before.least;
@@ -331,6 +333,7 @@ module _ (leeways : List ℤ) (cover : ℕ → Bool) where
       added = group ∷ before.added;
       join = λ k. is k ∙ ap₂ (λ (a b : Bool). a || b) (turned_test k group) (before.join k)
           ∙ added_last (group == k) (cover k) (list_any (λ a. a == k) before.added);
+      below = All-cons (λ a. a < 32) group before.added tightest.below before.below;
       once = rw ((neither (cover group) (list_any (λ a. a == group) before.added) absent).1, before.once) refl;
       others = All-cons (λ a. cover a ≡ false) group before.added
           (neither (cover group) (list_any (λ a. a == group) before.added) absent).0 before.others;

@@ -33,5 +33,5 @@ pub mod CompactExchange
 pub mod Liar
 pub mod RefutationFinding
 pub mod GroupLeeway
-pub mod TriedError
+pub mod HeldError
 pub mod OneWay

@@ -13,7 +13,7 @@ use Rattle.span_cover.specs.Piece.{IsPiece}
 use Rattle.sweep.specs.Pieces.{ArePieces, IsPieceAt}
 use Rattle.finder.specs.Entry.{best_entries}
 use Rattle.finder.specs.Fewest.{AreLongest, IsLongest, end_after, next_tick, piece_over, pieces_over, shows, stretch_over}
-use Rattle.finder.specs.Samples.{AreSamplesOf}
+use Rattle.checker.specs.Samples.{AreSamplesOf}
 use Rattle.finder.proofs.Claim.{first_kept, last_kept}
 use Rattle.finder.proofs.FewestPieces.{InSpan, Laws, end_in_span, longest_forward, piece_to, shown_before}
 use Rattle.finder.proofs.NoOverflow.{kept}

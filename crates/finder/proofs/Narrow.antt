@@ -19,7 +19,7 @@ use Rattle.checker.specs.Verdict.{parts_after, hull_fault, parts_fault}
 use Rattle.checker.specs.declared.verdict.Why.{Why}
 use Rattle.finder.specs.Entry.{best_over, best_entries, best_hull, part_named, parts_named}
 use Rattle.finder.specs.Refusal.{HoldsWhole}
-use Rattle.finder.specs.Samples.{AreSamplesOf}
+use Rattle.checker.specs.Samples.{AreSamplesOf}
 use Rattle.finder.proofs.Best.{BestLaw, best_of_is, best_of_none}
 use Rattle.finder.proofs.List.{All-slice_get}
 use Rattle.finder.specs.Fewest.{IsNoWider}

@@ -12,7 +12,7 @@ use Rattle.span_cover.specs.declared.part.Part.{Part}
 use Rattle.sweep.specs.Table.{best_part, best_parts, said_by}
 use Rattle.finder.specs.Entry.{best_over, best_entries, best_hull, part_named, parts_named}
 use Rattle.finder.specs.Fewest.{stretch_over}
-use Rattle.finder.specs.Samples.{AreSamplesOf}
+use Rattle.checker.specs.Samples.{AreSamplesOf}
 use Rattle.finder.proofs.Best.{BestLaw, best_of_is}
 use Rattle.finder.proofs.EntryList.{listed_parts}
 

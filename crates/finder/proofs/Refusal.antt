@@ -18,7 +18,7 @@ use Rattle.finder.specs.Entry.{best_hull}
 use Rattle.finder.specs.Found.{piece_at, pieces_from, IsFirstFailing}
 use Rattle.finder.specs.Piece.{stretch_at}
 use Rattle.finder.specs.Refusal.{HoldsWhole, NoneIsAcceptedOver}
-use Rattle.finder.specs.Samples.{AreSamplesOf}
+use Rattle.checker.specs.Samples.{AreSamplesOf}
 use Rattle.finder.proofs.Best.{BestLaw}
 use Rattle.finder.proofs.Narrow.{NarrowLaw}
 use Rattle.finder.proofs.SpanPieces.{piece_of_claim}
@@ -71,11 +71,9 @@ pub record Laws : Type 0 where
       → verdict_of samples claim certificate ≡ Yes
       → PassBelow samples claim certificate (length certificate.pieces)
   pub verdicts : (claim : ClaimData) (samples : List Sample) (certificate : CertificateData) → IsLawful claim
-      → All (λ sample. sample.server < length claim.servers) samples
-      → IsVerdictOn claim samples certificate (verdict_of samples claim certificate)
+      → AreSamplesOf claim samples → IsVerdictOn claim samples certificate (verdict_of samples claim certificate)
   pub held : (claim : ClaimData) (samples : List Sample) (stretch : Stretch) → IsLawful claim
-      → All (λ sample. sample.server < length claim.servers) samples
-      → HoldsError claim samples stretch (best_hull samples claim stretch)
+      → AreSamplesOf claim samples → HoldsError claim samples stretch (best_hull samples claim stretch)
 
 module _ (laws : Laws) (samples : List Sample) (claim : ClaimData) (step : ℕ) (lawful : IsLawful claim)
     (are : AreSamplesOf claim samples) (k : ℕ) (hull : Hull) (failing : IsFirstFailing samples claim step k hull)
@@ -106,4 +104,4 @@ module _ (laws : Laws) (samples : List Sample) (claim : ClaimData) (step : ℕ) 
         (pieces_from samples claim step 0 k ++ piece_at samples claim step m ∷ [])) k ≡ Some (stretch_at claim step m))
         same (stretch_is_at laws.best samples claim lawful step k 0 claim.first refl) in
         subst (λ (o : Option Stretch). IsSomeAnd o (IsContradicted claim samples)) at
-        ((laws.verdicts claim samples certificate lawful are.listed).contradiction k verdict)
+        ((laws.verdicts claim samples certificate lawful are).contradiction k verdict)

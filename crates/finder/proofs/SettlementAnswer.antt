@@ -25,7 +25,8 @@ use Rattle.courses.specs.DriftSettlement.{SettlesWithDrift}
 use Rattle.courses.specs.Evidence.{IsNoEvidence, count_with_exchange}
 use Rattle.finder.specs.Fewest.{AreLongest, IsStuck, end_after}
 use Rattle.finder.specs.FewestAnswer.{FindsFewest}
-use Rattle.finder.specs.Leeway.{AreCoversTriedInVain}
+use Rattle.finder.specs.Leeway.{AreHeld}
+use Rattle.finder.specs.NearestRefutation.{NoneIsRefuted}
 use Rattle.finder.specs.Settlement.{IsContestedBy, IsFitted, IsFittedByNone, IsHeard, IsLeftOpen, IsShownBy, IsUnheard}
 use Rattle.finder.specs.declared.fewest.Fewest.TheVariants as found
 use Rattle.finder.proofs.LongestPiece.{end_kept, fits_64}
@@ -168,17 +169,18 @@ module _ (claim : ClaimData) (xs : List Exchange) where
       rw is (omega (arith, ints), further)
 
   -- as some course fits, the samples don't contradict each other there, and so no certificate is accepted
-  pub left_open : (begin end : ℤ) (hull : Hull) → begin ≤ℤ end → IsHeard claim xs → IsFitted claim xs
+  pub left_open : (begin end : ℤ) (hull : Hull) (covers : ℕ) → begin ≤ℤ end → IsHeard claim xs → IsFitted claim xs
       → FindsFewest (samples_of xs claim) claim (Ok (found.Nothing begin end hull))
-      → AreCoversTriedInVain claim xs (unsigned_abs begin ∷ unsigned_abs end ∷ [])
-      → IsLeftOpen claim xs begin end hull
-  left_open begin end hull forward is_heard courses finds all_tried = record {
+      → NoneIsRefuted claim xs → AreHeld claim xs (unsigned_abs begin ∷ unsigned_abs end ∷ []) covers
+      → IsLeftOpen claim xs begin end hull covers
+  left_open begin end hull covers forward is_heard courses finds none_refuted bounded = record {
     heard = is_heard;
     courses = courses;
     stuck = finds.stuck;
     none_accepted = finds.none_accepted (λ empty.
         let at = courses begin in
-        finds.contradiction empty xs at.0 refl at.1 (observed begin end at.0 forward at.2));
+        finds.contradiction empty xs at.0 refl at.1.fits (observed begin end at.0 forward at.2));
+    none_refuted = none_refuted;
     held = finds.held;
-    all_tried = all_tried;
+    bounded = bounded;
   }

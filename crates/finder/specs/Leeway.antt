@@ -4,9 +4,12 @@
 -- if it is compatible with the exchange's high mark, so that some course keeps both. To the side
 -- below zero it is a high mark, and the exchanges' low marks say how far it may go. Up to some
 -- number of ticks a group lets every error be, and none beyond: its leeway.
-use Rattle.std.specs.Prelude.{◌≡◌, ◌↔◌, ◌⊎◌, ℕ, ◌<◌, ◌≤◌, ◌==◌, ◌-◌, ◌^◌, ℤ, pos, neg_ℤ, ◌≤ℤ◌, ◌<ℤ◌}
-use Rattle.std.specs.Prelude.{Bool, ◌||◌, true, false, List, length, Some, slice_get, All, count_by}
+use Rattle.std.specs.Prelude.{◌≡◌, ◌↔◌, ◌⊎◌, ℕ, ◌<◌, ◌≤◌, ◌==◌, ◌-◌, ◌^◌, ℤ, pos, neg_ℤ, ◌+ℤ◌, ◌*ℤ◌, ◌≤ℤ◌, ◌<ℤ◌}
+use Rattle.std.specs.Prelude.{Bool, ◌||◌, true, false, List, length, Some, slice_get, All, Any, count_by}
+use Rattle.std.specs.Int.{int_min}
 use Rattle.std.specs.List.{list_any, slice_index_or}
+use Rattle.checker.specs.Course.{Course, Fits}
+use Rattle.checker.specs.Groups.{holds_false}
 use Rattle.checker.specs.RefutationTest.{are_different}
 use Rattle.claim_file.specs.Claim.{ClaimData}
 use Rattle.certificate.specs.Refutation.{RefutationData}
@@ -14,12 +17,14 @@ use Rattle.courses.specs.Cover.{group_of, servers_of}
 use Rattle.courses.specs.DriftRefutation.{IsRefutedWithDrift}
 use Rattle.courses.specs.Groups.{holds}
 use Rattle.courses.specs.LeastCovers.{AreLeastCovers}
+use Rattle.courses.specs.Members.{LieWithin}
 use Rattle.courses.specs.declared.groups.Groups.{Groups}
 use Rattle.marks.specs.Mark.{low_mark, high_mark, AreCompatible}
 use Rattle.marks.specs.declared.mark.Mark.{Mark}
 use Rattle.pairing.specs.declared.exchange.Exchange.{Exchange}
 use Rattle.span_cover.specs.Group.{numbers_below}
-use Rattle.finder.specs.NearestRefutation.{IsErrorOf64Bits}
+use Rattle.sample_interval.specs.Moment.{error_of}
+use Rattle.finder.specs.NearestRefutation.{IsErrorOf64Bits, greatest_error, least_error_below}
 use Rattle.finder.specs.declared.drift_refutation.Place.{Place}
 use Rattle.finder.specs.declared.side.Side.{Side}
 use Rattle.finder.specs.declared.side.Side.TheVariants.{Above, Below}
@@ -86,6 +91,7 @@ pub record IsNarrowed (leeways : List ℤ) (more : ℕ) (cover found : ℕ → B
   pub added : List ℕ
   pub join : (group : ℕ) → found group ≡ (cover group || list_any (λ a. a == group) added)
   -- each is added once, and isn't the cover's
+  pub below : All (λ a. a < 32) added
   pub once : are_different added ≡ true
   pub others : All (λ a. cover a ≡ false) added
   -- no group that is left has less leeway than one that was added
@@ -95,7 +101,23 @@ pub record IsNarrowed (leeways : List ℤ) (more : ℕ) (cover found : ℕ → B
   pub few : length added ≤ more
   pub enough : (length added ≡ more) ⊎ IsUnlimited leeways found
 
--- ---- what is tried at a reading
+-- ---- what the clock is off by at a reading
+
+-- when a course is observed, the clock is off by so many ticks to a side, or by more
+abbrev pub IsOff : Side → ℤ → Course → Type 0
+IsOff Above ticks course = (ticks *ℤ pos course.fineness) ≤ℤ error_of course.observation
+IsOff Below ticks course = error_of course.observation ≤ℤ (neg_ℤ ticks *ℤ pos course.fineness)
+
+-- In each course of some that fit, and is observed at the reading, the error is less than a tick
+-- beyond the bound on this side.
+abbrev pub HoldsFor : ClaimData → List Exchange → ℕ → Side → (Course → Type 0) → Type 0
+HoldsFor claim xs reading side Among = (course : Course) → Fits claim xs course → Among course
+    → course.observation.reading ≡ (pos reading *ℤ pos course.fineness)
+    → ¬ (IsOff side (claim.bound +ℤ pos 1) course)
+
+-- each of these groups holds a false server in it
+abbrev pub HasFalse : ClaimData → (ℕ → Bool) → Course → Type 0
+HasFalse claim cover course = LieWithin cover (holds_false claim.groups course.is_false)
 
 -- the exchanges of all groups but these let the clock be off by so many ticks
 abbrev pub DoOthersLet : ClaimData → List Exchange → Side → ℤ → (ℕ → Bool) → ℤ → Type 0
@@ -103,7 +125,8 @@ DoOthersLet claim xs side reading is_false ticks =
     (group : ℕ) → group < 32 → is_false group ≡ false
     → DoLet claim xs (length xs) side reading group ticks
 
--- a refutation has these groups false and the greatest error that all others let be
+-- a refutation has these groups false and the greatest error of 64 bits that all others let be,
+-- which is beyond the bound
 pub record IsCandidate (claim : ClaimData) (xs : List Exchange) (side : Side) (reading : ℕ)
     (is_false : ℕ → Bool) (r : RefutationData) : Type 0 where
   pub there : r.reading ≡ reading
@@ -113,56 +136,70 @@ pub record IsCandidate (claim : ClaimData) (xs : List Exchange) (side : Side) (r
   pub in_64_bits : IsErrorOf64Bits r.error
   pub beyond_bound : claim.bound <ℤ ticks
   pub let_be : DoOthersLet claim xs side (pos reading) is_false ticks
-  pub greatest : (more : ℤ) → DoOthersLet claim xs side (pos reading) is_false more → more ≤ℤ ticks
+  pub greatest : (more : ℤ) → IsErrorOf64Bits (turned side more)
+      → DoOthersLet claim xs side (pos reading) is_false more → more ≤ℤ ticks
 
--- with a cover's groups false, and those that let least be, the greatest error that the others let
--- be at a reading, to one side of zero, refutes nothing
-pub record IsTriedInVain (claim : ClaimData) (xs : List Exchange) (cover : ℕ → Bool) (reading : ℕ)
+-- Rounding stands in the way. With a cover's groups false, and those that let least be, the others
+-- let the clock be off by more than the bound. But an error of a refutation is a whole number of
+-- ticks, of 64 bits, and with the greatest such none stands.
+pub record IsRounded (claim : ClaimData) (xs : List Exchange) (cover : ℕ → Bool) (reading : ℕ)
     (side : Side) : Type 0 where
   pub is_false : ℕ → Bool
   pub leeways : List ℤ
   pub are : AreLeeways claim xs (length xs) side (pos reading) leeways
   pub narrowed :
       IsNarrowed leeways (claim.false_max - count_by cover (numbers_below 32)) cover is_false
-  pub refutes_nothing : (r : RefutationData) → IsCandidate claim xs side reading is_false r
-      → ¬ (IsRefutedWithDrift claim xs r)
+  pub refutation : RefutationData
+  pub candidate : IsCandidate claim xs side reading is_false refutation
+  pub refutes_nothing : ¬ (IsRefutedWithDrift claim xs refutation)
+
+-- The bound holds at a reading, to one side of zero, in each course that fits with a cover's groups
+-- false; or rounding stands in the way.
+abbrev pub IsHeld : ClaimData → List Exchange → (ℕ → Bool) → ℕ → Side → Type 0
+IsHeld claim xs cover reading side =
+    HoldsFor claim xs reading side (HasFalse claim cover) ⊎ IsRounded claim xs cover reading side
 
 -- so it is at each of these readings, to both sides
-abbrev pub IsTriedAtAll : ClaimData → List Exchange → List ℕ → Groups → Type 0
-IsTriedAtAll claim xs readings cover =
-    All (λ reading. (side : Side) → IsTriedInVain claim xs (holds cover) reading side) readings
+abbrev pub IsHeldAtAll : ClaimData → List Exchange → List ℕ → Groups → Type 0
+IsHeldAtAll claim xs readings cover =
+    All (λ reading. (side : Side) → IsHeld claim xs (holds cover) reading side) readings
 
--- so it is with each of the least covers
-pub record AreCoversTriedInVain (claim : ClaimData) (xs : List Exchange) (readings : List ℕ)
+-- The bound holds at these readings in each course that fits, to both sides of zero; or rounding
+-- stands in the way. That is so for each of these minimal covers with its groups false, and where
+-- they are fewer than 64, these are all, and so it is for every course.
+pub record AreHeld (claim : ClaimData) (xs : List Exchange) (readings : List ℕ) (covers : ℕ)
     : Type 0 where
-  pub covers : List Groups
-  pub least : AreLeastCovers claim xs covers
-  pub tried : All (IsTriedAtAll claim xs readings) covers
+  pub minimal : List Groups
+  pub are : AreLeastCovers claim xs minimal
+  pub count : covers ≡ length minimal
+  pub with_each : All (IsHeldAtAll claim xs readings) minimal
+  pub in_all : covers < 64 → All (λ reading. (side : Side) →
+      HoldsFor claim xs reading side (λ _. Unit {0})
+      ⊎ Any (λ cover. IsRounded claim xs (holds cover) reading side) minimal) readings
 
--- so it is at each of these places, to both sides
-abbrev pub AreTriedInVain : ClaimData → List Exchange → List Place → Type 0
-AreTriedInVain claim xs places =
-    All (λ place. (side : Side) → IsTriedInVain claim xs (holds place.cover) place.reading side)
-    places
+-- so it is at each of these places, with its cover, to both sides
+abbrev pub ArePlacesHeld : ClaimData → List Exchange → List Place → Type 0
+ArePlacesHeld claim xs places =
+    All (λ place. (side : Side) → IsHeld claim xs (holds place.cover) place.reading side) places
 
 -- ---- the greatest of the leeways
 
--- this is the least leeway of the groups outside a set that have an exchange
+-- this is the least leeway of the groups outside a set
 pub record IsLimit (leeways : List ℤ) (left_out : ℕ → Bool) (most : ℤ) : Type 0 where
-  pub group : ℕ
-  pub tightest : IsTightest leeways left_out group
-  pub is : most ≡ leeway_in leeways group
+  pub least : (other : ℕ) → other < 32 → left_out other ≡ false
+      → most ≤ℤ leeway_in leeways other
+  pub met : (IsUnlimited leeways left_out × (most ≡ no_limit))
+      ⊎ ((group : ℕ) × IsTightest leeways left_out group × (most ≡ leeway_in leeways group))
 
--- an error is beyond the bound on its side, and 64 bits hold it
-pub record IsSayable (bound : ℤ) (side : Side) (most : ℤ) : Type 0 where
-  pub beyond : bound <ℤ most
-  pub in_64_bits : IsErrorOf64Bits (turned side most)
+-- how far from zero an error of 64 bits may be
+abbrev pub greatest_of : Side → ℤ
+greatest_of Above = greatest_error
+greatest_of Below = least_error_below
 
--- no group outside a set has an exchange, or what they let be can't be said
-abbrev pub IsNothingSaid : ℤ → Side → List ℤ → (ℕ → Bool) → Type 0
-IsNothingSaid bound side leeways left_out =
-    IsUnlimited leeways left_out
-    ⊎ ((most : ℤ) × IsLimit leeways left_out most × ¬ (IsSayable bound side most))
+-- a group outside a set lets nothing beyond the bound be
+abbrev pub IsBounded : ℤ → List ℤ → (ℕ → Bool) → Type 0
+IsBounded bound leeways left_out =
+    (group : ℕ) × IsTightest leeways left_out group × (leeway_in leeways group ≤ℤ bound)
 
 -- this refutation has these groups false, and what all others let be as its error
 pub record IsMade (claim : ClaimData) (side : Side) (reading : ℕ) (leeways : List ℤ)
@@ -171,4 +208,5 @@ pub record IsMade (claim : ClaimData) (side : Side) (reading : ℕ) (leeways : L
   pub liars : r.liars ≡ servers_of claim left_out
   pub most : ℤ
   pub limit : IsLimit leeways left_out most
-  pub error : r.error ≡ turned side most
+  pub beyond : claim.bound <ℤ most
+  pub error : r.error ≡ turned side (int_min most (greatest_of side))

@@ -1,5 +1,4 @@
 pub mod Fault
-pub mod Samples
 pub mod Piece
 pub mod Entry
 pub mod TickParts

@@ -6,7 +6,7 @@ use Rattle.sample_interval.specs.declared.kinds.Sample.{Sample}
 use Rattle.sweep.specs.Table.{AreTablesOf}
 use Rattle.sweep.specs.declared.table.BestTable.{BestTable}
 use Rattle.finder.specs.Fewest.{AreLongest, IsLongest, IsStuck, IsTooLong, end_after}
-use Rattle.finder.specs.Samples.{AreSamplesOf}
+use Rattle.checker.specs.Samples.{AreSamplesOf}
 use Rattle.finder.specs.declared.reach.Reach.{Reach}
 use Rattle.finder.specs.declared.reach.Reach.TheVariants.{End, Stuck, TooLong}
 

@@ -4,7 +4,7 @@
 -- capture, and no more is asked. If no more groups have a sample than may be false, the capture
 -- says nothing about the clock. Otherwise a certificate shows the claim, or a refutation contests
 -- it, or neither was found, and no certificate is accepted.
-use Rattle.std.specs.Prelude.{◌≡◌, ◌⊎◌, ◌<◌, ◌≤◌, ℕ, ℤ, unsigned_abs, List, [], ◌∷◌, length, map, AllPairs, Result, IfOk, IfErr}
+use Rattle.std.specs.Prelude.{◌≡◌, ◌⊎◌, ◌<◌, ◌≤◌, ℕ, ℤ, true, unsigned_abs, List, [], ◌∷◌, length, map, AllPairs, Result, IfOk, IfErr}
 use Rattle.certificate.specs.Certificate.{CertificateData, data_of as certificate_data, max_pieces}
 use Rattle.certificate.specs.Refutation.{RefutationData, data_of as refutation_data}
 use Rattle.claim_file.specs.Claim.{ClaimData}
@@ -17,23 +17,27 @@ use Rattle.checker.specs.declared.verdict.Verdict.TheVariants.{Yes}
 use Rattle.courses.specs.Contradiction.{ShownConflict, AreAllConflicts, NoFewHoldAnEnd}
 use Rattle.courses.specs.Cover.{SomeCourse, SomeCourseAt}
 use Rattle.courses.specs.DriftRefutation.{IsRefutedWithDrift, HasDriftCourse}
+use Rattle.courses.specs.DriftSettlement.{SettlesWithDrift}
 use Rattle.courses.specs.Evidence.{IsNoEvidence, count_with_exchange}
 use Rattle.courses.specs.PairMarks.{conflict_data}
 use Rattle.finder.specs.Fewest.{HasFewest, IsOfLongest, IsStuck, IsTooLong, NoneIsAccepted, NoneOfFewIsAccepted, stretch_over}
-use Rattle.finder.specs.Leeway.{AreCoversTriedInVain}
+use Rattle.finder.specs.Leeway.{AreHeld}
+use Rattle.finder.specs.NearestRefutation.{NoneIsRefuted}
 use Rattle.finder.specs.declared.fault.FindFault.{FindFault}
 use Rattle.finder.specs.declared.fault.FindFault.TheVariants.{TooManyPieces, Memory}
+use Rattle.finder.specs.declared.settlement.Search.{Search}
+use Rattle.finder.specs.declared.settlement.Search.TheVariants as search
 use Rattle.finder.specs.declared.settlement.Settled.{Settled}
 use Rattle.finder.specs.declared.settlement.Settled.TheVariants as the
 
 -- a certificate, a refutation, all conflicts, how few groups have a sample, or the tick at which
--- the certificate of fewest pieces stops, with its hull
+-- the certificate of fewest pieces stops, with its hull, and how many covers were looked at
 pub data SettledData : Type 0 where
   shown : CertificateData → SettledData
   refuted : RefutationData → SettledData
   fitted_by_none : List ShownConflict → SettledData
   no_evidence : ℕ → SettledData
-  left_open : ℤ → ℤ → Hull → SettledData
+  left_open : ℤ → ℤ → Hull → ℕ → SettledData
 
 -- what a value of the program says
 abbrev pub settled_data : Settled → SettledData
@@ -41,7 +45,7 @@ settled_data (the.Shown certificate) = shown (certificate_data certificate)
 settled_data (the.Refuted refutation) = refuted (refutation_data refutation)
 settled_data (the.NothingFits conflicts) = fitted_by_none (map conflict_data conflicts.items)
 settled_data (the.NoEvidence groups) = no_evidence groups
-settled_data (the.Open begin end hull) = left_open begin end hull
+settled_data (the.Open begin end hull covers) = left_open begin end hull covers
 
 module _ (claim : ClaimData) (xs : List Exchange) where
   -- More groups have a sample than may be false, so that the capture is evidence.
@@ -82,32 +86,45 @@ module _ (claim : ClaimData) (xs : List Exchange) where
     pub nothing_said : IsNoEvidence claim xs groups
     pub none_accepted : NoneIsAccepted (samples_of xs claim) claim
 
-  -- A course fits, and no certificate is accepted, though the capture is evidence. Where the
-  -- longest pieces have come to, the next tick isn't shown; in every course that fits, the error
-  -- lies in its hull at every moment whose reading lies there. At neither end of it does an error
-  -- that is tried refute the claim.
-  pub record IsLeftOpen (begin end : ℤ) (hull : Hull) : Type 0 where
+  -- A course fits, and no certificate is accepted, though the capture is evidence, and no
+  -- refutation whose error never changes. Where the longest pieces have come to, the next tick
+  -- isn't shown; in every course that fits, the error lies in its hull at every moment whose
+  -- reading lies there. At both its ends the bound holds in every course that fits, but for
+  -- rounding, and for courses with the groups of another cover false if there are so many.
+  pub record IsLeftOpen (begin end : ℤ) (hull : Hull) (covers : ℕ) : Type 0 where
     pub heard : IsHeard
     pub courses : IsFitted
     pub stuck : IsStuck (samples_of xs claim) claim begin end hull
     pub none_accepted : NoneIsAccepted (samples_of xs claim) claim
+    pub none_refuted : NoneIsRefuted claim xs
     pub held : HoldsError claim (samples_of xs claim) (stretch_over begin end) hull
-    pub all_tried : AreCoversTriedInVain claim xs (unsigned_abs begin ∷ unsigned_abs end ∷ [])
+    pub bounded :
+        AreHeld claim xs (unsigned_abs begin ∷ unsigned_abs end ∷ []) covers
 
   abbrev pub IsSettledAs : SettledData → Type 0
   IsSettledAs (shown certificate) = IsShownBy certificate
   IsSettledAs (refuted refutation) = IsContestedBy refutation
   IsSettledAs (fitted_by_none conflicts) = IsFittedByNone conflicts
   IsSettledAs (no_evidence groups) = IsUnheard groups
-  IsSettledAs (left_open begin end hull) = IsLeftOpen begin end hull
+  IsSettledAs (left_open begin end hull covers) = IsLeftOpen begin end hull covers
 
   -- A course fits, and as many pieces as a certificate may have don't reach the span's end: none
-  -- that may be written is accepted. Whether a refutation was looked for, no clause says.
+  -- that may be written is accepted. Neither is a refutation whose error never changes; whether
+  -- another was looked for, no clause says.
   pub record HasTooManyPieces : Type 0 where
     pub heard : IsHeard
-    pub course : SomeCourse claim xs
+    pub courses : IsFitted
     pub too_long : IsTooLong (samples_of xs claim) claim
     pub none_accepted : NoneOfFewIsAccepted (samples_of xs claim) claim
+    pub none_refuted : NoneIsRefuted claim xs
+
+  -- What a search for a refutation has come to: this one stands, or none whose error never changes
+  -- does, and the bound holds at these readings, with so many minimal covers looked at.
+  abbrev pub IsSearched : List ℕ → Search → Type 0
+  IsSearched readings (search.Found refutation) =
+      SettlesWithDrift claim xs (refutation_data refutation) true
+  IsSearched readings (search.Nothing covers) =
+      NoneIsRefuted claim xs × AreHeld claim xs readings covers
 
   -- what a search for what settles a claim answers
   pub record Settles (result : Result Settled FindFault) : Type 0 where

@@ -9,7 +9,7 @@ ghost use Rattle.finder.specs.Carried.{FindsLeastBound, IsCarried, StopsAt};
 ghost use Rattle.finder.specs.Envelope.{with_bound};
 ghost use Rattle.finder.specs.Piece.{IsStep};
 ghost use Rattle.finder.specs.Reach.{AreTablesFor, IsTabled};
-ghost use Rattle.finder.specs.Samples.{AreSamplesOf};
+ghost use Rattle.checker.specs.Samples.{AreSamplesOf};
 
 use crate::guess::Guess;
 use crate::laws::{

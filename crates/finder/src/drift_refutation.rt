@@ -1,6 +1,8 @@
 //! Refutations with drift that are found.
 
-ghost use Rattle.std.specs.Prelude.{◌≡◌, true, length, map, All, IfNone, IfOk, IfSome, MatchOption};
+ghost use Rattle.std.specs.Prelude.{◌≡◌, ◌≤ℤ◌, true, pos, length, map, All, IfNone, IfOk, IfSome};
+ghost use Rattle.std.specs.Prelude.{MatchOption};
+ghost use Rattle.std.specs.Int.{int_min};
 ghost use Rattle.certificate.specs.Refutation.{data_of as refutation_data};
 ghost use Rattle.claim_file.specs.Claim.{IsLawful, data_of as claim_data};
 ghost use Rattle.courses.specs.ConflictTable.{IsConflictTable};
@@ -8,21 +10,19 @@ ghost use Rattle.courses.specs.ConflictsView.{data_of};
 ghost use Rattle.courses.specs.DriftRefutation.{IsRefutedWithDrift};
 ghost use Rattle.courses.specs.DriftSettlement.{SettlesWithDrift};
 ghost use Rattle.courses.specs.Groups.{holds};
-ghost use Rattle.finder.specs.Leeway.{AreTriedInVain, IsTriedAtAll, IsTriedInVain, turned};
-ghost use Rattle.finder.specs.Leeway.{IsMade, IsNothingSaid, IsSayable};
+ghost use Rattle.finder.specs.Leeway.{ArePlacesHeld, IsHeld, IsHeldAtAll, greatest_of, turned};
+ghost use Rattle.finder.specs.Leeway.{IsBounded, IsMade};
 ghost use Rattle.finder.specs.declared.side.Side.{Side};
 ghost use Rattle.pairing.specs.Exchange.{IsLawful as IsLawfulExchange};
 
-use crate::leeway::{false_groups, leeways_at, tightest};
+use crate::leeway::{false_groups, least_leeway, leeways_at};
+use crate::nearest_refutation::{GREATEST_ERROR, LEAST_ERROR_BELOW};
 use crate::side::Side;
 use certificate::Refutation;
 use claim_file::Claim;
 use courses::{Conflicts, Groups, check_refutation_by_conflicts, conflicts_of};
 use pairing::ToExchange;
 use std::alloc::{AllocError, Global};
-
-/// The greatest error that is looked for, in ticks, to either side of zero.
-const GREATEST_ERROR_EITHER_SIDE: i128 = 1 << 63;
 
 /// Where a refutation is looked for.
 #[derive(Clone, Copy)]
@@ -38,8 +38,9 @@ pub struct Place {
 /// At each place the groups of its cover are taken for false. As many more may be false as the
 /// claim allows: those that let least be at its reading. Then the error is the greatest that the
 /// other groups let be, to one side of zero or the other. If it is beyond the bound and the
-/// refutation stands, that is the answer. So none may be found though there is one, if it lies
-/// elsewhere, if its error is next to the bound, or if 64 bits don't hold it.
+/// refutation stands, that is the answer; where 64 bits don't hold the error, with the greatest that
+/// they hold. So none may be found though there is one, if it lies elsewhere, or if its error is
+/// next to the bound.
 ///
 /// The marks are gathered and held against each other once, with the memory of
 /// `courses::conflicts_of`. Then it looks twice at each exchange for each place and side.
@@ -57,9 +58,10 @@ pub fn find_refutation_with_drift<X: ToExchange>(
     ensures settles { IfOk result (λ result. IfSome result (λ found. SettlesWithDrift
         (claim_data claim.now) (map X.shown exchanges.now) (refutation_data found) true)) }
 
-    // None is found only if none of the errors that it tries refutes the claim.
-    ensures all_tried { IfOk result (λ result. IfNone result
-        (AreTriedInVain (claim_data claim.now) (map X.shown exchanges.now) places.now)) }
+    // None is found only if at each place the bound holds in every course with its cover's groups
+    // false, but for rounding.
+    ensures held { IfOk result (λ result. IfNone result
+        (ArePlacesHeld (claim_data claim.now) (map X.shown exchanges.now) places.now)) }
 {
     let conflicts = conflicts_of(alloc, exchanges, claim)?;
     Ok(find_by_conflicts(exchanges, claim, &conflicts, places))
@@ -80,8 +82,8 @@ fn find_by_conflicts<X: ToExchange>(
         (data_of conflicts.now).is_broken (data_of conflicts.now).is_edge }
     ensures settles { IfSome result (λ found. SettlesWithDrift
         (claim_data claim.now) (map X.shown exchanges.now) (refutation_data found) true) }
-    ensures all_tried { IfNone result
-        (AreTriedInVain (claim_data claim.now) (map X.shown exchanges.now) places.now) }
+    ensures held { IfNone result
+        (ArePlacesHeld (claim_data claim.now) (map X.shown exchanges.now) places.now) }
 {
     for place in places {
         if let Some(found) = find_at(exchanges, claim, conflicts, *place) {
@@ -107,7 +109,7 @@ pub(crate) fn find_with_cover<X: ToExchange>(
         (data_of conflicts.now).is_broken (data_of conflicts.now).is_edge }
     ensures settles { IfSome result (λ found. SettlesWithDrift
         (claim_data claim.now) (map X.shown exchanges.now) (refutation_data found) true) }
-    ensures all_tried { IfNone result (IsTriedAtAll (claim_data claim.now)
+    ensures held { IfNone result (IsHeldAtAll (claim_data claim.now)
         (map X.shown exchanges.now) readings.now cover) }
 {
     for reading in readings {
@@ -134,7 +136,7 @@ fn find_at<X: ToExchange>(
         (data_of conflicts.now).is_broken (data_of conflicts.now).is_edge }
     ensures settles { IfSome result (λ found. SettlesWithDrift
         (claim_data claim.now) (map X.shown exchanges.now) (refutation_data found) true) }
-    ensures all_tried { IfNone result ((side : Side) → IsTriedInVain (claim_data claim.now)
+    ensures held { IfNone result ((side : Side) → IsHeld (claim_data claim.now)
         (map X.shown exchanges.now) (holds place.cover) place.reading side) }
 {
     if let Some(found) = find_on(exchanges, claim, conflicts, place, Side::Above) {
@@ -159,7 +161,7 @@ fn find_on<X: ToExchange>(
         (data_of conflicts.now).is_broken (data_of conflicts.now).is_edge }
     ensures settles { IfSome result (λ found. SettlesWithDrift
         (claim_data claim.now) (map X.shown exchanges.now) (refutation_data found) true) }
-    ensures all_tried { IfNone result (IsTriedInVain (claim_data claim.now)
+    ensures held { IfNone result (IsHeld (claim_data claim.now)
         (map X.shown exchanges.now) (holds place.cover) place.reading side) }
 {
     let leeways = leeways_at(exchanges, claim, side, place.reading);
@@ -182,27 +184,28 @@ fn candidate(
 ) -> Option<Refutation>
     requires { IsLawful (claim_data claim.now) }
     ensures { MatchOption result
-        (IsNothingSaid claim.now.bound side leeways.now (holds false_groups))
+        (IsBounded claim.now.bound leeways.now (holds false_groups))
         (λ made. IsMade (claim_data claim.now) side reading leeways.now (holds false_groups)
         (refutation_data made)) }
 {
-    let group = tightest(leeways, false_groups)?;
+    let most = least_leeway(leeways, false_groups);
+    if most <= claim.bound {
+        return None;
+    }
     Some(Refutation {
-        error: error_beyond(claim, side, leeways[usize::from(group)])?,
+        error: error_within(side, most),
         liars: false_groups.servers(claim),
         reading,
     })
 }
 
-/// An error on this side of zero, if it is beyond the bound and 64 bits hold it.
-fn error_beyond(claim: &Claim, side: Side, most: i128) -> Option<i64>
-    requires { IsLawful (claim_data claim.now) }
-    ensures { MatchOption result (¬ (IsSayable claim.now.bound side most))
-        (λ error. error ≡ turned side most) }
+/// The error furthest from zero on this side, of at most so many ticks, that 64 bits hold.
+fn error_within(side: Side, most: i128) -> i64
+    requires { pos 0 ≤ℤ most }
+    ensures { result ≡ turned side (int_min most (greatest_of side)) }
 {
-    if claim.bound < most && most <= GREATEST_ERROR_EITHER_SIDE {
-        i64::try_from(side.turned(most)).ok()
-    } else {
-        None
+    match side {
+        Side::Above => most.min(GREATEST_ERROR) as i64,
+        Side::Below => -most.min(LEAST_ERROR_BELOW) as i64,
     }
 }

@@ -6,7 +6,7 @@ ghost use Rattle.pairing.specs.Exchange.{most_exchanges};
 ghost use Rattle.finder.specs.Answer.{FindsEnvelope};
 ghost use Rattle.finder.specs.Envelope.{data_of, envelope_to, IsLawfulEnvelope};
 ghost use Rattle.finder.specs.Piece.{IsStep};
-ghost use Rattle.finder.specs.Samples.{AreSamplesOf};
+ghost use Rattle.checker.specs.Samples.{AreSamplesOf};
 
 use crate::fault::FindFault;
 use crate::laws::{last_piece_ends_with_the_span, least_bound_is_the_least};

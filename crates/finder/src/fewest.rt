@@ -8,7 +8,7 @@ ghost use Rattle.sweep.specs.Pieces.{ArePieces};
 ghost use Rattle.finder.specs.Fewest.{pieces_over};
 ghost use Rattle.finder.specs.FewestAnswer.{FindsFewest};
 ghost use Rattle.finder.specs.Reach.{AreTablesFor};
-ghost use Rattle.finder.specs.Samples.{AreSamplesOf};
+ghost use Rattle.checker.specs.Samples.{AreSamplesOf};
 
 use crate::entry::entries_at;
 use crate::fault::FindFault;

@@ -6,7 +6,7 @@ ghost use Rattle.pairing.specs.Exchange.{most_exchanges};
 ghost use Rattle.finder.specs.Answer.{Finds};
 ghost use Rattle.finder.specs.Found.{data_of, found_without, first_failing};
 ghost use Rattle.finder.specs.Piece.{IsStep, count_of};
-ghost use Rattle.finder.specs.Samples.{AreSamplesOf};
+ghost use Rattle.checker.specs.Samples.{AreSamplesOf};
 
 use crate::fault::FindFault;
 use crate::laws::{

@@ -5,7 +5,7 @@ ghost use Rattle.claim_file.specs.Claim.{IsLawful, data_of};
 ghost use Rattle.span_cover.specs.Piece.{IsPiece};
 ghost use Rattle.span_cover.specs.Group.{piece_hull};
 ghost use Rattle.finder.specs.Entry.{AreNamed, parts_named};
-ghost use Rattle.finder.specs.Samples.{AreSamplesOf};
+ghost use Rattle.checker.specs.Samples.{AreSamplesOf};
 
 use arrayvec::ArrayVec;
 use claim_file::Claim;

@@ -6,7 +6,6 @@ ghost use Rattle.certificate.specs.Certificate.{CertificateData, PieceData};
 ghost use Rattle.claim_file.specs.Claim.{ClaimData, IsLawful, max_drift_ppb};
 ghost use Rattle.pairing.specs.Exchange.{IsLawful as IsLawfulExchange};
 ghost use Rattle.pairing.specs.declared.exchange.Exchange.{Exchange};
-ghost use Rattle.sample_interval.specs.Sample.{IsLawfulSample};
 ghost use Rattle.sample_interval.specs.declared.kinds.Sample.{Sample};
 ghost use Rattle.checker.specs.Traceability.{HoldsError, samples_of};
 ghost use Rattle.checker.specs.Verdict.{parts_after, parts_fault, hull_fault, verdict_of};
@@ -22,7 +21,7 @@ ghost use Rattle.finder.specs.Fewest.{AreLongest, IsNoWider, IsOfLongest, IsStuc
 ghost use Rattle.finder.specs.Found.{found_of, hull_at};
 ghost use Rattle.finder.specs.Piece.{IsPieceCount, count_of, piece_count_of};
 ghost use Rattle.finder.specs.Refusal.{HoldsWhole};
-ghost use Rattle.finder.specs.Samples.{AreSamplesOf};
+ghost use Rattle.checker.specs.Samples.{AreSamplesOf};
 ghost use Rattle.finder.specs.TickParts.{best_parts};
 ghost use Rattle.finder.specs.declared.least.LeastBound.{LeastBound};
 
@@ -40,12 +39,8 @@ use span_cover::laws::{best_samples_are_the_first_best, piece_inside_another_is_
 /// The samples of exchanges keep their limits if the exchanges do, are of servers of the claim, and
 /// are as many.
 pub fn samples_of_exchanges_keep_limits()
-    ensures lawful { (claim : ClaimData) (xs : List Exchange) → IsLawful claim →
-        All (IsLawfulExchange (length claim.servers)) xs →
-        All IsLawfulSample (samples_of xs claim) }
-    ensures listed { (claim : ClaimData) (xs : List Exchange) →
-        All (IsLawfulExchange (length claim.servers)) xs →
-        All (λ sample. sample.server < length claim.servers) (samples_of xs claim) }
+    ensures of_claim { (claim : ClaimData) (xs : List Exchange) → IsLawful claim →
+        All (IsLawfulExchange (length claim.servers)) xs → AreSamplesOf claim (samples_of xs claim) }
     ensures as_many { (claim : ClaimData) (xs : List Exchange) →
         length (samples_of xs claim) ≡ length xs }
 {}
@@ -90,7 +85,7 @@ pub fn ticks_are_pieces_of_one_reading()
 /// piece's best entries at every moment whose reading lies in the piece, inside a bound or not.
 pub fn best_hulls_hold_the_error()
     ensures { (claim : ClaimData) (samples : List Sample) (stretch : Stretch) → IsLawful claim →
-        All (λ sample. sample.server < length claim.servers) samples →
+        AreSamplesOf claim samples →
         HoldsError claim samples stretch (best_hull samples claim stretch) }
 {
     best_entries_are_accepted();

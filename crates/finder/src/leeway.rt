@@ -5,7 +5,8 @@ ghost use Rattle.std.specs.Prelude.{unsigned_abs, slice_index, length, map, All,
 ghost use Rattle.std.specs.Prelude.{count_by};
 ghost use Rattle.claim_file.specs.Claim.{IsLawful, data_of as claim_data};
 ghost use Rattle.courses.specs.Groups.{holds};
-ghost use Rattle.finder.specs.Leeway.{AreLeeways, IsNarrowed, IsTightest, IsUnlimited, mark_at};
+ghost use Rattle.finder.specs.Leeway.{AreLeeways, IsLimit, IsNarrowed, IsTightest, IsUnlimited};
+ghost use Rattle.finder.specs.Leeway.{mark_at};
 ghost use Rattle.marks.specs.Mark.{AreCompatible};
 ghost use Rattle.marks.specs.Range.{IsWithinRange};
 ghost use Rattle.pairing.specs.Exchange.{IsLawful as IsLawfulExchange};
@@ -107,6 +108,16 @@ pub(crate) fn tightest(leeways: &[i128; 32], left_out: Groups) -> Option<u8>
         Some(tightest)
     } else {
         None
+    }
+}
+
+/// The least that a group lets be, of those that aren't in a set, in ticks.
+pub(crate) fn least_leeway(leeways: &[i128; 32], left_out: Groups) -> i128
+    ensures { IsLimit leeways.now (holds left_out) result }
+{
+    match tightest(leeways, left_out) {
+        Some(group) => leeways[usize::from(group)],
+        None => NO_LIMIT,
     }
 }
 

@@ -9,7 +9,7 @@ ghost use Rattle.sample_interval.specs.declared.kinds.Sample.{Sample};
 ghost use Rattle.finder.specs.Entry.{best_hull};
 ghost use Rattle.finder.specs.Fewest.{FailsAt, IsLongest, shows, stretch_over};
 ghost use Rattle.finder.specs.Reach.{AreTablesFor, IsTabled};
-ghost use Rattle.finder.specs.Samples.{AreSamplesOf};
+ghost use Rattle.checker.specs.Samples.{AreSamplesOf};
 
 use crate::laws::{
     best_entries_show_as_much, best_hulls_hold_the_error, pieces_within_have_no_wider_hulls,

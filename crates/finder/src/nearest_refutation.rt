@@ -17,10 +17,10 @@ use intersection::kinds::Interval;
 use pairing::ToExchange;
 
 /// The greatest error of a refutation, in ticks.
-const GREATEST_ERROR: i128 = (1 << 63) - 1;
+pub(crate) const GREATEST_ERROR: i128 = (1 << 63) - 1;
 
 /// How far below zero the least error of a refutation is, in ticks.
-const LEAST_ERROR_BELOW: i128 = 1 << 63;
+pub(crate) const LEAST_ERROR_BELOW: i128 = 1 << 63;
 
 /// Looks for a refutation of a claim: the one with the least error above the bound, or, if there is
 /// none, the one with the greatest error below it on the other side. It names just the servers that

@@ -6,7 +6,7 @@ ghost use Rattle.claim_file.specs.Claim.{IsLawful, data_of as claim_data};
 ghost use Rattle.finder.specs.Entry.{best_entries};
 ghost use Rattle.finder.specs.Envelope.{piece_data, piece_hull_at};
 ghost use Rattle.finder.specs.Piece.{stretch_at};
-ghost use Rattle.finder.specs.Samples.{AreSamplesOf};
+ghost use Rattle.checker.specs.Samples.{AreSamplesOf};
 
 use crate::entry::entries_at;
 use crate::hull::hull_of;

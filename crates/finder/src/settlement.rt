@@ -1,17 +1,14 @@
 //! What settles a claim.
 
-ghost use Rattle.std.specs.Prelude.{◌≡◌, ◌≤◌, true, length, map, All, IfNone, IfOk, IfSome};
-ghost use Rattle.certificate.specs.Refutation.{data_of as refutation_data};
+ghost use Rattle.std.specs.Prelude.{◌≡◌, ◌≤◌, length, map, All, IfOk};
 ghost use Rattle.claim_file.specs.Claim.{IsLawful, data_of as claim_data};
 ghost use Rattle.checker.specs.Traceability.{samples_of};
 ghost use Rattle.courses.specs.ConflictTable.{IsConflictTable};
 ghost use Rattle.courses.specs.ConflictsView.{data_of};
-ghost use Rattle.courses.specs.DriftSettlement.{SettlesWithDrift};
 ghost use Rattle.courses.specs.Evidence.{count_with_exchange};
-ghost use Rattle.finder.specs.Leeway.{AreCoversTriedInVain};
 ghost use Rattle.finder.specs.Reach.{IsTabled};
-ghost use Rattle.finder.specs.Samples.{AreSamplesOf};
-ghost use Rattle.finder.specs.Settlement.{Settles};
+ghost use Rattle.checker.specs.Samples.{AreSamplesOf};
+ghost use Rattle.finder.specs.Settlement.{IsSearched, Settles};
 ghost use Rattle.pairing.specs.Exchange.{IsLawful as IsLawfulExchange, most_exchanges};
 
 use crate::drift_refutation::find_with_cover;
@@ -19,11 +16,13 @@ use crate::fault::FindFault;
 use crate::fewest::{Fewest, fewest_by};
 use crate::laws::samples_of_exchanges_keep_limits;
 use crate::longest::tables_for;
+use crate::nearest_refutation::find_refutation;
 use crate::neediest::{neediest_tick, splits_for};
 use certificate::{Certificate, Refutation};
 use claim_file::Claim;
 use courses::laws::{
-    ends_of_all_conflicts_are_a_cover, few_groups_are_no_evidence, no_evidence_gives_no_yes,
+    ends_of_all_conflicts_are_a_cover, false_groups_are_a_cover, few_groups_are_no_evidence,
+    no_evidence_gives_no_yes, refutations_are_settled, refutations_without_drift_stand,
     some_course_fits_where_a_cover_is_small, some_course_is_observed_at_any_reading,
     tables_settle_covers,
 };
@@ -56,6 +55,8 @@ pub enum Settled {
         end: i128,
         /// The hull of the best entries there, in ticks, over the groups of servers.
         hull: Hull,
+        /// How many minimal covers were looked at: all, or 64.
+        covers: u8,
     },
 }
 
@@ -92,8 +93,18 @@ fn groups_heard<X: ToExchange>(exchanges: &[X], claim: &Claim) -> u8
     groups_with_exchanges(exchanges, claim).count(claim.servers.len() as u8)
 }
 
-/// A refutation with drift, if one is found: for each least cover at both ends of the tick that
-/// needs most with it left out, and at these readings.
+/// What a search for a refutation came to.
+#[derive(Drop)]
+enum Search {
+    /// This one stands.
+    Found(Refutation),
+    /// None was found with this many minimal covers, 64 if there are more.
+    Nothing { covers: u8 },
+}
+
+/// A refutation with drift, if one is found: for each minimal cover at both ends of the tick that
+/// needs most with it left out, and at these readings; and then, if there is one, a refutation
+/// without drift.
 fn refutation_of<X: ToExchange>(
     alloc: Global,
     exchanges: &[X],
@@ -101,7 +112,7 @@ fn refutation_of<X: ToExchange>(
     conflicts: &Conflicts,
     tables: &[BestTable],
     readings: &[u64],
-) -> Result<Option<Refutation>, AllocError>
+) -> Result<Search, AllocError>
     requires claim { IsLawful (claim_data claim.now) }
     requires exchanges { All (IsLawfulExchange (length claim.now.servers.items))
         (map X.shown exchanges.now) }
@@ -109,12 +120,13 @@ fn refutation_of<X: ToExchange>(
     requires table { IsConflictTable (claim_data claim.now) (map X.shown exchanges.now)
         (data_of conflicts.now).is_broken (data_of conflicts.now).is_edge }
     requires tables { IsTabled (claim_data claim.now) tables.now }
-    ensures settles { IfOk result (λ result. IfSome result (λ found. SettlesWithDrift
-        (claim_data claim.now) (map X.shown exchanges.now) (refutation_data found) true)) }
-    ensures all_tried { IfOk result (λ result. IfNone result
-        (AreCoversTriedInVain (claim_data claim.now) (map X.shown exchanges.now) readings.now)) }
+    ensures { IfOk result (IsSearched (claim_data claim.now) (map X.shown exchanges.now)
+        readings.now) }
 {
     tables_settle_covers();
+    false_groups_are_a_cover();
+    refutations_without_drift_stand();
+    refutations_are_settled();
     let least = conflicts.covers(claim.false_max);
     let covers = least.as_slice();
     let splits = splits_for(exchanges.len(), covers.len());
@@ -123,17 +135,20 @@ fn refutation_of<X: ToExchange>(
         if let Some(tick) = neediest_tick(alloc, tables, claim, cover, splits)? {
             let begin = tick.begin.0;
             let ends = [begin, begin.saturating_add(tick.reach)];
-            let there = find_with_cover(exchanges, claim, conflicts, cover, &ends);
-            if there.is_some() {
-                return Ok(there);
+            if let Some(there) = find_with_cover(exchanges, claim, conflicts, cover, &ends) {
+                return Ok(Search::Found(there));
             }
         }
-        let found = find_with_cover(exchanges, claim, conflicts, cover, readings);
-        if found.is_some() {
-            return Ok(found);
+        if let Some(found) = find_with_cover(exchanges, claim, conflicts, cover, readings) {
+            return Ok(Search::Found(found));
         }
     }
-    Ok(None)
+    match find_refutation(exchanges, claim) {
+        Some(steady) => Ok(Search::Found(steady)),
+        None => Ok(Search::Nothing {
+            covers: covers.len() as u8,
+        }),
+    }
 }
 
 /// Settles a claim: by a certificate if there is one, or else by a refutation with drift if one is
@@ -175,14 +190,19 @@ pub fn settle<X: ToExchange>(
         Ok(Fewest::Nothing { begin, end, hull }) => {
             let ends = [begin as u64, end as u64];
             match refutation_of(alloc, exchanges, claim, &conflicts, &tables, &ends)? {
-                Some(refutation) => Ok(Settled::Refuted(refutation)),
-                None => Ok(Settled::Open { begin, end, hull }),
+                Search::Found(refutation) => Ok(Settled::Refuted(refutation)),
+                Search::Nothing { covers } => Ok(Settled::Open {
+                    begin,
+                    end,
+                    hull,
+                    covers,
+                }),
             }
         }
         Err(FindFault::TooManyPieces) => {
             match refutation_of(alloc, exchanges, claim, &conflicts, &tables, &[])? {
-                Some(refutation) => Ok(Settled::Refuted(refutation)),
-                None => Err(FindFault::TooManyPieces),
+                Search::Found(refutation) => Ok(Settled::Refuted(refutation)),
+                Search::Nothing { .. } => Err(FindFault::TooManyPieces),
             }
         }
         Err(fault) => Err(fault),

@@ -7,7 +7,7 @@ ghost use Rattle.span_cover.specs.Gathering.{Gathered};
 ghost use Rattle.span_cover.specs.Piece.{IsPiece};
 ghost use Rattle.finder.specs.TickParts as spec;
 ghost use Rattle.finder.specs.TickParts.{best_part};
-ghost use Rattle.finder.specs.Samples.{AreSamplesOf};
+ghost use Rattle.checker.specs.Samples.{AreSamplesOf};
 
 use arrayvec::ArrayVec;
 use claim_file::Claim;

@@ -13,8 +13,9 @@ use Rattle.audit.specs.Report.{report_of_bytes}
 use Rattle.audit.specs.Run.{ShowsAt}
 use Rattle.audit.specs.Question.{AskedData, Finding, QuestionData}
 use Rattle.audit.specs.Second.{SecondKind}
-use Rattle.in_memory.specs.Holding.{CountFaults, Feeds, IsSecondSummed, IsSummed, IsUnjudgedFor}
+use Rattle.in_memory.specs.Holding.{AreSummed, CountFaults, Feeds, IsUnjudgedFor}
 use Rattle.in_memory.specs.Holding.{TakeAtMost, feed_of, feeds}
+use Rattle.in_memory.specs.InputBytes.{InputBytesData}
 use Rattle.in_memory.specs.Sums.{SumsData}
 
 -- the feeds of a run
@@ -48,40 +49,34 @@ pub record IsAnsweredFor (asked : AskedData) (claim second capture : List ℕ)
       (run_state (feed_of claim) (feed_of second) (feed_of capture) sink) ended err err' conclusion
   pub shows : ShowsOfBytes conclusion.code asked.question claim second capture
 
--- There are bytes of claim, second input and capture with the sums that are given for them, and
--- they are answered for. No device of an input failed.
+-- What was read of claim, second input and capture has the sums that are given for it, and is
+-- answered for. No device of an input failed.
 pub record IsJudged (asked : AskedData) (sums : SumsData) (before after : RunState)
-    (err err' : SinkState) (conclusion : Conclusion) : Type 0 where
-  pub claim : List ℕ
-  pub second : List ℕ
-  pub capture : List ℕ
-  pub claim_summed : IsSummed sums.text sums.claim before.claim.remaining claim
-  pub second_summed : IsSecondSummed asked.second sums.text sums.second before.second.remaining
-      second
-  pub capture_summed : IsSummed sums.text sums.capture before.capture.remaining capture
-  pub answered : IsAnsweredFor asked claim second capture before.sink after.sink err err'
-      conclusion
+    (err err' : SinkState) (read : InputBytesData) (conclusion : Conclusion) : Type 0 where
+  pub summed : AreSummed asked.second sums (feeds_of before) read
+  pub answered : IsAnsweredFor asked read.claim read.second read.capture before.sink after.sink
+      err err' conclusion
   pub claim_unfailed : after.claim.faults ≡ before.claim.faults
   pub second_unfailed : after.second.faults ≡ before.second.faults
   pub capture_unfailed : after.capture.faults ≡ before.capture.faults
 
 -- A run is given up before anything is judged: the fault is reported, and nothing is written.
 pub record IsUnjudged (kind : SecondKind) (sums : SumsData) (before after : RunState)
-    (err err' : SinkState) (conclusion : Conclusion) : Type 0 where
+    (err err' : SinkState) (read : InputBytesData) (conclusion : Conclusion) : Type 0 where
   pub fault : RunFault
-  pub fault_is : IsUnjudgedFor kind sums (feeds_of before) (feeds_of after) fault
+  pub fault_is : IsUnjudgedFor kind sums (feeds_of before) (feeds_of after) read fault
   pub unwritten : Keeps before.sink.contents after.sink.contents
   pub closed : after.sink.is_open ≡ false
   pub concludes : Concludes (Err fault) err err'
   pub conclusion_is : conclusion ≡ conclusion_of (Err fault)
   pub counts_faults : CountFaults {A = Outcome} (Err fault) (feeds_of before) (feeds_of after)
 
--- What a run promises that is held to sums: the inputs are judged, or the run is given up; and they
--- are judged at status 0 and 1.
+-- What a run promises that is held to sums and hands back what it read: that is judged, or the run
+-- is given up; and it's judged at status 0 and 1.
 pub record JudgesBySums (asked : AskedData) (sums : SumsData) (before after : RunState)
-    (err err' : SinkState) (conclusion : Conclusion) : Type 0 where
-  pub either : IsJudged asked sums before after err err' conclusion
-      ⊎ IsUnjudged asked.second sums before after err err' conclusion
-  pub judged : conclusion.code ≤ 1 → IsJudged asked sums before after err err' conclusion
+    (err err' : SinkState) (read : InputBytesData) (conclusion : Conclusion) : Type 0 where
+  pub either : IsJudged asked sums before after err err' read conclusion
+      ⊎ IsUnjudged asked.second sums before after err err' read conclusion
+  pub judged : conclusion.code ≤ 1 → IsJudged asked sums before after err err' read conclusion
   pub closed : err'.is_open ≡ false
   pub at_most : TakeAtMost asked.second (feeds_of before) (feeds_of after)

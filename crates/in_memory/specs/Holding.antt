@@ -16,6 +16,7 @@ use Rattle.report.specs.declared.fault.SumsFault.TheVariants.{Differ}
 use Rattle.sha2.specs.Sha256.{sha256}
 use Rattle.sum_file.specs.Reading.{sum_given}
 use Rattle.audit.specs.Second.{SecondKind, no_second, certificate_second, refutation_second}
+use Rattle.in_memory.specs.InputBytes.{InputBytesData}
 use Rattle.in_memory.specs.Sums.{AreGiven, Digests, IsOfSums, SumsData}
 
 -- a feed of these bytes, of which none was taken and which has never failed
@@ -42,15 +43,17 @@ pub record IsOther (digest : List ℕ) (known : Option (List ℕ)) (read : List 
   pub digest_differs : sha256 read ≢ digest
   pub whole : IfSome known (λ bytes. read ≡ bytes)
 
--- why an input isn't held to this digest: its length, its digest, its device, or memory
-abbrev pub IsUnheld : Input → List ℕ → Option (List ℕ) → RunFault → Type 0
-IsUnheld which digest known (TooBig input) =
-    (input ≡ which) × IfSome known (λ bytes. limit_of which < length bytes)
-IsUnheld which digest known (Refused (Differ input)) =
-    (input ≡ which) × (read : List ℕ) × IsOther digest known read
-IsUnheld which digest known (Device input) = input ≡ which
-IsUnheld which digest known Memory = Unit {0}
-IsUnheld which digest known fault = ⊥
+-- Why an input isn't held to this digest: its length, its digest, its device, or memory. If it's
+-- one of the first two, what was read is too long, or has another digest.
+abbrev pub IsUnheld : Input → List ℕ → Option (List ℕ) → List ℕ → RunFault → Type 0
+IsUnheld which digest known read (TooBig input) =
+    (input ≡ which) × (limit_of which < length read)
+    × IfSome known (λ bytes. limit_of which < length bytes)
+IsUnheld which digest known read (Refused (Differ input)) =
+    (input ≡ which) × IsOther digest known read
+IsUnheld which digest known read (Device input) = input ≡ which
+IsUnheld which digest known read Memory = Unit {0}
+IsUnheld which digest known read fault = ⊥
 
 -- the feeds of claim, second input and capture at one moment
 pub record Feeds : Type 0 where
@@ -68,53 +71,33 @@ IsSecondHeld certificate_second digest known read = IsHeld digest known read
 IsSecondHeld refutation_second digest known read = IsHeld digest known read
 
 -- why a second input isn't held to this digest
-abbrev pub IsSecondUnheld : SecondKind → List ℕ → Option (List ℕ) → RunFault → Type 0
-IsSecondUnheld no_second digest known fault = ⊥
-IsSecondUnheld certificate_second digest known fault =
-    IsUnheld inputs.Certificate digest known fault
-IsSecondUnheld refutation_second digest known fault =
-    IsUnheld inputs.Refutation digest known fault
-
--- bytes that have this digest were read
-abbrev pub WasHeld : List ℕ → Option (List ℕ) → Type 0
-WasHeld digest known = (read : List ℕ) × IsHeld digest known read
-
-abbrev pub WasSecondHeld : SecondKind → List ℕ → Option (List ℕ) → Type 0
-WasSecondHeld kind digest known = (read : List ℕ) × IsSecondHeld kind digest known read
-
--- A second input was read, and this is a feed of it.
-abbrev pub IsInMemory : SecondKind → List ℕ → Option (List ℕ) → FeedState → Type 0
-IsInMemory kind digest known feed =
-    (read : List ℕ) × IsSecondHeld kind digest known read × (feed ≡ feed_of read)
-
--- inputs in memory: the bytes of claim and capture, and a feed of the second input
-pub record HeldData : Type 0 where
-  pub claim : List ℕ
-  pub second : FeedState
-  pub capture : List ℕ
-
-abbrev pub held_data : List ℕ → FeedState → List ℕ → HeldData
-held_data claim second capture = record { claim = claim; second = second; capture = capture }
+abbrev pub IsSecondUnheld :
+    SecondKind → List ℕ → Option (List ℕ) → List ℕ → RunFault → Type 0
+IsSecondUnheld no_second digest known read fault = ⊥
+IsSecondUnheld certificate_second digest known read fault =
+    IsUnheld inputs.Certificate digest known read fault
+IsSecondUnheld refutation_second digest known read fault =
+    IsUnheld inputs.Refutation digest known read fault
 
 -- All three were read, and have their digests.
 pub record AreHeld (kind : SecondKind) (digests : Digests) (before : Feeds)
-    (held : HeldData) : Type 0 where
-  pub claim : IsHeld digests.claim before.claim.remaining held.claim
-  pub second : IsInMemory kind digests.second before.second.remaining held.second
-  pub capture : IsHeld digests.capture before.capture.remaining held.capture
+    (read : InputBytesData) : Type 0 where
+  pub claim : IsHeld digests.claim before.claim.remaining read.claim
+  pub second : IsSecondHeld kind digests.second before.second.remaining read.second
+  pub capture : IsHeld digests.capture before.capture.remaining read.capture
 
 -- Why the inputs aren't held: the fault is that of the first, in the order claim, second input,
 -- capture, that isn't. Those before it were read and held, and those after it weren't read.
-abbrev pub AreUnheld : SecondKind → Digests → Feeds → Feeds → RunFault → Type 0
-AreUnheld kind digests before after fault =
-    (IsUnheld inputs.Claim digests.claim before.claim.remaining fault
+abbrev pub AreUnheld : SecondKind → Digests → Feeds → Feeds → InputBytesData → RunFault → Type 0
+AreUnheld kind digests before after read fault =
+    (IsUnheld inputs.Claim digests.claim before.claim.remaining read.claim fault
     × (after.second ≡ before.second) × (after.capture ≡ before.capture))
-    ⊎ ((WasHeld digests.claim before.claim.remaining
-    × IsSecondUnheld kind digests.second before.second.remaining fault
+    ⊎ ((IsHeld digests.claim before.claim.remaining read.claim
+    × IsSecondUnheld kind digests.second before.second.remaining read.second fault
     × (after.capture ≡ before.capture))
-    ⊎ (WasHeld digests.claim before.claim.remaining
-    × WasSecondHeld kind digests.second before.second.remaining
-    × IsUnheld inputs.Capture digests.capture before.capture.remaining fault))
+    ⊎ (IsHeld digests.claim before.claim.remaining read.claim
+    × IsSecondHeld kind digests.second before.second.remaining read.second
+    × IsUnheld inputs.Capture digests.capture before.capture.remaining read.capture fault))
 
 -- Bytes with the SHA-256 that a file of sums gives to this name; those that a feed had, if they are
 -- known.
@@ -132,12 +115,10 @@ IsSecondSummed refutation_second text name known bytes = IsSummed text name know
 
 -- All three were read, and have their sums.
 pub record AreSummed (kind : SecondKind) (sums : SumsData) (before : Feeds)
-    (held : HeldData) : Type 0 where
-  pub claim : IsSummed sums.text sums.claim before.claim.remaining held.claim
-  pub said : List ℕ
-  pub second : IsSecondSummed kind sums.text sums.second before.second.remaining said
-  pub second_is : held.second ≡ feed_of said
-  pub capture : IsSummed sums.text sums.capture before.capture.remaining held.capture
+    (read : InputBytesData) : Type 0 where
+  pub claim : IsSummed sums.text sums.claim before.claim.remaining read.claim
+  pub second : IsSecondSummed kind sums.text sums.second before.second.remaining read.second
+  pub capture : IsSummed sums.text sums.capture before.capture.remaining read.capture
 
 -- how the failures of the inputs' devices are counted; no other device failed
 pub record CountFaults {A : Type 0} (answer : Result A RunFault)
@@ -161,7 +142,8 @@ pub record TakeAtMost (kind : SecondKind) (before after : Feeds) : Type 0 where
 
 -- Why inputs aren't judged: the file of sums, after which no input is read, or the first input
 -- that can't be held to what the file gives.
-abbrev pub IsUnjudgedFor : SecondKind → SumsData → Feeds → Feeds → RunFault → Type 0
-IsUnjudgedFor kind sums before after fault =
+abbrev pub IsUnjudgedFor :
+    SecondKind → SumsData → Feeds → Feeds → InputBytesData → RunFault → Type 0
+IsUnjudgedFor kind sums before after read fault =
     (IsOfSums kind sums fault × (after ≡ before)) ⊎ ((digests : Digests)
-    × AreGiven kind sums digests × AreUnheld kind digests before after fault)
+    × AreGiven kind sums digests × AreUnheld kind digests before after read fault)

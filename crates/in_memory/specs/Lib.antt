@@ -1,5 +1,6 @@
 pub mod Answer
 pub mod Holding
+pub mod InputBytes
 pub mod Shown
 pub mod Sums
 pub mod Twice

@@ -13,7 +13,7 @@ ghost use Rattle.in_memory.specs.Holding.{IsHeld, IsUnheld, limit_of};
 
 use crate::sums::MAX_SUMS;
 use byte_stream::Feed;
-use report::{Input, MAX_CERTIFICATE, MAX_CLAIM, MAX_REFUTATION, RunFault, SumsFault, read_input};
+use report::{Input, MAX_CERTIFICATE, MAX_CLAIM, MAX_REFUTATION, RunFault, SumsFault, read_onto};
 use sha2::{Digest, Sha256};
 use std::alloc::Global;
 
@@ -54,7 +54,7 @@ fn hold(which: Input, read: &[u8], sum: &[u8; 32]) -> Result<(), RunFault>
     }
 }
 
-/// Reads an input whole, and holds it to a digest, its SHA-256.
+/// Reads an input whole, and holds it to a digest, its SHA-256. `read` gets what was read.
 ///
 /// `Sums` comes if its bytes have another digest, `TooBig` if it has more than its limit, after one
 /// byte past it, and `Device` exactly if the feed failed.
@@ -63,15 +63,17 @@ pub(crate) fn read_held<F: Feed>(
     feed: &mut F,
     which: Input,
     sum: &[u8; 32],
-) -> Result<Vec<u8>, RunFault>
+    read: &mut Vec<u8>,
+) -> Result<(), RunFault>
     requires { IsReadable (F.state feed.old) }
-    ensures held { IfOk result (λ read. IsHeld sum.now (F.state feed.old).remaining read.items) }
-    ensures fault { IfErr result (IsUnheld which sum.now (F.state feed.old).remaining) }
+    ensures held { IfOk result (λ done.
+        IsHeld sum.now (F.state feed.old).remaining read.new.items) }
+    ensures fault { IfErr result
+        (IsUnheld which sum.now (F.state feed.old).remaining read.new.items) }
     ensures counts_fault { CountsFault (read_failed result)
         (F.state feed.old).faults (F.state feed.new).faults }
     ensures at_most { TakesAtMost (limit_of which + 1) (F.state feed.old) (F.state feed.new) }
 {
-    let read = read_input(alloc, feed, which, limit(which))?;
-    hold(which, read.as_slice(), sum)?;
-    Ok(read)
+    read_onto(alloc, feed, which, limit(which), read)?;
+    hold(which, read.as_slice(), sum)
 }

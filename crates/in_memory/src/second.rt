@@ -1,22 +1,29 @@
 //! The second input of a question, held to its sum.
 
-ghost use Rattle.std.specs.Prelude.{◌≡◌, ℕ, List, [], Some, None, IfOk, IfErr, map, refl};
+ghost use Rattle.std.specs.Prelude.{◌≡◌, ℕ, List, [], Some, None, IfOk, IfErr, map};
 ghost use Rattle.byte_stream.specs.Fault.{CountsFault};
 ghost use Rattle.byte_stream.specs.Intake.{TakesAtMost};
-ghost use Rattle.byte_stream.specs.State.{IsReadable};
+ghost use Rattle.byte_stream.specs.State.{IsReadable, IsWritable};
 ghost use Rattle.report.specs.Reports.{is_device, is_second};
 ghost use Rattle.sum_file.specs.Sum.{data_of as sum_data, digest_named};
-ghost use Rattle.in_memory.specs.Holding.{IsInMemory, IsSecondUnheld, most_second};
+ghost use Rattle.audit.specs.Question.{asked_of};
+ghost use Rattle.audit.specs.Second.{no_second};
+ghost use Rattle.in_memory.specs.Answer.{IsAnsweredFor};
+ghost use Rattle.in_memory.specs.Holding.{IsSecondHeld, IsSecondUnheld, most_second};
 ghost use Rattle.in_memory.specs.Sums.{IsSecondMissing, needed};
 
 use crate::holding::read_held;
-use crate::memory_feed::MemoryFeed;
+use crate::input_bytes::InputBytes;
+use crate::lent_feed::LentFeed;
+use crate::memory_answer::answer_with;
 use crate::named_feed::NamedFeed;
 use crate::sums::digest_for;
-use audit::{SecondInput, SecondSource};
+use audit::{Outputs, Question, SecondInput, SecondSource, Style};
+use byte_stream::Sink;
 use certificate::{Certificate, Refutation};
-use report::{Input, RunFault};
+use report::{Conclusion, Input, RunFault};
 use std::alloc::Global;
+use std::hash::BuildHasher;
 use sum_file::Sum;
 
 /// Where a second input comes from that is held to its sum: a feed with a name, or `()` if the
@@ -24,9 +31,6 @@ use sum_file::Sum;
 pub trait SummedSource<V: SecondInput>: SecondSource<V> {
     /// Its SHA-256.
     type Digest: Drop;
-
-    /// It, in memory.
-    type Held: SecondSource<V> + Drop;
 
     /// The name by which a file of sums gives its sum: none, if there is no second input.
     ghost named: { Self → List ℕ };
@@ -42,80 +46,122 @@ pub trait SummedSource<V: SecondInput>: SecondSource<V> {
         ensures missing { IfErr result (λ fault. IsSecondMissing V.kind fault
             × (needed V.kind (digest_named (named self.now) (map sum_data sums.now)) ≡ None)) };
 
-    /// Reads it whole, and holds it to a digest. The faults are those of `read_held`.
-    fn hold(&mut self, alloc: Global, sum: &Self::Digest) -> Result<Self::Held, RunFault>
+    /// Reads it whole into `read`, and holds it to a digest. The faults are those of `read_held`.
+    fn hold(
+        &mut self,
+        alloc: Global,
+        sum: &Self::Digest,
+        read: &mut Vec<u8>,
+    ) -> Result<(), RunFault>
         requires { IsReadable (Self.state self.old) }
-        ensures held { IfOk result (λ held. IsInMemory V.kind (digest sum.now)
-            (Self.state self.old).remaining (Self.Held.state held)) }
+        ensures held { IfOk result (λ done. IsSecondHeld V.kind (digest sum.now)
+            (Self.state self.old).remaining read.new.items) }
         ensures fault { IfErr result (IsSecondUnheld V.kind (digest sum.now)
-            (Self.state self.old).remaining) }
+            (Self.state self.old).remaining read.new.items) }
         ensures counts_fault { CountsFault (is_device is_second result)
             (Self.state self.old).faults (Self.state self.new).faults }
         ensures at_most { TakesAtMost (most_second V.kind)
             (Self.state self.old) (Self.state self.new) };
 
-    /// Memory never fails.
-    ghost never_fails: { (held : Self.Held) → (Self.Held.state held).faults ≡ 0 };
+    /// Answers a question on what was read, and reports the answer. The result is what that comes
+    /// to. A question without a second input has no byte of it.
+    fn answer_on<Q: Question<Second = V>, S: Sink, E: Sink, H: BuildHasher + Drop>(
+        alloc: Global,
+        question: Q,
+        style: Style,
+        read: &InputBytes,
+        to: &mut Outputs<S, E>,
+        hasher: H,
+    ) -> Conclusion
+        requires out { IsWritable (S.state to.old.out) }
+        requires err { IsWritable (E.state to.old.err) }
+        ensures { (V.kind ≡ no_second → read.now.second.items ≡ []) →
+            IsAnsweredFor (asked_of (Q.asks question) V.kind style)
+            read.now.claim.items read.now.second.items read.now.capture.items
+            (S.state to.old.out) (S.state to.new.out)
+            (E.state to.old.err) (E.state to.new.err) result };
 }
 
 impl SummedSource<()> for () {
     type Digest = ();
 
-    type Held = ();
-
     ghost named = { λ _. [] };
 
     ghost digest = { λ _. [] };
-
-    ghost never_fails = { λ held. refl };
 
     fn digest_in(&self, _sums: &[Sum]) -> Result<(), RunFault> {
         Ok(())
     }
 
-    fn hold(&mut self, _alloc: Global, _sum: &()) -> Result<(), RunFault> {
+    fn hold(&mut self, alloc: Global, _sum: &(), read: &mut Vec<u8>) -> Result<(), RunFault> {
+        *read = Vec::new(alloc);
         Ok(())
+    }
+
+    fn answer_on<Q: Question<Second = ()>, S: Sink, E: Sink, H: BuildHasher + Drop>(
+        alloc: Global,
+        question: Q,
+        style: Style,
+        read: &InputBytes,
+        to: &mut Outputs<S, E>,
+        hasher: H,
+    ) -> Conclusion {
+        answer_with(alloc, question, style, read, &mut (), to, hasher)
     }
 }
 
 impl<T: NamedFeed> SummedSource<Certificate> for T {
     type Digest = [u8; 32];
 
-    type Held = MemoryFeed;
-
     ghost named = { T.named };
 
     ghost digest = { λ digest. digest };
-
-    ghost never_fails = { λ held. refl };
 
     fn digest_in(&self, sums: &[Sum]) -> Result<[u8; 32], RunFault> {
         digest_for(sums, Input::Certificate, self.name())
     }
 
-    fn hold(&mut self, alloc: Global, sum: &[u8; 32]) -> Result<MemoryFeed, RunFault> {
-        let read = read_held(alloc, self, Input::Certificate, sum)?;
-        Ok(MemoryFeed::new(read))
+    fn hold(&mut self, alloc: Global, sum: &[u8; 32], read: &mut Vec<u8>) -> Result<(), RunFault> {
+        read_held(alloc, self, Input::Certificate, sum, read)
+    }
+
+    fn answer_on<Q: Question<Second = Certificate>, S: Sink, E: Sink, H: BuildHasher + Drop>(
+        alloc: Global,
+        question: Q,
+        style: Style,
+        read: &InputBytes,
+        to: &mut Outputs<S, E>,
+        hasher: H,
+    ) -> Conclusion {
+        let mut second = LentFeed::new(read.second.as_slice());
+        answer_with(alloc, question, style, read, &mut second, to, hasher)
     }
 }
 
 impl<T: NamedFeed> SummedSource<Refutation> for T {
     type Digest = [u8; 32];
 
-    type Held = MemoryFeed;
-
     ghost named = { T.named };
 
     ghost digest = { λ digest. digest };
-
-    ghost never_fails = { λ held. refl };
 
     fn digest_in(&self, sums: &[Sum]) -> Result<[u8; 32], RunFault> {
         digest_for(sums, Input::Refutation, self.name())
     }
 
-    fn hold(&mut self, alloc: Global, sum: &[u8; 32]) -> Result<MemoryFeed, RunFault> {
-        let read = read_held(alloc, self, Input::Refutation, sum)?;
-        Ok(MemoryFeed::new(read))
+    fn hold(&mut self, alloc: Global, sum: &[u8; 32], read: &mut Vec<u8>) -> Result<(), RunFault> {
+        read_held(alloc, self, Input::Refutation, sum, read)
+    }
+
+    fn answer_on<Q: Question<Second = Refutation>, S: Sink, E: Sink, H: BuildHasher + Drop>(
+        alloc: Global,
+        question: Q,
+        style: Style,
+        read: &InputBytes,
+        to: &mut Outputs<S, E>,
+        hasher: H,
+    ) -> Conclusion {
+        let mut second = LentFeed::new(read.second.as_slice());
+        answer_with(alloc, question, style, read, &mut second, to, hasher)
     }
 }

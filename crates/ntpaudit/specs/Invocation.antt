@@ -8,17 +8,16 @@ use Rattle.claim_file.specs.Time.{time_of}
 use Rattle.clap.specs.Words.{Row, Text, first_of, one_of}
 use Rattle.line_writer.specs.declared.field.Style.{Style}
 use Rattle.line_writer.specs.declared.field.Style.TheVariants.{Human, Plain}
-use Rattle.report.specs.declared.fault.Input.{Input}
-use Rattle.report.specs.declared.fault.Input.TheVariants.{Certificate, Refutation}
 use Rattle.audit.specs.declared.question.Request.{Request}
 use Rattle.audit.specs.declared.question.Request.TheVariants as requests
-use Rattle.ntpaudit.specs.declared.invocation.Invocation.{Invocation}
-use Rattle.ntpaudit.specs.declared.invocation.Invocation.TheVariants as calls
-use Rattle.ntpaudit.specs.declared.invocation.JudgedPaths.{JudgedPaths}
-use Rattle.ntpaudit.specs.declared.invocation.Judgement.{Judgement}
-use Rattle.ntpaudit.specs.declared.invocation.Judgement.TheVariants as judgements
-use Rattle.ntpaudit.specs.declared.invocation.Listed.{Listed}
-use Rattle.ntpaudit.specs.declared.invocation.Paths.{Paths}
+use Rattle.program.specs.Invocation.{IsRefusal, is_human}
+use Rattle.program.specs.declared.invocation.Invocation.{Invocation}
+use Rattle.program.specs.declared.invocation.Invocation.TheVariants as calls
+use Rattle.program.specs.declared.invocation.JudgedPaths.{JudgedPaths}
+use Rattle.program.specs.declared.invocation.Judgement.{Judgement}
+use Rattle.program.specs.declared.invocation.Judgement.TheVariants as judgements
+use Rattle.program.specs.declared.invocation.Listed.{Listed}
+use Rattle.program.specs.declared.invocation.Paths.{Paths}
 
 -- the text of an operand among the rows that were found, empty if it was left out
 abbrev pub operand : Text → List Row → Text
@@ -30,11 +29,7 @@ pub record IsFlag (name : Text) (rows : List Row) (given : Bool) : Type 0 where
   pub no : one_of name rows ≡ Some (codes "false") → given ≡ false
   pub none : one_of name rows ≡ None → given ≡ false
 
--- whether a style is for a person, and the style of lines that is
-abbrev pub is_human : Style → Bool
-is_human Plain = false
-is_human style = true
-
+-- the style of lines for a person, or for a program
 abbrev pub style_of : Bool → Style
 style_of true = Human
 style_of false = Plain
@@ -115,10 +110,6 @@ abbrev pub second_operand : Judgement → Text
 second_operand judgements.Check = codes "CERTIFICATE"
 second_operand (judgements.Refute refute) = codes "REFUTATION"
 
-abbrev pub second_of : Judgement → Input
-second_of judgements.Check = Certificate
-second_of (judgements.Refute refute) = Refutation
-
 -- what a command with these rows calls for
 abbrev pub IsCalled : Text → List Row → Invocation → Type 0
 IsCalled name rows (calls.List listed) = (name ≡ codes "list") × IsListed rows listed
@@ -129,11 +120,6 @@ IsCalled name rows (calls.RefuseTime shown) =
     (name ≡ codes "at") × (time_given rows ≡ None) × IsShownTime rows shown
 IsCalled name rows (calls.Refuse text) = IsRefusable name
 IsCalled name rows (calls.Show text) = ⊥
-
--- a refusal
-abbrev pub IsRefusal : Invocation → Type 0
-IsRefusal (calls.Refuse text) = Unit {0}
-IsRefusal invocation = ⊥
 
 -- what the rows of a command line call for: those of its command
 abbrev pub IsCalledBy : Option (Text × List Row) → Invocation → Type 0

@@ -1,5 +1,1 @@
-pub mod Asked
-pub mod Drafted
 pub mod Invocation
-pub mod Reading
-pub mod Response

@@ -16,8 +16,8 @@ mod refute;
 mod samples;
 mod settle;
 
-use crate::invocation::Invocation;
 use clap::{ArgMatches, Command};
+use program::Invocation;
 use std::alloc::{AllocError, Global};
 
 const HELP: &str = "\
@@ -49,7 +49,7 @@ fn with_judgements<'a>(alloc: Global, program: Command<'a>) -> Result<Command<'a
 /// The program with its commands.
 pub(crate) fn program<'a>(alloc: Global) -> Result<Command<'a>, AllocError> {
     let program = Command::new(alloc, "ntpaudit")
-        .version("0.8.0 (logic dac8208d650f15bf)")
+        .version("0.9.0 (logic dac8208d650f15bf)")
         .about("What a packet capture of NTP shows about a clock")
         .after_help(HELP)
         .subcommand_required(true);

@@ -2,9 +2,9 @@
 
 use crate::advice::{advised, counted};
 use crate::command::{invocation_of, program};
-use crate::invocation::Invocation;
 use crate::standard_input::read_once;
 use clap::{Error, error};
+use program::Invocation;
 use std::alloc::{AllocError, Global};
 use std::env;
 use std::io::ErrorKind;

@@ -3,39 +3,19 @@
 //! FILE.part is made anew, so that nobody else's file or link is followed or overwritten. What the
 //! system does with files is in no clause: `tests/outputs.py` tries it.
 
-use crate::invocation::Paths;
 use crate::second_look::path_of;
 use fault_words::Obstacle;
-use std::alloc::{AllocError, Global};
+use program::{Hindrance, Paths};
 use std::fs::{File, Files, Metadata, OpenOptions};
 use std::io::{Error, ErrorKind, Write};
 use std::os::unix::fs::MetadataExt;
 use std::{fs, io};
 
-/// Why a file can't be written, and what the system says of it.
-#[derive(Drop)]
-pub(crate) struct Hindrance {
-    /// What hinders it.
-    pub(crate) obstacle: Obstacle,
-    /// The system's error, if there is one.
-    pub(crate) error: Option<Error>,
-}
-
-impl Hindrance {
-    /// What is seen without an error.
-    pub(crate) fn of(obstacle: Obstacle) -> Hindrance {
-        Hindrance {
-            obstacle,
-            error: None,
-        }
-    }
-
-    /// What the system refuses.
-    fn refused(error: Error) -> Hindrance {
-        Hindrance {
-            obstacle: Obstacle::Refused,
-            error: Some(error),
-        }
+/// What the system refuses.
+fn refused(error: Error) -> Hindrance {
+    Hindrance {
+        obstacle: Obstacle::Refused,
+        error: Some(error),
     }
 }
 
@@ -51,13 +31,6 @@ impl Write for SyncedFile {
     fn flush(&mut self) -> io::Result<()> {
         self.0.sync_all()
     }
-}
-
-/// A draft, and the file whose place it is to take.
-#[derive(Drop)]
-pub(crate) struct Draft<'a> {
-    path: &'a str,
-    part: String,
 }
 
 /// Whether this operand names the same file.
@@ -90,46 +63,43 @@ fn hindrance_at(rt: &HostRuntime, path: &str, paths: &Paths) -> Option<Hindrance
     match fs::symlink_metadata(rt, path) {
         Ok(found) => Some(Hindrance::of(obstacle_of(rt, &found, paths)?)),
         Err(error) if error.kind() == ErrorKind::NotFound => None,
-        Err(error) => Some(Hindrance::refused(error)),
+        Err(error) => Some(refused(error)),
     }
 }
 
-impl<'a> Draft<'a> {
-    /// A draft of the file of this path, which isn't made yet.
-    pub(crate) fn of(alloc: Global, path: &'a str) -> Result<Draft<'a>, AllocError> {
-        let part = format!(in alloc; "{path}.part")?;
-        Ok(Draft { path, part })
+/// Makes the draft `part` of the file of this path, if it may take that place for these inputs.
+pub(crate) fn create(
+    rt: &HostRuntime,
+    path: &str,
+    part: &str,
+    paths: &Paths,
+) -> Result<SyncedFile, Hindrance> {
+    if let Some(hindrance) = hindrance_at(rt, path, paths) {
+        return Err(hindrance);
     }
-
-    /// Makes the draft, if a file may take its place for these inputs.
-    pub(crate) fn create(&self, rt: &HostRuntime, paths: &Paths) -> Result<SyncedFile, Hindrance> {
-        if let Some(hindrance) = hindrance_at(rt, self.path, paths) {
-            return Err(hindrance);
+    let mut options = OpenOptions::new();
+    options.write(true).create_new(true);
+    match options.open(rt, part) {
+        Ok(file) => Ok(SyncedFile(file)),
+        Err(error) if error.kind() == ErrorKind::AlreadyExists => {
+            Err(Hindrance::of(Obstacle::Draft))
         }
-        let mut options = OpenOptions::new();
-        options.write(true).create_new(true);
-        match options.open(rt, self.part.as_str()) {
-            Ok(file) => Ok(SyncedFile(file)),
-            Err(error) if error.kind() == ErrorKind::AlreadyExists => {
-                Err(Hindrance::of(Obstacle::Draft))
-            }
-            Err(error) => Err(Hindrance::refused(error)),
-        }
+        Err(error) => Err(refused(error)),
     }
+}
 
-    /// Puts the draft into the file's place, or removes it if that can't be done.
-    pub(crate) fn place(&self, rt: &HostRuntime) -> Result<(), Hindrance> {
-        match fs::rename(rt, self.part.as_str(), self.path) {
-            Ok(()) => Ok(()),
-            Err(error) => {
-                self.remove(rt);
-                Err(Hindrance::refused(error))
-            }
+/// Puts a draft into the file's place, or removes it if that can't be done.
+pub(crate) fn place(rt: &HostRuntime, part: &str, path: &str) -> Result<(), Hindrance> {
+    match fs::rename(rt, part, path) {
+        Ok(()) => Ok(()),
+        Err(error) => {
+            remove(rt, part);
+            Err(refused(error))
         }
     }
+}
 
-    /// Removes the draft.
-    pub(crate) fn remove(&self, rt: &HostRuntime) {
-        let _ = fs::remove_file(rt, self.part.as_str());
-    }
+/// Removes a draft.
+pub(crate) fn remove(rt: &HostRuntime, part: &str) {
+    let _ = fs::remove_file(rt, part);
 }

@@ -3,9 +3,6 @@
 //! Once a run is over and its fault is reported, the file that the fault is of is looked at again,
 //! if it is a regular one, for what stands there. That changes neither line nor status.
 
-use crate::asked::Asked;
-use crate::draft::Hindrance;
-use crate::invocation::STDIN;
 use crate::warning::warnings;
 use byte_stream::{Feed, ReadFeed, WriteSink};
 use fault_words::{
@@ -13,6 +10,7 @@ use fault_words::{
     shown,
 };
 use pcap_reader::CaptureFault;
+use program::{Asked, Hindrance, STDIN};
 use report::{Conclusion, Input, RunFault, deliver, read_input};
 use std::alloc::{AllocError, Global};
 use std::fs;

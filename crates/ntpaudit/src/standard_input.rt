@@ -1,6 +1,6 @@
 //! The operand `-`.
 
-use crate::invocation::{Invocation, Paths, STDIN, path_or_none};
+use program::{Invocation, Paths, STDIN, path_or_none};
 use std::alloc::{AllocError, Global};
 
 /// How many of these operands are standard input.

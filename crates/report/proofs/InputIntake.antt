@@ -1,25 +1,11 @@
 -- How much is taken of an input that is read whole.
-use Rattle.std.proofs.Common.{◌≡◌, ◌+◌, ◌≤◌, ℕ, Result, Ok, Err, refl, arith}
+use Rattle.std.proofs.Common.{◌≤◌, ℕ, Result, Ok, Err, arith}
 use Rattle.byte_stream.specs.Intake.{TakesAtMost, TakesAtMost-weaker}
 use Rattle.byte_stream.specs.State.{FeedState}
 use Rattle.report.specs.declared.fault.Input.{Input}
-use Rattle.report.specs.declared.fault.Input.TheVariants as inputs
 use Rattle.report.specs.declared.fault.RunFault.{RunFault}
 use Rattle.report.specs.declared.fault.RunFault.TheVariants as faults
-use Rattle.report.specs.Input.{bytes_past, most_read}
-
--- of an input that is too big itself one byte past the limit
-own_byte : (which : Input) → bytes_past which which ≡ 1
-own_byte inputs.Claim = refl
-own_byte inputs.Capture = refl
-own_byte inputs.Certificate = refl
-own_byte inputs.Refutation = refl
-own_byte inputs.Sums = refl
-
-pub takes_past : (which : Input) (limit : ℕ) (before after : FeedState) → TakesAtMost (limit + 1) before after →
-    TakesAtMost (limit + bytes_past which which) before after
-takes_past which limit before after =
-    TakesAtMost-weaker (limit + 1) (limit + bytes_past which which) before after (omega (arith, own_byte which))
+use Rattle.report.specs.Input.{most_read}
 
 module _ {X : Type 0} (which : Input) (limit : ℕ) where
   limit_is_within : (answer : Result X RunFault) → limit ≤ most_read which limit answer

@@ -1,5 +1,7 @@
 -- What reading a whole input takes of its feed.
 use Rattle.std.specs.Prelude.{◌≡◌, ◌+◌, ◌≤◌, ◌<◌, ℕ, List, length, Bool, true, false, Result, Ok, Err}
+use Rattle.std.specs.Io.KnownBytes.{Consumes}
+use Rattle.byte_stream.specs.State.{FeedState}
 use Rattle.report.specs.declared.fault.Input.{Input}
 use Rattle.report.specs.declared.fault.Input.TheVariants as inputs
 use Rattle.report.specs.declared.fault.RunFault.{RunFault}
@@ -11,6 +13,16 @@ abbrev pub ReadsWhole : List ℕ → ℕ → Result (List ℕ) RunFault → Type
 ReadsWhole bytes limit (Ok read) = (read ≡ bytes) × (length bytes ≤ limit)
 ReadsWhole bytes limit (Err (TooBig input)) = limit < length bytes
 ReadsWhole bytes limit (Err fault) = Unit {0}
+
+-- These bytes were taken of a feed, from its front, and no more by its count.
+pub record Takes (taken : List ℕ) (before after : FeedState) : Type 0 where
+  pub consumed : Consumes before.remaining after.remaining taken
+  pub counted : after.taken ≤ before.taken + length taken
+
+-- What was read of an input that is too big is beyond the limit.
+abbrev pub IsBeyond : ℕ → List ℕ → RunFault → Type 0
+IsBeyond limit read (TooBig input) = limit < length read
+IsBeyond limit read fault = Unit {0}
 
 -- how many bytes past its limit are taken of the first input if the second one is too big: one if
 -- they are the same

@@ -43,7 +43,7 @@ pub use exit_status::status;
 pub use fault::{Input, Outcome, RunFault, SumsFault};
 pub use fault_text::fault_line;
 pub use help::show;
-pub use input::read_input;
+pub use input::{read_input, read_onto};
 pub use output::{OUTPUT_CAPACITY, Output, output_buffer};
 pub use publication::{Made, publish};
 pub use refusal::{refuse, refuse_time};

@@ -4,17 +4,19 @@ use Rattle.std.proofs.Common.{ap, ◌∙◌, arith}
 use Rattle.std.proofs.lemmas.Int.{ints}
 use Rattle.intersection.specs.Fineness.{times-add}
 use Rattle.pairing.specs.declared.exchange.Exchange.{Exchange}
-use Rattle.sample_interval.specs.Moment.{Moment, error_of, IsInWindow, IsWithinDistance}
+use Rattle.sample_interval.specs.Moment.{Moment, IsOffAtLeast, IsOffAtMost, IsWithinDistance}
 use Rattle.sample_interval.specs.Sample.{least_error, greatest_error}
-use Rattle.sample_interval.specs.Window.{request_start, request_end, reply_start, reply_end}
+use Rattle.sample_interval.specs.Window.{request_start, reply_end}
 
 no_less : (low start stamp distance reading time received : ℤ) → start ≡ low +ℤ distance +ℤ stamp →
-    start ≤ℤ reading → time ≤ℤ received → pos (unsigned_abs (received -ℤ stamp)) ≤ℤ distance → low ≤ℤ (reading -ℤ time)
-no_less low start stamp distance reading time received a b c d = omega (arith, ints)
+    time ≤ℤ received → pos (unsigned_abs (received -ℤ stamp)) ≤ℤ distance →
+    (low +ℤ (reading -ℤ start)) ≤ℤ (reading -ℤ time)
+no_less low start stamp distance reading time received a b c = omega (arith, ints)
 
 no_more : (high last stamp distance reading time sent : ℤ) → high ≡ last -ℤ stamp +ℤ distance →
-    reading ≤ℤ last → sent ≤ℤ time → pos (unsigned_abs (sent -ℤ stamp)) ≤ℤ distance → (reading -ℤ time) ≤ℤ high
-no_more high last stamp distance reading time sent a b c d = omega (arith, ints)
+    sent ≤ℤ time → pos (unsigned_abs (sent -ℤ stamp)) ≤ℤ distance →
+    (reading -ℤ time) ≤ℤ (high -ℤ (last -ℤ reading))
+no_more high last stamp distance reading time sent a b c = omega (arith, ints)
 
 -- the least error, the distance and the timestamp make the window's start, n times over too
 start_scaled : (x : Exchange) (allowance : ℤ) (n : ℕ) → (request_start x allowance *ℤ pos n) ≡
@@ -35,15 +37,15 @@ end_scaled x allowance n =
     omega (arith, ints)
 
 pub at_request : (x : Exchange) (allowance : ℤ) (n : ℕ) (request : Moment) (received : ℤ) →
-    IsInWindow n (request_start x allowance) (request_end x allowance) request.reading → request.time ≤ℤ received →
-    IsWithinDistance n x.t2 x.distance received → (least_error x allowance *ℤ pos n) ≤ℤ error_of request
-at_request x allowance n request received inside before near =
+    request.time ≤ℤ received → IsWithinDistance n x.t2 x.distance received →
+    IsOffAtLeast n (least_error x allowance) (request_start x allowance) request
+at_request x allowance n request received before near =
     no_less (least_error x allowance *ℤ pos n) (request_start x allowance *ℤ pos n) (x.t2 *ℤ pos n)
-    (x.distance *ℤ pos n) request.reading request.time received (start_scaled x allowance n) inside.0 before near
+    (x.distance *ℤ pos n) request.reading request.time received (start_scaled x allowance n) before near
 
 pub at_reply : (x : Exchange) (allowance : ℤ) (n : ℕ) (reply : Moment) (sent : ℤ) →
-    IsInWindow n (reply_start x allowance) (reply_end x allowance) reply.reading → sent ≤ℤ reply.time →
-    IsWithinDistance n x.t3 x.distance sent → error_of reply ≤ℤ (greatest_error x allowance *ℤ pos n)
-at_reply x allowance n reply sent inside after near =
+    sent ≤ℤ reply.time → IsWithinDistance n x.t3 x.distance sent →
+    IsOffAtMost n (greatest_error x allowance) (reply_end x allowance) reply
+at_reply x allowance n reply sent after near =
     no_more (greatest_error x allowance *ℤ pos n) (reply_end x allowance *ℤ pos n) (x.t3 *ℤ pos n)
-    (x.distance *ℤ pos n) reply.reading reply.time sent (end_scaled x allowance n) inside.1 after near
+    (x.distance *ℤ pos n) reply.reading reply.time sent (end_scaled x allowance n) after near

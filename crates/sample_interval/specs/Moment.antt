@@ -2,7 +2,7 @@
 --
 -- Moments needn't fall on whole ticks. Their times and readings are whole numbers of 1/n tick, for
 -- a fineness n, and a number of ticks is multiplied by n before it is compared with one.
-use Rattle.std.specs.Prelude.{ℕ, ◌-◌, ◌*◌, ◌≤◌, ℤ, pos, ◌-ℤ◌, ◌*ℤ◌, ◌≤ℤ◌, unsigned_abs}
+use Rattle.std.specs.Prelude.{ℕ, ◌-◌, ◌*◌, ◌≤◌, ℤ, pos, ◌+ℤ◌, ◌-ℤ◌, ◌*ℤ◌, ◌≤ℤ◌, unsigned_abs}
 use Rattle.sample_interval.specs.Widening.{billion}
 
 -- the true time of a moment, and what the client's clock reads then
@@ -26,6 +26,16 @@ DriftsWithin ppb a b = (billion * error_change a b) ≤ (ppb * unsigned_abs (b.t
 abbrev pub DriftsWithinByReading : ℕ → Moment → Moment → Type 0
 DriftsWithinByReading ppb a b =
     ((billion - ppb) * error_change a b) ≤ (ppb * unsigned_abs (b.reading -ℤ a.reading))
+
+-- the error is at least so many ticks, and as much more as the clock reads beyond a start
+abbrev pub IsOffAtLeast : ℕ → ℤ → ℤ → Moment → Type 0
+IsOffAtLeast n error start moment =
+    ((error *ℤ pos n) +ℤ (moment.reading -ℤ (start *ℤ pos n))) ≤ℤ error_of moment
+
+-- the error is at most so many ticks, and as much less as the clock reads short of an end
+abbrev pub IsOffAtMost : ℕ → ℤ → ℤ → Moment → Type 0
+IsOffAtMost n error end moment =
+    error_of moment ≤ℤ ((error *ℤ pos n) -ℤ ((end *ℤ pos n) -ℤ moment.reading))
 
 -- a reading lies in a window of whole ticks
 abbrev pub IsInWindow : ℕ → ℤ → ℤ → ℤ → Type 0

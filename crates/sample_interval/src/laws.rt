@@ -8,8 +8,9 @@ ghost use Rattle.intersection.specs.declared.kinds.Interval.{Interval};
 ghost use Rattle.era_unfold.specs.Ratio.{IsSignedFloor, IsSignedCeiling};
 ghost use Rattle.intersection.specs.Fraction.{HoldsFraction};
 ghost use Rattle.pairing.specs.declared.exchange.Exchange.{Exchange};
-ghost use Rattle.sample_interval.specs.Moment.{Moment, error_of, DriftsWithin};
+ghost use Rattle.sample_interval.specs.Moment.{Moment, DriftsWithin};
 ghost use Rattle.sample_interval.specs.Moment.{DriftsWithinByReading, IsInWindow, IsWithinDistance};
+ghost use Rattle.sample_interval.specs.Moment.{IsOffAtLeast, IsOffAtMost};
 ghost use Rattle.sample_interval.specs.OnWire.{offset_doubled, delay_of, least_offset_doubled};
 ghost use Rattle.sample_interval.specs.OnWire.{greatest_offset_doubled};
 ghost use Rattle.sample_interval.specs.OnWire.{offset_from, offset_to, delay_from, delay_to};
@@ -33,22 +34,21 @@ pub fn drift_shows_on_the_clock_itself()
 {}
 
 /// If the server isn't false, the client's error at the request is no less than the sample's low
-/// end: the request left before the server received it, and the server's time of receipt is off by
-/// the root distance at most.
+/// end, and as much more as the clock then read beyond the window's start: the request left before
+/// a true time from which T2 is off by the root distance at most. However far beyond that was, it
+/// costs nothing.
 pub fn error_at_the_request_is_no_less()
     ensures { (x : Exchange) (allowance : ℤ) (n : ℕ) (request : Moment) (received : ℤ) →
-        IsInWindow n (request_start x allowance) (request_end x allowance) request.reading →
         request.time ≤ℤ received → IsWithinDistance n x.t2 x.distance received →
-        (least_error x allowance *ℤ pos n) ≤ℤ error_of request }
+        IsOffAtLeast n (least_error x allowance) (request_start x allowance) request }
 {}
 
 /// If the server isn't false, the client's error at the reply is no more than the sample's high
-/// end.
+/// end, and as much less as the clock then read short of the window's end.
 pub fn error_at_the_reply_is_no_more()
     ensures { (x : Exchange) (allowance : ℤ) (n : ℕ) (reply : Moment) (sent : ℤ) →
-        IsInWindow n (reply_start x allowance) (reply_end x allowance) reply.reading →
         sent ≤ℤ reply.time → IsWithinDistance n x.t3 x.distance sent →
-        error_of reply ≤ℤ (greatest_error x allowance *ℤ pos n) }
+        IsOffAtMost n (greatest_error x allowance) (reply_end x allowance) reply }
 {}
 
 /// A wider allowance widens a sample at both ends and both its windows alike, and moves nothing.

@@ -1,5 +1,5 @@
 -- The greatest distance between a window and a piece, and what it moves.
-use Rattle.std.proofs.Common.{◌≡◌, ℕ, ◌-◌, ◌*◌, ◌^◌, ◌<◌, ◌≤◌, ℤ, pos, ◌+ℤ◌, ◌-ℤ◌, ◌*ℤ◌, ◌≤ℤ◌, unsigned_abs}
+use Rattle.std.proofs.Common.{◌≡◌, ℕ, ◌+◌, ◌-◌, ◌*◌, ◌^◌, ◌<◌, ◌≤◌, ℤ, pos, ◌+ℤ◌, ◌-ℤ◌, ◌*ℤ◌, ◌≤ℤ◌, unsigned_abs}
 use Rattle.std.proofs.Common.{refl, ◌∙◌, arith, to_z, of_z, true, FitsSigned, negsuc}
 use mir.Syntax.{w128}
 use Rattle.std.specs.Int.{int_max, int_min}
@@ -8,7 +8,8 @@ use Rattle.std.proofs.lemmas.Int.{ints, clamps, to_z-of_z, fits_signed_from_abs}
 use Rattle.std.proofs.Math.Nat.{le_of_mul-le-mul_right, mul-le-mul_left, mul-le-mul_right}
 use Rattle.intersection.specs.Fineness.{times_le, times-add}
 use Rattle.sample_interval.specs.Moment.{Moment, error_of, error_change, DriftsWithinByReading, IsInWindow}
-use Rattle.sample_interval.specs.Widening.{IsWidening, widening, billion}
+use Rattle.sample_interval.specs.Moment.{IsOffAtLeast, IsOffAtMost}
+use Rattle.sample_interval.specs.Widening.{IsRate, IsWidening, widening, billion}
 use Rattle.sample_interval.specs.declared.kinds.Sample.{Sample}
 use Rattle.span_cover.specs.Piece.{IsPiece, farthest, change, moved_low, moved_high}
 
@@ -72,75 +73,105 @@ module _ (grows : Grows) where
 
 -- ---- the error at a reading of the piece
 
--- the change of the error, n times over, by the widening of a distance
-change_within : (n g ppb e r d w : ℕ) → 0 < g → g * e ≤ ppb * r → r ≤ d * n → ppb * d ≤ w * g → e ≤ w * n
-change_within n g ppb e r d w positive drift near wide =
-    let far : ppb * r ≤ ppb * (d * n) = mul-le-mul_left ppb near in
+-- the change of the error, n times over, by the widening of a distance, where the readings are further apart by x
+change_within : (n g ppb e r x d w : ℕ) → 0 < g → ppb ≤ g → g * e ≤ ppb * r → r ≤ x + d * n → ppb * d ≤ w * g
+    → e ≤ x + w * n
+change_within n g ppb e r x d w positive slow drift near wide =
+    let far : ppb * r ≤ ppb * (x + d * n) = mul-le-mul_left ppb near in
+    let beyond : ppb * x ≤ g * x = mul-le-mul_right x slow in
     let scaled : ppb * d * n ≤ w * g * n = mul-le-mul_right n wide in
-    let product : e * g ≤ w * n * g = omega arith in
+    let product : e * g ≤ (x + w * n) * g = omega arith in
     le_of_mul-le-mul_right product positive
 
 abs_times : (z : ℤ) (n : ℕ) → (z *ℤ pos n) ≤ℤ pos (unsigned_abs z * n)
 abs_times (pos x) n = omega (arith, ints)
 abs_times (negsuc x) n = omega (arith, ints)
 
-between : (far moment reading : ℤ) (most : ℕ) → far ≤ℤ pos most → (reading -ℤ moment) ≤ℤ far →
-    (moment -ℤ reading) ≤ℤ far →
-    unsigned_abs (reading -ℤ moment) ≤ most
-between far moment reading most a b c = omega (arith, ints)
+-- a reading is no further from a moment after a start than from the start, and by what the moment is after it
+beyond_start : (start moment reading far : ℤ) (most : ℕ) → far ≤ℤ pos most → start ≤ℤ moment
+    → (reading -ℤ start) ≤ℤ far → (start -ℤ reading) ≤ℤ far
+    → unsigned_abs (reading -ℤ moment) ≤ unsigned_abs (moment -ℤ start) + most
+beyond_start start moment reading far most a b c d = omega (arith, ints)
 
--- readings in a window and in a piece are no further apart than n times the greatest distance
-apart : (n : ℕ) (from to p q moment reading : ℤ) → IsInWindow n from to moment → IsInWindow n p q reading →
-    unsigned_abs (reading -ℤ moment) ≤ unsigned_abs (farthest from to p q) * n
-apart n from to p q moment reading a b =
-    let far = farthest from to p q in
-    let onward = times-add q (q -ℤ from) from n (omega (arith, ints)) in
-    let back = times-add to (to -ℤ p) p n (omega (arith, ints)) in
-    let onward_far = times_le (q -ℤ from) far n (omega (arith, ints, clamps)) in
-    let back_far = times_le (to -ℤ p) far n (omega (arith, ints, clamps)) in
-    between (far *ℤ pos n) moment reading (unsigned_abs far * n) (abs_times far n)
-    (omega (arith, ints, a.0, b.1)) (omega (arith, ints, a.1, b.0))
+short_of_end : (end moment reading far : ℤ) (most : ℕ) → far ≤ℤ pos most → moment ≤ℤ end
+    → (reading -ℤ end) ≤ℤ far → (end -ℤ reading) ≤ℤ far
+    → unsigned_abs (reading -ℤ moment) ≤ unsigned_abs (end -ℤ moment) + most
+short_of_end end moment reading far most a b c d = omega (arith, ints)
 
-no_less : (moved low before after : ℤ) (wide : ℕ) → low ≡ moved +ℤ pos wide → low ≤ℤ before →
-    unsigned_abs (after -ℤ before) ≤ wide → moved ≤ℤ after
-no_less moved low before after wide a b c = omega (arith, ints)
+-- an end of a window is no further from a reading of a piece than n times the greatest distance
+module _ (n : ℕ) (from to p q reading : ℤ) (forward : from ≤ℤ to) (inside : IsInWindow n p q reading) where
+  abbrev far : ℤ
+  far = farthest from to p q
 
-no_more : (moved high before after : ℤ) (wide : ℕ) → moved ≡ high +ℤ pos wide → before ≤ℤ high →
-    unsigned_abs (after -ℤ before) ≤ wide → after ≤ℤ moved
-no_more moved high before after wide a b c = omega (arith, ints)
+  apart : (end : ℤ) → from ≤ℤ end → end ≤ℤ to
+      → ((reading -ℤ (end *ℤ pos n)) ≤ℤ (far *ℤ pos n)) × (((end *ℤ pos n) -ℤ reading) ≤ℤ (far *ℤ pos n))
+  apart end after before =
+      let onward = times-add q (q -ℤ end) end n (omega (arith, ints)) in
+      let back = times-add end (end -ℤ p) p n (omega (arith, ints)) in
+      let onward_far = times_le (q -ℤ end) far n (omega (arith, ints, clamps)) in
+      let back_far = times_le (end -ℤ p) far n (omega (arith, ints, clamps)) in
+      (omega (arith, ints, inside.1), omega (arith, ints, inside.0))
+
+  from_start : (moment : ℤ) → (from *ℤ pos n) ≤ℤ moment
+      → unsigned_abs (reading -ℤ moment) ≤ unsigned_abs (moment -ℤ (from *ℤ pos n)) + unsigned_abs far * n
+  from_start moment after =
+      let ends = apart from (omega (arith, ints)) forward in
+      beyond_start (from *ℤ pos n) moment reading (far *ℤ pos n) (unsigned_abs far * n) (abs_times far n) after ends.0
+      ends.1
+
+  to_end : (moment : ℤ) → moment ≤ℤ (to *ℤ pos n)
+      → unsigned_abs (reading -ℤ moment) ≤ unsigned_abs ((to *ℤ pos n) -ℤ moment) + unsigned_abs far * n
+  to_end moment before =
+      let ends = apart to forward (omega (arith, ints)) in
+      short_of_end (to *ℤ pos n) moment reading (far *ℤ pos n) (unsigned_abs far * n) (abs_times far n) before ends.0
+      ends.1
+
+no_less : (moved low start reading before after : ℤ) (wide : ℕ) → low ≡ moved +ℤ pos wide → start ≤ℤ reading
+    → (low +ℤ (reading -ℤ start)) ≤ℤ before
+    → unsigned_abs (after -ℤ before) ≤ unsigned_abs (reading -ℤ start) + wide → moved ≤ℤ after
+no_less moved low start reading before after wide a b c d = omega (arith, ints)
+
+no_more : (moved high end reading before after : ℤ) (wide : ℕ) → moved ≡ high +ℤ pos wide → reading ≤ℤ end
+    → before ≤ℤ (high -ℤ (end -ℤ reading))
+    → unsigned_abs (after -ℤ before) ≤ unsigned_abs (end -ℤ reading) + wide → after ≤ℤ moved
+no_more moved high end reading before after wide a b c d = omega (arith, ints)
 
 -- the law that every distance has its widening
 abbrev pub HaveWidenings : Type 0
 HaveWidenings = (ppb distance : ℕ) → ppb < billion → IsWidening ppb distance (widening ppb distance)
 
-module _ (widens : HaveWidenings) (n ppb : ℕ) (p q : ℤ) (observed : Moment) (rate : ppb < billion)
+module _ (widens : HaveWidenings) (n ppb : ℕ) (p q : ℤ) (observed : Moment) (rate : IsRate ppb)
     (inside : IsInWindow n p q observed.reading) where
-  change_of_error : (from to : ℤ) (a : Moment) → IsInWindow n from to a.reading → DriftsWithinByReading ppb a observed →
-      error_change a observed ≤ widening ppb (unsigned_abs (farthest from to p q)) * n
-  change_of_error from to a window drift =
-      let d : ℕ = unsigned_abs (farthest from to p q) in
-      change_within n (billion - ppb) ppb (error_change a observed) (unsigned_abs (observed.reading -ℤ a.reading)) d
-      (widening ppb d) (omega arith) drift (apart n from to p q a.reading observed.reading window inside)
-      (widens ppb d rate).not_below
+  change_of_error : (x d : ℕ) (a : Moment) → unsigned_abs (observed.reading -ℤ a.reading) ≤ x + d * n
+      → DriftsWithinByReading ppb a observed → error_change a observed ≤ x + widening ppb d * n
+  change_of_error x d a near drift =
+      change_within n (billion - ppb) ppb (error_change a observed) (unsigned_abs (observed.reading -ℤ a.reading)) x d
+      (widening ppb d) (omega arith) (omega arith) drift near (widens ppb d (omega arith)).not_below
 
-  pub error_no_less : (sample : Sample) (request : Moment) →
-      IsInWindow n sample.low_from sample.low_to request.reading → (sample.low *ℤ pos n) ≤ℤ error_of request →
-      DriftsWithinByReading ppb request observed → (moved_low sample p q ppb *ℤ pos n) ≤ℤ error_of observed
+  pub error_no_less : (sample : Sample) (request : Moment) → sample.low_from ≤ℤ sample.low_to
+      → (sample.low_from *ℤ pos n) ≤ℤ request.reading → IsOffAtLeast n sample.low sample.low_from request
+      → DriftsWithinByReading ppb request observed → (moved_low sample p q ppb *ℤ pos n) ≤ℤ error_of observed
   unfolding moved_low
-  error_no_less sample request window least drift =
-      let w : ℕ = widening ppb (unsigned_abs (farthest sample.low_from sample.low_to p q)) in
+  error_no_less sample request forward after least drift =
+      let d : ℕ = unsigned_abs (farthest sample.low_from sample.low_to p q) in
+      let w : ℕ = widening ppb d in
+      let start = sample.low_from *ℤ pos n in
       let parts = times-add sample.low (sample.low -ℤ pos w) (pos w) n (omega (arith, ints)) in
-      no_less ((sample.low -ℤ pos w) *ℤ pos n) (sample.low *ℤ pos n) (error_of request) (error_of observed) (w * n)
-      parts least
-      (change_of_error sample.low_from sample.low_to request window drift)
+      no_less ((sample.low -ℤ pos w) *ℤ pos n) (sample.low *ℤ pos n) start request.reading (error_of request)
+      (error_of observed) (w * n) parts after least
+      (change_of_error (unsigned_abs (request.reading -ℤ start)) d request
+      (from_start n sample.low_from sample.low_to p q observed.reading forward inside request.reading after) drift)
 
-  pub error_no_more : (sample : Sample) (reply : Moment) →
-      IsInWindow n sample.high_from sample.high_to reply.reading → error_of reply ≤ℤ (sample.high *ℤ pos n) →
-      DriftsWithinByReading ppb reply observed → error_of observed ≤ℤ (moved_high sample p q ppb *ℤ pos n)
+  pub error_no_more : (sample : Sample) (reply : Moment) → sample.high_from ≤ℤ sample.high_to
+      → reply.reading ≤ℤ (sample.high_to *ℤ pos n) → IsOffAtMost n sample.high sample.high_to reply
+      → DriftsWithinByReading ppb reply observed → error_of observed ≤ℤ (moved_high sample p q ppb *ℤ pos n)
   unfolding moved_high
-  error_no_more sample reply window most drift =
-      let w : ℕ = widening ppb (unsigned_abs (farthest sample.high_from sample.high_to p q)) in
+  error_no_more sample reply forward before most drift =
+      let d : ℕ = unsigned_abs (farthest sample.high_from sample.high_to p q) in
+      let w : ℕ = widening ppb d in
+      let end = sample.high_to *ℤ pos n in
       let parts = times-add (sample.high +ℤ pos w) sample.high (pos w) n refl in
-      no_more ((sample.high +ℤ pos w) *ℤ pos n) (sample.high *ℤ pos n) (error_of reply) (error_of observed) (w * n)
-      parts most
-      (change_of_error sample.high_from sample.high_to reply window drift)
+      no_more ((sample.high +ℤ pos w) *ℤ pos n) (sample.high *ℤ pos n) end reply.reading (error_of reply)
+      (error_of observed) (w * n) parts before most
+      (change_of_error (unsigned_abs (end -ℤ reply.reading)) d reply
+      (to_end n sample.high_from sample.high_to p q observed.reading forward inside reply.reading before) drift)

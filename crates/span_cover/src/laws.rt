@@ -6,21 +6,24 @@ ghost use Rattle.std.specs.Prelude.{ℕ, ◌<◌, ◌≤◌, ℤ, pos, ◌-ℤ�
 ghost use Rattle.intersection.specs.Fraction.{HoldsFraction};
 ghost use Rattle.sample_interval.specs.declared.kinds.Sample.{Sample};
 ghost use Rattle.sample_interval.specs.Moment.{Moment, error_of, DriftsWithinByReading, IsInWindow};
-ghost use Rattle.sample_interval.specs.Widening.{billion};
+ghost use Rattle.sample_interval.specs.Moment.{IsOffAtLeast, IsOffAtMost};
+ghost use Rattle.sample_interval.specs.Widening.{billion, IsRate};
 ghost use Rattle.span_cover.specs.Best.{IsFirstBest, IsBestLow, IsBestHigh, HasNoSample, best_of};
 ghost use Rattle.span_cover.specs.Piece.{farthest, moved_low, moved_high, piece_interval_of};
 
 use sample_interval::laws::{widening_grows, widening_is_one_number};
 
 /// At a reading inside the piece, the client's error lies in the piece's interval, if its clock
-/// drifts within the rate and the two samples bound the error at their own moments.
+/// drifts within the rate and the two samples bound the error at their own moments. It may have
+/// read any time after the start of the low end's window, and any before the end of the high end's:
+/// what it read beyond, the error is further inside, and it can't have changed by more since.
 pub fn error_lies_in_the_interval_of_the_piece()
     ensures { (n ppb : ℕ) (low high : Sample) (p q : ℤ) (request reply observed : Moment) →
-        ppb < billion → IsInWindow n p q observed.reading →
-        IsInWindow n low.low_from low.low_to request.reading →
-        (low.low *ℤ pos n) ≤ℤ error_of request → DriftsWithinByReading ppb request observed →
-        IsInWindow n high.high_from high.high_to reply.reading →
-        error_of reply ≤ℤ (high.high *ℤ pos n) → DriftsWithinByReading ppb reply observed →
+        IsRate ppb → low.low_from ≤ℤ low.low_to → high.high_from ≤ℤ high.high_to →
+        IsInWindow n p q observed.reading → (low.low_from *ℤ pos n) ≤ℤ request.reading →
+        IsOffAtLeast n low.low low.low_from request → DriftsWithinByReading ppb request observed →
+        reply.reading ≤ℤ (high.high_to *ℤ pos n) →
+        IsOffAtMost n high.high high.high_to reply → DriftsWithinByReading ppb reply observed →
         HoldsFraction (piece_interval_of low high p q ppb) (error_of observed) n }
 {
     widening_is_one_number();

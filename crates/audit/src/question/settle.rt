@@ -67,7 +67,12 @@ fn settled_text(
         Settled::NoEvidence { groups } => {
             evidence_text(alloc, Style::Plain, &evidence.claim, *groups)
         }
-        Settled::Open { begin, end, hull } => open_text(alloc, Style::Plain, *begin, *end, *hull),
+        Settled::Open {
+            begin,
+            end,
+            hull,
+            ..
+        } => { open_text(alloc, Style::Plain, *begin, *end, *hull) }
     }
 }
 
@@ -96,9 +101,12 @@ fn settled_answer(
             conflicts_text(alloc, Style::Human, claim, exchanges, conflicts)
         }
         Settled::NoEvidence { groups } => evidence_answer(alloc, claim, exchanges, *groups),
-        Settled::Open { begin, end, hull } => {
-            open_answer(alloc, claim, *begin, *end, *hull, least)
-        }
+        Settled::Open {
+            begin,
+            end,
+            hull,
+            covers,
+        } => open_answer(alloc, claim, *begin, *end, *hull, *covers, least),
     }
 }
 

@@ -3,7 +3,8 @@
 ghost use Rattle.std.specs.Prelude.{◌≡◌, IfOk, IfSome, Some, codes, option_map, string_bytes};
 ghost use Rattle.clap.specs.Words.{first_of, found_of, rows_of};
 ghost use Rattle.ntpaudit.specs.Invocation as spec;
-ghost use Rattle.ntpaudit.specs.Invocation.{IsFlag, is_human, step_given};
+ghost use Rattle.ntpaudit.specs.Invocation.{IsFlag, step_given};
+ghost use Rattle.program.specs.Invocation.{is_human};
 
 use audit::{Step, Style};
 use clap::{Arg, ArgAction, ArgMatches};

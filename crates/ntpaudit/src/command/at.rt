@@ -6,10 +6,10 @@ ghost use Rattle.ntpaudit.specs.Invocation.{IsCalled, IsShownTime, time_given};
 
 use crate::command::argument::{is_given, operand, value};
 use crate::command::evidence::{ask, evidence_command};
-use crate::invocation::Invocation;
 use audit::{At, Request};
 use claim_file::read_time;
 use clap::{Arg, ArgMatches, Command};
+use program::Invocation;
 use std::alloc::{AllocError, Global};
 
 const HELP: &str = "\

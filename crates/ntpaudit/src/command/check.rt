@@ -5,8 +5,8 @@ ghost use Rattle.clap.specs.Words.{found_of, rows_of};
 ghost use Rattle.ntpaudit.specs.Invocation.{IsCalled};
 
 use crate::command::evidence::{evidence_command, judged_paths, sums_option};
-use crate::invocation::{Invocation, Judgement};
 use clap::{Arg, ArgMatches, Command};
+use program::{Invocation, Judgement};
 use std::alloc::{AllocError, Global};
 
 const HELP: &str = "\

@@ -6,9 +6,9 @@ ghost use Rattle.ntpaudit.specs.Invocation.{IsCalled};
 
 use crate::command::argument::{flag, is_given, step_of, step_option};
 use crate::command::evidence::{ask, evidence_command};
-use crate::invocation::Invocation;
 use audit::{Envelope, Request};
 use clap::{ArgMatches, Command};
+use program::Invocation;
 use std::alloc::{AllocError, Global};
 
 const HELP: &str = "\

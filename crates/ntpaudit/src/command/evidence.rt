@@ -5,9 +5,9 @@ ghost use Rattle.clap.specs.Words.{found_of, rows_of};
 ghost use Rattle.ntpaudit.specs.Invocation.{AreJudgedNamed, AreNamed, IsAsking};
 
 use crate::command::argument::{human_option, operand, style, text_of};
-use crate::invocation::{Invocation, JudgedPaths, Paths};
 use audit::Request;
 use clap::{Arg, ArgMatches, Command};
+use program::{Invocation, JudgedPaths, Paths};
 use std::alloc::{AllocError, Global};
 
 /// The operand CLAIM.

@@ -5,8 +5,8 @@ ghost use Rattle.clap.specs.Words.{found_of, rows_of};
 ghost use Rattle.ntpaudit.specs.Invocation.{IsCalled};
 
 use crate::command::argument::{human_option, style, text_of};
-use crate::invocation::{Invocation, Listed};
 use clap::{Arg, ArgMatches, Command};
+use program::{Invocation, Listed};
 use std::alloc::{AllocError, Global};
 
 const HELP: &str = "\

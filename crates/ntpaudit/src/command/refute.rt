@@ -6,9 +6,9 @@ ghost use Rattle.ntpaudit.specs.Invocation.{IsCalled};
 
 use crate::command::argument::{flag, is_given};
 use crate::command::evidence::{evidence_command, judged_paths, sums_option};
-use crate::invocation::{Invocation, Judgement};
 use audit::Refute;
 use clap::{Arg, ArgMatches, Command};
+use program::{Invocation, Judgement};
 use std::alloc::{AllocError, Global};
 
 const HELP: &str = "\

@@ -5,9 +5,9 @@ ghost use Rattle.clap.specs.Words.{found_of, rows_of};
 ghost use Rattle.ntpaudit.specs.Invocation.{IsCalled};
 
 use crate::command::evidence::{ask, evidence_command};
-use crate::invocation::Invocation;
 use audit::Request;
 use clap::{ArgMatches, Command};
+use program::Invocation;
 use std::alloc::{AllocError, Global};
 
 const HELP: &str = "\

@@ -5,15 +5,15 @@ ghost use Rattle.clap.specs.Words.{found_of, rows_of};
 ghost use Rattle.ntpaudit.specs.Invocation.{IsCalled};
 
 use crate::command::evidence::{ask, evidence_command, output_option, sums_option};
-use crate::invocation::Invocation;
 use audit::Request;
 use clap::{ArgMatches, Command};
+use program::Invocation;
 use std::alloc::{AllocError, Global};
 
 const HELP: &str = "\
 Prints:   one of five answers. A certificate, which `check` accepts: the claim is shown. A
           refutation, which `refute --drift` accepts. Lines `conflict SERVER REQUEST SERVER REPLY`,
-          and then `nothing fits`: what the claim grants isn't true in this capture. `no evidence
+          and then `nothing fits`: in this capture one of the premises fails. `no evidence
           groups K of G false_max F`: no more groups of servers have a sample than may be wrong. Or
           `open P Q hull LO HI`: neither is found, and no certificate is accepted. With --human what
           is found is told in short lines: milliseconds, times as 2026-11-22T06:46:09Z, addresses.

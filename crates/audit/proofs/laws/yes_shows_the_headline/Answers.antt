@@ -1,5 +1,6 @@
 use Rattle.std.proofs.Common.{◌≡◌, List, map, ℤ, refl, sym, subst}
 use Rattle.sample_interval.specs.Moment.{IsInWindow}
+use Rattle.checker.proofs.Exchange.{are_samples}
 use Rattle.checker.specs.Stretch.{stretch_of}
 use Rattle.checker.specs.Traceability.{samples_of}
 use Rattle.checker.specs.Verdict.{verdict_of}
@@ -9,7 +10,7 @@ use Rattle.pairing.specs.Pairing.{exchanges_of}
 use Rattle.audit.specs.Captured.{frame_of}
 use Rattle.audit.proofs.Admission.{some_admitted, none_beyond}
 use Rattle.audit.proofs.ClaimLimits.{within_limits}
-use Rattle.audit.proofs.ExchangeRecords.{listed_servers}
+use Rattle.audit.proofs.Excess.{given_records}
 use Rattle.audit.proofs.Headline.{collected_of, piece_of}
 use Rattle.audit.proofs.Nanosecond.{claim_of_read}
 use Rattle.audit.proofs.laws.yes_shows_the_headline.Goals as goal
@@ -25,11 +26,13 @@ returns c claim_bytes capture_bytes claim collection certificate all claim_read'
     let found = c.what_is_read_is_a_capture.ensures capture_bytes records all collected.1 in
     let are = c.exchanges_are_in_the_frames.ensures capture_bytes found.0 records claim all found.1
     lawful.addresses_differ in
-    let listed = listed_servers claim found.0.unit (map frame_of records) xs are in
+    let given = given_records capture_bytes found.0 records all found.1 in
+    let each = (c.exchanges_keep_their_limits.ensures claim records given collected.3).each in
     let yes = subst (λ (ys : List Exchange). verdict_of (samples_of ys claim) claim certificate ≡ Yes) collected.2
     yes' in
     let accepted = (c.yes_is_acceptance.ensures (samples_of xs claim) claim certificate).0 yes in
-    let shown = c.verdicts_are_traceable.ensures claim (samples_of xs claim) certificate lawful listed in
+    let shown = c.verdicts_are_traceable.ensures claim (samples_of xs claim) certificate lawful
+    (are_samples xs claim lawful each) in
     let pieces = shown.by_pieces yes in
     record {
       claim = claim;

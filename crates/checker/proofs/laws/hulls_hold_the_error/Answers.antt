@@ -14,14 +14,14 @@ laws c = record {
 }
 
 pub returns-clause-piece : goal.returns-clause-piece
-returns-clause-piece c claim samples stretch entries parts lawful listed said =
-    piece_holds (laws c) claim samples lawful listed stretch entries parts said
+returns-clause-piece c claim samples stretch entries parts lawful are said =
+    piece_holds (laws c) claim samples lawful are stretch entries parts said
 
 pub returns-clause-capture : goal.returns-clause-capture
-returns-clause-capture c claim samples stretch parts lawful listed of_samples =
-    capture_holds (laws c) claim samples lawful listed stretch parts of_samples
+returns-clause-capture c claim samples stretch parts lawful are of_samples =
+    capture_holds (laws c) claim samples lawful are stretch parts of_samples
 
 pub returns-clause-best : goal.returns-clause-best
-returns-clause-best c claim samples stretch lawful listed =
-    capture_holds (laws c) claim samples lawful listed stretch (best_parts claim samples stretch)
+returns-clause-best c claim samples stretch lawful are =
+    capture_holds (laws c) claim samples lawful are stretch (best_parts claim samples stretch)
     (best_parts_are claim samples stretch)

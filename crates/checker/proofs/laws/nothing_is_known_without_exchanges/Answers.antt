@@ -8,4 +8,5 @@ returns-clause-any_error c = lone_fits
 
 pub returns-clause-refused : goal.returns-clause-refused
 returns-clause-refused c claim certificate lawful e =
-    untraceable claim lawful ((c.verdicts_are_traceable.ensures claim [] certificate lawful (All-nil _)).yes e)
+    untraceable claim lawful ((c.verdicts_are_traceable.ensures claim [] certificate lawful
+    (record { lawful = All-nil _; listed = All-nil _ })).yes e)

@@ -3,12 +3,12 @@ use Rattle.checker.proofs.Traceability.{traceable_by_pieces, traceable, contradi
 use Rattle.checker.proofs.laws.verdicts_are_traceable.Goals as goal
 
 pub returns : goal.returns
-returns c claim samples certificate lawful listed =
+returns c claim samples certificate lawful are =
     let piece = c.hulls_hold_the_error.ensures.piece in
     record {
       exact = refl;
-      yes = traceable piece claim samples certificate lawful listed c.capture_fits_each_piece.ensures;
-      by_pieces = traceable_by_pieces piece claim samples certificate lawful listed;
-      contradiction = contradiction piece claim samples certificate lawful listed c.capture_fits_each_piece.ensures;
-      held = refused_by_hull piece claim samples certificate lawful listed;
+      yes = traceable piece claim samples certificate lawful are c.capture_fits_each_piece.ensures;
+      by_pieces = traceable_by_pieces piece claim samples certificate lawful are;
+      contradiction = contradiction piece claim samples certificate lawful are c.capture_fits_each_piece.ensures;
+      held = refused_by_hull piece claim samples certificate lawful are;
     }

@@ -6,7 +6,7 @@ use Rattle.sample_interval.specs.Sample.{IsLawfulSample}
 use Rattle.sample_interval.specs.declared.kinds.Sample.{Sample}
 use Rattle.checker.specs.Traceability.{samples_of, IsVerdictOn}
 use Rattle.checker.specs.Verdict.{verdict_of}
-use Rattle.checker.proofs.Exchange.{listed_samples, lawful_samples, same_samples}
+use Rattle.checker.proofs.Exchange.{are_samples, listed_samples, lawful_samples, same_samples}
 use Rattle.checker.proofs.NoOverflow.{reading_kept}
 use Rattle.checker.proofs.verdict.check_exchanges.Goals as goal
 
@@ -37,4 +37,4 @@ returns g c =
     (sym (same_samples xs claim _ (reading_kept claim c.requires.claim))) in
     subst (IsVerdictOn claim (samples_of xs claim) certificate) (sym exact)
     (c.verdicts_are_traceable.ensures claim (samples_of xs claim) certificate c.requires.claim
-    (listed_samples xs claim _ c.requires.exchanges))
+    (are_samples xs claim c.requires.claim c.requires.exchanges))

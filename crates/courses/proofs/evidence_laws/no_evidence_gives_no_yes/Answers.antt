@@ -1,5 +1,4 @@
-use Rattle.std.proofs.Common.{length}
-use Rattle.checker.proofs.Exchange.{listed_samples}
+use Rattle.checker.proofs.Exchange.{are_samples}
 use Rattle.checker.specs.Traceability.{samples_of}
 use Rattle.courses.proofs.HeardGroups.{untraceable}
 use Rattle.courses.proofs.evidence_laws.no_evidence_gives_no_yes.Goals as goal
@@ -8,4 +7,4 @@ pub returns : goal.returns
 returns c claim xs groups certificate lawful each none accepted =
     untraceable claim xs lawful groups none
     ((c.verdicts_are_traceable.ensures claim (samples_of xs claim) certificate lawful
-    (listed_samples xs claim (length claim.servers) each)).yes accepted)
+    (are_samples xs claim lawful each)).yes accepted)

@@ -1,12 +1,12 @@
 use Rattle.std.proofs.Common.{map}
 use Rattle.claim_file.specs.Claim.{data_of as claim_data}
 use Rattle.courses.specs.Groups.{holds}
-use Rattle.finder.specs.Leeway.{IsTriedInVain}
-use Rattle.finder.proofs.TriedError.{both_sides}
+use Rattle.finder.specs.Leeway.{IsHeld}
+use Rattle.finder.proofs.HeldError.{both_sides}
 use Rattle.finder.proofs.drift_refutation.find_at.Goals as goal
 
-pub returns-clause-all_tried : goal.returns-clause-all_tried
-returns-clause-all_tried g c =
-    both_sides c.find_on-2.result (IsTriedInVain (claim_data c.args.claim.now)
+pub returns-clause-held : goal.returns-clause-held
+returns-clause-held g c =
+    both_sides c.find_on-2.result (IsHeld (claim_data c.args.claim.now)
     (map g.X.ToExchange.shown c.args.exchanges.now) (holds c.args.place.cover) c.args.place.reading)
-    c.in_default.ensures.all_tried c.find_on-2.ensures.all_tried
+    c.in_default.ensures.held c.find_on-2.ensures.held

@@ -1,15 +1,15 @@
 use Rattle.std.proofs.Common.{map}
 use Rattle.claim_file.specs.Claim.{data_of as claim_data}
-use Rattle.finder.proofs.TriedError.{IsTriedPlace, all_tried, one_more_tried}
+use Rattle.finder.proofs.HeldError.{IsHeldPlace, all_tried, one_more_tried}
 use Rattle.finder.proofs.drift_refutation.find_by_conflicts.Goals as goal
 
 pub loop-place-preserved : goal.loop-place-preserved
 loop-place-preserved g c =
-    one_more_tried (IsTriedPlace (claim_data c.args.claim.now) (map g.X.ToExchange.shown c.args.exchanges.now))
-    c.args.places.now c.loop-place.place-index _ c.loop-place-test.true c.in_default.ensures.all_tried
+    one_more_tried (IsHeldPlace (claim_data c.args.claim.now) (map g.X.ToExchange.shown c.args.exchanges.now))
+    c.args.places.now c.loop-place.place-index _ c.loop-place-test.true c.in_default.ensures.held
     c.loop-place.invariant
 
-pub returns-clause-all_tried : goal.returns-clause-all_tried
-returns-clause-all_tried g c =
-    all_tried (IsTriedPlace (claim_data c.args.claim.now) (map g.X.ToExchange.shown c.args.exchanges.now))
+pub returns-clause-held : goal.returns-clause-held
+returns-clause-held g c =
+    all_tried (IsHeldPlace (claim_data c.args.claim.now) (map g.X.ToExchange.shown c.args.exchanges.now))
     c.args.places.now c.loop-place.place-index c.loop-place-test.false c.loop-place.invariant

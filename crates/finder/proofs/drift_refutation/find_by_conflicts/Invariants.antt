@@ -1,8 +1,8 @@
 use Rattle.std.proofs.Common.{map}
 use Rattle.claim_file.specs.Claim.{data_of as claim_data}
-use Rattle.finder.proofs.TriedError.{AreTriedTo, IsTriedPlace}
+use Rattle.finder.proofs.HeldError.{AreTriedTo, IsHeldPlace}
 use Rattle.finder.proofs.drift_refutation.find_by_conflicts.Given as goal
 
 abbrev pub invariant-loop-place : goal.invariant-loop-place
 invariant-loop-place g l =
-    AreTriedTo (IsTriedPlace (claim_data l.claim) (map g.X.ToExchange.shown l.exchanges)) l.places l.place-index
+    AreTriedTo (IsHeldPlace (claim_data l.claim) (map g.X.ToExchange.shown l.exchanges)) l.places l.place-index

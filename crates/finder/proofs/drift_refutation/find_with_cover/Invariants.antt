@@ -1,9 +1,9 @@
 use Rattle.std.proofs.Common.{map}
 use Rattle.claim_file.specs.Claim.{data_of as claim_data}
-use Rattle.finder.proofs.TriedError.{AreTriedTo, IsTriedReading}
+use Rattle.finder.proofs.HeldError.{AreTriedTo, IsHeldReading}
 use Rattle.finder.proofs.drift_refutation.find_with_cover.Given as goal
 
 abbrev pub invariant-loop-reading : goal.invariant-loop-reading
 invariant-loop-reading g l =
-    AreTriedTo (IsTriedReading (claim_data l.claim) (map g.X.ToExchange.shown l.exchanges) l.cover) l.readings
+    AreTriedTo (IsHeldReading (claim_data l.claim) (map g.X.ToExchange.shown l.exchanges) l.cover) l.readings
     l.reading-index

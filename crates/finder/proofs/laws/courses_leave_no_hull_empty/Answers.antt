@@ -12,5 +12,5 @@ returns c claim xs lawful each some p tick empty =
     let (course, fits, reads, shares) = c.some_course_is_observed_at_any_reading.ensures claim xs p lawful each some in
     subst (IsInHull course) empty
     (c.best_hulls_hold_the_error.ensures claim samples (stretch_over p next) lawful
-    (c.samples_of_exchanges_keep_limits.ensures.listed claim xs each) xs course refl fits
+    (c.samples_of_exchanges_keep_limits.ensures.of_claim claim xs lawful each) xs course refl fits.fits
     (observed claim xs p next course (tick_forward samples claim lawful p tick) reads))

@@ -1,4 +1,4 @@
-use Rattle.std.proofs.Common.{length}
+use Rattle.std.proofs.Common.{length, map}
 use Rattle.claim_file.specs.Claim.{data_of as claim_data}
 use Rattle.finder.proofs.Claim.{reading_kept}
 use Rattle.finder.proofs.SettlementAnswer.{of_most_servers}
@@ -13,3 +13,8 @@ invariant_of-result g c =
       from_zero = rw (reading_kept (claim_data c.args.claim.now) claim) claim.reading_not_negative;
       at_most_a_second = rw (reading_kept (claim_data c.args.claim.now) claim) claim.reading_in_range;
     }
+
+pub returns-clause-of_claim : goal.returns-clause-of_claim
+returns-clause-of_claim g c =
+    c.samples_of_exchanges_keep_limits.ensures.of_claim (claim_data c.args.claim.now)
+    (map g.X.ToExchange.shown c.args.exchanges.now) c.requires.claim c.requires.exchanges

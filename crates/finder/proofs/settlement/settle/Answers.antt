@@ -1,7 +1,8 @@
-use Rattle.std.proofs.Common.{◌≤◌, Ok, List, map, subst, arith}
+use Rattle.std.proofs.Common.{◌≤◌, Err, Ok, List, inr, ⊎_elim, map, refl, subst, arith}
 use Rattle.claim_file.specs.Claim.{data_of as claim_data}
 use Rattle.sample_interval.specs.declared.kinds.Sample.{Sample}
 use Rattle.finder.specs.FewestAnswer.{FindsFewest}
+use Rattle.finder.specs.declared.fault.FindFault.TheVariants.{TooManyPieces}
 use Rattle.finder.specs.declared.fewest.Fewest.TheVariants as found
 use Rattle.finder.proofs.SettlementAnswer.{contested_by, fits_if, fits_not, heard, left_open, none_fits, shown_by, stuck_within, unheard}
 use Rattle.finder.proofs.settlement.settle.Goals as goal
@@ -69,26 +70,50 @@ overflow_cast-ends-in-Ok-Nothing g c =
     c.in-Ok-Nothing.hull stuck in
     rw tick.end_kept (tick.end_fits)
 
-pub returns-in-Some : goal.returns-in-Some
-returns-in-Some g c =
+pub returns-in-Found : goal.returns-in-Found
+returns-in-Found g c =
     let claim = claim_data c.args.claim.now in
     let xs = map g.X.ToExchange.shown c.args.exchanges.now in
     record {
       settled = contested_by claim xs _
           (heard claim xs c.groups_heard-groups.result c.groups_heard-groups.ensures c.if-groups-claim.false)
-          (rw c.in-Some.is at c.in_ok-refutation-in-Ok-Nothing.ensures.settles);
+          (rw c.in-Found.is at c.in_ok-refutation-in-Ok-Nothing.ensures);
       refused = tt;
     }
 
-pub returns-in-Some-2 : goal.returns-in-Some-2
-returns-in-Some-2 g c =
+pub returns-in-Found-2 : goal.returns-in-Found-2
+returns-in-Found-2 g c =
     let claim = claim_data c.args.claim.now in
     let xs = map g.X.ToExchange.shown c.args.exchanges.now in
     record {
       settled = contested_by claim xs _
           (heard claim xs c.groups_heard-groups.result c.groups_heard-groups.ensures c.if-groups-claim.false)
-          (rw c.in-Some-2.is at c.in_ok-refutation-in-Err-TooManyPieces.ensures.settles);
+          (rw c.in-Found-2.is at c.in_ok-refutation-in-Err-TooManyPieces.ensures);
       refused = tt;
+    }
+
+pub returns-in-Err-TooManyPieces : goal.returns-in-Err-TooManyPieces
+returns-in-Err-TooManyPieces g c =
+    let claim = claim_data c.args.claim.now in
+    let xs = map g.X.ToExchange.shown c.args.exchanges.now in
+    let finds = subst (λ (samples : List Sample). FindsFewest samples claim (Err TooManyPieces))
+    c.exchange_samples-samples.ensures.samples
+    (rw (c.in-Err-TooManyPieces.is, c.in-Err-TooManyPieces.field-0-is) at c.fewest_by.ensures) in
+    let searched = rw c.in-Nothing-2.is at c.in_ok-refutation-in-Err-TooManyPieces.ensures in
+    record {
+      settled = tt;
+      refused = inr (
+        refl,
+        record {
+          heard = heard claim xs c.groups_heard-groups.result c.groups_heard-groups.ensures c.if-groups-claim.false;
+          courses = λ reading. c.some_course_is_observed_at_any_reading.ensures claim xs reading
+              c.requires.claim c.requires.exchanges (fits_if c.has_cover.result c.if-not-has_cover.false
+              c.has_cover.ensures.exact c.in_ok-conflicts.ensures.covers);
+          too_long = ⊎_elim (λ memory. absurd cc) (λ long. long.1) finds.refused;
+          none_accepted = finds.too_many refl;
+          none_refuted = searched.0;
+        },
+      );
     }
 
 pub returns-in-Ok-Nothing : goal.returns-in-Ok-Nothing
@@ -104,12 +129,13 @@ returns-in-Ok-Nothing g c =
     c.exchange_samples-samples.ensures.samples
     (rw (c.in-Ok-Nothing.is, c.in-Ok-Nothing.field-0-is) at c.fewest_by.ensures) in
     let tick = stuck_within claim c.requires.claim _ begin end c.in-Ok-Nothing.hull finds.stuck in
+    let searched = rw (c.in-Nothing.is, tick.begin_kept, tick.end_kept)
+    at c.in_ok-refutation-in-Ok-Nothing.ensures in
     record {
-      settled = rw (tick.begin_kept, tick.end_kept) (left_open claim xs begin end c.in-Ok-Nothing.hull tick.forward
+      settled = rw (tick.begin_kept, tick.end_kept) (left_open claim xs begin end c.in-Ok-Nothing.hull
+          c.in-Nothing.covers tick.forward
           (heard claim xs c.groups_heard-groups.result c.groups_heard-groups.ensures c.if-groups-claim.false)
           (λ reading. c.some_course_is_observed_at_any_reading.ensures claim xs reading c.requires.claim
-          c.requires.exchanges course) finds
-          (rw (c.in-None.is, tick.begin_kept, tick.end_kept)
-          at c.in_ok-refutation-in-Ok-Nothing.ensures.all_tried));
+          c.requires.exchanges course) finds searched.0 searched.1);
       refused = tt;
     }

@@ -4,7 +4,8 @@ use Rattle.span_cover.proofs.laws.error_lies_in_the_interval_of_the_piece.Goals 
 pub returns : goal.returns
 returns c =
     let widens = c.widening_is_one_number.ensures.is in
-    λ n ppb low high p q request reply observed rate inside low_place least low_drift high_place most high_drift. (
-      error_no_less widens n ppb p q observed rate inside low request low_place least low_drift,
-      error_no_more widens n ppb p q observed rate inside high reply high_place most high_drift,
+    λ n ppb low high p q request reply observed rate low_forward high_forward inside after least low_drift before most
+    high_drift. (
+      error_no_less widens n ppb p q observed rate inside low request low_forward after least low_drift,
+      error_no_more widens n ppb p q observed rate inside high reply high_forward before most high_drift,
     )

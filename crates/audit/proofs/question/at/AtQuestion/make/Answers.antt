@@ -1,5 +1,5 @@
 use Rattle.report.specs.declared.fault.Outcome.TheVariants.{Yes}
-use Rattle.checker.proofs.Exchange.{listed_samples}
+use Rattle.checker.proofs.Exchange.{are_samples}
 use Rattle.audit.specs.At.{HullHoldsErrorAt, at, stretch_at}
 use Rattle.audit.specs.Evidence.{evidence_data, samples_in}
 use Rattle.audit.specs.Question.{ShowsOf}
@@ -19,5 +19,6 @@ returns-clause-shows c =
     outcome_shows c.made_whole.result Yes (ShowsOf (at unix_second) no_second nothing_said e)
     (of_evidence (HullHoldsErrorAt unix_second) e
     (c.hulls_hold_the_error.ensures.best e.claim (samples_in e) (stretch_at unix_second)
-    c.requires.evidence.claim (listed_samples e.collection.exchanges e.claim _ c.requires.evidence.exchanges.each)))
+    c.requires.evidence.claim
+    (are_samples e.collection.exchanges e.claim c.requires.evidence.claim c.requires.evidence.exchanges.each)))
     c.made_whole.ensures.outcome

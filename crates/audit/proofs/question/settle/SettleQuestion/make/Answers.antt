@@ -16,7 +16,7 @@ returns-in-Ok c =
     let settles = rw c.deref.ensures.value at c.in-Ok.ensures in
     let holds = settled_of e c.requires.evidence.exchanges.agree
     (λ certificate. c.verdicts_are_traceable.ensures e.claim (samples_in e) certificate c.requires.evidence.claim
-    (c.samples_of_exchanges_keep_limits.ensures.listed e.claim e.collection.exchanges
+    (c.samples_of_exchanges_keep_limits.ensures.of_claim e.claim e.collection.exchanges c.requires.evidence.claim
     c.requires.evidence.exchanges.each)) settled settles.settled in
     let laws : BytesLaws = record {
       nanoseconds = c.bounds_of_bytes_hold_in_nanoseconds.ensures;

@@ -1,0 +1,431 @@
+-- Where nothing beyond the bound is let be, no course is beyond it.
+use Rattle.std.proofs.Common.{◌≡◌, ℕ, zero, suc, ◌+◌, ◌-◌, ◌<◌, ◌≤◌, ℤ, pos, neg_ℤ, ◌+ℤ◌, ◌-ℤ◌, ◌*ℤ◌, ◌≤ℤ◌, ◌<ℤ◌, Bool, true, false, not, ◌==◌, ◌&&◌, ◌||◌, inl, inr, is_some, ◌⊎◌, ⊎_elim, Option, None, Some, List, [], ◌∷◌, length, get_or, refl, sym, ap, ◌∙◌, subst, arith}
+use Rattle.std.specs.Prelude.{◌↔◌, All, Any, IfNone, count_by, nat_lt, slice_index, AllPairs}
+use Rattle.std.specs.Int.{int_min}
+use Rattle.std.specs.List.{list_any}
+use Rattle.std.proofs.lemmas.Int.{clamps, ints}
+use Rattle.std.proofs.lemmas.Bool.{and_parts, lt-ltb, or_cases}
+use Rattle.std.proofs.lemmas.Bool.Decides.{nat_tests}
+use Rattle.std.proofs.lemmas.List.Elements.{All-cons, All-head, All-nil, All-tail}
+use Rattle.std.proofs.lemmas.List.Folds.{list_any-append}
+use Rattle.std.proofs.lemmas.Option.{slice_get_within}
+use Rattle.certificate.specs.Refutation.{RefutationData}
+use Rattle.claim_file.specs.Claim.{ClaimData, IsLawful, max_bound}
+use Rattle.pairing.specs.Exchange.{IsLawful as IsLawfulExchange}
+use Rattle.pairing.specs.declared.exchange.Exchange.{Exchange}
+use Rattle.marks.specs.Mark.{low_mark, high_mark}
+use Rattle.checker.specs.Course.{Course, Fits}
+use Rattle.checker.specs.Groups.{holds_false}
+use Rattle.checker.specs.RefutationTest.{are_different}
+use Rattle.courses.specs.Conflicts.{ConflictData, group_count, HoldsNoLess as HoldsNoLessBy, IsCover as IsCoverBy}
+use Rattle.courses.specs.Cover.{IsCover, size_of}
+use Rattle.courses.specs.DriftRefutation.{IsRefutedWithDrift}
+use Rattle.courses.specs.Groups.{AreApart, HoldsOne, HoldsOneOr64, holds}
+use Rattle.courses.specs.LeastCovers.{AreLeastCovers}
+use Rattle.courses.specs.Members.{LieWithin, passing}
+use Rattle.courses.specs.declared.groups.Groups.{Groups}
+use Rattle.courses.proofs.Converse.{keeps_low, keeps_high}
+use Rattle.courses.proofs.CoverCounts.{both_hold, passing_one, passing_same}
+use Rattle.courses.proofs.CoverList.{passing_both, passing_within}
+use Rattle.courses.proofs.CoverWithin.{passing_below}
+use Rattle.courses.proofs.Covers.{listed_in_groups, server_is_true}
+use Rattle.courses.proofs.KeptMarks.{kept_are_compatible}
+use Rattle.courses.proofs.Scaling.{times-sub}
+use Rattle.span_cover.specs.Group.{numbers_below}
+use Rattle.finder.specs.Leeway.{AreHeld, AreLeeways, DoLet, HasFalse, HoldsFor, IsBounded, IsCandidate, IsHeld, IsHeldAtAll, IsMade, IsNarrowed, IsOff, IsRounded, greatest_of, leeway_in, mark_at, no_limit, turned}
+use Rattle.finder.specs.NearestRefutation.{IsErrorOf64Bits}
+use Rattle.finder.specs.declared.drift_refutation.Place.{Place}
+use Rattle.finder.specs.declared.side.Side.{Side}
+use Rattle.finder.specs.declared.side.Side.TheVariants.{Above, Below}
+use Rattle.finder.proofs.GroupLeeway.{below_or_at, same_default}
+use Rattle.finder.proofs.List.{by_test, was}
+
+pub if_none : {A : Type 0} (o : Option A) (P : Type 0) → P → IfNone o P
+if_none None P p = p
+if_none (Some a) P p = tt
+
+pub none_left : {A : Type 0} (o : Option A) (P : Type 0) → is_some o ≡ false → IfNone o P → P
+none_left None P none p = p
+none_left (Some a) P none p = absurd cc
+
+-- ---- what a course lets be
+
+-- a moment at which the clock is off by so many ticks or more keeps such a mark
+off_above : (n : ℕ) (reading ticks place time : ℤ) → place ≡ reading *ℤ pos n → (ticks *ℤ pos n) ≤ℤ (place -ℤ time)
+    → time ≤ℤ ((reading -ℤ ticks) *ℤ pos n)
+off_above n reading ticks place time shows off =
+    let difference = times-sub (reading -ℤ ticks) reading ticks n refl in
+    omega (arith, ints, difference)
+
+off_below : (n : ℕ) (reading ticks place time : ℤ) → place ≡ reading *ℤ pos n → (place -ℤ time) ≤ℤ (ticks *ℤ pos n)
+    → ((reading -ℤ ticks) *ℤ pos n) ≤ℤ time
+off_below n reading ticks place time shows off =
+    let difference = times-sub (reading -ℤ ticks) reading ticks n refl in
+    omega (arith, ints, difference)
+
+same_le : (a b : ℤ) → a ≡ b → a ≤ℤ b
+same_le a b e = omega (arith, ints)
+
+module _ (claim : ClaimData) (lawful : IsLawful claim) (xs : List Exchange)
+    (each : All (IsLawfulExchange (length claim.servers)) xs) (course : Course) (fits : Fits claim xs course) where
+  -- which groups hold a false server
+  abbrev pub false_in : ℕ → Bool
+  false_in = holds_false claim.groups course.is_false
+
+  -- the exchanges of another group let the clock be off by what it is off by
+  pub lets_be : (side : Side) (reading ticks : ℤ)
+      → course.observation.reading ≡ (reading *ℤ pos course.fineness) → IsOff side ticks course → (group : ℕ)
+      → false_in group ≡ false → DoLet claim xs (length xs) side reading group ticks
+  lets_be Above reading ticks shows off group outside k x below at in_group =
+      let is_true = server_is_true claim lawful.drift_in_range xs (listed_in_groups claim xs lawful each) course fits k
+      x at (subst (λ (g : ℕ). false_in g ≡ false) (sym in_group) outside) in
+      kept_are_compatible claim.drift_ppb course.fineness (mark_at reading ticks) (high_mark claim.reading x)
+      course.observation (course.reply k) fits.some_fineness lawful.drift_in_range
+      (fits.drift course.observation (course.reply k) (inl refl) (inr (k, slice_get_within xs k x at, inr refl))) (
+        same_le _ _ (sym shows),
+        off_above course.fineness reading ticks course.observation.reading course.observation.time shows off,
+      )
+      (keeps_high claim xs course k x at fits is_true)
+  lets_be Below reading ticks shows off group outside k x below at in_group =
+      let is_true = server_is_true claim lawful.drift_in_range xs (listed_in_groups claim xs lawful each) course fits k
+      x at (subst (λ (g : ℕ). false_in g ≡ false) (sym in_group) outside) in
+      kept_are_compatible claim.drift_ppb course.fineness (low_mark claim.reading x) (mark_at reading (neg_ℤ ticks))
+      (course.request k) course.observation fits.some_fineness lawful.drift_in_range
+      (fits.drift (course.request k) course.observation (inr (k, slice_get_within xs k x at, inl refl)) (inl refl))
+      (keeps_low claim xs course k x at fits is_true) (
+        same_le _ _ shows,
+        off_below course.fineness reading (neg_ℤ ticks) course.observation.reading course.observation.time shows off,
+      )
+
+  -- such a group has a server, and so a number that is below theirs
+  any_at : (q : ℕ → Bool) (n : ℕ) → list_any q (numbers_below n) ≡ true → (k : ℕ) × (k < n) × (q k ≡ true)
+  any_at q zero some = absurd cc
+  any_at q (suc n) some =
+      elim (or_cases (list_any q (numbers_below n)) (q n || false)
+      (sym (list_any-append q (numbers_below n) (n ∷ [])) ∙ some)) [
+        | inl before ↦ (let rest = any_at q n before in (rest.0, (let below = rest.1 in omega arith), rest.2))
+        | inr here ↦
+            (n, omega arith, elim (or_cases (q n) false here) [ inl is ↦ is | inr none ↦ absurd cc ])
+      ]
+
+  in_range : (group : ℕ) → false_in group ≡ true → group < length claim.groups
+  in_range group is =
+      let found = any_at (λ server. (slice_index claim.groups server == group) && course.is_false server)
+      (length claim.groups) is in
+      let below = lawful.groups_in_range found.0 0 found.1 in
+      let same = lawful.group_for_each in
+      let test = (and_parts (slice_index claim.groups found.0 == group) (course.is_false found.0) found.2).0 in
+      let here : slice_index claim.groups found.0 ≡ group = grind (arith, nat_tests) in
+      subst (λ (g : ℕ). g < length claim.groups) here (omega arith)
+
+  few_groups : length claim.groups ≤ 32
+  few_groups = let few = lawful.few_servers in let same = lawful.group_for_each in omega arith
+
+  pub false_below : (group : ℕ) → false_in group ≡ true → group < 32
+  false_below group is = let below = in_range group is in let few = few_groups in omega arith
+
+  pub few_false : passing false_in ≤ claim.false_max
+  few_false =
+      let below = passing_below false_in (length claim.groups) few_groups in
+      let within = passing_within false_in (λ k. false_in k && nat_lt k (length claim.groups))
+      (λ k is. both_hold (false_in k) (nat_lt k (length claim.groups)) is
+      (lt-ltb k (length claim.groups) (in_range k is))) in
+      let few = fits.few_false in
+      omega arith
+
+-- ---- too many groups let less be
+
+reordered : (c a r : Bool) → (c || (a || r)) ≡ (a || (c || r))
+reordered true true r = refl
+reordered true false r = refl
+reordered false a r = refl
+
+turned_test : (a b : ℕ) → (a == b) ≡ (b == a)
+turned_test a b = by_test (a == b) (λ s. grind (arith, nat_tests)) (λ s. grind (arith, nat_tests))
+
+or_none : (b : Bool) → b ≡ (b || false)
+or_none true = refl
+or_none false = refl
+
+none_of_both : (a b : Bool) → a ≡ false → b ≡ false → (a || b) ≡ false
+none_of_both true b h k = absurd cc
+none_of_both false b h k = k
+
+any_of : (q : ℕ → Bool) (xs : List ℕ) → list_any q xs ≡ true
+    → (k : ℕ) × (x : ℕ) × (k < length xs) × (q x ≡ true) × (get_or xs k x ≡ x)
+any_of q [] some = absurd cc
+any_of q (x ∷ xs) some =
+    elim (or_cases (q x) (list_any q xs) some) [
+      | inl here ↦ (0, x, omega arith, here, refl)
+      | inr later ↦
+          (let rest = any_of q xs later in
+          (suc rest.0, rest.1, (let below = rest.2 in omega arith), rest.3, rest.4))
+    ]
+
+-- ---- 64 bits
+
+bits_of : (side : Side) (most : ℤ) → pos 0 ≤ℤ most → IsErrorOf64Bits (turned side (int_min most (greatest_of side)))
+bits_of Above most low = record { not_below = omega (arith, ints, clamps); not_above = omega (arith, ints, clamps) }
+bits_of Below most low = record { not_below = omega (arith, ints, clamps); not_above = omega (arith, ints, clamps) }
+
+bits_few : (side : Side) (ticks : ℤ) → IsErrorOf64Bits (turned side ticks) → ticks <ℤ no_limit
+bits_few Above ticks bits = let top = bits.not_above in omega (arith, ints, top)
+bits_few Below ticks bits = let bottom = bits.not_below in omega (arith, ints, bottom)
+
+few_of : (side : Side) (most : ℤ) → int_min most (greatest_of side) <ℤ no_limit
+few_of Above most = omega (arith, ints, clamps)
+few_of Below most = omega (arith, ints, clamps)
+
+most_of : (side : Side) (most ticks : ℤ) → IsErrorOf64Bits (turned side ticks) → ticks ≤ℤ most
+    → ticks ≤ℤ int_min most (greatest_of side)
+most_of Above most ticks bits le = let top = bits.not_above in omega (arith, ints, clamps, top, le)
+most_of Below most ticks bits le = let bottom = bits.not_below in omega (arith, ints, clamps, bottom, le)
+
+beyond_of : (side : Side) (bound most : ℤ) → bound <ℤ most → bound ≤ℤ pos max_bound
+    → bound <ℤ int_min most (greatest_of side)
+beyond_of Above bound most beyond few = omega (arith, ints, clamps, beyond, few)
+beyond_of Below bound most beyond few = omega (arith, ints, clamps, beyond, few)
+
+-- ---- counts
+
+pub counts_here : (cover : ℕ → Bool) → passing cover ≡ count_by cover (numbers_below 32)
+unfolding passing
+counts_here cover = refl
+
+-- groups that are added once to a set without them
+counts_added : (cover : ℕ → Bool) (added : List ℕ) → are_different added ≡ true → All (λ a. cover a ≡ false) added
+    → All (λ a. a < 32) added
+    → passing (λ k. cover k || list_any (λ a. a == k) added) ≡ passing cover + length added
+counts_added cover [] once others below =
+    let same = passing_same (λ k. cover k || false) cover (λ k. sym (or_none (cover k))) in
+    omega arith
+counts_added cover (a ∷ added) once others below =
+    let parts = and_parts (not (list_any (λ b. b == a) added)) (are_different added) once in
+    let rest = counts_added cover added parts.1 (All-tail (λ b. cover b ≡ false) a added others)
+    (All-tail (λ b. b < 32) a added below) in
+    let one = passing_one a (All-head (λ b. b < 32) a added below) in
+    let both = passing_both (λ k. k == a) (λ k. cover k || list_any (λ b. b == k) added)
+    (λ k. cover k || ((a == k) || list_any (λ b. b == k) added))
+    (record {
+      join = λ k. reordered (cover k) (a == k) (list_any (λ b. b == k) added)
+          ∙ ap (λ t. t || (cover k || list_any (λ b. b == k) added)) (turned_test a k);
+    })
+    (λ k same.
+    let is : k ≡ a = grind (arith, nat_tests) in
+    subst (λ (n : ℕ). (cover n || list_any (λ b. b == n) added) ≡ false) (sym is)
+    (none_of_both (cover a) (list_any (λ b. b == a) added) (All-head (λ b. cover b ≡ false) a added others)
+    (was (list_any (λ b. b == a) added) parts.0))) in
+    omega arith
+
+module _ (claim : ClaimData) (lawful : IsLawful claim) (xs : List Exchange)
+    (each : All (IsLawfulExchange (length claim.servers)) xs) (side : Side) (reading : ℕ) (cover : ℕ → Bool)
+    (leeways : List ℤ) (found : ℕ → Bool)
+    (are : AreLeeways claim xs (length xs) side (pos reading) leeways)
+    (narrowed : IsNarrowed leeways (claim.false_max - count_by cover (numbers_below 32)) cover found) where
+  -- one that isn't false lets nothing beyond the bound be, and neither do those that are
+  module _ (bounded : IsBounded claim.bound leeways found) (course : Course) (fits : Fits claim xs course)
+      (all_false : HasFalse claim cover course)
+      (shows : course.observation.reading ≡ (pos reading *ℤ pos course.fineness))
+      (off : IsOff side (claim.bound +ℤ pos 1) course) where
+    is_false : (group : ℕ) → group < 32 → leeway_in leeways group ≤ℤ claim.bound
+        → holds_false claim.groups course.is_false group ≡ true
+    is_false group below small = by_test (holds_false claim.groups course.is_false group) (λ is. is)
+        (λ outside.
+        let in_range = lawful.bound_in_range in
+        let more = (are.exact group below (claim.bound +ℤ pos 1) (omega (arith, ints, in_range))).1
+        (lets_be claim lawful xs each course fits side (pos reading) (claim.bound +ℤ pos 1) shows off group outside) in
+        absurd (omega (arith, ints, more, small)))
+
+    one_more : ℕ → Bool
+    one_more k = (k == bounded.0) || found k
+
+    all_are_false : LieWithin one_more (holds_false claim.groups course.is_false)
+    unfolding one_more
+    all_are_false k is = ⊎_elim
+        (λ same.
+        let here : k ≡ bounded.0 = grind (arith, nat_tests) in
+        subst (λ (n : ℕ). holds_false claim.groups course.is_false n ≡ true) (sym here)
+        (is_false bounded.0 bounded.1.below bounded.2))
+        (λ in_found. ⊎_elim
+        (λ in_cover. all_false k in_cover)
+        (λ in_added.
+        let at = any_of (λ a. a == k) narrowed.added in_added in
+        let test = at.3 in
+        let here : at.1 ≡ k = grind (arith, nat_tests) in
+        subst (λ (n : ℕ). holds_false claim.groups course.is_false n ≡ true) here
+        (is_false at.1 (subst (λ (n : ℕ). n < 32) at.4 (narrowed.below at.0 at.1 at.2))
+        (let least = subst (λ (n : ℕ). (other : ℕ) → other < 32 → found other ≡ false
+        → leeway_in leeways n ≤ℤ leeway_in leeways other) at.4 (narrowed.least at.0 at.1 at.2)
+        bounded.0 bounded.1.below bounded.1.outside in
+        let small = bounded.2 in
+        omega (arith, ints, least, small))))
+        (or_cases (cover k) (list_any (λ a. a == k) narrowed.added) (sym (narrowed.join k) ∙ in_found)))
+        (or_cases (k == bounded.0) (found k) is)
+
+    pub too_many : ⊥
+    unfolding one_more
+    too_many =
+        let limited = bounded.1.limited in
+        let small = bounded.2 in
+        let in_range = lawful.bound_in_range in
+        let as_many : length narrowed.added ≡ claim.false_max - count_by cover (numbers_below 32) = ⊎_elim
+        (λ same. same)
+        (λ unlimited. absurd (let beyond = unlimited bounded.0 bounded.1.below bounded.1.outside in
+        omega (arith, ints, beyond, limited)))
+        narrowed.enough in
+        let few = few_false claim lawful xs each course fits in
+        let all = passing_within one_more (holds_false claim.groups course.is_false) all_are_false in
+        let one = passing_one bounded.0 bounded.1.below in
+        let both = passing_both (λ k. k == bounded.0) found one_more (record { join = λ k. refl })
+        (λ k same.
+        let here : k ≡ bounded.0 = grind (arith, nat_tests) in
+        subst (λ (n : ℕ). found n ≡ false) (sym here) bounded.1.outside) in
+        let counted = passing_same found (λ k. cover k || list_any (λ a. a == k) narrowed.added) narrowed.join in
+        let added = counts_added cover narrowed.added narrowed.once narrowed.others narrowed.below in
+        let here = counts_here cover in
+        omega arith
+
+  pub held_if_bounded : IsBounded claim.bound leeways found → HoldsFor claim xs reading side (HasFalse claim cover)
+  held_if_bounded bounded course fits all_false shows off = too_many bounded course fits all_false shows off
+
+  -- where what is made isn't accepted, rounding stands in the way
+  module _ (made : RefutationData) (is : IsMade claim side reading leeways found made) where
+    ticks : ℤ
+    ticks = int_min is.most (greatest_of side)
+
+    candidate : IsCandidate claim xs side reading found made
+    unfolding ticks
+    candidate = record {
+      there = is.there;
+      liars = is.liars;
+      ticks = ticks;
+      error = is.error;
+      in_64_bits = subst IsErrorOf64Bits (sym is.error) (bits_of side is.most (let beyond = is.beyond in
+          let low = lawful.bound_not_negative in omega (arith, ints, beyond, low)));
+      beyond_bound = beyond_of side claim.bound is.most is.beyond lawful.bound_in_range;
+      let_be = λ group below outside.
+          (are.exact group below ticks (few_of side is.most)).0
+          (let least = is.limit.least group below outside in
+          omega (arith, ints, clamps, least));
+      greatest = λ more in_bits lets. most_of side is.most more in_bits (⊎_elim
+          (λ unlimited. let most = unlimited.1 in let few = bits_few side more in_bits in
+          omega (arith, ints, most, few))
+          (λ tight.
+          let most = tight.2 in
+          let few = bits_few side more in_bits in
+          let le = (are.exact tight.0 tight.1.below more few).1 (lets tight.0 tight.1.below tight.1.outside) in
+          omega (arith, ints, most, le))
+          is.limit.met);
+    }
+
+    pub rounded : ¬ (IsRefutedWithDrift claim xs made) → IsRounded claim xs cover reading side
+    rounded refutes_nothing = record {
+      is_false = found;
+      leeways = leeways;
+      are = are;
+      narrowed = narrowed;
+      refutation = made;
+      candidate = candidate;
+      refutes_nothing = refutes_nothing;
+    }
+
+-- ---- from one place to the next
+
+pub both_sides : {A : Type 0} (o : Option A) (P : Side → Type 0) → P Above → IfNone o (P Below)
+    → IfNone o ((side : Side) → P side)
+both_sides None P above below = go
+  where
+    go : (side : Side) → P side
+    go Above = above
+    go Below = below
+both_sides (Some a) P above below = tt
+
+-- what is so of the first n elements, one after another
+module _ {X : Type 0} (IsTried : X → Type 0) (xs : List X) where
+  abbrev pub AreTriedTo : ℕ → Type 0
+  AreTriedTo n = (k : ℕ) (d : X) → k < n → IsTried (get_or xs k d)
+
+  pub one_more_tried : (n : ℕ) (other : X) → n < length xs → IsTried (get_or xs n other) → AreTriedTo n
+      → AreTriedTo (n + 1)
+  one_more_tried n other within tried before k d below = ⊎_elim
+      (λ earlier. before k d earlier)
+      (λ same.
+      subst IsTried (same_default xs n other d within ∙ ap (λ (i : ℕ). get_or xs i d) (sym same)) tried)
+      (below_or_at k n below)
+
+  pub all_tried : (n : ℕ) → length xs ≤ n → AreTriedTo n → All IsTried xs
+  all_tried n past tried k d below = tried k d (omega (arith, past, below))
+
+-- a place is tried to both sides
+abbrev pub IsHeldPlace : ClaimData → List Exchange → Place → Type 0
+IsHeldPlace claim xs place = (side : Side) → IsHeld claim xs (holds place.cover) place.reading side
+
+-- and so is a reading with a cover
+abbrev pub IsHeldReading : ClaimData → List Exchange → Groups → ℕ → Type 0
+IsHeldReading claim xs cover reading = (side : Side) → IsHeld claim xs (holds cover) reading side
+
+-- ---- the covers that are tried
+
+module _ (claim : ClaimData) (xs : List Exchange) (d : ConflictData) (groups : d.groups ≡ length claim.groups)
+    (same : (is_in : ℕ → Bool) → IsCover claim xs is_in ↔ IsCoverBy d is_in) (covers : List Groups) where
+  as_few : (is_in : ℕ → Bool) → group_count d is_in ≡ size_of claim is_in
+  as_few is_in = ap (λ (n : ℕ). count_by is_in (numbers_below n)) groups
+
+  pub least_covers : All (λ cover. IsCoverBy d (holds cover)) covers
+      → All (λ cover. HoldsNoLessBy d (holds cover)) covers
+      → All (λ cover. group_count d (holds cover) ≤ claim.false_max) covers
+      → AllPairs AreApart covers
+      → ((is_in : ℕ → Bool) → IsCoverBy d is_in → group_count d is_in ≤ claim.false_max
+      → HoldsOneOr64 covers is_in)
+      → AreLeastCovers claim xs covers
+  least_covers are minimal few different all = record {
+    are = λ k c below. (same (holds (get_or covers k c))).1 (are k c below);
+    minimal = λ k c below other cover within. minimal k c below other ((same other).0 cover) within;
+    few = λ k c below. subst (λ (n : ℕ). n ≤ claim.false_max) (as_few (holds (get_or covers k c))) (few k c below);
+    different = different;
+    all_or_64 = λ is_in cover small. all is_in ((same is_in).0 cover)
+        (subst (λ (n : ℕ). n ≤ claim.false_max) (sym (as_few is_in)) small);
+  }
+
+-- either all of a list have the one property, or some has the other
+either_all : {X : Type 0} (P Q : X → Type 0) (xs : List X) → All (λ x. P x ⊎ Q x) xs → All P xs ⊎ Any Q xs
+either_all P Q [] all = inl (All-nil P)
+either_all P Q (x ∷ xs) all =
+    elim (All-head (λ y. P y ⊎ Q y) x xs all) [
+      | inl here ↦ ⊎_elim (λ rest. inl (All-cons P x xs here rest))
+          (λ some. inr (suc some.0, some.1, (let below = some.2 in omega arith), some.3, some.4))
+          (either_all P Q xs (All-tail (λ y. P y ⊎ Q y) x xs all))
+      | inr here ↦ inr (0, x, omega arith, refl, here)
+    ]
+
+-- one of a list lies within a set, and has what all of them have
+held_one : (P : Groups → Type 0) (xs : List Groups) (whole : ℕ → Bool) → All P xs → HoldsOne xs whole
+    → (cover : Groups) × P cover × LieWithin (holds cover) whole
+held_one P [] whole all one = absurd one
+held_one P (x ∷ xs) whole all (inl here) = (x, All-head P x xs all, here)
+held_one P (x ∷ xs) whole all (inr later) = held_one P xs whole (All-tail P x xs all) later
+
+module _ (claim : ClaimData) (xs : List Exchange) (readings : List ℕ) (covers : List Groups)
+    (least : AreLeastCovers claim xs covers)
+    (cover_of : (course : Course) → Fits claim xs course → IsCover claim xs (holds_false claim.groups course.is_false))
+  where
+    pub are_held : (count : ℕ) → count ≡ length covers → All (IsHeldAtAll claim xs readings) covers
+        → AreHeld claim xs readings count
+    are_held count is each = record {
+      minimal = covers;
+      are = least;
+      count = is;
+      with_each = each;
+      in_all = λ few j e below side. ⊎_elim
+          (λ all. inl (λ course fits among shows off. ⊎_elim
+          (λ one.
+          let held = held_one (λ cover. HoldsFor claim xs (get_or readings j e) side (HasFalse claim (holds cover)))
+          covers (holds_false claim.groups course.is_false) all one in
+          held.1 course fits held.2 shows off)
+          (λ many. omega arith)
+          (least.all_or_64 (holds_false claim.groups course.is_false) (cover_of course fits) fits.few_false)))
+          (λ some. inr some)
+          (either_all (λ cover. HoldsFor claim xs (get_or readings j e) side (HasFalse claim (holds cover)))
+          (λ cover. IsRounded claim xs (holds cover) (get_or readings j e) side) covers
+          (λ k c in_covers. each k c in_covers j e below side));
+    }

@@ -1,0 +1,10 @@
+pub mod Asked
+pub mod Drafted
+pub mod Files
+pub mod Inputs
+pub mod Invocation
+pub mod Opening
+pub mod Response
+pub mod Run
+pub mod Table
+pub mod World

@@ -1,0 +1,28 @@
+-- What a run can change, and how it ends where a file can't be opened.
+use Rattle.std.specs.Prelude.{◌≡◌, List, Err}
+use Rattle.byte_stream.specs.State.{SinkState}
+use Rattle.report.specs.Conclusion.{Concludes, conclusion_of}
+use Rattle.report.specs.declared.conclusion.Conclusion.{Conclusion}
+use Rattle.report.specs.declared.fault.RunFault.{RunFault}
+use Rattle.program.specs.Files.{FilesState}
+use Rattle.program.specs.Opening.{IsFirstUnopened, Place}
+
+-- the files, the output, and where faults are told
+pub record World : Type 0 where
+  pub files : FilesState
+  pub out : SinkState
+  pub err : SinkState
+
+abbrev pub world : FilesState → SinkState → SinkState → World
+world files out err = record { files = files; out = out; err = err }
+
+-- An input can't be opened: that of the first is told, and nothing is read or written.
+pub record IsUnopened (order : List Place) (before after : World) (conclusion : Conclusion)
+    : Type 0 where
+  pub fault : RunFault
+  pub fault_is : IsFirstUnopened before.files.standing order before.files.opened
+      after.files.opened fault
+  pub untouched : after.out ≡ before.out
+  pub unplaced : after.files.placed ≡ before.files.placed
+  pub concludes : Concludes (Err fault) before.err after.err
+  pub conclusion_is : conclusion ≡ conclusion_of (Err fault)

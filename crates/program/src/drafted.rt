@@ -1,0 +1,120 @@
+//! The answer to a question whose text for a program goes into a draft.
+
+ghost use Rattle.std.specs.Prelude.{◌≡◌, ◌+◌, ◌<◌, ◌^◌, IfOk, IfErr};
+ghost use Rattle.byte_stream.specs.State.{IsReadable, IsWritable};
+ghost use Rattle.report.specs.Run.{no_feed};
+ghost use Rattle.audit.specs.Question.{asked_of};
+ghost use Rattle.audit.specs.Run.{MayRun};
+ghost use Rattle.audit.specs.Second.{no_second};
+ghost use Rattle.program.specs.Drafted.{DraftsOn, IsDrafted};
+ghost use Rattle.program.specs.Inputs.{feeds_of, run_over};
+ghost use Rattle.program.specs.Invocation.{requested};
+
+use crate::asked::is_human;
+use crate::files::Files;
+use crate::hindrance::Hindrance;
+use crate::inputs::Inputs;
+use crate::invocation::Paths;
+use audit::{Question, Request, Style, run};
+use byte_stream::Sink;
+use fault_words::Obstacle;
+use in_memory::{NamedFeed, run_twice};
+use report::{Outcome, RunFault};
+use std::alloc::{AllocError, Global};
+use std::hash::BuildHasher;
+
+/// Answers a question for a program in a draft, and for a person on `out` too, if the style is one
+/// for a person.
+fn draft<
+    Q: Question<Second = ()>,
+    N: NamedFeed + Drop,
+    D: Sink,
+    S: Sink,
+    H: BuildHasher + Copy + Drop,
+>(
+    alloc: Global,
+    question: Q,
+    style: Style,
+    inputs: Inputs<N, ()>,
+    draft: &mut D,
+    out: &mut S,
+    hasher: H,
+) -> Result<Outcome, RunFault>
+    requires run { MayRun (run_over (feeds_of N.state (λ none. no_feed) inputs)
+        (D.state draft.old)) }
+    requires out { IsWritable (S.state out.old) }
+    ensures { IsDrafted (asked_of (Q.asks question) no_second style)
+        (feeds_of N.state (λ none. no_feed) inputs) (D.state draft.old) (D.state draft.new)
+        (S.state out.old) (S.state out.new) result }
+{
+    let Inputs {
+        mut claim,
+        mut second,
+        mut capture,
+    } = inputs;
+    if is_human(style) {
+        let (claim, capture) = (&mut claim, &mut capture);
+        run_twice(alloc, question, style, claim, capture, draft, out, hasher)
+    } else {
+        let (claim, second) = (&mut claim, &mut second);
+        run(
+            alloc, question, style, claim, second, capture, draft, hasher,
+        )
+        .1
+    }
+}
+
+/// What hindered a draft from being written whose sink has failed so often, if that is the fault.
+fn hindrance_of(fault: &RunFault, faults: u64) -> Option<Hindrance> {
+    match fault {
+        RunFault::Write(_) if 0 < faults => Some(Hindrance::of(Obstacle::Full)),
+        _ => None,
+    }
+}
+
+/// Answers a question in a file of this path, and on `out` too if it's a person who asks. Beside
+/// the answer stands what hinders the file from being written, if that's why. Where the answer is a
+/// fault the file is left as it was.
+pub(crate) fn write_file<Fs: Files, N: NamedFeed + Drop, S: Sink, H: BuildHasher + Copy + Drop>(
+    alloc: Global,
+    files: &mut Fs,
+    request: Request,
+    paths: &Paths,
+    path: &str,
+    inputs: Inputs<N, ()>,
+    out: &mut S,
+    hasher: H,
+) -> (Result<Outcome, RunFault>, Option<Hindrance>)
+    requires files { (Fs.state files.old).placed + 1 < 2 ^ 64 }
+    requires claim { IsReadable (N.state inputs.claim) }
+    requires capture { IsReadable (N.state inputs.capture) }
+    requires out { IsWritable (S.state out.old) }
+    ensures drafts { DraftsOn (requested request paths.now.style)
+        (feeds_of N.state (λ none. no_feed) inputs) (S.state out.old) (S.state out.new) result.0 }
+    ensures kept { (Fs.state files.new).opened ≡ (Fs.state files.old).opened }
+    ensures placed { IfOk result.0 (λ outcome.
+        (Fs.state files.new).placed ≡ (Fs.state files.old).placed + 1) }
+    ensures unplaced { IfErr result.0 (λ fault.
+        (Fs.state files.new).placed ≡ (Fs.state files.old).placed) }
+{
+    let part = match format!(in alloc; "{path}.part") {
+        Ok(part) => part,
+        Err(AllocError) => return (Err(RunFault::Memory), None),
+    };
+    let mut sink = match files.create(path, part.as_str(), paths) {
+        Ok(sink) => sink,
+        Err(hindrance) => return (Err(RunFault::Write(0)), Some(hindrance)),
+    };
+    let style = paths.style;
+    let answer = draft(alloc, request, style, inputs, &mut sink, out, hasher);
+    match answer {
+        Ok(outcome) => match files.place(part.as_str(), path) {
+            Ok(()) => (Ok(outcome), None),
+            Err(hindrance) => (Err(RunFault::Write(0)), Some(hindrance)),
+        },
+        Err(fault) => {
+            files.remove(part.as_str());
+            (Err(fault), hindrance_of(&fault, sink.faults()))
+        }
+    }
+}

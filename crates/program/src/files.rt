@@ -1,0 +1,61 @@
+//! What is opened by a path, and what is put at one.
+
+ghost use Rattle.std.specs.Prelude.{◌≡◌, ◌+◌, ◌-◌, ◌^◌, ◌<◌, IfOk, IfErr};
+ghost use Rattle.byte_stream.specs.State.{IsWritable};
+ghost use Rattle.program.specs.Files.{FilesState, IsFeedOf, MayBeMissing};
+
+use crate::hindrance::Hindrance;
+use crate::invocation::Paths;
+use byte_stream::{Feed, Sink};
+use thiserror::Error;
+
+/// It can't be opened.
+#[derive(Clone, Copy, Debug, PartialEq, Eq, Error)]
+#[error("it can't be opened")]
+pub struct OpenFault;
+
+/// Files, by their paths. Standard input is one as any other. A file is written as a draft, beside
+/// its place, which it takes once it's whole.
+///
+/// A call needs the count that it changes below `u64::MAX`.
+pub trait Files {
+    /// What is opened.
+    type Opened: Feed + Drop;
+
+    /// A draft's sink.
+    type Draft: Sink + Drop;
+
+    /// What stands at each path, if it is known, how often it was tried to open one, and how many
+    /// drafts have taken their place.
+    ghost state: { Self → FilesState };
+
+    /// Opens what stands at a path: no byte was pulled of it, and no pull has failed.
+    fn open(&mut self, path: &str) -> Result<Self::Opened, OpenFault>
+        requires { (state self.old).opened < 2 ^ 64 - 1 }
+        ensures opened { IfOk result (λ feed.
+            IsFeedOf ((state self.old).standing path.now) (Self.Opened.state feed)) }
+        ensures fault { IfErr result (λ fault.
+            MayBeMissing ((state self.old).standing path.now)) }
+        ensures same { (state self.new).standing ≡ (state self.old).standing }
+        ensures counted { (state self.new).opened ≡ (state self.old).opened + 1 }
+        ensures kept { (state self.new).placed ≡ (state self.old).placed };
+
+    /// Makes the draft `part` of a file, if this may take the place of `path` in a run with these
+    /// inputs.
+    fn create(&mut self, path: &str, part: &str, paths: &Paths) -> Result<Self::Draft, Hindrance>
+        ensures writable { IfOk result (λ draft. IsWritable (Self.Draft.state draft)) }
+        ensures same { state self.new ≡ state self.old };
+
+    /// Puts a draft into its place, or removes it if that can't be done.
+    fn place(&mut self, part: &str, path: &str) -> Result<(), Hindrance>
+        requires { (state self.old).placed < 2 ^ 64 - 1 }
+        ensures kept { (state self.new).opened ≡ (state self.old).opened }
+        ensures placed { IfOk result (λ done.
+            (state self.new).placed ≡ (state self.old).placed + 1) }
+        ensures unplaced { IfErr result (λ hindrance.
+            (state self.new).placed ≡ (state self.old).placed) };
+
+    /// Removes a draft.
+    fn remove(&mut self, part: &str)
+        ensures { state self.new ≡ state self.old };
+}

@@ -1,0 +1,114 @@
+//! What the words of a command line call for.
+
+ghost use Rattle.std.specs.Prelude.{◌≡◌, [], IfOk, option_map, string_bytes, unwrap_or};
+ghost use Rattle.program.specs.Invocation.{IsRefusal, listed_name, second_of};
+
+use audit::{Refute, Request, Style};
+use report::Input;
+use std::alloc::{AllocError, Global};
+
+/// The operand that is standard input.
+pub const STDIN: &str = "-";
+
+/// The path of an option, empty if it was left out.
+pub fn path_or_none(path: &Option<String>) -> &str
+    ensures { result.now ≡ unwrap_or (option_map string_bytes path.now) [] }
+{
+    match path {
+        Some(path) => path.as_str(),
+        None => "",
+    }
+}
+
+/// The capture that is listed, and for whom its faults are told.
+#[derive(Drop)]
+pub struct Listed {
+    /// The style of a fault.
+    pub style: Style,
+    /// The capture's path, and none for standard input.
+    pub path: Option<String>,
+}
+
+impl Listed {
+    /// The operand that names the capture.
+    pub fn operand(&self) -> &str
+        ensures { result.now ≡ listed_name self.now }
+    {
+        match &self.path {
+            Some(path) => path.as_str(),
+            None => STDIN,
+        }
+    }
+}
+
+/// The paths of the files that a question is asked of, and for whom the answer is written.
+#[derive(Drop)]
+pub struct Paths {
+    /// The style of the answer.
+    pub style: Style,
+    /// The claim's.
+    pub claim: String,
+    /// The capture's.
+    pub capture: String,
+    /// That of the file of sums, if they are held to one.
+    pub sums: Option<String>,
+    /// That of the file that a program reads, if the answer isn't for standard output alone.
+    pub output: Option<String>,
+}
+
+/// The same of a question with a second input.
+#[derive(Drop)]
+pub struct JudgedPaths {
+    /// The others.
+    pub evidence: Paths,
+    /// That of the certificate or refutation.
+    pub second: String,
+}
+
+/// A question with a second input.
+#[derive(Clone, Copy, Debug)]
+pub enum Judgement {
+    /// Check a certificate.
+    Check,
+    /// Check a refutation.
+    Refute(Refute),
+}
+
+impl Judgement {
+    /// The second input.
+    pub fn second(self) -> Input
+        ensures { result ≡ second_of self }
+    {
+        match self {
+            Judgement::Check => Input::Certificate,
+            Judgement::Refute(_) => Input::Refutation,
+        }
+    }
+}
+
+/// What the words of a command line call for.
+#[derive(Drop)]
+pub enum Invocation {
+    /// List a capture.
+    List(Listed),
+    /// Answer a question.
+    Ask(Request, Paths),
+    /// Judge a certificate or a refutation.
+    Judge(Judgement, JudgedPaths),
+    /// Show this text: help, or the version.
+    Show(String),
+    /// The command line is refused, for the reason in this text.
+    Refuse(String),
+    /// The command line is refused, since its TIME, which is here for a person, isn't written as a
+    /// claim's times are.
+    RefuseTime(Option<String>),
+}
+
+impl Invocation {
+    /// A command line that is refused with this text.
+    pub fn refusal(alloc: Global, text: &str) -> Result<Invocation, AllocError>
+        ensures { IfOk result IsRefusal }
+    {
+        Ok(Invocation::Refuse(String::from_str(alloc, text)?))
+    }
+}

@@ -1,0 +1,248 @@
+//! The answer to a question over inputs that were opened.
+
+ghost use Rattle.std.specs.Prelude.{IfSome, option_map};
+ghost use Rattle.byte_stream.specs.State.{IsReadable, IsWritable};
+ghost use Rattle.audit.specs.Run.{MayRun};
+ghost use Rattle.audit.specs.Check.{check};
+ghost use Rattle.audit.specs.Question.{asked_of};
+ghost use Rattle.audit.specs.Second.{certificate_second};
+ghost use Rattle.in_memory.specs.InputBytes.{data_of};
+ghost use Rattle.program.specs.Inputs.{feeds_of, names_in, run_over};
+ghost use Rattle.program.specs.Invocation.{judged_of};
+ghost use Rattle.program.specs.Response.{AnswersBySums, IsAnswered, IsJudgedBy, Responds};
+
+use crate::inputs::{Inputs, Opened};
+use crate::invocation::Judgement;
+use audit::{Check, Outputs, Question, Style, answer, answer_check};
+use byte_stream::Sink;
+use in_memory::{InputBytes, MAX_SUMS, NamedFeed, SummedSource, answer_by_sums};
+use report::{Conclusion, Input, conclude, read_input};
+use std::alloc::Global;
+use std::hash::BuildHasher;
+
+/// What was read of the files of a run that is held to sums.
+#[derive(Drop)]
+pub struct Summed {
+    /// The text of the file of sums.
+    pub text: Vec<u8>,
+    /// The bytes of the inputs.
+    pub read: InputBytes,
+}
+
+/// Answers a question. The result is what that comes to.
+fn answer_alone<
+    Q: Question,
+    N: NamedFeed + Drop,
+    T: SummedSource<Q::Second> + Drop,
+    S: Sink,
+    E: Sink,
+    H: BuildHasher + Drop,
+>(
+    alloc: Global,
+    question: Q,
+    style: Style,
+    inputs: Inputs<N, T>,
+    to: &mut Outputs<S, E>,
+    hasher: H,
+) -> Conclusion
+    requires run { MayRun (run_over (feeds_of N.state T.state inputs) (S.state to.old.out)) }
+    requires err { IsWritable (E.state to.old.err) }
+    ensures { IsAnswered (asked_of (Q.asks question) Q.Second.kind style)
+        (feeds_of N.state T.state inputs) (S.state to.old.out) (S.state to.new.out)
+        (E.state to.old.err) (E.state to.new.err) result }
+{
+    let Inputs {
+        mut claim,
+        mut second,
+        capture,
+    } = inputs;
+    let (claim, second) = (&mut claim, &mut second);
+    answer(alloc, question, style, claim, second, capture, to, hasher).1
+}
+
+/// Checks a certificate. The result is what that comes to.
+fn check_alone<N: NamedFeed + Drop, S: Sink, E: Sink, H: BuildHasher + Drop>(
+    alloc: Global,
+    style: Style,
+    inputs: Inputs<N, N>,
+    to: &mut Outputs<S, E>,
+    hasher: H,
+) -> Conclusion
+    requires run { MayRun (run_over (feeds_of N.state N.state inputs) (S.state to.old.out)) }
+    requires err { IsWritable (E.state to.old.err) }
+    ensures { IsAnswered (asked_of check certificate_second style)
+        (feeds_of N.state N.state inputs) (S.state to.old.out) (S.state to.new.out)
+        (E.state to.old.err) (E.state to.new.err) result }
+{
+    let Inputs {
+        mut claim,
+        mut second,
+        capture,
+    } = inputs;
+    let (claim, second) = (&mut claim, &mut second);
+    answer_check(alloc, style, claim, second, capture, to, hasher).1
+}
+
+/// Answers a question, with each input held to its line in the text of a file of sums, under its
+/// name. What was read is handed back beside what that comes to.
+fn answer_by_text<
+    Q: Question,
+    N: NamedFeed + Drop,
+    T: SummedSource<Q::Second> + Drop,
+    S: Sink,
+    E: Sink,
+    H: BuildHasher + Drop,
+>(
+    alloc: Global,
+    question: Q,
+    style: Style,
+    text: &[u8],
+    inputs: Inputs<N, T>,
+    to: &mut Outputs<S, E>,
+    hasher: H,
+) -> (InputBytes, Conclusion)
+    requires run { MayRun (run_over (feeds_of N.state T.state inputs) (S.state to.old.out)) }
+    requires err { IsWritable (E.state to.old.err) }
+    ensures { IsJudgedBy (asked_of (Q.asks question) Q.Second.kind style)
+        (names_in N.named T.named inputs) (feeds_of N.state T.state inputs) text.now
+        (S.state to.old.out) (S.state to.new.out)
+        (E.state to.old.err) (E.state to.new.err) (data_of result.0) result.1 }
+{
+    let Inputs {
+        mut claim,
+        mut second,
+        mut capture,
+    } = inputs;
+    let (claim, second, capture) = (&mut claim, &mut second, &mut capture);
+    answer_by_sums(
+        alloc, question, style, text, claim, second, capture, to, hasher,
+    )
+}
+
+/// The same, by a file of sums, which is read before any other.
+fn answer_by_file<
+    Q: Question,
+    N: NamedFeed + Drop,
+    T: SummedSource<Q::Second> + Drop,
+    S: Sink,
+    E: Sink,
+    H: BuildHasher + Drop,
+>(
+    alloc: Global,
+    question: Q,
+    style: Style,
+    inputs: Inputs<N, T>,
+    mut sums: N,
+    to: &mut Outputs<S, E>,
+    hasher: H,
+) -> (Option<Summed>, Conclusion)
+    requires run { MayRun (run_over (feeds_of N.state T.state inputs) (S.state to.old.out)) }
+    requires err { IsWritable (E.state to.old.err) }
+    requires sums { IsReadable (N.state sums) }
+    ensures { AnswersBySums (asked_of (Q.asks question) Q.Second.kind style)
+        (names_in N.named T.named inputs) (feeds_of N.state T.state inputs) (N.state sums)
+        (S.state to.old.out) (S.state to.new.out)
+        (E.state to.old.err) (E.state to.new.err) result.0 result.1 }
+{
+    match read_input(alloc, &mut sums, Input::Sums, MAX_SUMS) {
+        Ok(text) => {
+            let (read, conclusion) = answer_by_text(
+                alloc,
+                question,
+                style,
+                text.as_slice(),
+                inputs,
+                to,
+                hasher,
+            );
+            (Some(Summed { text, read }), conclusion)
+        }
+        Err(fault) => (None, conclude(&Err(fault), &mut to.err)),
+    }
+}
+
+/// Answers a question, by a file of sums if there is one. What was read then is handed back beside
+/// what that comes to.
+pub(crate) fn ask<
+    Q: Question,
+    N: NamedFeed + Drop,
+    T: SummedSource<Q::Second> + Drop,
+    S: Sink,
+    E: Sink,
+    H: BuildHasher + Drop,
+>(
+    alloc: Global,
+    question: Q,
+    style: Style,
+    opened: Opened<N, T>,
+    to: &mut Outputs<S, E>,
+    hasher: H,
+) -> (Option<Summed>, Conclusion)
+    requires run { MayRun (run_over (feeds_of N.state T.state opened.inputs)
+        (S.state to.old.out)) }
+    requires err { IsWritable (E.state to.old.err) }
+    requires sums { IfSome opened.sums (λ file. IsReadable (N.state file)) }
+    ensures responds { Responds (asked_of (Q.asks question) Q.Second.kind style)
+        (names_in N.named T.named opened.inputs) (feeds_of N.state T.state opened.inputs)
+        (option_map N.state opened.sums) (S.state to.old.out) (S.state to.new.out)
+        (E.state to.old.err) (E.state to.new.err) result.0 result.1 }
+{
+    let Opened { inputs, sums } = opened;
+    match sums {
+        Some(sums) => answer_by_file(alloc, question, style, inputs, sums, to, hasher),
+        None => (
+            None,
+            answer_alone(alloc, question, style, inputs, to, hasher),
+        ),
+    }
+}
+
+/// Checks a certificate, by a file of sums if there is one. What was read then is handed back
+/// beside what that comes to.
+fn check_one<N: NamedFeed + Drop, S: Sink, E: Sink, H: BuildHasher + Drop>(
+    alloc: Global,
+    style: Style,
+    opened: Opened<N, N>,
+    to: &mut Outputs<S, E>,
+    hasher: H,
+) -> (Option<Summed>, Conclusion)
+    requires run { MayRun (run_over (feeds_of N.state N.state opened.inputs)
+        (S.state to.old.out)) }
+    requires err { IsWritable (E.state to.old.err) }
+    requires sums { IfSome opened.sums (λ file. IsReadable (N.state file)) }
+    ensures responds { Responds (asked_of check certificate_second style)
+        (names_in N.named N.named opened.inputs) (feeds_of N.state N.state opened.inputs)
+        (option_map N.state opened.sums) (S.state to.old.out) (S.state to.new.out)
+        (E.state to.old.err) (E.state to.new.err) result.0 result.1 }
+{
+    let Opened { inputs, sums } = opened;
+    match sums {
+        Some(sums) => answer_by_file(alloc, Check, style, inputs, sums, to, hasher),
+        None => (None, check_alone(alloc, style, inputs, to, hasher)),
+    }
+}
+
+/// Judges a certificate or a refutation, by a file of sums if there is one. What was read then is
+/// handed back beside what that comes to.
+pub(crate) fn judge<N: NamedFeed + Drop, S: Sink, E: Sink, H: BuildHasher + Drop>(
+    alloc: Global,
+    judgement: Judgement,
+    style: Style,
+    opened: Opened<N, N>,
+    to: &mut Outputs<S, E>,
+    hasher: H,
+) -> (Option<Summed>, Conclusion)
+    requires run { MayRun (run_over (feeds_of N.state N.state opened.inputs)
+        (S.state to.old.out)) }
+    requires err { IsWritable (E.state to.old.err) }
+    requires sums { IfSome opened.sums (λ file. IsReadable (N.state file)) }
+    ensures responds { Responds (judged_of judgement style)
+        (names_in N.named N.named opened.inputs) (feeds_of N.state N.state opened.inputs)
+        (option_map N.state opened.sums) (S.state to.old.out) (S.state to.new.out)
+        (E.state to.old.err) (E.state to.new.err) result.0 result.1 }
+{
+    match judgement {
+        Judgement::Check => check_one(alloc, style, opened, to, hasher),
+        Judgement::Refute(refute) => ask(alloc, refute, style, opened, to, hasher),
+    }
+}

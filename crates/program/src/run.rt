@@ -1,0 +1,203 @@
+//! What an invocation comes to, over files that it opens.
+
+ghost use Rattle.std.specs.Prelude.{◌≡◌};
+ghost use Rattle.byte_stream.specs.State.{IsWritable};
+ghost use Rattle.program.specs.Asked.{asked_by};
+ghost use Rattle.program.specs.Files.{MayOpen};
+ghost use Rattle.program.specs.Invocation.{judged_of, judged_places, listed_name, places_of};
+ghost use Rattle.program.specs.Invocation.{requested, second_of};
+ghost use Rattle.program.specs.Run.{AnswersOver, AnswersTo, DraftsOver, Lists, Says};
+ghost use Rattle.program.specs.World.{world};
+
+use crate::asked::Asked;
+use crate::drafted::write_file;
+use crate::files::Files;
+use crate::hindrance::Hindrance;
+use crate::inputs::{open, open_evidence, open_judged};
+use crate::invocation::{Invocation, JudgedPaths, Judgement, Listed, Paths};
+use crate::response::{Summed, ask, judge};
+use audit::{Outputs, Request};
+use byte_stream::Sink;
+use listing::answer_list;
+use report::{Conclusion, Input, conclude, refuse, refuse_time, show};
+use std::alloc::Global;
+use std::hash::BuildHasher;
+
+/// Lists a capture. The result is what that comes to.
+fn list<Fs: Files, S: Sink, E: Sink>(
+    alloc: Global,
+    files: &mut Fs,
+    listed: &Listed,
+    to: &mut Outputs<S, E>,
+) -> Conclusion
+    requires files { MayOpen (Fs.state files.old) }
+    requires out { IsWritable (S.state to.old.out) }
+    requires err { IsWritable (E.state to.old.err) }
+    ensures lists { Lists (listed_name listed.now)
+        (world (Fs.state files.old) (S.state to.old.out) (E.state to.old.err))
+        (world (Fs.state files.new) (S.state to.new.out) (E.state to.new.err)) result }
+{
+    match open(files, listed.operand(), Input::Capture) {
+        Ok(capture) => answer_list(alloc, capture, &mut to.out, &mut to.err).1,
+        Err(fault) => conclude(&Err(fault), &mut to.err),
+    }
+}
+
+/// Answers a question, once its files are opened. If they are held to sums, what was read is handed
+/// back beside what that comes to.
+fn ask_of_files<Fs: Files, S: Sink, E: Sink, H: BuildHasher + Drop>(
+    alloc: Global,
+    files: &mut Fs,
+    request: Request,
+    paths: &Paths,
+    to: &mut Outputs<S, E>,
+    hasher: H,
+) -> (Option<Summed>, Conclusion)
+    requires files { MayOpen (Fs.state files.old) }
+    requires out { IsWritable (S.state to.old.out) }
+    requires err { IsWritable (E.state to.old.err) }
+    ensures answers { AnswersOver (requested request paths.now.style) (places_of paths.now)
+        (world (Fs.state files.old) (S.state to.old.out) (E.state to.old.err))
+        (world (Fs.state files.new) (S.state to.new.out) (E.state to.new.err))
+        result.0 result.1 }
+{
+    match open_evidence(files, paths) {
+        Ok(opened) => ask(alloc, request, paths.style, opened, to, hasher),
+        Err(fault) => (None, conclude(&Err(fault), &mut to.err)),
+    }
+}
+
+/// Answers a question in a file of this path, and on `out` too if it's a person who asks, once its
+/// files are opened. Beside what that comes to stands what hinders the file from being written, if
+/// that's why.
+fn ask_for_file<Fs: Files, S: Sink, E: Sink, H: BuildHasher + Copy + Drop>(
+    alloc: Global,
+    files: &mut Fs,
+    request: Request,
+    paths: &Paths,
+    path: &str,
+    to: &mut Outputs<S, E>,
+    hasher: H,
+) -> (Conclusion, Option<Hindrance>)
+    requires files { MayOpen (Fs.state files.old) }
+    requires out { IsWritable (S.state to.old.out) }
+    requires err { IsWritable (E.state to.old.err) }
+    ensures drafts { DraftsOver (requested request paths.now.style) (places_of paths.now)
+        (world (Fs.state files.old) (S.state to.old.out) (E.state to.old.err))
+        (world (Fs.state files.new) (S.state to.new.out) (E.state to.new.err)) result.0 }
+{
+    match open_evidence(files, paths) {
+        Ok(opened) => {
+            let inputs = opened.inputs;
+            let out = &mut to.out;
+            let (answer, hindrance) = write_file(
+                alloc, files, request, paths, path, inputs, out, hasher,
+            );
+            (conclude(&answer, &mut to.err), hindrance)
+        }
+        Err(fault) => (conclude(&Err(fault), &mut to.err), None),
+    }
+}
+
+/// Judges a certificate or a refutation, once its files are opened. If they are held to sums, what
+/// was read is handed back beside what that comes to.
+fn judge_files<Fs: Files, S: Sink, E: Sink, H: BuildHasher + Drop>(
+    alloc: Global,
+    files: &mut Fs,
+    judgement: Judgement,
+    paths: &JudgedPaths,
+    to: &mut Outputs<S, E>,
+    hasher: H,
+) -> (Option<Summed>, Conclusion)
+    requires files { MayOpen (Fs.state files.old) }
+    requires out { IsWritable (S.state to.old.out) }
+    requires err { IsWritable (E.state to.old.err) }
+    ensures answers { AnswersOver (judged_of judgement paths.now.evidence.style)
+        (judged_places (second_of judgement) paths.now)
+        (world (Fs.state files.old) (S.state to.old.out) (E.state to.old.err))
+        (world (Fs.state files.new) (S.state to.new.out) (E.state to.new.err))
+        result.0 result.1 }
+{
+    match open_judged(files, judgement.second(), paths) {
+        Ok(opened) => judge(alloc, judgement, paths.evidence.style, opened, to, hasher),
+        Err(fault) => (None, conclude(&Err(fault), &mut to.err)),
+    }
+}
+
+/// Answers a question on standard output, or in a file if one is named. The result is what that
+/// comes to.
+fn ask_paths<Fs: Files, S: Sink, E: Sink, H: BuildHasher + Copy + Drop>(
+    alloc: Global,
+    files: &mut Fs,
+    request: Request,
+    paths: &Paths,
+    to: &mut Outputs<S, E>,
+    hasher: H,
+) -> (Conclusion, Option<Hindrance>, Option<Summed>)
+    requires files { MayOpen (Fs.state files.old) }
+    requires out { IsWritable (S.state to.old.out) }
+    requires err { IsWritable (E.state to.old.err) }
+    ensures answers { AnswersTo paths.now.output (requested request paths.now.style)
+        (places_of paths.now)
+        (world (Fs.state files.old) (S.state to.old.out) (E.state to.old.err))
+        (world (Fs.state files.new) (S.state to.new.out) (E.state to.new.err))
+        result.2 result.0 }
+{
+    match &paths.output {
+        Some(path) => {
+            let path = path.as_str();
+            let (conclusion, hindrance) = ask_for_file(
+                alloc, files, request, paths, path, to, hasher,
+            );
+            (conclusion, hindrance, None)
+        }
+        None => {
+            let (summed, conclusion) = ask_of_files(alloc, files, request, paths, to, hasher);
+            (conclusion, None, summed)
+        }
+    }
+}
+
+/// Does what a command line calls for: all files are opened before anything is read. The result is
+/// what that comes to, and what may be said of the run behind its fault line. If the run is held to
+/// sums, what was read of its files is handed back, and that is what the clauses are about. What is
+/// read of a capture is hashed by `hasher`, on which no answer depends.
+pub fn respond<Fs: Files, S: Sink, E: Sink, H: BuildHasher + Copy + Drop>(
+    alloc: Global,
+    files: &mut Fs,
+    invocation: Invocation,
+    to: &mut Outputs<S, E>,
+    hasher: H,
+) -> (Conclusion, Asked, Option<Hindrance>, Option<Summed>)
+    requires files { MayOpen (Fs.state files.old) }
+    requires out { IsWritable (S.state to.old.out) }
+    requires err { IsWritable (E.state to.old.err) }
+    ensures says { Says invocation
+        (world (Fs.state files.old) (S.state to.old.out) (E.state to.old.err))
+        (world (Fs.state files.new) (S.state to.new.out) (E.state to.new.err))
+        result.3 result.0 }
+    ensures asked { result.1 ≡ asked_by invocation }
+{
+    match invocation {
+        Invocation::List(listed) => {
+            let conclusion = list(alloc, files, &listed, to);
+            (conclusion, Asked::Listing(listed), None, None)
+        }
+        Invocation::Ask(request, paths) => {
+            let (conclusion, hindrance, summed) = ask_paths(
+                alloc, files, request, &paths, to, hasher,
+            );
+            (conclusion, Asked::Question(paths), hindrance, summed)
+        }
+        Invocation::Judge(judgement, paths) => {
+            let (summed, conclusion) = judge_files(alloc, files, judgement, &paths, to, hasher);
+            (conclusion, Asked::Judgement(paths), None, summed)
+        }
+        Invocation::Show(text) => {
+            let conclusion = show(text, &mut to.out, &mut to.err);
+            (conclusion, Asked::Nothing, None, None)
+        }
+        Invocation::Refuse(text) => (refuse(text, &mut to.err), Asked::Nothing, None, None),
+        Invocation::RefuseTime(time) => (refuse_time(&mut to.err), Asked::Time(time), None, None),
+    }
+}

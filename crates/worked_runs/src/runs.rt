@@ -1,0 +1,241 @@
+//! Whole runs over a table of files.
+
+use audit::{At, Outputs, Refute, Request, Style};
+use byte_stream::{Cut, TestSink};
+use program::{Invocation, JudgedPaths, Judgement, Listed, Paths, Place, Table, respond};
+use std::alloc::Global;
+use std::fmt::Debug;
+use std::hash::{BuildHasherDefault, FoldHasher};
+use std::process::Abort;
+use std::str;
+use vectors::{C1, K1, SECOND, V1};
+
+const REFUTATION: &str = "{\"error\":42953968,\"false\":[],\"reading\":4294967296000000000}";
+
+/// What sha256sum prints of them.
+const SUMS: &str = "\
+cc74a6c536b38e315159a9e3ff872f3d38bc292d19b8b7e66de5986e2a8450af  claim.json
+c21997db04f56146ca9cc84475371e27d3699eff8e5d3b3d198a267e0c08aebb  recording.pcap
+9261c36c34318db779244d761d07ec1f5070284af2b92b66108148af46400035  certificate.json
+";
+
+/// The same, but for the capture's.
+const OTHER_SUMS: &str = "\
+cc74a6c536b38e315159a9e3ff872f3d38bc292d19b8b7e66de5986e2a8450af  claim.json
+d21997db04f56146ca9cc84475371e27d3699eff8e5d3b3d198a267e0c08aebb  recording.pcap
+9261c36c34318db779244d761d07ec1f5070284af2b92b66108148af46400035  certificate.json
+";
+
+const CHECKED: &str = "client 192.0.2.10 servers 1 false_max 0
+span 1000000000 1000000000 bound_ns 10001001 drift_ppb 0 reading_ns 0
+records 2 requests 1 replies 1 samples 1 version 0 leap 0 stratum 0 precision 0 zero 0 norequest 0 \
+ambiguous 0 warnings 0
+advice sources 1
+advice reference 47505300
+pieces 1
+verdict yes
+";
+
+/// A value that has to be there.
+fn assert_ok<T, E: Debug + Drop>(rt: &impl Abort, answer: Result<T, E>) -> T {
+    match answer {
+        Ok(value) => value,
+        Err(fault) => panic!(rt; "{fault:?}"),
+    }
+}
+
+/// The words of a command with a claim and a capture, and with a file of sums if it is named.
+fn paths(rt: &impl Abort, alloc: Global, claim: &str, capture: &str, sums: &str) -> Paths {
+    Paths {
+        style: Style::Plain,
+        claim: assert_ok(rt, String::from_str(alloc, claim)),
+        capture: assert_ok(rt, String::from_str(alloc, capture)),
+        sums: match sums {
+            "" => None,
+            _ => Some(assert_ok(rt, String::from_str(alloc, sums))),
+        },
+        output: None,
+    }
+}
+
+/// The call of `list` with this operand.
+fn list(rt: &impl Abort, alloc: Global, capture: &str) -> Invocation {
+    Invocation::List(Listed {
+        style: Style::Plain,
+        path: Some(assert_ok(rt, String::from_str(alloc, capture))),
+    })
+}
+
+/// The question of a claim and a capture.
+fn ask(rt: &impl Abort, alloc: Global, request: Request, claim: &str, capture: &str) -> Invocation {
+    Invocation::Ask(request, paths(rt, alloc, claim, capture, ""))
+}
+
+/// The judgement of these files.
+fn judge(
+    rt: &impl Abort,
+    alloc: Global,
+    judgement: Judgement,
+    [claim, capture, second, sums]: [&str; 4],
+) -> Invocation {
+    let evidence = paths(rt, alloc, claim, capture, sums);
+    let second = assert_ok(rt, String::from_str(alloc, second));
+    Invocation::Judge(judgement, JudgedPaths { evidence, second })
+}
+
+/// An invocation over the worked files comes to this status, with these texts on standard output
+/// and standard error.
+fn comes_to(rt: &impl Abort, alloc: Global, invocation: Invocation, wanted: (u8, &str, &str)) {
+    let places = [
+        place("claim.json", C1.as_bytes()),
+        place("recording.pcap", &V1),
+        place("-", &V1),
+        place("certificate.json", K1.as_bytes()),
+        place("refutation.json", REFUTATION.as_bytes()),
+        place("SUMS", SUMS.as_bytes()),
+        place("OTHER_SUMS", OTHER_SUMS.as_bytes()),
+    ];
+    let mut files = Table::new(&places, Cut::Growing);
+    let mut to = Outputs {
+        out: assert_ok(rt, TestSink::new(alloc, 2000, 2000, None, false)),
+        err: assert_ok(rt, TestSink::new(alloc, 2000, 2000, None, false)),
+    };
+    let hasher = BuildHasherDefault::<FoldHasher>::new();
+    let (conclusion, _, _, _) = respond(alloc, &mut files, invocation, &mut to, hasher);
+    let out = assert_ok(rt, str::from_utf8(to.out.bytes()));
+    let err = assert_ok(rt, str::from_utf8(to.err.bytes()));
+    assert_eq!(rt; (conclusion.code, out, err), wanted);
+}
+
+/// What stands at a path.
+fn place<'a>(path: &'a str, bytes: &'a [u8]) -> Place<'a> {
+    Place { path, bytes }
+}
+
+/// Each file is read for its own part.
+#[test]
+fn judgements(rt: HostRuntime) {
+    let alloc = rt.alloc();
+    let (check, refute) = (Judgement::Check, Judgement::Refute(Refute { drift: false }));
+    let (claim, capture) = ("claim.json", "recording.pcap");
+    let (certificate, refutation) = ("certificate.json", "refutation.json");
+    for (judgement, files, wanted) in [
+        (check, [claim, capture, certificate, ""], (0, CHECKED, "")),
+        (check, [claim, "-", certificate, ""], (0, CHECKED, "")),
+        (
+            refute,
+            [claim, capture, refutation, ""],
+            (1, "refuted no\n", ""),
+        ),
+        (
+            check,
+            [certificate, capture, claim, ""],
+            (2, "", "ntpaudit: claim 2 field field 0\n"),
+        ),
+        (
+            check,
+            [claim, certificate, capture, ""],
+            (2, "", "ntpaudit: certificate 1 json\n"),
+        ),
+        (
+            check,
+            ["none", "none", "none", "none"],
+            (4, "", "ntpaudit: device claim\n"),
+        ),
+        (
+            check,
+            [claim, "none", "none", "none"],
+            (4, "", "ntpaudit: device certificate\n"),
+        ),
+        (
+            refute,
+            [claim, "none", "none", "none"],
+            (4, "", "ntpaudit: device refutation\n"),
+        ),
+        (
+            check,
+            [claim, "none", certificate, "none"],
+            (4, "", "ntpaudit: device capture\n"),
+        ),
+        (
+            check,
+            [claim, capture, certificate, "none"],
+            (4, "", "ntpaudit: device sums\n"),
+        ),
+        (
+            check,
+            [claim, capture, certificate, "SUMS"],
+            (0, CHECKED, ""),
+        ),
+        (
+            check,
+            [claim, capture, certificate, claim],
+            (2, "", "ntpaudit: sums form line 1\n"),
+        ),
+        (
+            check,
+            [claim, capture, certificate, "OTHER_SUMS"],
+            (2, "", "ntpaudit: sums differ capture\n"),
+        ),
+        (
+            refute,
+            [claim, capture, refutation, "SUMS"],
+            (2, "", "ntpaudit: sums missing refutation\n"),
+        ),
+    ] {
+        comes_to(&rt, alloc, judge(&rt, alloc, judgement, files), wanted);
+    }
+}
+
+/// Each question is the one that was asked.
+#[test]
+fn questions(rt: HostRuntime) {
+    let alloc = rt.alloc();
+    let at = Request::At(At {
+        unix_second: SECOND,
+    });
+    let moment = "192.0.2.1 -42949674 42953969\nhull -42949674 42953969\n";
+    let settled = concat!(
+        "{\"pieces\":[{\"entries\":[[0,0]],\"upto\":4294967296000000000}]}",
+        "\n"
+    );
+    for (request, claim, capture, wanted) in [
+        (at, "claim.json", "recording.pcap", (0, moment, "")),
+        (Request::Settle, "claim.json", "-", (0, settled, "")),
+        (
+            Request::FindRefutation,
+            "claim.json",
+            "-",
+            (1, "nothing refutation\n", ""),
+        ),
+        (at, "none", "none", (4, "", "ntpaudit: device claim\n")),
+        (
+            at,
+            "claim.json",
+            "none",
+            (4, "", "ntpaudit: device capture\n"),
+        ),
+    ] {
+        comes_to(&rt, alloc, ask(&rt, alloc, request, claim, capture), wanted);
+    }
+}
+
+/// A listing is of its own file; help, and a refused command line.
+#[test]
+fn others(rt: HostRuntime) {
+    let alloc = rt.alloc();
+    let torn = "ntpaudit: capture 2 magic\n";
+    let fault = "ntpaudit: device capture\n";
+    comes_to(&rt, alloc, list(&rt, alloc, "claim.json"), (2, "", torn));
+    comes_to(&rt, alloc, list(&rt, alloc, "none"), (4, "", fault));
+    let text = assert_ok(&rt, String::from_str(alloc, "a text\n"));
+    comes_to(&rt, alloc, Invocation::Show(text), (0, "a text\n", ""));
+    let text = assert_ok(&rt, String::from_str(alloc, "a text\n"));
+    comes_to(&rt, alloc, Invocation::Refuse(text), (5, "", "a text\n"));
+    comes_to(
+        &rt,
+        alloc,
+        Invocation::RefuseTime(None),
+        (5, "", "ntpaudit: time\n"),
+    );
+}
