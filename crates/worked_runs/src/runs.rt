@@ -1,5 +1,7 @@
 //! Whole runs over a table of files.
 
+ghost use Rattle.std.specs.Prelude.{◌≡◌, Ok};
+
 use audit::{At, Outputs, Refute, Request, Style};
 use byte_stream::{Cut, TestSink};
 use program::{Invocation, JudgedPaths, Judgement, Listed, Paths, Place, Table, respond};
@@ -37,7 +39,9 @@ verdict yes
 ";
 
 /// A value that has to be there.
-fn assert_ok<T, E: Debug + Drop>(rt: &impl Abort, answer: Result<T, E>) -> T {
+fn assert_ok<T, E: Debug + Drop>(rt: &impl Abort, answer: Result<T, E>) -> T
+    ensures { answer ≡ Ok result }
+{
     match answer {
         Ok(value) => value,
         Err(fault) => panic!(rt; "{fault:?}"),
