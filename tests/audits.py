@@ -37,9 +37,10 @@ def check(name: str, **pairs: tuple[Any, Any]) -> None:
 
 
 def skipped(name: str, why: str) -> None:
-    """Says that a test isn't made here."""
+    """Counts a test that isn't made here, once for a reason; tests run side by side."""
     with LOCK:
-        print(f"skipped {name}: {why}", flush=True)
+        if name not in tally.skips:
+            tally.skip(name, why)
 
 
 def dossier(*words: object, **how: Any) -> Ran:
@@ -118,4 +119,6 @@ def check_page(name: str, text: str, links: Sequence[str] = ()) -> "Outline":
         status, _, err = run(["tidy", "-e", "-q", "--drop-empty-elements", "no", "--show-warnings", "no"],
                              text.encode())
         check(f"{name} by tidy", run=((status in (0, 1), err), (True, b"")))
+    else:
+        skipped("pages by tidy", "tidy isn't installed")
     return page
