@@ -131,6 +131,13 @@ def broken_off(kind: type[BaseException], error: BaseException, trace: Traceback
 sys.excepthook = broken_off
 
 
+def files_in(folder: Path, pattern: str) -> list[Path]:
+    """The files of such a name, in order. There have to be some: else what is tried on each is tried on none."""
+    found = sorted(folder.glob(pattern))
+    assert found, f"there is no {pattern} in {folder}"
+    return found
+
+
 def sum_of(data: bytes) -> str:
     return hashlib.sha256(data).hexdigest()
 
