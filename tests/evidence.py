@@ -246,15 +246,16 @@ def test_elsewhere(place):
 
 
 def test_older_records(place):
-    """A folder of an older form isn't verified, shown or signed, and is audited again."""
+    """A folder of an older form is verified, isn't shown or signed, and is audited again (and tests/stable)."""
     folder = folder_of(place, "older")
     dossier("audit", folder)
     record = json.loads((folder / "audit.json").read_text())
     (folder / "audit.json").write_text(json.dumps({**record, "dossier": record["dossier"] - 1}))
     check("an older record",
-          verify=(dossier("verify", folder)[:2], (4, f"{folder}: ntpaudit-dossier: not audited\n".encode())),
-          sign=(dossier("sign", "--key", "any", folder)[0], 4),
-          row=((table(folder)[0]["verdict"], "audit FOLDER" in table(folder)[0]["to_do"]), ("refused", True)))
+          verify=(dossier("verify", folder)[:2], (0, (
+              f"{folder}: verified: yes\n{folder}: (form {record['dossier'] - 1} of audit.json: verdicts, figures and "
+              "files are the same; what it warns of isn't compared)\n").encode())),
+          sign=(dossier("sign", "--key", "any", folder)[0], 4), row=(table(folder)[0]["verdict"], "not verified"))
     check("an older record is audited again", unchanged=(b"(unchanged)" in dossier("audit", folder)[1], False),
           form=(json.loads((folder / "audit.json").read_text())["dossier"], record["dossier"]))
 
