@@ -12,13 +12,14 @@ from typing import NamedTuple
 from .article import article, badge, short_article
 from .audit import change_of
 from .entry import (FEW, NO_EVIDENCE, NOT_VERIFIED, NOTHING_FITS, OPEN, REFUSED, REFUTED, UNSUPPORTED, YES, LeapList,
-                    Refusal, read_record)
+                    Refusal)
 from .fault import REFUSED as INPUT_REFUSED, Fault, fault
 from .folder import Folder, sum_of
 from .known import Known
 from .leap import record_by
 from .markup import Html, element, html, joined, lines, minus, with_code
 from .metrics import Sample, of_record, of_verdict, write_metrics
+from .older import read_any
 from .placing import write_named
 from .remedies import remedy
 from .result import Result, Row, Section
@@ -89,7 +90,7 @@ class Looking(NamedTuple):
 
     def look_in(self, path: str, folder: Folder, signature: Signature, number: int) -> Result:
         data = audit_json(folder)
-        written = read_record(data)
+        written = read_any(data)
         if self.verifier:
             why, _, record = self.verifier.verify(folder)
         else:

@@ -8,9 +8,9 @@ import re
 from datetime import datetime
 from typing import NamedTuple
 
-from .entry import read_record
 from .fault import Fault
 from .folder import AUDIT, SIGNATURE, Folder, data_named
+from .older import read_any
 from .placing import keep
 from .running import find_tool, run
 from .typed import is_time
@@ -86,7 +86,7 @@ class Signers:
 def time_of(data: bytes) -> str:
     """When a record was signed, as it says; nothing if it is no record."""
     try:
-        return str(read_record(data).signed)
+        return str(read_any(data).signed)
     except Fault:
         return ""
 

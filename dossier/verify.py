@@ -6,14 +6,15 @@ from dataclasses import replace
 from functools import partial
 from typing import NamedTuple
 
-from . import folder as files
+from . import VERSION, folder as files
 from .audit import change_of
-from .entry import UNSUPPORTED, LeapList, Record, read_record
+from .entry import UNSUPPORTED, LeapList, Record
 from .fault import DEVICE, NOT_SHOWN, Fault, fault, summed
 from .folder import Folder, own, sum_of
 from .known import Known
 from .leap import record_by
 from .making import Earlier, Making, no_earlier
+from .older import differs as differs_from_older, form_of, read_any
 from .program import Program
 from .result import Result
 from .running import run_all
@@ -24,6 +25,10 @@ from .words import TWICE, reason
 
 SHOWN = 80
 """Characters of a value that are shown of a difference."""
+
+
+OLDER = "form {} of audit.json: verdicts, figures and files are the same; what it warns of isn't compared"
+"""Of a folder that an older version audited."""
 
 
 class Verified(NamedTuple):
@@ -44,18 +49,21 @@ class Verifier:
     def verify(self, folder: Folder) -> Verified:
         """What the inputs of a folder come to, and how that differs from what stands in it."""
         data = audit_json(folder)
-        record = read_record(data)
-        found, made = self.difference(folder, record)
-        if made and not found:
+        record, form = read_any(data), form_of(data)
+        found, made = self.difference(folder, record, form < VERSION)
+        notes = self.notes(record, made)
+        if made and not found and form == VERSION:
             self.known.add(sum_of(data), made)
-        return Verified(found, self.notes(record, made), made)
+        elif made and not found:
+            notes.append(OLDER.format(form))
+        return Verified(found, notes, made)
 
     def notes(self, record: Record, made: Record | None) -> list[str]:
         other = record.program.sha256 != self.program.made.sha256
         against = {reason(entry) for entry in made.entries if entry.verdict == UNSUPPORTED} if made else ()
         return [*(["by another build of the program than the audit's"] if other else []), *sorted(against)]
 
-    def difference(self, folder: Folder, record: Record) -> tuple[str, Record | None]:
+    def difference(self, folder: Folder, record: Record, is_older: bool) -> tuple[str, Record | None]:
         """The first difference, nothing if there is none; and what was made of the inputs, by one's own list of leap
         seconds. An audit that was refused is tried again: it is refused for the same reason, or there is one."""
         found = "" if record.refusal else change_of(folder, record)
@@ -64,9 +72,9 @@ class Verifier:
         is_other = record.program.sha256 != self.program.made.sha256
         making = Making(folder, self.program, record.options, self.leaps, record.kept)
         made = making.record(earlier_of(folder, record) if is_other else no_earlier)
-        return self.compared(folder, record, made, is_other), replace(made, signed=record.signed)
+        return self.compared(folder, record, made, is_other, is_older), replace(made, signed=record.signed)
 
-    def compared(self, folder: Folder, record: Record, made: Record, is_other: bool) -> str:
+    def compared(self, folder: Folder, record: Record, made: Record, is_other: bool, is_older: bool) -> str:
         """What stands in a folder that isn't so by the record that was made now. Another list of leap seconds may say
         more or less than one's own, but the verdicts are the same."""
         made = replace(made, made=record.made, seconds=record.seconds, signed=record.signed,
@@ -77,8 +85,14 @@ class Verifier:
                 comparison = Comparison(name)
                 folder.read(name, comparison.take)
                 return f"{name}: {comparison.end()}"
-        other_list = record.leap_seconds and record.leap_seconds.sha256 != self.leaps.sha256
-        by_own = record_by(self.leaps, record) if other_list else record
+        if is_older:
+            differs = differs_from_older(record, made)
+            return f"{files.AUDIT}:{in_words_of(*differs)}" if differs else ""
+        listed = record.leap_seconds
+        if listed and listed.sha256 == self.leaps.sha256:  # (where it stood says nothing)
+            by_own = replace(record, leap_seconds=replace(listed, file=self.leaps.file))
+        else:
+            by_own = record_by(self.leaps, record) if listed else record
         kept, own = ({"entries": [{"verdict": verdict} for verdict in one.verdicts]} for one in (record, made))
         differs = first_difference(said(by_own), said(made)) or first_difference(kept, own)
         return f"{files.AUDIT}:{in_words_of(*differs)}" if differs else ""

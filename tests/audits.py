@@ -12,7 +12,7 @@ from typing import Any
 
 import tally
 from leaps import LATER, leap_list
-from tally import DATA, ROOT, Ran, program, run
+from tally import DATA, ROOT, Ran, files_in, program, run
 
 PROGRAM = program()
 SCRIPT = ROOT / "ntpaudit-dossier"
@@ -24,7 +24,7 @@ ENVIRONMENT = {**os.environ, "XDG_STATE_HOME": STATE, "NTPAUDIT": PROGRAM, "PYTH
                "NTPAUDIT_LEAP_SECONDS": str(leap_list(Path(STATE) / "leap-seconds.list", LATER, (78_796_800, 11)))}
 WITHOUT_EVIDENCE = {"clients-us.few.claim.json", "vlan-ns.silent.claim.json"}
 """Claims of which their capture says nothing, so that there are no figures."""
-CLAIMS = sorted(claim for claim in DATA.glob("*.claim.json") if claim.name not in WITHOUT_EVIDENCE)
+CLAIMS = [claim for claim in files_in(DATA, "*.claim.json") if claim.name not in WITHOUT_EVIDENCE]
 TICKS_PER_MS = 2**32 / 1000
 VOID = {"meta", "link", "br"}
 LOCK = threading.Lock()
@@ -37,9 +37,10 @@ def check(name: str, **pairs: tuple[Any, Any]) -> None:
 
 
 def skipped(name: str, why: str) -> None:
-    """Says that a test isn't made here."""
+    """Counts a test that isn't made here, once for a reason; tests run side by side."""
     with LOCK:
-        print(f"skipped {name}: {why}", flush=True)
+        if name not in tally.skips:
+            tally.skip(name, why)
 
 
 def dossier(*words: object, **how: Any) -> Ran:
@@ -118,4 +119,6 @@ def check_page(name: str, text: str, links: Sequence[str] = ()) -> "Outline":
         status, _, err = run(["tidy", "-e", "-q", "--drop-empty-elements", "no", "--show-warnings", "no"],
                              text.encode())
         check(f"{name} by tidy", run=((status in (0, 1), err), (True, b"")))
+    else:
+        skipped("pages by tidy", "tidy isn't installed")
     return page

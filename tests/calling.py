@@ -7,7 +7,7 @@ import shutil
 import sys
 from pathlib import Path
 
-from audits import ENVIRONMENT, SCRIPT, check, dossier, folder_of
+from audits import ENVIRONMENT, SCRIPT, check, dossier, folder_of, skipped
 from tally import DATA, ROOT, run
 
 
@@ -69,7 +69,9 @@ def test_statuses(place: Path) -> None:
         status, out, _ = run(["sh", "-c", script, SCRIPT], env=ENVIRONMENT)
         check(f"the status of {name}", is_one=(status in wanted.get(name, (0, 2, 3, 4, 70)), True),
               yes=(b"verified" in out, status == 0))
-    if os.geteuid() == 0 and shutil.which("setpriv"):
+    if os.geteuid():
+        skipped("an unreadable current folder", "this isn't root")
+    else:
         shut = place / "shut"
         shut.mkdir(0o755)
         place.chmod(0o755)

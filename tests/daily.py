@@ -397,8 +397,10 @@ def test_keep(place):
     packed_file.write_bytes(right)
     dossier("keep", one)
     check("a keeping that was broken off is ended", files=("f.pcap" in listed(one), False))
-    key = key_of(place, "key")[0] if shutil.which("ssh-keygen") else None
-    if key:
+    if not shutil.which("ssh-keygen"):
+        skipped("what is kept is signed", "ssh-keygen isn't installed")
+    else:
+        key = key_of(place, "key")[0]
         check("what is kept is signed", run=(dossier("sign", "--key", key, one)[0], 0),
               verified=(dossier("verify", one)[0], 0))
         signed = folder_of(place, "signed")
@@ -412,6 +414,7 @@ def test_keep(place):
 def test_kept_by_strangers(place):
     """Whatever lies in a folder that is kept: nothing but what was audited is verified, and nothing else taken away."""
     if not shutil.which("zstd"):
+        skipped("folders of strangers that are kept", "zstd isn't installed")
         return
     folder = folder_of(place, "host")
     dossier("audit", folder)
@@ -498,6 +501,8 @@ def test_years(place):
     if shutil.which("zstd"):
         dossier("keep", kept)
         check("years that aren't over", run=(dossier("keep", "--years", "90", kept)[0], 0), there=(kept.exists(), True))
+    else:
+        skipped("years that aren't over", "zstd isn't installed")
     (changed / "report.txt").write_text("mine")
     for name in ("notes.txt", "claim.json.zst"):
         (more / name).write_text("mine")

@@ -169,6 +169,8 @@ def test_signing_again(place):
         check("a key that an agent holds",
               run=(run(["ssh-agent", "sh", "-c", by_agent], env=ENVIRONMENT)[:2], (0, f"{held}: signed\n".encode())),
               verified=(dossier("verify", "--signers", place / "signers", held)[0], 0))
+    else:
+        skipped("a key that an agent holds", "ssh-agent isn't installed")
     check("signed already", status=(dossier("sign", "--key", key, folder)[0], 4))
     kept = {path.name: path.read_bytes() for path in folder.iterdir()}
     check("a signed folder that is unchanged",
@@ -244,15 +246,16 @@ def test_elsewhere(place):
 
 
 def test_older_records(place):
-    """A folder of an older form isn't verified, shown or signed, and is audited again."""
+    """A folder of an older form is verified, isn't shown or signed, and is audited again (and tests/stable)."""
     folder = folder_of(place, "older")
     dossier("audit", folder)
     record = json.loads((folder / "audit.json").read_text())
     (folder / "audit.json").write_text(json.dumps({**record, "dossier": record["dossier"] - 1}))
     check("an older record",
-          verify=(dossier("verify", folder)[:2], (4, f"{folder}: ntpaudit-dossier: not audited\n".encode())),
-          sign=(dossier("sign", "--key", "any", folder)[0], 4),
-          row=((table(folder)[0]["verdict"], "audit FOLDER" in table(folder)[0]["to_do"]), ("refused", True)))
+          verify=(dossier("verify", folder)[:2], (0, (
+              f"{folder}: verified: yes\n{folder}: (form {record['dossier'] - 1} of audit.json: verdicts, figures and "
+              "files are the same; what it warns of isn't compared)\n").encode())),
+          sign=(dossier("sign", "--key", "any", folder)[0], 4), row=(table(folder)[0]["verdict"], "not verified"))
     check("an older record is audited again", unchanged=(b"(unchanged)" in dossier("audit", folder)[1], False),
           form=(json.loads((folder / "audit.json").read_text())["dossier"], record["dossier"]))
 
@@ -392,7 +395,7 @@ def until_it_listens(words, environment):
 def why_no_link():
     """Why no link can be made here; nothing if one can."""
     if run(["unshare", "-n", "true"])[0] or not shutil.which("ip"):
-        return "there are no namespaces, or no ip"
+        return "ip isn't installed" if not shutil.which("ip") else "there are no namespaces"
     return why_no_recording()
 
 
@@ -824,6 +827,8 @@ def test_copies(place):
                    (70, b"",
                     (b"ntpaudit: the program is not there (neither beside ntpaudit-dossier nor on the PATH): set "
                      b"NTPAUDIT to its path\n"))))
+    else:
+        skipped("a script without the program", "another one is installed")
     missing = run(called, env={**bare, "NTPAUDIT": str(place / "missing")})
     check("a program that isn't there",
           run=(missing,

@@ -161,6 +161,8 @@ def test_root(place: Path) -> None:
         dossier(*words, own)
         check(f"root's output in another's folder: {words[1]}",
               left=(sorted(path.name for path in folder.rglob("*")), before))
+    if not shutil.which("tcpdump"):
+        skipped("root records in another's folder", "tcpdump isn't installed")
     for where in (folder, folder / "new", folder / "2026-11-22") if shutil.which("tcpdump") else ():
         status, _, err = run(["timeout", "20", SCRIPT, "record", "--interface", "lo", where], env=ENVIRONMENT)
         check(f"root records in another's folder: {where.name}", status=(status, 2 if where.is_symlink() else 4),

@@ -6,7 +6,7 @@ import ast
 from collections.abc import Iterator
 
 from audits import check
-from tally import ROOT
+from tally import ROOT, files_in
 
 OPENING = {"open", "os.open", "os.read", "os.pread", "os.scandir", "os.listdir", "os.stat", "os.lstat", "os.fstat",
            "mmap.mmap"}
@@ -47,7 +47,7 @@ def calls_of(tree: ast.AST) -> Iterator[tuple[int, str]]:
 
 def test_sources() -> None:
     seen = set[str]()
-    for path in sorted((ROOT / "dossier").glob("*.py")):
+    for path in files_in(ROOT / "dossier", "*.py"):
         allowed, wrong = MODULES.get(path.stem, set[str]()), []
         for line, name in calls_of(ast.parse(path.read_text("utf-8"))):
             is_watched = name in OPENING | WRITING | RUNNING or name.startswith(NOWHERE) or name == "subprocess"

@@ -356,6 +356,8 @@ def test_named_outputs(place):
     if not why_no_link():
         check("measure -o to a link", status=(dossier("measure", "--count", "10", "-o", link)[0], 4),
               link=(link.is_symlink(), True), target=(target.read_text(), "old"))
+    else:
+        skipped("measure -o to a link", why_no_link())
     if os.geteuid():
         skipped("-o to a device", "it takes root to make one")
         return
@@ -766,7 +768,7 @@ def test_browser(place):
     """A page with hostile strings in a browser: no request leaves, nothing runs, and the title is what it should be."""
     browser = shutil.which("chromium") or shutil.which("google-chrome")
     if not browser:
-        skipped("a page in a browser", "there is none")
+        skipped("a page in a browser", "chromium isn't installed")
         return
     asked = []
 

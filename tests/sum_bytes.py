@@ -9,7 +9,7 @@ from pathlib import Path
 
 import sum_file
 from sum_calls import MOST, NOTHING, RANDOM, Call, digest, fault, inputs_in
-from tally import DATA, Ran, check, run
+from tally import DATA, Ran, check, files_in, run
 
 
 # ---- the files of data/
@@ -17,7 +17,7 @@ from tally import DATA, Ran, check, run
 
 def calls_of_data() -> Iterator[Call]:
     """Each claim of data/, alone and with each certificate and refutation that is there for its capture."""
-    for claim in sorted(DATA.glob("*.claim.json")):
+    for claim in files_in(DATA, "*.claim.json"):
         name = claim.name.split(".")[0]
         for option in [(), ("--human",)]:
             yield Call(DATA, "settle", claim.name, f"{name}.pcap", options=option)

@@ -1,7 +1,12 @@
-"""What the test scripts share: counting cases, showing what was wrong, and the last line 'N passed, M failed', also of
-a script that breaks off."""
+"""What the test scripts share: counting cases, showing what was wrong, saying what isn't tried here.
+
+A script prints a line for each case that failed or was skipped, and last 'N passed, M failed, K skipped', also if it
+breaks off. The program is the one that ./ntpaudit runs, or the file that the environment's NTPAUDIT names (from the
+repository's root).
+"""
 import hashlib
 import os
+import shutil
 import subprocess
 import sys
 import tempfile
@@ -17,12 +22,15 @@ DATA = ROOT / "data"
 SECONDS = 120
 """A run that takes longer than this has hung; no test depends on being quicker."""
 
+NOBODY = 65534
+
 Ran = tuple[int | str, bytes, bytes]
 """Status, standard output and standard error of a command. A run that doesn't end, or that can't be begun, has a text
 for its status."""
 
 passed = 0
 failed: list[str] = []
+skips: list[str] = []
 
 
 def program() -> str:
@@ -31,12 +39,12 @@ def program() -> str:
     if "NTPAUDIT" in os.environ:
         named = (ROOT / os.environ["NTPAUDIT"]).resolve()
         if not os.access(named, os.X_OK):
-            print(f"FAILED: NTPAUDIT names {named}, and no program is there\n0 passed, 1 failed")
+            print(f"FAILED: NTPAUDIT names {named}, and no program is there\n{last_line(1)}")
             sys.exit(1)
         return str(named)
     ran = subprocess.run([ROOT / "ntpaudit", "--version"], stdin=subprocess.DEVNULL, stdout=subprocess.DEVNULL)
     if ran.returncode:
-        print(f"FAILED: ./ntpaudit --version ends with status {ran.returncode}\n0 passed, 1 failed")
+        print(f"FAILED: ./ntpaudit --version ends with status {ran.returncode}\n{last_line(1)}")
         sys.exit(1)
     kept = ROOT / "out" / "ntpaudit"
     return str(kept if kept.exists() else ROOT / "dist" / "ntpaudit")
@@ -59,6 +67,28 @@ def check(name: str, **pairs: tuple[Any, Any]) -> None:
         if not (wanted(seen) if callable(wanted) else seen == wanted):
             wrong.append(f"{what} {short(seen)}" + ("" if callable(wanted) else f", wanted {short(wanted)}"))
     count(name, "; ".join(wrong))
+
+
+def skip(name: str, why: str) -> None:
+    """Counts a case that isn't tried here, and says why."""
+    skips.append(name)
+    print(f"skipped {name}: {why}", flush=True)
+
+
+def is_here(tool: str, name: str) -> bool:
+    """Whether a tool is installed; where it isn't, a case is skipped."""
+    if not shutil.which(tool):
+        skip(name, f"{tool} isn't installed")
+    return bool(shutil.which(tool))
+
+
+def nobody(name: str) -> dict[str, Any] | None:
+    """How to run as a user who owns nothing: permissions don't bind root. Where that can't be, a case is skipped."""
+    how: dict[str, Any] = {"user": NOBODY, "group": NOBODY, "extra_groups": []} if os.geteuid() == 0 else {}
+    if run(["true"], **how)[0] == 0:
+        return how
+    skip(name, "root may not become another user here")
+    return None
 
 
 def test_each(tests: Iterable[Callable[[Path], None]]) -> None:
@@ -95,10 +125,17 @@ def broken_off(kind: type[BaseException], error: BaseException, trace: Traceback
     """A script that breaks off says where, and counts that as a failure."""
     sys.__excepthook__(kind, error, trace)
     print(f"FAILED: broken off by {kind.__name__} ({error}), above")
-    print(f"{passed} passed, {len(failed) + 1} failed", flush=True)
+    print(last_line(1), flush=True)
 
 
 sys.excepthook = broken_off
+
+
+def files_in(folder: Path, pattern: str) -> list[Path]:
+    """The files of such a name, in order. There have to be some: else what is tried on each is tried on none."""
+    found = sorted(folder.glob(pattern))
+    assert found, f"there is no {pattern} in {folder}"
+    return found
 
 
 def sum_of(data: bytes) -> str:
@@ -120,6 +157,10 @@ def manifest_of(top: Path, toolchain: str) -> str:
             f"toolchain {toolchain}\n")
 
 
+def last_line(more_failed: int = 0) -> str:
+    return f"{passed} passed, {len(failed) + more_failed} failed, {len(skips)} skipped"
+
+
 def finish() -> None:
-    print(f"{passed} passed, {len(failed)} failed")
+    print(last_line())
     sys.exit(bool(failed))
