@@ -117,7 +117,8 @@ def figure(name: str, entry: Entry, envelope: Envelope) -> Html:
 
 def steps_of(entry: Entry) -> list[int]:
     """When the clock was stepped, in Unix seconds: by what the capture shows, or by what the client logged."""
-    seen = [entry.reason.between[1]] if entry.reason and entry.reason.between else []
+    found = entry.reason
+    seen = [step.by // SECOND for step in found.steps] if found and found.stretches else []
     return seen + [warning.before // SECOND for warning in entry.warnings if warning.kind == "step"]
 
 
@@ -133,6 +134,8 @@ def rows(columns: dict[str, str], found: Iterable[Iterable[object]], name: str =
 def servers(entry: Entry, envelope: Envelope) -> Html:
     """The servers of the claim, each with its stroke if it is in the picture."""
     found, drawn = [], ranges_of(envelope)
+    apart = {server for warning in entry.warnings if warning.kind == "apart" for server in warning.servers}
+    apart |= set(entry.reason.apart) if entry.reason and entry.reason.stretches else set()
     for number, server in enumerate(entry.servers):
         swatch: object = ""
         remarks: list[object] = []
@@ -140,7 +143,7 @@ def servers(entry: Entry, envelope: Envelope) -> Html:
         if server.address in drawn:
             seen = drawn[server.address]
             swatch, outer = stroke(list(drawn).index(server.address)), minus(range_ms(seen.low, seen.high))
-            remarks += [joined([element("b", "stands apart"), ": it never meets the hull"])] if seen.apart else []
+            remarks += [joined([element("b", "stands apart"), ": it never meets the hull"])] if server.address in apart else []
             remarks += [f"contradicts itself in {count(seen.crossed, 'piece')}"] if seen.crossed else []
         address = element("span", joined([swatch, server.address], " " if swatch else ""))
         remark = element("span", joined(remarks, "; "), class_="free") if remarks else ""
