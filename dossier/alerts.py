@@ -102,9 +102,8 @@ def twice(found: Alert) -> str:
 
 
 def contrary(found: Alert) -> str:
-    why = f": the clock was stepped {between(*outward(found.before, found.after))}" if found.after else ""
-    return ("What was recorded beside the span, within an hour of it, contradicts what was recorded in it, and is left "
-            f"out{why}.")
+    return (f"The clock was stepped {between(*outward(found.before, found.after))}, outside of the span: what was "
+            "recorded beside the span is left out.")
 
 
 def flood(found: Alert) -> str:

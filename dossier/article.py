@@ -5,7 +5,6 @@ import shlex
 from collections.abc import Iterable, Iterator
 
 from . import folder as files
-from .alerts import warning_words
 from .answers import Envelope, read_envelope
 from .backing import backing
 from .entry import (NO_EVIDENCE, NOT_VERIFIED, NOTHING_FITS, OPEN, REFUSED, REFUTED, UNSUPPORTED, YES, Entry, Reason,
@@ -21,7 +20,7 @@ from .support import support
 from .result import Row
 from .text import capital, count
 from .units import SECOND, range_ms
-from .words import fit, sentence, span, to_do
+from .words import fit, sentence, span, to_do, warned
 
 SYMBOLS = {YES: "\u2713", UNSUPPORTED: "\u2260", REFUTED: "\u2717", NOTHING_FITS: "\u2205", NO_EVIDENCE: "\u2026",
            OPEN: "?", NOT_VERIFIED: "\u2014", REFUSED: "!"}
@@ -51,7 +50,7 @@ def article(path: str, folder: Folder, record: Record, entry: Entry, signature: 
             name: str) -> tuple[Html, Html]:
     """The head of an article, and the rest of it."""
     day = "" if entry.part == "." else f", {entry.part}"
-    head = [element("h2", f"{path}{day} ", badge(entry.verdict)), element("p", minus(sentence(entry)), class_="lead")]
+    head = [element("h2", f"{path}{day} ", badge(entry.verdict)), element("p", with_code(sentence(entry)), class_="lead")]
     return lines([*head, *signed(signature)]), lines([*body(name, folder, record, entry), *sums(record, entry)])
 
 
@@ -79,8 +78,8 @@ def body(name: str, folder: Folder, record: Record, entry: Entry) -> Iterator[Ht
     for words in (to_do(entry), fit(entry)):
         if words:
             yield element("p", with_code(words))
-    if entry.warnings:
-        yield element("ul", *(element("li", warning_words(warning)) for warning in entry.warnings), class_="warnings")
+    if found := warned(entry):
+        yield element("ul", *(element("li", with_code(words)) for words in found), class_="warnings")
     envelope = read_envelope(folder.data(ENVELOPE if entry.part == "." else f"{entry.part}/{ENVELOPE}"))
     if entry.verdict == NOTHING_FITS and entry.reason:
         yield conflicts(entry.reason)

@@ -107,7 +107,7 @@ class Reason:
     asked: Few = field(default_factory=list)
     """`silent`: how many groups have a sample; and if the client asked none of its servers, who asks in the capture,
     and whom the client asks."""
-    recorded: tuple[Seconds, Seconds] | None = None
+    recorded: Gap | None = None
     """`beside`: when the last NTP packet before the span was recorded and the first after it; 0 if there is none."""
     file: Annotated[str, or_nothing(is_name)] = ""
     """`twice`: the capture in which each packet is there twice."""

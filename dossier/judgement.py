@@ -27,6 +27,8 @@ FAR = 10
 """A piece is far from the samples if the nearest is farther than this part of the span."""
 SILENCE, UNUSUAL = 60 * SECOND, 10
 """Servers are silent if none is heard for this time, and for so many times as long as usual."""
+TOLD = "silence", "outside", "far"
+"""Warnings that say less than a reason which names the gaps."""
 MORE = 10
 """So many times the claim's drift is tried where nothing fits, or that of an oscillator alone."""
 
@@ -81,6 +83,8 @@ def judge(part: Part, recording: Recording, beside: Beside, texts: Texts, step: 
     if 0 < claim.drift_ppb <= OSCILLATOR and not beside.backing.read:
         warned.append(Alert("oscillator", claim.drift_ppb))
     reason = reason_of(claim, settled, Seen(servers, envelope, recording, gaps, texts, beside.capture))
+    if reason and reason.why in ("gap", "beside"):
+        warned = [alert for alert in warned if alert.kind not in TOLD]
     return entry_by(beside.leaps, Entry(
         part=part.name,
         verdict=verdict_of(settled, reason),
@@ -228,7 +232,7 @@ def warnings(claim: Claim, recording: Recording, envelope: Envelope, advice: dic
         record, before, after = recording.fall
         yield Alert("falls", recording.falls, record, before, after)
     yield from silences(recording, gaps)
-    yield from far_pieces(claim, recording, envelope)
+    yield from far_pieces(claim, recording, envelope, gaps)
     if recording.counts.get("warnings"):
         yield Alert("leap", recording.counts["warnings"])
     if "sources" in advice:
@@ -252,19 +256,26 @@ def gaps_of(claim: Claim, recording: Recording) -> list[Gap]:
 
 def silences(recording: Recording, gaps: list[Gap]) -> Iterator[Alert]:
     """The longest gap between samples, and how many there are."""
-    times = recording.times
-    inner = [gap for gap in gaps if times[0] <= gap[0] and gap[1] <= times[-1]]
-    if inner:
+    if inner := inner_gaps(recording, gaps):
         before, after = max(inner, key=lambda gap: (gap[1] - gap[0], gap))
         yield Alert("silence", len(inner), before=before, after=after)
 
 
-def far_pieces(claim: Claim, recording: Recording, envelope: Envelope) -> Iterator[Alert]:
+def inner_gaps(recording: Recording, gaps: list[Gap]) -> list[Gap]:
+    """Those between samples."""
+    times = recording.times
+    return [gap for gap in gaps if times[0] <= gap[0] and gap[1] <= times[-1]]
+
+
+def far_pieces(claim: Claim, recording: Recording, envelope: Envelope, gaps: list[Gap]) -> Iterator[Alert]:
+    """Pieces that are far from every sample, and in no gap that is named."""
     first, last = claim.first * SECOND, claim.last * SECOND
     limit = (last - first) // FAR
     if not recording.replies or widest_gap([first, *recording.some_times(), last]) <= limit:
         return  # (a piece can't be farther from a sample than some of the samples are from one another)
     distances = list(map(recording.nearest, envelope.begins, envelope.ends))
+    inner = are_in(envelope, list(inner_gaps(recording, gaps)))
+    distances = [0 if is_in else distance for distance, is_in in zip(distances, inner)]
     farthest = max(distances)
     if farthest > limit:
         far = sum(distance > limit for distance in distances)

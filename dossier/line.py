@@ -9,7 +9,7 @@ from .words import in_short
 
 def refusal_of(folder: str, line: str) -> str:
     """One line for a terminal, of a folder without a verdict."""
-    return f"{REFUSED:14}{plain(folder)}: {plain(line)}"
+    return f"{REFUSED:14}{plain(folder)}: {plain(line).replace('`', '')}"
 
 
 def line_of(folder: str, entry: Entry) -> str:

@@ -46,7 +46,7 @@ class Settling:
 
     def settle(self, beside: Beside, cut_to: Callable[[str], bool]) -> Entry:
         """Makes all calls and leaves all files, by what was recorded in the span and beside it; or in the span alone,
-        if only that fits."""
+        if the clock was stepped beside it."""
         if self.part.name != ".":
             make_private(self.part.name)
             self.keep(files.CLAIM, self.part.claim.text)
@@ -55,11 +55,10 @@ class Settling:
             self.take(own)
         texts = self.decide()
         if read_settled(texts.settled).answer == NOTHING_FITS:
-            within = self.settled_within()
-            search = Search(self.program, self.part, self.capture, self.extent)
-            found = search.found()
+            found = Search(self.program, self.part, self.capture, self.extent).found()
+            within = self.settled_within() if found.are_beside(self.part.claim) else None
             if within:
-                texts, alerts = within, [contrary(found)]
+                texts, alerts = within, [Alert("contrary", before=found.steps[0].after, after=found.steps[0].by)]
                 move(WITHIN, own)
                 self.take(own)
             else:
@@ -167,13 +166,6 @@ class Settling:
                 if self.judged(*self.contested(name)).endswith(b"refuted yes\n"):
                     return self.earlier
         return self.keep(files.REFUTATION, text)
-
-
-def contrary(found: Found) -> Alert:
-    """That what was recorded beside the span contradicts what was recorded in it, and when the clock was stepped, if
-    that is why."""
-    steps = found.of_clock[:1]
-    return Alert("contrary", before=steps[0].after if steps else 0, after=steps[0].by if steps else 0)
 
 
 def do_many_miss(recording: Recording, servers: int) -> bool:

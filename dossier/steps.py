@@ -13,7 +13,7 @@ from dataclasses import replace
 from typing import NamedTuple
 
 from .answers import read_envelope, read_settled
-from .claim import Part
+from .claim import Claim, Part
 from .classic import HEADER, Classic, Extent, runs_of, write
 from .entry import FEW, NOTHING_FITS, Step, Stretch
 from .folder import CLAIM
@@ -39,6 +39,11 @@ class Found(NamedTuple):
     steps: list[Step]
     of_clock: list[Step]
     """Those that most servers have in common, if these are few."""
+
+    def are_beside(self, claim: Claim) -> bool:
+        """Whether the clock was stepped, and only before the span or after it."""
+        first, last = claim.first * SECOND, claim.last * SECOND
+        return bool(self.of_clock) and all(step.by <= first or last <= step.after for step in self.steps)
 
 
 class Search:

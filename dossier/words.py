@@ -74,7 +74,7 @@ def reason(entry: Entry) -> str:
         return " ".join(warning_words(warning) for warning in entry.warnings if warning.kind in AGAINST)
     if entry.verdict == NO_EVIDENCE:
         return why_no_evidence(entry, found)
-    if found.hull is not None:
+    if found.why == "tick" and found.hull is not None:
         is_word = isinstance(found.hull, str)
         left = f"the hull is {found.hull}" if is_word else f"errors from {range_ms(*found.hull)} are left open"
         return f"At {shown_time(found.tick // TICKS)} {left}."
@@ -152,8 +152,8 @@ def why_nothing_fits(entry: Entry, found: Reason) -> str:
     apart = f"{listed(found.apart)} {is_or_are(len(found.apart))}" if found.apart else ""
     if found.why == "apart":
         own = "itself" if len(found.apart) == 1 else "themselves"
-        return (f"{apart} in conflict with {own} or with most others, and so in all that contradicts "
-                f"itself here.{''.join(f' {alone(step)}' for step in found.steps)}")
+        steps = "".join(f" {alone(step)}" for step in found.steps)
+        return f"{apart} in each of {conflicts}, with {own} or with most others.{steps}"
     if found.stretches:
         when = f"the clock was stepped {listed([between(*outward(step.after, step.by)) for step in found.steps])}"
         said = capital(f"{when}: there {seen_by(entry, found)}.")
@@ -266,8 +266,14 @@ def after_steps(found: Reason) -> str:
     drift = " Or grant as much drift as the client may make (`ntpaudit-dossier draft --chrony`)." \
         if found.why == "drift" else ""
     return ("Look in the client's messages at that time (`System clock was stepped`). Claim what came before and after "
-            f"by itself, each in a folder of its own with a copy of the capture: {' or '.join(spans)} in its "
+            f"by itself, each in a folder of its own with a copy of the capture: {listed(spans)} in its "
             f"{CLAIM}.{drift}")
+
+
+def warned(entry: Entry) -> list[str]:
+    """The warnings, but those that are the reason why it isn't a yes."""
+    is_yes_less = entry.verdict == UNSUPPORTED
+    return [warning_words(warning) for warning in entry.warnings if not (is_yes_less and warning.kind in AGAINST)]
 
 
 def fit(entry: Entry) -> str:
