@@ -6,9 +6,9 @@ from collections.abc import Callable
 from . import allowance
 from .entry import Alert
 from .support import named
-from .text import capital, count, is_or_are, plain
+from .text import capital, count, is_or_are, listed, plain
 from .text import reference as letters
-from .units import SECOND, between, civil, ns_ms, shown_time, span_of_seconds
+from .units import SECOND, between, civil, ns_ms, outward, shown_time, span_of_seconds
 
 ON_DRIFT = "There it rests on the drift that the claim grants, and on nothing recorded."
 
@@ -94,6 +94,18 @@ def torn(found: Alert) -> str:
             "cut off, or is still being written (`tcpdump -U` writes whole records).")
 
 
+def twice(found: Alert) -> str:
+    more = f", and so have {count(found.count - 1, 'other file')}" if found.count > 1 else ""
+    is_out = "it is left out" if found.count == 1 else "they are left out"
+    return (f"{plain(found.file)} has packets once more that {plain(found.beside)} has{more}: {is_out}, since of a "
+            "packet that is there twice nothing follows.")
+
+
+def contrary(found: Alert) -> str:
+    return (f"The clock was stepped {between(*outward(found.before, found.after))}, outside of the span: what was "
+            "recorded beside the span is left out.")
+
+
 def flood(found: Alert) -> str:
     return (f"{count(found.count, 'record')} of the capture {is_or_are(found.count)} of others than the claim's client "
             "and servers, and left out of what is audited: the recorder's filter may name these servers.")
@@ -107,13 +119,18 @@ def step(found: Alert) -> str:
 
 def apart(found: Alert) -> str:
     its = "its range never meets" if len(found.servers) == 1 else "their ranges never meet"
-    return f"{' and '.join(found.servers)} {'stands' if len(found.servers) == 1 else 'stand'} apart: {its} the hull."
+    return f"{listed(found.servers)} {'stands' if len(found.servers) == 1 else 'stand'} apart: {its} the hull."
 
 
 def interleaved(found: Alert) -> str:
-    answer, line = ("answers", "its line") if len(found.servers) == 1 else ("answer", "their lines")
-    return (f"{' and '.join(found.servers)} mostly {answer} in interleaved mode, of which nothing follows: take "
-            f"`xleave` out of {line} in chrony.conf, and record again.")
+    answer = "answers" if len(found.servers) == 1 else "answer"
+    return (f"{listed(found.servers)} mostly {answer} in interleaved mode, of which nothing follows: "
+            f"{without_xleave(found)}.")
+
+
+def without_xleave(found: Alert) -> str:
+    return f"take `xleave` out of {'its line' if len(found.servers) == 1 else 'their lines'} in chrony.conf, and " \
+        "record again"
 
 
 def sources(found: Alert) -> str:
@@ -130,7 +147,7 @@ WORDS: dict[str, Callable[[Alert], str]] = {
     "outside": outside, "no-drift": no_drift, "falls": falls, "silence": silence, "far": far, "leap": leap,
     "leap-second": leap_second, "leap-ends": leap_ends, "sources": sources, "reference": reference, "apart": apart,
     "drift": drift, "reading": reading, "step": step, "oscillator": oscillator, "torn": torn,
-    "flood": flood, "interleaved": interleaved, "no-list": no_list, "slip": slip,
+    "flood": flood, "twice": twice, "contrary": contrary, "interleaved": interleaved, "no-list": no_list, "slip": slip,
 }
 TO_DO = {
     "drift": "Grant as much drift as the evidence has, and audit again.",

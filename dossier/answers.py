@@ -1,13 +1,11 @@
 """What the program prints, taken apart by the names of its fields. A number stays the number that was printed."""
 from __future__ import annotations
 
-import re
 from typing import NamedTuple
 
 from .entry import NO_EVIDENCE, NOTHING_FITS, OPEN, REFUTED, YES, Answer, Hull, Refutation
 from .folder import REFUTATION
 from .typed import read_typed
-from .units import seconds_of
 
 
 def read_hull(words: list[str]) -> Hull:
@@ -48,17 +46,6 @@ def read_settled(text: bytes) -> Settled:
         return Settled(NO_EVIDENCE, heard=int(last[3]))
     conflicts = [(low, int(request), high, int(reply)) for _, low, request, high, reply in lines]
     return Settled(NOTHING_FITS, conflicts=conflicts)
-
-
-CONFLICT = re.compile(r"conflict \S+ request \d+ at (\S{19})\S* \S+ reply \d+ at (\S{19})")
-
-
-def read_between(text: bytes) -> tuple[int, int]:
-    """Of the conflicts that `settle --human` prints the one that ends first: the Unix seconds of its records, cut to
-    whole ones."""
-    times = [sorted(map(seconds_of, found)) for found in CONFLICT.findall(text.decode("ascii"))]
-    first, last = min(times, key=lambda found: (found[1], -found[0]))
-    return first, last
 
 
 def read_advice(report: bytes) -> dict[str, str]:

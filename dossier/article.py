@@ -5,7 +5,6 @@ import shlex
 from collections.abc import Iterable, Iterator
 
 from . import folder as files
-from .alerts import warning_words
 from .answers import Envelope, read_envelope
 from .backing import backing
 from .entry import (NO_EVIDENCE, NOT_VERIFIED, NOTHING_FITS, OPEN, REFUSED, REFUTED, UNSUPPORTED, YES, Entry, Reason,
@@ -21,7 +20,7 @@ from .support import support
 from .result import Row
 from .text import capital, count
 from .units import SECOND, range_ms
-from .words import fit, sentence, span, to_do
+from .words import fit, sentence, span, to_do, warned
 
 SYMBOLS = {YES: "\u2713", UNSUPPORTED: "\u2260", REFUTED: "\u2717", NOTHING_FITS: "\u2205", NO_EVIDENCE: "\u2026",
            OPEN: "?", NOT_VERIFIED: "\u2014", REFUSED: "!"}
@@ -51,7 +50,7 @@ def article(path: str, folder: Folder, record: Record, entry: Entry, signature: 
             name: str) -> tuple[Html, Html]:
     """The head of an article, and the rest of it."""
     day = "" if entry.part == "." else f", {entry.part}"
-    head = [element("h2", f"{path}{day} ", badge(entry.verdict)), element("p", minus(sentence(entry)), class_="lead")]
+    head = [element("h2", f"{path}{day} ", badge(entry.verdict)), element("p", with_code(sentence(entry)), class_="lead")]
     return lines([*head, *signed(signature)]), lines([*body(name, folder, record, entry), *sums(record, entry)])
 
 
@@ -79,8 +78,8 @@ def body(name: str, folder: Folder, record: Record, entry: Entry) -> Iterator[Ht
     for words in (to_do(entry), fit(entry)):
         if words:
             yield element("p", with_code(words))
-    if entry.warnings:
-        yield element("ul", *(element("li", warning_words(warning)) for warning in entry.warnings), class_="warnings")
+    if found := warned(entry):
+        yield element("ul", *(element("li", with_code(words)) for words in found), class_="warnings")
     envelope = read_envelope(folder.data(ENVELOPE if entry.part == "." else f"{entry.part}/{ENVELOPE}"))
     if entry.verdict == NOTHING_FITS and entry.reason:
         yield conflicts(entry.reason)
@@ -117,7 +116,8 @@ def figure(name: str, entry: Entry, envelope: Envelope) -> Html:
 
 def steps_of(entry: Entry) -> list[int]:
     """When the clock was stepped, in Unix seconds: by what the capture shows, or by what the client logged."""
-    seen = [entry.reason.between[1]] if entry.reason and entry.reason.between else []
+    found = entry.reason
+    seen = [step.by // SECOND for step in found.steps] if found and found.stretches else []
     return seen + [warning.before // SECOND for warning in entry.warnings if warning.kind == "step"]
 
 
@@ -133,6 +133,8 @@ def rows(columns: dict[str, str], found: Iterable[Iterable[object]], name: str =
 def servers(entry: Entry, envelope: Envelope) -> Html:
     """The servers of the claim, each with its stroke if it is in the picture."""
     found, drawn = [], ranges_of(envelope)
+    apart = {server for warning in entry.warnings if warning.kind == "apart" for server in warning.servers}
+    apart |= set(entry.reason.apart) if entry.reason and entry.reason.stretches else set()
     for number, server in enumerate(entry.servers):
         swatch: object = ""
         remarks: list[object] = []
@@ -140,7 +142,7 @@ def servers(entry: Entry, envelope: Envelope) -> Html:
         if server.address in drawn:
             seen = drawn[server.address]
             swatch, outer = stroke(list(drawn).index(server.address)), minus(range_ms(seen.low, seen.high))
-            remarks += [joined([element("b", "stands apart"), ": it never meets the hull"])] if seen.apart else []
+            remarks += [joined([element("b", "stands apart"), ": it never meets the hull"])] if server.address in apart else []
             remarks += [f"contradicts itself in {count(seen.crossed, 'piece')}"] if seen.crossed else []
         address = element("span", joined([swatch, server.address], " " if swatch else ""))
         remark = element("span", joined(remarks, "; "), class_="free") if remarks else ""

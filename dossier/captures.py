@@ -22,12 +22,10 @@ from .running import find_tool, stream
 
 GZIP, ZSTD = bytes.fromhex("1f8b"), bytes.fromhex("28b52ffd")
 MARGIN = 3600
-"""Seconds beside a day whose records speak about it too."""
-
-
+"""Seconds beside a span whose records speak about it too."""
 MANY = 1_000_000
 """Records that are listed at once."""
-PART, THINNED = "part.pcap", "thinned.pcap"
+PART, THINNED, CUT = "part.pcap", "thinned.pcap", "cut.pcap"
 
 
 class Audited(NamedTuple):
@@ -40,21 +38,34 @@ class Audited(NamedTuple):
     extent: Extent | None
 
 
+class Opened(NamedTuple):
+    """A classic capture: its path; where it was cut off, if it was, and ends now; and its extent."""
+
+    path: str
+    torn: int | None
+    extent: Extent
+
+
 def audited(copies: dict[str, str]) -> Audited:
     """One capture of all, given by their names and their copies."""
-    opened = {name: open_capture(name, copy) for name, copy in copies.items()}
-    torn = [(name, place) for name, (_, place, _) in opened.items() if place is not None]
+    return joined({name: open_capture(name, copy) for name, copy in copies.items()}, copies)
+
+
+def joined(opened: dict[str, Opened], copies: dict[str, str]) -> Audited:
+    """One capture of those that are opened, which may be fewer than all copies."""
+    torn = [(name, one.torn) for name, one in opened.items() if one.torn is not None]
     alerts = [Alert("torn", len(torn), file=torn[0][0], place=torn[0][1])] if torn else []
-    (name, (path, place, own)), *others = opened.items()
-    extent: Extent | None = own
-    whole = {name: Classic(path, known) for name, (path, _, known) in opened.items() if size_of(path)} if others else {}
+    (name, one), *others = opened.items()
+    extent: Extent | None = one.extent
+    whole = {name: Classic(each.path, each.extent) for name, each in opened.items() if size_of(each.path)} \
+        if others else {}
     if whole:
         join(whole, JOINED)
         extent = None
-    elif path != copies[name] or place is not None:
-        move(path, JOINED)
+    elif one.path != copies[name] or one.torn is not None or len(opened) < len(copies):
+        move(one.path, JOINED)
     else:
-        return Audited(path, False, alerts, extent)
+        return Audited(one.path, False, alerts, extent)
     return Audited(JOINED, True, alerts, extent)
 
 
@@ -89,8 +100,8 @@ def thinned(whole: Audited, claim: Claim, program: Program) -> Audited:
     return Audited(JOINED, True, [*whole.alerts, Alert("flood", dropped)], None)
 
 
-def open_capture(name: str, copy: str) -> tuple[str, int | None, Extent]:
-    """The classic capture that a copy holds; where it was cut off, if it was: there it ends now; and its extent."""
+def open_capture(name: str, copy: str) -> Opened:
+    """The classic capture that a copy holds."""
     path, torn = unpacked(name, copy)
     if begins(path, pcapng.MAGIC):
         torn = pcapng.convert(name, mapped(path), f"{copy}.classic")
@@ -100,7 +111,7 @@ def open_capture(name: str, copy: str) -> tuple[str, int | None, Extent]:
     if capture.is_one and capture.is_torn(end):
         cut_off(path, end)
         torn = end if torn is None else torn
-    return path, torn, capture.extent
+    return Opened(path, torn, capture.extent)
 
 
 def begins(path: str, magic: bytes) -> bool:
@@ -147,17 +158,18 @@ def unzstd(name: str, copy: str, take: Callable[[bytes], None]) -> bool:
     return True
 
 
-def cut(path: str, parts: list[Part]) -> Iterator[Callable[[str], bool]]:
-    """Of each part a way to write what was recorded in its span and beside it to a file; False if that is all there
-    is, and nothing is written."""
+def cut(path: str, parts: list[Part], margin: int = MARGIN) -> Iterator[Callable[[str], bool]]:
+    """Of each part a way to write what was recorded in its span, and in so many seconds beside it, to a file; False if
+    that is all there is, and nothing is written."""
     whole = Classic(path)
-    spans = [(part.claim.first - MARGIN, part.claim.last + MARGIN) for part in parts]
+    spans = [(part.claim.first - margin, part.claim.last + margin) for part in parts]
     for runs in runs_of(whole, spans):
         yield partial(put, whole, runs)
 
 
 def put(whole: Classic, runs: Runs, path: str) -> bool:
-    if runs == [[HEADER, whole.size]]:
-        return False
-    write(path, (whole.data[begin:end] for begin, end in [[0, HEADER], *runs]))
+    if runs == [[HEADER, whole.size]] or whole.size <= HEADER or (not runs and path == JOINED):
+        return False  # (of a claim that isn't cut into days it is told when else packets were recorded)
+    write(CUT, (whole.data[begin:end] for begin, end in [[0, HEADER], *runs]))
+    move(CUT, path)  # (it may be the place of what it is cut of)
     return True

@@ -9,7 +9,7 @@ from fractions import Fraction
 from typing import Annotated, Final, Literal
 
 from .fault import fault
-from .folder import data_named, sum_of
+from .folder import piped_or_named, sum_of
 from .typed import Sum, Text, within
 
 CHRONY: Final = "chronyd"
@@ -48,7 +48,7 @@ class Configuration:
 
 
 def lines_of(path: str) -> tuple[bytes, list[str]]:
-    data = data_named(path, MOST_BYTES)
+    data = piped_or_named(path, MOST_BYTES)
     return data, data.decode("utf-8", "replace").splitlines()
 
 

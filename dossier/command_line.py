@@ -254,8 +254,9 @@ def parsed(words: list[str]) -> argparse.Namespace:
 
 
 def say(line: str) -> None:
+    """Prints a line for a person, in which code isn't marked."""
     try:
-        print(plain(line), file=sys.stderr, flush=True)
+        print(plain(line).replace("`", ""), file=sys.stderr, flush=True)
     except OSError:
         pass
 

@@ -9,19 +9,21 @@ from dataclasses import dataclass, replace
 
 from .alerts import warning_words
 from .allowance import Allowance, Proposal, slip
-from .answers import read_hulls
-from .captures import audited
-from .claim import Claim
-from .entry import Alert
+from .answers import read_hulls, read_settled
+from .captures import audited, begins
+from .claim import Claim, Part
+from .entry import NOTHING_FITS, Alert
+from .fault import USAGE, fault
 from .folder import CLAIM
 from .placing import copy_named, keep
 from .program import Program
 from .recording import Recording, read_recording
-from .text import count, plain
+from .steps import Search
+from .text import count, listed, plain
 from .text import reference as letters
 from .traffic import Traffic, number_of, read_traffic
 from .typed import said
-from .units import DAY, SECOND, civil, ns_ms, ns_up_ms
+from .units import DAY, SECOND, between, civil, ns_ms, ns_up_ms, outward
 
 MOST_SERVERS = 32
 LONGEST = "86400"
@@ -121,7 +123,7 @@ class Draft:
         first, last = span_of(recording.first_request, recording.times[-1], wanted.whole_days)
         claim = replace(claim, from_=civil(first), to=civil(last))
         keep(CLAIM, claim.text)
-        claim = replace(claim, bound_ns=self.bound(wanted.bound_ns))
+        claim = replace(claim, bound_ns=self.bound(claim, wanted.bound_ns))
         self.leave_to_a_person(claim, wanted, reading)
         return claim
 
@@ -169,9 +171,21 @@ class Draft:
                 self.remark(f"{names} name one kind of reference clock ({letters(reference)}):",
                             "if it is one and the same clock, put them into one group.")
 
-    def bound(self, wanted: int | None) -> int:
+    def why_nothing_fits(self, claim: Claim) -> str:
+        """That no course of events fits the draft, and when the clock was stepped, if that is why."""
+        found = Search(self.program, Part(".", claim), self.capture, None).found()
+        steps = listed([between(*outward(step.after, step.by)) for step in found.of_clock])
+        keep(CLAIM, claim.text)
+        return (f"Nothing fits this draft, so no claim by it is shown: the clock was stepped {steps}, or moved faster "
+                "than drift_ppb. Claim what came before and after by itself." if steps else
+                "Nothing fits this draft, so no claim by it is shown: `audit` says why.")
+
+    def bound(self, claim: Claim, wanted: int | None) -> int:
         """The bound that is wanted, or the least one that a certificate carries, rounded up to two digits."""
         asked = f"{ns_ms(wanted)} ms stands there, as asked for." if wanted is not None else ""
+        if read_settled(self.program.run("settle", CLAIM, self.capture).text).answer == NOTHING_FITS:
+            self.remark(self.why_nothing_fits(claim), "bound_ns:", asked or FOR_NOW)
+            return NO_BOUND if wanted is None else wanted
         envelope = read_hulls(self.program.run("envelope", CLAIM, self.capture, "--least", "--step", LONGEST).text)
         if envelope.least_ns is None:
             begin, hull = envelope.begins[envelope.worst], envelope.hulls[envelope.worst]
@@ -210,6 +224,9 @@ def draft(program: Program, captures: list[str], wanted: Wanted) -> tuple[Claim 
     copies = {f"{number}.pcap": path for number, path in enumerate(captures)}
     for copy, path in copies.items():
         copy_named(path, copy)
+        if begins(copy, b"{"):
+            raise fault(f"{os.path.basename(path)} is JSON, such as a claim: draft takes captures alone, and prints a "
+                        "claim", USAGE)
     whole = audited({f"{os.path.basename(path)} ({copy})" if len(copies) > 1 else os.path.basename(path): copy
                      for copy, path in copies.items()})
     drafting = Draft(program, whole.path)

@@ -53,31 +53,64 @@ class Piece:
     hull: Hull
 
 
+Gap = tuple[Nanoseconds, Nanoseconds]
+"""Unix nanoseconds in which nothing was recorded that says something of the clock."""
+
+
+@dataclass(frozen=True)
+class Step:
+    """Two Unix nanoseconds between which a server, or several, contradict themselves."""
+
+    after: Nanoseconds
+    by: Nanoseconds
+    servers: list[Address]
+
+
+@dataclass(frozen=True)
+class Stretch:
+    """A stretch of the span without a step: its ends in Unix seconds, the outermost ends of the hull in it, and the
+    servers that stand apart in it."""
+
+    from_: Seconds
+    to: Seconds
+    hull: Hull
+    apart: list[Address] = field(default_factory=list)
+
+
 @dataclass(frozen=True)
 class Reason:
     """Why it isn't a yes, and what shows it."""
 
-    why: Literal["exceeds", "unbounded", "off", "apart", "drift", "step", "many", "tick", "silent", "beside",
-                 "evidence"]
+    why: Literal["exceeds", "unbounded", "off", "gap", "apart", "drift", "step", "many", "tick", "silent", "twice",
+                 "beside", "evidence"]
     piece: Piece | None = None
-    """`off`: the first piece whose hull lies beyond the bound as a whole."""
+    """`off`: the longest run of pieces whose hulls lie beyond the bound as a whole, by the first of them, with the
+    outermost ends of all."""
     tick: Ticks = 0
     hull: Hull | None = None
-    """`tick`: that the claim stays open at a Unix tick, and its hull."""
+    """`tick`: that the claim stays open at a Unix tick, and its hull. `gap`: the outermost ends of the hull outside of
+    the gaps, if anything is."""
+    gaps: Annotated[list[Gap], length(0, FEW)] = field(default_factory=list)
+    count: Count = 0
+    """`gap`: the longest gaps, in order of time, and how many there are."""
     drift_ppb: Count = 0
     conflicts: list[tuple[Address, Count, Address, Count]] = field(default_factory=list)
     apart: list[Address] = field(default_factory=list)
     """Where nothing fits: the drift that was tried; each conflict, with the server and the record of a request and
     those of a reply; and the servers that are apart."""
-    between: tuple[Seconds, Seconds] | None = None
-    """`step`: when records show it, the last before it and the first after it that contradict each other."""
+    steps: Annotated[list[Step], length(0, FEW)] = field(default_factory=list)
+    stretches: Annotated[list[Stretch], length(0, FEW + 1)] = field(default_factory=list)
+    """When servers contradict themselves; and, if most of them do at these times, what holds before, between and
+    after."""
     heard: Count = 0
     asking: Few = field(default_factory=list)
     asked: Few = field(default_factory=list)
     """`silent`: how many groups have a sample; and if the client asked none of its servers, who asks in the capture,
     and whom the client asks."""
-    recorded: tuple[Seconds, Seconds] | None = None
-    """`beside`: when the first NTP packet was recorded and the last, both outside of the span."""
+    recorded: Gap | None = None
+    """`beside`: when the last NTP packet before the span was recorded and the first after it; 0 if there is none."""
+    file: Annotated[str, or_nothing(is_name)] = ""
+    """`twice`: the capture in which each packet is there twice."""
 
 
 @dataclass(frozen=True)
@@ -102,7 +135,7 @@ class Alert:
 
     kind: Literal["outside", "no-drift", "falls", "silence", "far", "leap", "leap-second", "leap-ends", "sources",
                   "reference", "apart", "drift", "reading", "step", "oscillator", "torn", "interleaved", "no-list",
-                  "flood", "slip"]
+                  "flood", "slip", "twice", "contrary"]
     count: Count = 0
     record: Count = 0
     before: Nanoseconds = 0
@@ -114,6 +147,8 @@ class Alert:
     servers: list[Address] = field(default_factory=list)
     file: Annotated[str, or_nothing(is_name)] = ""
     place: Count = 0
+    beside: Annotated[str, or_nothing(is_name)] = ""
+    """`twice`: of the files that have the packets of others once more the first, and which has them too."""
 
 
 OF_LEAPS = {"leap-second": "a leap second", "leap-ends": "the list of leap seconds has ended",

@@ -161,8 +161,11 @@ class Folder:
         try:
             self.opened = folder_at(self.path)
             self.place = self.opened.__enter__()
-        except (FileNotFoundError, NotADirectoryError):
+        except FileNotFoundError:
             raise fault("no such folder", DEVICE) from None
+        except NotADirectoryError:
+            raise fault("no such folder: a file is there. Name the folder in which it is, with its claim.json",
+                        DEVICE) from None
         except OSError as error:
             raise fault(f"the folder can't be read ({error.strerror})", DEVICE) from None
         return self
@@ -229,6 +232,23 @@ def data_named(path: str, most: int = JSON) -> bytes:
     blocks: list[bytes] = []
     read_named(path, blocks.append, most)
     return b"".join(blocks)
+
+
+def piped_or_named(path: str, most: int) -> bytes:
+    """The bytes of a file that the command line names, or of a pipe: the shell makes one of `<(chronyd -p)`."""
+    try:
+        if not stat.S_ISFIFO(os.stat(path, dir_fd=HOME).st_mode):
+            return data_named(path, most)
+        with held(path, HOME, os.O_RDONLY | os.O_CLOEXEC) as opened:
+            blocks, size = list[bytes](), 0
+            while block := os.read(opened, BLOCK):
+                size += len(block)
+                if size > most:
+                    raise too_big(os.path.basename(path), most)
+                blocks.append(block)
+            return b"".join(blocks)
+    except OSError as error:
+        raise unreadable(os.path.basename(path), error) from None
 
 
 # ---- private copies, which nobody else may write

@@ -5,26 +5,30 @@ This is a function of texts that the program printed; `verify` calls it again on
 from __future__ import annotations
 
 from collections.abc import Iterator
-from itertools import pairwise
+from itertools import groupby, pairwise
 from operator import sub
 from typing import NamedTuple
 
 from .allowance import slip
-from .answers import Envelope, Settled, read_advice, read_between, read_envelope, read_settled
+from .answers import Envelope, Settled, read_advice, read_envelope, read_settled
 from .backing import Backing, against
 from .claim import GREATEST_DRIFT, OSCILLATOR, Claim, Part
-from .entry import (FEW, NO_EVIDENCE, NOTHING_FITS, OPEN, REFUTED, YES, Alert, Answer, Entry, Hull, LeapList, Piece,
-                    Reason, Server)
+from .entry import (FEW, NO_EVIDENCE, NOTHING_FITS, OPEN, REFUTED, YES, Alert, Answer, Entry, Gap, Hull, LeapList,
+                    Piece, Reason, Server, Stretch)
 from .leap import entry_by, look_up, stretch
-from .ranges import ranges_of
+from .ranges import apart_of, are_in, outermost
 from .recording import Recording
+from .steps import Found
 from .traffic import Traffic, number_of
+from .twice import are_twice
 from .units import SECOND, bound_ticks
 
 FAR = 10
 """A piece is far from the samples if the nearest is farther than this part of the span."""
 SILENCE, UNUSUAL = 60 * SECOND, 10
 """Servers are silent if none is heard for this time, and for so many times as long as usual."""
+TOLD = "silence", "outside", "far"
+"""Warnings that say less than a reason which names the gaps."""
 MORE = 10
 """So many times the claim's drift is tried where nothing fits, or that of an oscillator alone."""
 
@@ -39,8 +43,11 @@ class Texts(NamedTuple):
     other: bytes = b""
     """The answer of `settle` to another claim: at a yes with the bound 0, where nothing fits with more drift and
     the greatest bound."""
-    human: bytes = b""
-    """The answer of `settle --human`, if nothing fits."""
+    apiece: bytes = b""
+    """Where nothing fits, the answer of `settle` if each server is by itself and none may be wrong."""
+    found: Found = Found([], [])
+    stretches: list[Stretch] = []
+    """Where nothing fits, when servers contradict themselves, and what lies between these times."""
     envelope: bytes = b""
     traffic: Traffic | None = None
     """Who asks whom, by `list`, if there is no evidence, or many replies have no request."""
@@ -52,6 +59,8 @@ class Beside(NamedTuple):
     leaps: LeapList
     backing: Backing
     alerts: list[Alert]
+    capture: str
+    """The capture that is audited, by its name in the folder."""
 
 
 def more_drift(claim: Claim) -> int:
@@ -66,13 +75,16 @@ def judge(part: Part, recording: Recording, beside: Beside, texts: Texts, step: 
     settled, envelope = read_settled(texts.settled), read_envelope(texts.envelope)
     advice = read_advice(texts.report) if settled.answer == YES else {}
     servers = servers_of(claim, recording)
-    warned = [*beside.alerts, *warnings(claim, recording, envelope, advice),
+    gaps = gaps_of(claim, recording)
+    warned = [*beside.alerts, *warnings(claim, recording, envelope, advice, gaps),
               *against(beside.backing, claim, leap)]
     if texts.traffic and (mode := texts.traffic.interleaving(claim.client, claim.servers)):
-        warned.append(Alert("interleaved", servers=mode))
+        warned.insert(0, Alert("interleaved", servers=mode))
     if 0 < claim.drift_ppb <= OSCILLATOR and not beside.backing.read:
         warned.append(Alert("oscillator", claim.drift_ppb))
-    reason = reason_of(claim, servers, settled, envelope, texts, recording)
+    reason = reason_of(claim, settled, Seen(servers, envelope, recording, gaps, texts, beside.capture))
+    if reason and reason.why in ("gap", "beside"):
+        warned = [alert for alert in warned if alert.kind not in TOLD]
     return entry_by(beside.leaps, Entry(
         part=part.name,
         verdict=verdict_of(settled, reason),
@@ -103,32 +115,37 @@ def is_beyond(hull: Hull, bound: int) -> bool:
     return not isinstance(hull, str) and (hull[0] < -bound or hull[1] > bound)
 
 
-def is_off(hull: Hull, bound: int) -> bool:
-    """Whether a hull lies beyond the bound as a whole."""
-    return not isinstance(hull, str) and (hull[0] > bound or hull[1] < -bound)
+def side_of(hull: Hull, bound: int) -> int:
+    """On which side of the bound a hull lies as a whole: 1 where the clock is ahead, -1 where it is behind, else 0."""
+    if isinstance(hull, str):
+        return 0
+    return (hull[0] > bound) - (hull[1] < -bound)
 
 
-def reason_of(claim: Claim, servers: list[Server], settled: Settled, envelope: Envelope, texts: Texts,
-              recording: Recording) -> Reason | None:
+class Seen(NamedTuple):
+    """What a reason is seen in."""
+
+    servers: list[Server]
+    envelope: Envelope
+    recording: Recording
+    gaps: list[Gap]
+    texts: Texts
+    capture: str
+
+
+def reason_of(claim: Claim, settled: Settled, seen: Seen) -> Reason | None:
     """Of what isn't a yes by the program: why, and what shows it."""
     if settled.answer == REFUTED:
-        reason = why_refuted(bound_ticks(claim.bound_ns), envelope)
-        return away(claim, recording) or reason if reason.why == "exceeds" else reason
+        return why_refuted(claim, seen)
     if settled.answer == OPEN:
         return Reason("tick", tick=settled.tick, hull=settled.hull)
     if settled.answer == NO_EVIDENCE:
-        return silent(claim, settled.heard, texts.traffic or Traffic())
+        if are_twice(seen.recording.counts):
+            return Reason("twice", file=seen.capture)
+        return silent(claim, settled.heard, seen.texts.traffic or Traffic())
     if settled.answer == NOTHING_FITS:
-        return why_nothing_fits(claim, servers, settled, texts)
+        return why_nothing_fits(claim, seen.servers, settled, seen.texts)
     return None
-
-
-def away(claim: Claim, recording: Recording) -> Reason | None:
-    """The reason if all packets were recorded before the span, or all after it."""
-    if recording.first is None or recording.last is None:
-        return None
-    is_beside = recording.last < claim.first * SECOND or claim.last * SECOND < recording.first
-    return Reason("beside", recorded=(recording.first // SECOND, recording.last // SECOND)) if is_beside else None
 
 
 def silent(claim: Claim, heard: int, seen: Traffic) -> Reason:
@@ -139,33 +156,58 @@ def silent(claim: Claim, heard: int, seen: Traffic) -> Reason:
     return Reason("silent", heard=heard, asking=seen.by_number()[:FEW], asked=sorted(asked, key=number_of)[:FEW])
 
 
-def why_refuted(bound: int, envelope: Envelope) -> Reason:
-    """`unbounded`; `off` with the first piece whose hull lies beyond the bound as a whole; else `exceeds`."""
+def why_refuted(claim: Claim, seen: Seen) -> Reason:
+    """`unbounded`; `off` if a hull lies beyond the bound as a whole; `beside` if no packet lies within the span; `gap`
+    if hulls go beyond the bound where nothing was heard for long; else `exceeds`."""
+    envelope, bound = seen.envelope, bound_ticks(claim.bound_ns)
     if "unbounded" in envelope.hulls:
         return Reason("unbounded")
-    off = next((k for k, hull in enumerate(envelope.hulls) if is_off(hull, bound)), None)
-    return Reason("exceeds") if off is None else Reason("off", piece_of(envelope, off))
+    if off := off_piece(envelope, bound):
+        return Reason("off", off)
+    if around := seen.recording.around(claim.first * SECOND, claim.last * SECOND):
+        return Reason("beside", recorded=around)
+    are_gaps = are_in(envelope, seen.gaps)
+    if any(is_in and is_beyond(hull, bound) for hull, is_in in zip(envelope.hulls, are_gaps)):
+        rest = [hull for hull, is_in in zip(envelope.hulls, are_gaps) if not is_in]
+        longest = sorted(seen.gaps, key=lambda gap: gap[0] - gap[1])[:FEW]
+        return Reason("gap", hull=outermost(rest) if rest else None, gaps=sorted(longest), count=len(seen.gaps))
+    return Reason("exceeds")
+
+
+def off_piece(envelope: Envelope, bound: int) -> Piece | None:
+    """The longest run of pieces whose hulls lie beyond the bound as a whole, all on one side, if there is one."""
+    sides = [side_of(hull, bound) for hull in envelope.hulls]
+    runs, begin = list[tuple[int, int]](), 0
+    for side, own in groupby(sides):
+        end = begin + len(list(own))
+        runs += [(begin, end)] if side else []
+        begin = end
+    if not runs:
+        return None
+    first, last = max(runs, key=lambda run: envelope.ends[run[1] - 1] - envelope.begins[run[0]])
+    return Piece(first, envelope.begins[first], envelope.ends[last - 1], outermost(envelope.hulls[first:last]))
 
 
 def why_nothing_fits(claim: Claim, servers: list[Server], settled: Settled, texts: Texts) -> Reason:
-    """`apart` with the servers of groups that are in conflict with themselves or with most others, if these are the
-    minority and in each conflict; else `drift` if a course fits with more drift; `step` if each group is in conflict
-    with itself; else `many`."""
-    group = {server.address: server.group for server in servers}
-    heard = {server.group for server in servers if server.samples}
-    pairs = {(group[low], group[high]) for low, _, high, _ in settled.conflicts}
-    broken = {a for a, b in pairs if a == b}
-    met = {one: {a + b - one for a, b in pairs if one in (a, b)} - {one} for one in heard}
-    apart = broken | {one for one in heard if 2 * len(met[one]) >= len(heard)}
-    tried, conflicts = more_drift(claim), settled.conflicts
-    if 2 * len(apart) < len(heard) and all(a in apart or b in apart for a, b in pairs):
-        names = [server.address for server in servers if server.group in apart]
-        return Reason("apart", drift_ppb=tried, conflicts=conflicts, apart=names)
-    if read_settled(texts.other).answer != NOTHING_FITS:
-        return Reason("drift", drift_ppb=tried, conflicts=conflicts)
-    if broken != heard:
-        return Reason("many", drift_ppb=tried, conflicts=conflicts)
-    return Reason("step", drift_ppb=tried, conflicts=conflicts, between=read_between(texts.human))
+    """`step` if most servers contradict themselves at the same few times, or `drift` if a course fits with more drift
+    too; `apart` with the servers that are in conflict with themselves or with most others, if these are the minority
+    and in each conflict; `drift` if a course fits with more drift; else `many`."""
+    found, tried, conflicts = texts.found, more_drift(claim), settled.conflicts
+    fits = read_settled(texts.other).answer != NOTHING_FITS
+    if found.of_clock:
+        own = [set(stretch.apart) for stretch in texts.stretches if not isinstance(stretch.hull, str)]
+        always = [server for server in claim.servers if own and all(server in each for each in own)]
+        return Reason("drift" if fits else "step", drift_ppb=tried, conflicts=conflicts, apart=always,
+                      steps=found.of_clock, stretches=texts.stretches)
+    heard = {server.address for server in servers if server.samples}
+    pairs = {(low, high) for low, _, high, _ in read_settled(texts.apiece).conflicts}
+    met = {one: {high if low == one else low for low, high in pairs if one in (low, high)} - {one} for one in heard}
+    apart = [one for one in claim.servers
+             if (one, one) in pairs or one in heard and 2 * len(met[one]) >= len(heard)]
+    steps = [step for step in found.steps if set(step.servers) <= set(apart)][:FEW]
+    if 2 * len(apart) < len(heard) and all(low in apart or high in apart for low, high in pairs):
+        return Reason("apart", drift_ppb=tried, conflicts=conflicts, apart=apart, steps=steps)
+    return Reason("drift" if fits else "many", drift_ppb=tried, conflicts=conflicts, steps=found.steps[:FEW])
 
 
 def servers_of(claim: Claim, recording: Recording) -> list[Server]:
@@ -175,7 +217,8 @@ def servers_of(claim: Claim, recording: Recording) -> list[Server]:
             for number, address in enumerate(claim.servers)]
 
 
-def warnings(claim: Claim, recording: Recording, envelope: Envelope, advice: dict[str, str]) -> Iterator[Alert]:
+def warnings(claim: Claim, recording: Recording, envelope: Envelope, advice: dict[str, str],
+             gaps: list[Gap]) -> Iterator[Alert]:
     """What stands beside a verdict, whatever it is."""
     if recording.first is not None and recording.last is not None:
         before, after = recording.first - claim.first * SECOND, claim.last * SECOND - recording.last
@@ -188,37 +231,51 @@ def warnings(claim: Claim, recording: Recording, envelope: Envelope, advice: dic
     if recording.fall:
         record, before, after = recording.fall
         yield Alert("falls", recording.falls, record, before, after)
-    yield from silences(claim, recording)
-    yield from far_pieces(claim, recording, envelope)
+    yield from silences(recording, gaps)
+    yield from far_pieces(claim, recording, envelope, gaps)
     if recording.counts.get("warnings"):
         yield Alert("leap", recording.counts["warnings"])
     if "sources" in advice:
         yield Alert("sources", int(advice["sources"]))
     if "reference" in advice:
         yield Alert("reference", reference=advice["reference"])
-    if apart := [server for server, seen in ranges_of(envelope).items() if seen.apart]:
+    if apart := apart_of(envelope, gaps):
         yield Alert("apart", servers=apart)
 
 
-def silences(claim: Claim, recording: Recording) -> Iterator[Alert]:
-    """The longest of the times within the span in which no server was heard for longer than usual, and their number."""
-    gaps = list(map(sub, recording.times[1:], recording.times))
-    if max(gaps, default=0) <= SILENCE:
-        return
-    limit = max(SILENCE, UNUSUAL * sorted(gaps)[len(gaps) // 2])
-    found = [(after - before, before, after) for before, after in pairwise(recording.times)
-             if after - before > limit and before < claim.last * SECOND and claim.first * SECOND < after]
-    if found:
-        _, before, after = max(found)
-        yield Alert("silence", len(found), before=before, after=after)
+def gaps_of(claim: Claim, recording: Recording) -> list[Gap]:
+    """The times within the span in which no server was heard for longer than usual, its begin and its end among
+    them."""
+    first, last, times = claim.first * SECOND, claim.last * SECOND, recording.times
+    lengths = list(map(sub, times[1:], times))
+    limit = max(SILENCE, UNUSUAL * sorted(lengths)[len(lengths) // 2] if lengths else 0)
+    ends = [min(first, times[0]), *times, max(last, times[-1])] if times else []
+    return [(before, after) for before, after in pairwise(ends)
+            if after - before > limit and before < last and first < after]
 
 
-def far_pieces(claim: Claim, recording: Recording, envelope: Envelope) -> Iterator[Alert]:
+def silences(recording: Recording, gaps: list[Gap]) -> Iterator[Alert]:
+    """The longest gap between samples, and how many there are."""
+    if inner := inner_gaps(recording, gaps):
+        before, after = max(inner, key=lambda gap: (gap[1] - gap[0], gap))
+        yield Alert("silence", len(inner), before=before, after=after)
+
+
+def inner_gaps(recording: Recording, gaps: list[Gap]) -> list[Gap]:
+    """Those between samples."""
+    times = recording.times
+    return [gap for gap in gaps if times[0] <= gap[0] and gap[1] <= times[-1]]
+
+
+def far_pieces(claim: Claim, recording: Recording, envelope: Envelope, gaps: list[Gap]) -> Iterator[Alert]:
+    """Pieces that are far from every sample, and in no gap that is named."""
     first, last = claim.first * SECOND, claim.last * SECOND
     limit = (last - first) // FAR
     if not recording.replies or widest_gap([first, *recording.some_times(), last]) <= limit:
         return  # (a piece can't be farther from a sample than some of the samples are from one another)
     distances = list(map(recording.nearest, envelope.begins, envelope.ends))
+    inner = are_in(envelope, list(inner_gaps(recording, gaps)))
+    distances = [0 if is_in else distance for distance, is_in in zip(distances, inner)]
     farthest = max(distances)
     if farthest > limit:
         far = sum(distance > limit for distance in distances)

@@ -1,20 +1,21 @@
 """An audit in one line for a terminal."""
 from __future__ import annotations
 
-from .entry import AGAINST, REFUSED, UNSUPPORTED, Entry
+from .entry import AGAINST, NO_EVIDENCE, REFUSED, UNSUPPORTED, Entry
 from .text import plain
 from .units import ns_ms, ns_up_ms
+from .words import in_short
 
 
 def refusal_of(folder: str, line: str) -> str:
     """One line for a terminal, of a folder without a verdict."""
-    return f"{REFUSED:14}{plain(folder)}: {plain(line)}"
+    return f"{REFUSED:14}{plain(folder)}: {plain(line).replace('`', '')}"
 
 
 def line_of(folder: str, entry: Entry) -> str:
     """One line for a terminal: the verdict, the folder, and the figures."""
     name = plain(folder) + ("" if entry.part == "." else f" {entry.part}")
-    return f"{entry.verdict:14}{name}: {figures(entry)}{against(entry)}"
+    return f"{entry.verdict:14}{name}: {'; '.join(filter(None, [figures(entry), in_short(entry)]))}{against(entry)}"
 
 
 def against(entry: Entry) -> str:
@@ -25,5 +26,7 @@ def against(entry: Entry) -> str:
 
 
 def figures(entry: Entry) -> str:
-    least = "no bound is carried" if entry.least_ns is None else f"least bound {ns_up_ms(entry.least_ns)} ms"
-    return f"{least}, claimed {ns_ms(entry.claim.bound_ns)} ms"
+    """The bounds, where there is a least one."""
+    if entry.least_ns is None or entry.verdict == NO_EVIDENCE:
+        return ""
+    return f"least bound {ns_up_ms(entry.least_ns)} ms, claimed {ns_ms(entry.claim.bound_ns)} ms"

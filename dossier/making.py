@@ -11,7 +11,7 @@ from dataclasses import dataclass
 
 from . import VERSION
 from .backing import Backing, backing
-from .captures import audited, cut, thinned, unpacked
+from .captures import cut, thinned, unpacked
 from .claim import Claim, parts_of
 from .entry import Entry, Kept, LeapList, Options, Record, Refusal
 from .evidence import evidence_files
@@ -22,6 +22,7 @@ from .placing import copy_of, move
 from .program import Program
 from .settling import Settling
 from .text import plain
+from .twice import once
 from .typed import read_typed
 from .units import now
 
@@ -98,19 +99,20 @@ def make(taken: Inputs, options: Options, leaps: LeapList, backed: Backing, prog
     name, copy = next(iter(taken.copies.items()))
     claim = read_claim(program, copy)
     parts = list(parts_of(claim, options.days))
-    whole = thinned(audited(taken.copies), claim, program)
+    whole = thinned(once(taken.copies, program), claim, program)
     if size_of(whole.path) > MOST_OF_A_CAPTURE:
         raise too_big(JOINED, MOST_OF_A_CAPTURE)
     taken.capture = JOINED if whole.is_made else name
     made = {JOINED: sum_of_file(JOINED)} if whole.is_made else {}
     sums = {CLAIM: taken.sums[CLAIM], whole.path: made.get(JOINED) or taken.sums[name]}
-    beside = Beside(leaps, backed, whole.alerts)
-    cuts = cut(whole.path, parts) if options.days else [None]
+    beside = Beside(leaps, backed, whole.alerts, taken.capture)
     entries = []
-    for part, cut_to in zip(parts, cuts):
+    for part, cut_to in zip(parts, cut(whole.path, parts)):
         settling = Settling(part, whole, program, options.step, sums, earlier(part.name))
         settling.left |= made
         entries.append(settling.settle(beside, cut_to))
+        if JOINED in settling.left:
+            taken.capture = JOINED
     return entries
 
 

@@ -17,7 +17,7 @@ from .fault import REFUSED as INPUT_REFUSED, Fault, fault
 from .folder import Folder, sum_of
 from .known import Known
 from .leap import record_by
-from .markup import Html, element, html, joined, lines, minus, with_code
+from .markup import Html, element, html, joined, lines, with_code
 from .metrics import Sample, of_record, of_verdict, write_metrics
 from .older import read_any
 from .placing import write_named
@@ -288,7 +288,7 @@ def signed_cell(row: Row, is_looked_at: bool) -> object:
 
 def why_of(row: Row, is_brief: bool) -> list[Html]:
     """Why it isn't a yes, what to do, and the warnings; of a yes that has a page of its own how many these are."""
-    said = joined(filter(None, [minus(row.reason), with_code(row.to_do)]), " ")
+    said = joined(filter(None, [with_code(row.reason), with_code(row.to_do)]), " ")
     if is_brief and row.verdict == YES and row.warnings:
         return [html(count(len(row.warnings), "warning"))]
-    return ([said] if said else []) + [joined([element("b", "Warning:"), words], " ") for words in row.warnings]
+    return ([said] if said else []) + [joined([element("b", "Warning:"), with_code(words)], " ") for words in row.warnings]

@@ -1,31 +1,54 @@
 """What the servers say over a whole span, as the envelope has it."""
 from __future__ import annotations
 
+from bisect import bisect_right
 from operator import gt
 from typing import NamedTuple
 
 from .answers import Envelope
-from .entry import Hull
+from .entry import Gap, Hull
+from .units import SECOND
 
 
 class Range(NamedTuple):
-    """The outermost ends of a server's intervals, in ticks; how many of them hold nothing; and whether it stands apart:
-    no interval of its own meets the hull of its piece."""
+    """The outermost ends of a server's intervals, in ticks, and how many of them hold nothing."""
 
     low: int
     high: int
     crossed: int
-    apart: bool
 
 
 def ranges_of(envelope: Envelope) -> dict[str, Range]:
     """The range of each server by its address."""
-    return {address: Range(min(lows), max(highs), sum(map(gt, lows, highs)), is_apart(lows, highs, envelope.hulls))
+    return {address: Range(min(lows), max(highs), sum(map(gt, lows, highs)))
             for address, (lows, highs) in envelope.servers.items()}
 
 
+def outermost(hulls: list[Hull]) -> Hull:
+    """The outermost ends of hulls: `unbounded` if one of them is, and `empty` if all are."""
+    if "unbounded" in hulls:
+        return "unbounded"
+    ends = [hull for hull in hulls if not isinstance(hull, str)]
+    return (min(low for low, _ in ends), max(high for _, high in ends)) if ends else "empty"
+
+
+def are_in(envelope: Envelope, gaps: list[Gap]) -> list[bool]:
+    """Of each piece whether some of it lies in a gap, of those in order of time."""
+    lasts, found = [last for _, last in gaps], []
+    for begin, end in zip(envelope.begins, envelope.ends):
+        at = bisect_right(lasts, begin * SECOND)
+        found.append(at < len(gaps) and gaps[at][0] < end * SECOND)
+    return found
+
+
+def apart_of(envelope: Envelope, gaps: list[Gap]) -> list[str]:
+    """The servers that stand apart: outside of gaps, in which all intervals widen, none of their own meets the hull of
+    its piece, if there are hulls."""
+    hulls = ["empty" if is_in else hull for hull, is_in in zip(envelope.hulls, are_in(envelope, gaps))]
+    return [address for address, (lows, highs) in envelope.servers.items() if is_apart(lows, highs, hulls)]
+
+
 def is_apart(lows: list[int], highs: list[int], hulls: list[Hull]) -> bool:
-    """Whether there are hulls, and these intervals meet none of them."""
     meets = [low <= hull[1] and hull[0] <= high for low, high, hull in zip(lows, highs, hulls)
              if not isinstance(hull, str)]
     return bool(meets) and not any(meets)

@@ -44,6 +44,7 @@ class Recording:
         """The time of the first request that has a sample."""
         self.replies = at(map(stamps.__getitem__, samples.replies))
         """When each sample's reply was recorded."""
+        self.at, self.packets = at, own
 
     @cached_property
     def times(self) -> list[int]:
@@ -57,6 +58,19 @@ class Recording:
             return [self.first, self.last]
         ends = [*self.replies[:1], *self.replies[-1:]]
         return ends if self.first_request is None else [*ends, self.first_request]
+
+    def around(self, first: int, last: int) -> tuple[int, int] | None:
+        """If no packet was recorded between two times, but some were: when the last before them was, and the first
+        after them; 0 if there is none."""
+        before = after = 0
+        for time in self.at(self.packets):
+            if first <= time <= last:
+                return None
+            if time < first:
+                before = max(before, time)
+            else:
+                after = min(after or time, time)
+        return (before, after) if before or after else None
 
     def some_times(self) -> list[int]:
         """The times of some hundred of these replies, the first and the last among them."""

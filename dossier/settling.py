@@ -7,19 +7,22 @@ from dataclasses import replace
 
 from . import folder as files
 from .answers import read_settled
-from .captures import Audited
+from .captures import Audited, cut
 from .claim import GREATEST_BOUND, Part
-from .entry import NO_EVIDENCE, NOTHING_FITS, REFUTED, YES, Entry
+from .entry import NO_EVIDENCE, NOTHING_FITS, OPEN, REFUTED, YES, Alert, Entry
 from .fault import MISSING, Fault, fault
 from .judgement import Beside, Texts, judge, more_drift
 from .folder import sum_of, sum_of_file
-from .placing import keep, make_private
+from .placing import keep, make_private, move
 from .program import Program
 from .recording import Recording, read_recording
+from .steps import ALONE, Found, Search, stretches_of
 from .traffic import read_traffic
 
 MOST_LINES = 1_000_000
 """Of an envelope: a line for each piece and for each server in it."""
+WITHIN = "within.pcap"
+"""A private file: what was recorded in the span alone."""
 MANY_PIECES = 10_000
 """The envelope has pieces of 1, 4, 16, .. s, the least with which it has no more than these."""
 
@@ -41,23 +44,65 @@ class Settling:
         self.sums = dict(sums)
         self.left: dict[str, str] = {}
 
-    def settle(self, beside: Beside, cut_to: Callable[[str], bool] | None) -> Entry:
-        """Makes all calls and leaves all files. A day is settled on its own records."""
+    def settle(self, beside: Beside, cut_to: Callable[[str], bool]) -> Entry:
+        """Makes all calls and leaves all files, by what was recorded in the span and beside it; or in the span alone,
+        if the clock was stepped beside it."""
         if self.part.name != ".":
             make_private(self.part.name)
             self.keep(files.CLAIM, self.part.claim.text)
-        own = self.part.within(files.JOINED)
-        if cut_to and cut_to(own):
-            self.capture, self.extent, self.sums[own] = own, None, sum_of_file(own)
-            self.left[own] = self.sums[own]
-        recording = read_recording(self.program, self.claim, self.capture, self.extent)
+        own, alerts = self.part.within(files.JOINED), list[Alert]()
+        if cut_to(own):
+            self.take(own)
         texts = self.decide()
+        if read_settled(texts.settled).answer == NOTHING_FITS:
+            found = Search(self.program, self.part, self.capture, self.extent).found()
+            within = self.settled_within() if found.are_beside(self.part.claim) else None
+            if within:
+                texts, alerts = within, [Alert("contrary", before=found.steps[0].after, after=found.steps[0].by)]
+                move(WITHIN, own)
+                self.take(own)
+            else:
+                texts = self.explained(texts, found)
+        recording = read_recording(self.program, self.claim, self.capture, self.extent)
         if read_settled(texts.settled).answer == NO_EVIDENCE or do_many_miss(recording, len(self.part.claim.servers)):
             with suppress(Fault):  # (too many ask in it)
                 texts = texts._replace(traffic=read_traffic(self.program, self.capture))
         words = ("envelope", self.claim, self.capture, "--servers", "--least", "--step", str(self.step))
         texts = texts._replace(envelope=self.keep(files.ENVELOPE, self.call(*words)))
+        beside = beside._replace(alerts=[*beside.alerts, *alerts])
         return judge(self.part, recording, beside, texts, self.step, self.left)
+
+    def take(self, capture: str) -> None:
+        """Takes another capture as that of the part, and leaves it."""
+        self.capture, self.extent, self.sums[capture] = capture, None, sum_of_file(capture)
+        self.left[capture] = self.sums[capture]
+
+    def settled_within(self) -> Texts | None:
+        """What comes of what was recorded in the span alone; None if that is all there is, or it fits as little."""
+        cut_to, = cut(self.capture, [self.part], 0)
+        if not cut_to(WITHIN):
+            return None
+        whole, self.capture, self.sums[WITHIN] = self.capture, WITHIN, sum_of_file(WITHIN)
+        left = dict(self.left)
+        try:
+            if read_settled(self.call("settle", self.claim, WITHIN)).answer in (YES, REFUTED, OPEN):
+                for name in (files.CLAIM_OF_DRIFT, files.REPORT):
+                    self.left.pop(self.part.within(name), None)
+                return self.decide()
+        finally:
+            self.capture = whole
+        self.left = left
+        return None
+
+    def explained(self, texts: Texts, found: Found) -> Texts:
+        """What the program says of each server by itself, where nothing fits, and of what lies between steps."""
+        alone = replace(self.part.claim, groups=[], false_max=0)
+        keep(ALONE, alone.text)
+        stretches = []
+        if found.of_clock:
+            stretches = stretches_of(self.program, self.part, self.capture, found.of_clock, self.step)
+            keep(ALONE, alone.text)
+        return texts._replace(apiece=self.call("settle", ALONE, self.capture), found=found, stretches=stretches)
 
     def keep(self, name: str, data: bytes) -> bytes:
         """Leaves a file of this part."""
@@ -100,7 +145,6 @@ class Settling:
         texts = Texts(text, self.keep(files.REPORT, text))
         if answer == NOTHING_FITS:
             granted = {"drift_ppb": more_drift(self.part.claim), "bound_ns": GREATEST_BOUND}
-            texts = texts._replace(human=self.call("settle", "--human", self.claim, self.capture))
             return texts._replace(other=self.settled(files.CLAIM_OF_DRIFT, **granted))
         return texts
 

@@ -35,3 +35,8 @@ def is_or_are(number: int) -> str:
 def count(number: int, one: str, many: str | None = None) -> str:
     """`1 server`, `4 servers`."""
     return f"{number:,} {one if number == 1 else many or one + 's'}"
+
+
+def listed(names: list[str]) -> str:
+    """`a`, `a and b`, `a, b and c`."""
+    return " and ".join([", ".join(names[:-1]), names[-1]] if names[1:] else names)

@@ -86,10 +86,23 @@ def day_of(seconds: int) -> str:
 
 def between(begin: int, end: int) -> str:
     """`between .. and ..`, or `at ..` of one moment."""
-    if begin == end:
-        return f"at {shown_time(begin)}"
+    return f"at {shown_time(begin)}" if begin == end else two_times("between", begin, "and", end)
+
+
+def from_to(begin: int, end: int) -> str:
+    """`from .. to ..`, or `at ..` of one moment."""
+    return f"at {shown_time(begin)}" if begin == end else two_times("from", begin, "to", end)
+
+
+def two_times(word: str, begin: int, other: str, end: int) -> str:
+    """Two times, each with its word, the second without the day if it is the same."""
     first, last = shown_time(begin), shown_time(end)
-    return f"between {first} and {last[11:] if first[:10] == last[:10] else last}"
+    return f"{word} {first} {other} {last[11:] if first[:10] == last[:10] else last}"
+
+
+def outward(before: int, after: int) -> tuple[int, int]:
+    """Two times in nanoseconds as the whole seconds around them."""
+    return before // SECOND, ceil_div(after, SECOND)
 
 
 def span_of_seconds(seconds: float) -> str:

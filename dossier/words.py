@@ -5,13 +5,17 @@ within the bound. Refuted is: in one of them it isn't, so nothing in the capture
 """
 from __future__ import annotations
 
+import shlex
+
 from . import alerts
 from .alerts import warning_words
 from .claim import Claim
-from .entry import AGAINST, NO_EVIDENCE, NOTHING_FITS, REFUTED, UNSUPPORTED, YES, Entry, Reason, Refutation
-from .folder import REFUTATION
-from .text import capital, count, is_or_are
-from .units import TICKS, between, high_ms, low_ms, ns_ms, ns_up_ms, range_ms, shown_time
+from .entry import AGAINST, NO_EVIDENCE, NOTHING_FITS, REFUTED, UNSUPPORTED, YES, Entry, Reason, Refutation, Step
+from .folder import CLAIM, REFUTATION
+from .judgement import is_beyond
+from .text import capital, count, is_or_are, listed
+from .units import (SECOND, TICKS, between, bound_ticks, civil, from_to, high_ms, low_ms, ns_ms, ns_up_ms, outward,
+                    range_ms, shown_time)
 
 
 TWICE = "Its capture is that of another folder too, so one of them is a copy:"
@@ -47,6 +51,8 @@ def sentence(entry: Entry) -> str:
     if entry.verdict == UNSUPPORTED:
         return (f"It isn't shown that {span(claim)} {within}. The capture would show it, {granted(claim)}; but the "
                 f"folder's own evidence speaks against what else the claim grants. {reason(entry)}")
+    if entry.reason and entry.reason.why == "off":
+        return capital(why_off(entry, entry.reason))
     if entry.verdict == REFUTED:
         return f"The capture doesn't show that {span(claim)} {within}, and no certificate can. {reason(entry)}"
     if entry.verdict == NOTHING_FITS:
@@ -68,19 +74,24 @@ def reason(entry: Entry) -> str:
         return " ".join(warning_words(warning) for warning in entry.warnings if warning.kind in AGAINST)
     if entry.verdict == NO_EVIDENCE:
         return why_no_evidence(entry, found)
-    if found.hull is not None:
+    if found.why == "tick" and found.hull is not None:
         is_word = isinstance(found.hull, str)
         left = f"the hull is {found.hull}" if is_word else f"errors from {range_ms(*found.hull)} are left open"
         return f"At {shown_time(found.tick // TICKS)} {left}."
-    return why_nothing_fits(found) if entry.verdict == NOTHING_FITS else why_refuted(entry, found)
+    return why_nothing_fits(entry, found) if entry.verdict == NOTHING_FITS else why_refuted(entry, found)
 
 
 def why_no_evidence(entry: Entry, found: Reason) -> str:
     """What is missing: the recording at the time of the span, the client, its servers' replies, or enough of them."""
     counts, client = entry.counts, entry.claim.client
     if found.recorded:
-        begin, end = map(shown_time, found.recorded)
-        return f"No packet was recorded within the span: they are from {begin} to {end}, and times are UTC."
+        before, after = (time // SECOND for time in found.recorded)
+        ends = [f"the last before it is from {shown_time(before)}"] if before else []
+        ends += [f"the first after it from {shown_time(after)}"] if after else []
+        return f"No packet was recorded within the span: {', '.join(ends)}, and times are UTC."
+    if found.why == "twice":
+        return (f"Each packet is there twice in {found.file}, so no reply is of use: it may be the answer to either of "
+                "two requests.")
     if not counts.get("records"):
         return "Nothing was recorded: there is no record at all."
     if not counts.get("requests"):
@@ -98,39 +109,130 @@ def why_no_evidence(entry: Entry, found: Reason) -> str:
 def why_refuted(entry: Entry, found: Reason) -> str:
     if found.why == "unbounded":
         return "No more groups have a sample than the claim takes for wrong, so nothing follows."
-    said = f"A course of events fits the exchanges {course_of(entry)}."
+    if found.why == "off":
+        return capital(why_off(entry, found))
+    if found.why == "gap":
+        return why_gap(entry, found)
+    return f"A course of events fits the exchanges {course_of(entry)}."
+
+
+def why_off(entry: Entry, found: Reason) -> str:
+    """How far the clock was off, and when."""
     if found.piece is None or isinstance(found.piece.hull, str):
+        return ""
+    when = from_to(found.piece.from_, found.piece.to)
+    return (f"the clock of {entry.claim.client} was {ahead(found.piece.hull)} UTC {when}, and so beyond the bound of "
+            f"{ns_ms(entry.claim.bound_ns)} ms, {granted(entry.claim)} and what else the claim grants is true.")
+
+
+def ahead(hull: tuple[int, int]) -> str:
+    """An error that has one sign: `29.354 to 30.639 ms ahead of`."""
+    low, high = hull if hull[0] > 0 else (-hull[1], -hull[0])
+    return f"{range_ms(low, high)} {'ahead of' if hull[0] > 0 else 'behind'}"
+
+
+def why_gap(entry: Entry, found: Reason) -> str:
+    """When nothing was heard, and what holds at all other times."""
+    times = [from_to(*outward(*gap)) for gap in found.gaps]
+    more = f" and {found.count - len(times):,} more times" if found.count > len(times) else ""
+    said = f"No server was heard {listed(times)}{more}, and so nothing shows how the clock went on."
+    if found.hull is None or isinstance(found.hull, str):
         return said
-    when = capital(between(found.piece.from_, found.piece.to))
-    return (f"{said} {when} the error lay from {range_ms(*found.piece.hull)}, outside the bound, if what the claim "
-            "grants is true.")
+    is_more = is_beyond(found.hull, bound_ticks(entry.claim.bound_ns))
+    beyond = "; that goes beyond the bound too" if is_more else ""
+    return f"{said} At all other times the error lay within {range_ms(*found.hull)}, {IF_TRUE}{beyond}."
 
 
-def why_nothing_fits(found: Reason) -> str:
+IF_TRUE = "if what the claim grants is true"
+
+
+def why_nothing_fits(entry: Entry, found: Reason) -> str:
     number = len(found.conflicts)
-    conflicts, drift = count(number, "conflict"), f"a drift of {found.drift_ppb:,} parts in 10^9"
+    conflicts, drift = count(number, "conflict"), f"with a drift of {found.drift_ppb:,} parts in 10^9"
+    apart = f"{listed(found.apart)} {is_or_are(len(found.apart))}" if found.apart else ""
     if found.why == "apart":
         own = "itself" if len(found.apart) == 1 else "themselves"
-        return (f"{' and '.join(found.apart)} {is_or_are(len(found.apart))} in each of {conflicts}, with {own} or "
-                "with most others.")
+        steps = "".join(f" {alone(step)}" for step in found.steps)
+        return f"{apart} in each of {conflicts}, with {own} or with most others.{steps}"
+    if found.stretches:
+        when = f"the clock was stepped {listed([between(*outward(step.after, step.by)) for step in found.steps])}"
+        said = capital(f"{when}: there {seen_by(entry, found)}.")
+        if found.why == "drift":
+            said += f" Or it moved faster than the claim grants: {drift} a course of events would fit."
+        more = f" {apart} apart all the time." if apart else ""
+        return said + around(found) + more
     if found.why == "drift":
-        return f"With {drift} a course of events would fit: the claim grants too little drift."
-    if found.why == "step":
-        when = f", after {shown_time(found.between[0])} and by {shown_time(found.between[1])}" if found.between else ""
-        return (f"Every server is in conflict with itself, and would be with {drift}: so it is if the clock was stepped"
-                f"{when}.")
-    return f"More servers are in conflict than the claim takes for wrong: there {is_or_are(number)} {conflicts}."
+        return f"{capital(drift)} a course of events would fit: the claim grants too little drift."
+    steps = "".join(f" {alone(step)}" for step in found.steps)
+    is_two = " These times don't agree." if len(found.steps) > 1 else ""
+    return f"More servers are in conflict than the claim takes for wrong: there {is_or_are(number)} {conflicts}." \
+        f"{steps}{is_two}"
+
+
+def seen_by(entry: Entry, found: Reason) -> str:
+    """Which servers show a step."""
+    servers, heard = {len(step.servers) for step in found.steps}, sum(server.samples > 0 for server in entry.servers)
+    if servers == {heard}:
+        return "every server contradicts what it said before" if heard > 1 else "its server contradicts itself"
+    return f"at least {min(servers)} of {heard} servers contradict what they said before"
+
+
+def alone(step: Step) -> str:
+    """A step that only some servers show."""
+    itself = "contradicts itself" if len(step.servers) == 1 else "contradict themselves"
+    return f"{listed(step.servers)} {itself} {between(*outward(step.after, step.by))}."
+
+
+def around(found: Reason) -> str:
+    """How far the clock was off before a step and after it."""
+    own = [(stretch, stretch.hull) for stretch in found.stretches if not isinstance(stretch.hull, str)]
+    parts = [f"{range_ms(*hull)} {from_to(stretch.from_, stretch.to)}" for stretch, hull in own]
+    return f" The error lay within {listed(parts)}, {IF_TRUE}." if parts else ""
+
+
+def in_short(entry: Entry) -> str:
+    """The cause in few words, for a line; nothing if the figures say it."""
+    found = entry.reason
+    if not found or entry.verdict == UNSUPPORTED:
+        return ""
+    if found.stretches:
+        steps = listed([between(*outward(step.after, step.by)) for step in found.steps])
+        apart = f"; {listed(found.apart)} apart" if found.apart else ""
+        return f"stepped {steps}{', or too little drift granted' if found.why == 'drift' else ''}{apart}"
+    if found.why == "off" and found.piece and not isinstance(found.piece.hull, str):
+        return f"{ahead(found.piece.hull)} UTC {from_to(found.piece.from_, found.piece.to)}"
+    if found.why == "gap":
+        more = f", and {found.count - 1:,} more times" if found.count > 1 else ""
+        longest = max(found.gaps, key=lambda gap: gap[1] - gap[0])
+        return f"no server heard {from_to(*outward(*longest))}{more}"
+    if found.why == "apart":
+        return f"{listed(found.apart)} apart"
+    if found.why == "twice":
+        return f"each packet is there twice in {found.file}"
+    return SHORT.get(found.why, "")
+
+
+SHORT = {"drift": "too little drift granted", "many": "more servers in conflict than granted",
+         "unbounded": "too few servers have a sample", "silent": "too few servers have a sample",
+         "beside": "no packet within the span"}
 
 
 def to_do(entry: Entry) -> str:
     """What to do about it."""
-    if not entry.reason:
+    found = entry.reason
+    if not found:
         return ""
     if entry.verdict == UNSUPPORTED:
         return " ".join(alerts.TO_DO[warning.kind] for warning in entry.warnings if warning.kind in AGAINST)
-    least = f"A bound of {ns_up_ms(entry.least_ns)} ms is the least that a certificate carries. " \
-        if entry.least_ns is not None and entry.verdict != NO_EVIDENCE else ""
-    return least + TO_DO[entry.reason.why] + cut_at(entry.reason)
+    if mode := next((warning for warning in entry.warnings if warning.kind == "interleaved"), None):
+        if found.why == "silent":
+            return capital(alerts.without_xleave(mode))
+    does_help = entry.least_ns is not None and found.why in ("exceeds", "tick")
+    least = f"A bound of {ns_up_ms(entry.least_ns or 0)} ms is the least that a certificate carries. " \
+        if does_help else ""
+    if found.stretches:
+        return after_steps(found)
+    return least + TO_DO[found.why].format(file=shlex.quote(found.file))
 
 
 TIGHTER = "For a tighter one ask nearer servers, more of them, or more often; or grant less drift, if that is true."
@@ -139,28 +241,39 @@ TO_DO = {
                  "became of their replies.",
     "silent": "See whether the claim names the right client, and whether the capture has replies: the counts tell "
               "what became of them. Name more servers, put fewer of them together, or grant fewer wrong ones.",
-    "beside": "See whether the claim's times are local ones, and whether this is the day's capture.",
-    "off": "See in the picture how it went; claim a wider bound, or another span.",
+    "beside": "See whether machine, recorder and network were on, whether the claim's times are local ones, and "
+              "whether this is the day's capture.",
+    "twice": "Record one interface. `editcap -F nsecpcap -D 50 {file} ../once.pcap` leaves the first of two like "
+             "packets (`-F pcap` if it has microseconds): put that in the place of the file.",
+    "off": "Mend the clock, on the machine itself: `chronyc tracking` says how far off chronyd takes it to be, and "
+           "`chronyc -n sources -v` which servers it follows. See in the picture how it went.",
+    "gap": "See what was off then: the machine, its recorder, the network, or all servers. Claim the times before and "
+           "after by themselves, since no other evidence of these times will come.",
     "tick": TIGHTER,
     "exceeds": TIGHTER,
     "apart": "See by the servers how far off they are. Name them no more, or grant that they were wrong (`false_max`) "
              "and name more servers. Those that follow one another belong into one group.",
     "drift": "Grant as much as the oscillator and the client's corrections can make: `ntpaudit-dossier draft "
              "--chrony` or `--ntpd` reads them of the client's configuration.",
-    "step": "Look for the step in the client's messages (`System clock was stepped`). ",
     "many": "See in the conflicts which servers are in most, and in the picture how far off. Grant that they were "
             "wrong (`false_max`) and name more; or the claim grants too little of `reading_ns`.",
 }
 
 
-def cut_at(found: Reason) -> str:
-    """The commands that cut a capture where a step was seen."""
-    if not found.between:
-        return ""
-    before, after = shown_time(found.between[1]), shown_time(found.between[1] + 1)
-    return (f"`editcap -F pcap -A '{after}Z' f.pcap after.pcap` keeps what came after, and `editcap -F pcap -B "
-            f"'{before}Z' f.pcap before.pcap` what came before (`-F nsecpcap` if it has nanoseconds): claim each by "
-            "itself. With `--days` only the day of the step is lost.")
+def after_steps(found: Reason) -> str:
+    """How what lies before and after steps is claimed by itself."""
+    spans = [f'`"from": "{civil(stretch.from_)}", "to": "{civil(stretch.to)}"`' for stretch in found.stretches]
+    drift = " Or grant as much drift as the client may make (`ntpaudit-dossier draft --chrony`)." \
+        if found.why == "drift" else ""
+    return ("Look in the client's messages at that time (`System clock was stepped`). Claim what came before and after "
+            f"by itself, each in a folder of its own with a copy of the capture: {listed(spans)} in its "
+            f"{CLAIM}.{drift}")
+
+
+def warned(entry: Entry) -> list[str]:
+    """The warnings, but those that are the reason why it isn't a yes."""
+    is_yes_less = entry.verdict == UNSUPPORTED
+    return [warning_words(warning) for warning in entry.warnings if not (is_yes_less and warning.kind in AGAINST)]
 
 
 def fit(entry: Entry) -> str:

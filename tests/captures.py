@@ -207,30 +207,33 @@ def test_torn(place):
 
 
 def test_step(place):
-    """Where a step is seen it is said after and by when, it is drawn, and the commands that cut there leave two claims
-    that hold."""
-    for name, size in (("forwards", 50 * MS), ("backwards", -50 * MS)):
+    """Where a step is seen it is said between when, it is drawn, and the two claims that the words tell hold, each with
+    the whole capture."""
+    for name, size, by in (("forwards", 50 * MS, "12:10:30"), ("backwards", -50 * MS, "12:10:31")):
         words = [f"{server}:{low}..{low + 9}@{second}" for second in range(NOON, NOON + 1200, 30)
                  for low in [size if second > NOON + 600 else 0] for server in (1, 2)]
         folder = days_of(place, name, words, to="2001-09-09T12:19:30Z")
-        dossier("audit", folder)
+        _, line, _ = dossier("audit", folder)
         row, text = table(folder)[0], dossier("page", folder)[1].decode()
         check(f"a step {name}", verdict=(row["verdict"], "nothing fits"),
-              said=("so it is if the clock was stepped, after 2001-09-09 12:00:00 and by 2001-09-09 12:10:30."
-                    in row["reason"], True), drawn=(len(re.findall(r'class="step" d="M(\d+) 0V', text)), 1),
+              line=(line.decode(), f"nothing fits  {folder}: stepped between 2001-09-09 12:10:00 and {by}\n"),
+              said=(row["reason"].startswith(f"The clock was stepped between 2001-09-09 12:10:00 and {by}: there every "
+                                             "server contradicts what it said before."), True),
+              drawn=(len(re.findall(r'class="step" d="M(\d+) 0V', text)), 1),
               at=(abs(int(re.search(r'class="step" d="M(\d+) 0V', text)[1]) / 10_000 * 1170 - 630) < 1, True),
               verified=(dossier("verify", folder)[0], 1))
-        commands = re.findall(r"`(editcap [^`]*)`", row["to_do"])
-        check(f"commands that cut at a step {name}", count=(len(commands), 2))
-        if not shutil.which("editcap"):
-            skipped("captures that are cut at a step", "editcap isn't installed")
-            continue
-        for command, made, times in zip(commands, ("after", "before"),
-                                        ({"from": "2001-09-09T12:10:31Z"}, {"to": "2001-09-09T12:10:00Z"})):
-            status, _, err = run(["sh", "-c", command.replace("-F pcap", "-F nsecpcap")], cwd=folder)
-            half = folder_of(place, f"{name} {made}", folder / f"{made}.pcap", folder / "claim.json", **times)
-            check(f"what was recorded {made} a step {name}", run=((status, err), (0, b"")),
-                  audit=(dossier("audit", half)[0], 0))
+        spans = re.findall(r'`"from": "([^"]*)", "to": "([^"]*)"`', row["to_do"])
+        check(f"the claims beside a step {name}",
+              spans=(spans, [("2001-09-09T12:00:00Z", "2001-09-09T12:10:00Z"),
+                             (f"2001-09-09T{by}Z", "2001-09-09T12:19:30Z")]))
+        for number, (begin, end) in enumerate(spans):
+            half = folder_of(place, f"{name} {number}", folder / "f.pcap", folder / "claim.json",
+                             **{"from": begin, "to": end})
+            status, (row,) = dossier("audit", half)[0], table(half)
+            check(f"a claim beside a step {name}", status=(status, 0), verdict=(row["verdict"], "yes"),
+                  said=(row["warnings"][0], f"The clock was stepped between 2001-09-09 12:10:00 and {by}, outside of the "
+                        "span: what was recorded beside the span is left out."),
+                  verified=(dossier("verify", half)[0], 0))
 
 
 DAY, NOON = 86_400, 1_000_000_000 - 1_000_000_000 % 86_400 + 43_200

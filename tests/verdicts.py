@@ -139,7 +139,7 @@ def test_interleaved(place):
     capture = ROOT / "tests" / "client" / "interleaved.pcap"
     said = "10.9.0.1 mostly answers in interleaved mode, of which nothing follows: take `xleave` out of its line"
     status, out, err = dossier("draft", "--client", "10.9.0.2", capture)
-    check("a draft of interleaved mode", status=(status, 0), said=(said in err.decode(), True),
+    check("a draft of interleaved mode", status=(status, 0), said=(said.replace("`", "") in err.decode(), True),
           named=("10.9.0.3 mostly" in err.decode(), False))
     claim = {"client": "10.9.0.2", "servers": ["10.9.0.1", "10.9.0.3"], "false_max": 0,
              **{name: json.loads(out)[name] for name in ("from", "to")}, "bound_ns": 10**9}
@@ -251,7 +251,7 @@ def silent_folders(place):
             good_folder(place, "few", servers=["192.0.2.1", "203.0.113.2"]):
                 "1 of 2 groups of servers has a sample, and 1 may be wrong",
             good_folder(place, "hour", **{"from": "2001-09-09T02:46:45Z", "to": "2001-09-09T02:47:20Z"}):
-                "they are from 2001-09-09 01:46:50 to 2001-09-09 01:47:20, and times are UTC.",
+                "No packet was recorded within the span: the last before it is from 2001-09-09 01:47:20, and times are UTC.",
             good_folder(place, "earlier", **{"from": "2001-09-09T00:46:45Z", "to": "2001-09-09T00:47:20Z"}):
                 "No packet was recorded within the span"}
 

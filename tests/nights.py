@@ -1,0 +1,186 @@
+"""Tests of what is said at three in the night: the cause, the time, and the machine, of what a real chronyd sent.
+
+tests/night has the recordings, and when what was done to the clocks. Each trouble stands alone and beside another one.
+tests/dossier calls these tests, each in a folder of its own.
+"""
+import gzip
+import json
+import re
+import shutil
+from calendar import timegm
+from time import strptime
+
+from audits import capture_of, check, check_page, dossier, folder_of, table
+from captures import MS
+from tally import ROOT, run
+
+NIGHT, DAY = ROOT / "tests" / "night", "2026-11-27"
+STEP, SLIGHT = "23:05:31.5", "23:10:31.5"
+"""When the clock was stepped by -50 ms, and by 30 ms."""
+TWO_POLLS = 32
+FOUR, APART, ALL = (1, 2, 3, 4), (1, 2, 3, 5), (1, 2, 3, 4, 5)
+
+
+def night(place, name, files, begin, end, servers=FOUR, **changes):
+    """A folder of recordings, each under its name or another one; one that ends in .gz is packed."""
+    claim = {"client": "10.66.0.50", "servers": [f"10.66.0.{k}" for k in servers], "false_max": 1,
+             "from": f"{DAY}T{begin}Z", "to": f"{DAY}T{end}Z", "bound_ns": 5_000_000, "drift_ppb": 100_000,
+             "reading_ns": 0, **changes}
+    folder = place / name
+    folder.mkdir()
+    (folder / "claim.json").write_text(json.dumps(claim))
+    for file in files:
+        whole = (NIGHT / file.removesuffix(".gz")).read_bytes()
+        (folder / file).write_bytes(gzip.compress(whole) if file.endswith(".gz") else whole)
+    return folder
+
+
+def second_of(time):
+    clock, _, part = time.partition(".")
+    return timegm(strptime(f"{DAY} {clock}", "%Y-%m-%d %H:%M:%S")) + float(f"0.{part or 0}")
+
+
+def between(words):
+    """The times of the first `between .. and ..`, or `from .. to ..`, in seconds."""
+    begin, end = re.search(rf"(?:between|from) {DAY} (\S{{8}}) (?:and|to) (\S{{8}})", words).groups()
+    return second_of(begin), second_of(end)
+
+
+GROUPED = {"groups": [[0], [1], [2], [3, 4]]}
+STEPPED = (["stepped.pcap"], "23:04:35", "23:06:28")
+SLIGHTLY = (["slight.pcap"], "23:09:26", "23:11:35")
+GAP = (["before.pcap", "after.pcap"], "23:00:16", "23:05:23")
+STEPS = {
+    "step": (STEPPED, {}, STEP, []),
+    "step and a server apart": (STEPPED, {"servers": APART}, STEP, [5]),
+    "step and a server apart in a group": (STEPPED, {"servers": ALL, **GROUPED}, STEP, [5]),
+    "slight step": (SLIGHTLY, {"drift_ppb": 600_000}, SLIGHT, []),
+    "slight step and a server apart": (SLIGHTLY, {"drift_ppb": 600_000, "servers": ALL, **GROUPED}, SLIGHT, [5]),
+    "step and a gap": ((["before.pcap", "stepped.pcap"], "23:00:16", "23:06:28"), {}, STEP, []),
+    "step, twice by two interfaces": ((["stepped.pcap", "bridge.pcap"], *STEPPED[1:]), {}, STEP, []),
+    "step, twice by a packed copy": ((["stepped.pcap", "stepped.pcap.gz"], *STEPPED[1:]), {}, STEP, []),
+}
+"""Of each night the recordings and the span, what is changed of the claim, when the clock was stepped, and which
+servers are apart."""
+
+
+def asked(place, name):
+    """The line, the row and the page's words of a folder."""
+    folder = place / name
+    _, line, err = dossier("audit", folder)
+    check(f"the audit of {name}", error=(err, b""), lines=(line.count(b"\n"), 1), ticks=(b"`" in line, False),
+          verified=(dossier("verify", folder)[1].decode().partition(": verified")[1], ": verified"))
+    text = dossier("page", folder)[1].decode()
+    page = "".join(check_page(f"a page of {name}", text).words).replace("\u2212", "-")
+    row, = table(folder)
+    lead, _, rest = page.partition(" UTC.")
+    check(f"the words of {name}", ticks=("`" in page, False), reason=(row["reason"].replace("`", "") in page, True),
+          twice=([said for said in row["warnings"] if said in row["reason"]], []), all=(bool(lead and rest), True))
+    return line.decode().partition(": ")[2].rstrip("\n"), row
+
+
+def test_steps_of_nights(place):
+    for name, (recorded, changes, at, apart) in STEPS.items():
+        night(place, name, *recorded, **changes)
+        line, row = asked(place, name)
+        is_slight = at == SLIGHT
+        for where, words in (("line", line), ("reason", row["reason"])):
+            after, by = between(words)
+            check(f"the {where} of {name}", stepped=("stepped between" in words, True),
+                  around=(after <= second_of(at) <= by, True), width=(by - after <= TWO_POLLS, True),
+                  drift=(("too little drift" in words or "Or it moved faster" in words), is_slight),
+                  apart=(re.findall(r"10\.66\.0\.(\d) ?(?:is apart|apart)", words), list(map(str, apart))))
+        check(f"the verdict of {name}", verdict=(row["verdict"], "nothing fits"))
+        lasts = re.findall(r"(-?[\d.]+) to (-?[\d.]+) ms from", row["reason"])
+        low, high = (float(end) for end in lasts[-1])
+        check(f"how far off: {name}", range=(low <= (-20 if is_slight else -50) <= high, True), count=(len(lasts), 2))
+        is_gap = any("No server was heard" in words for words in row["warnings"])
+        check(f"the warnings of {name}", gap=(is_gap, "gap" in name),
+              twice=(any("has packets once more" in words for words in row["warnings"]), "twice" in name))
+
+
+def test_gaps_of_nights(place):
+    """A gap is named by its times, and what holds beside it; a server apart all the same."""
+    for name, servers, files in (("gap", FOUR, []), ("gap and a server apart", APART, []),
+                                 ("gap, twice", FOUR, ["after.pcap.gz", "before.pcap.gz"])):
+        night(place, name, [*GAP[0], *files], *GAP[1:], servers=servers)
+        line, row = asked(place, name)
+        check(f"the verdict of {name}", verdict=(row["verdict"], "refuted"), line=("; no server heard from" in line, True))
+        for where, words in (("line", line), ("reason", row["reason"])):
+            begin, end = between(words)
+            check(f"the {where} of {name}", around=(begin <= second_of("23:01:45") and end >= second_of("23:04:15"), True),
+                  width=(abs(end - begin - 150) <= TWO_POLLS, True))
+        low, high = map(float, re.search(r"within (\S+) to (\S+) ms", row["reason"]).groups())
+        check(f"beside the gap: {name}", within=(-5 < low < 0 < high < 5, True),
+              apart=([words for words in row["warnings"] if "apart" in words],
+                     ["10.66.0.5 stands apart: its range never meets the hull."] if servers == APART else []),
+              nearer=("nearer" in row["to_do"], False), repeated=("No server" in " ".join(row["warnings"]), False),
+              twice=(any("once more" in words for words in row["warnings"]), bool(files)))
+    night(place, "no packet", GAP[0], "23:02:30", "23:03:30")
+    line, row = asked(place, "no packet")
+    check("a span in a gap", verdict=(row["verdict"], "no evidence"), line=(line, "no packet within the span"),
+          said=(row["reason"], "No packet was recorded within the span: the last before it is from 2026-11-27 23:01:37, "
+                "the first after it from 2026-11-27 23:04:17, and times are UTC."))
+
+
+def test_others_of_nights(place):
+    """A server apart alone; a clock that is off; and packets that are there twice alone."""
+    after = ["after.pcap"], "23:04:18", "23:05:23"
+    night(place, "apart", *after, servers=APART)
+    line, row = asked(place, "apart")
+    check("a server apart", verdict=(row["verdict"], "yes"),
+          warned=("10.66.0.5 stands apart: its range never meets the hull." in row["warnings"], True))
+    night(place, "apart, and none granted", *after, servers=APART, false_max=0)
+    line, row = asked(place, "apart, and none granted")
+    check("a server apart, and none granted", verdict=(row["verdict"], "nothing fits"), line=(line, "10.66.0.5 apart"),
+          said=(row["reason"], "10.66.0.5 is in each of 3 conflicts, with itself or with most others."))
+    night(place, "off", *after, servers=(5,), false_max=0)
+    line, row = asked(place, "off")
+    low, high = map(float, re.search(r"(\S+) to (\S+) ms behind UTC from", row["reason"]).groups())
+    check("a clock that is off", verdict=(row["verdict"], "refuted"), by=(low <= 30 <= high < 32, True),
+          line=(f"{low:.3f} to {high:.3f} ms behind UTC from 2026-11-27 23:04:18 to 23:05:23" in line, True),
+          lead=(row["reason"].startswith("The clock of 10.66.0.50 was "), True),
+          to_do=(all(f"`chronyc {words}`" in row["to_do"] for words in ("tracking", "-n sources -v")), True))
+    night(place, "twice", ["after.pcap", "after.pcap.gz"], *after[1:])
+    line, row = asked(place, "twice")
+    check("a packed copy", verdict=(row["verdict"], "yes"),
+          warned=(row["warnings"][0], "after.pcap.gz has packets once more that after.pcap has: it is left out, since of "
+                  "a packet that is there twice nothing follows."))
+
+
+def test_twice_in_one(place):
+    """A capture of two interfaces: what is said, and the command that mends it."""
+    folder = night(place, "twice", [], "23:04:35", "23:05:22")
+    joined = run(["mergecap", "-F", "nsecpcap", "-w", folder / "f.pcap", NIGHT / "stepped.pcap", NIGHT / "bridge.pcap"])
+    line, row = asked(place, "twice")
+    check("twice in one file", made=(joined[0], 0), verdict=(row["verdict"], "no evidence"),
+          line=(line, "each packet is there twice in f.pcap"),
+          said=(row["reason"].startswith("Each packet is there twice in f.pcap, so no reply is of use"), True))
+    command = re.search("`(editcap [^`]*)`", row["to_do"])[1]
+    check("the command against twice", run=(run(["sh", "-c", command], cwd=folder)[0], 0))
+    shutil.move(place / "once.pcap", folder / "f.pcap")
+    check("once", verdict=(dossier("audit", folder)[1].split()[0], b"yes"))
+
+
+def test_step_at_midnight(place):
+    """A step on the next day doesn't spoil the day before, in a folder of its own as little as by `--days`."""
+    midnight = 1_000_000_000 - 1_000_000_000 % 86_400 + 86_400
+    words = [f"{server}:{low}..{low + 9}@{midnight + second}" for second in range(-3600, 5400, 60)
+             for low in [50 * MS if second > 1800 else 0] for server in (1, 2)]
+    capture = capture_of(place / "f.pcap", *words)
+    claim = {"client": "192.0.2.10", "servers": ["192.0.2.1", "192.0.2.2"], "false_max": 0, "bound_ns": 20_000_000,
+             "from": "2001-09-09T23:00:00Z", "to": "2001-09-10T01:29:00Z", "drift_ppb": 200, "reading_ns": 0}
+    whole = folder_of(place, "whole", capture, **claim)
+    day = folder_of(place, "2001-09-09", capture, **{**claim, "to": "2001-09-10T00:00:00Z"})
+    dossier("audit", "--days", whole)
+    dossier("audit", day)
+    rows, said = [*table(whole), *table(day)], "outside of the span: what was recorded beside the span is left out."
+    check("the days beside a step", verdicts=([row["verdict"] for row in rows], ["yes", "nothing fits", "yes"]),
+          said=([any(said in words for words in row["warnings"]) for row in rows], [True, False, True]),
+          when=("The clock was stepped between 2001-09-10 00:30:00 and 00:31:00" in rows[1]["reason"], True),
+          same=((day / "joined.pcap").read_bytes() == (whole / "2001-09-09" / "joined.pcap").read_bytes(), True),
+          verified=((dossier("verify", day)[0], dossier("verify", whole)[0]), (0, 1)))
+
+
+NIGHT_TESTS = [test_steps_of_nights, test_gaps_of_nights, test_others_of_nights, test_twice_in_one,
+               test_step_at_midnight]
