@@ -8,7 +8,7 @@ from __future__ import annotations
 import json
 import re
 from collections.abc import Callable
-from dataclasses import MISSING, fields, is_dataclass
+from dataclasses import MISSING, dataclass, fields, is_dataclass
 from datetime import datetime
 from functools import cache
 from types import NoneType, UnionType
@@ -21,17 +21,28 @@ class Mangled(ValueError):
     """Where JSON isn't what it has to be."""
 
 
-def within(least: int, most: int) -> Callable[[float], bool]:
-    return lambda number: least <= number <= most
+@dataclass(frozen=True)
+class Rule:
+    """Which values of a kind are right, and the same in words of JSON Schema."""
+
+    is_right: Callable[[Any], bool]
+    schema: tuple[tuple[str, int | str], ...]
+
+    def __call__(self, value: Any) -> bool:
+        return self.is_right(value)
 
 
-def matching(pattern: str) -> Callable[[str], bool]:
+def within(least: int, most: int) -> Rule:
+    return Rule(lambda number: bool(least <= number <= most), (("minimum", least), ("maximum", most)))
+
+
+def matching(pattern: str) -> Rule:
     found = re.compile(pattern)
-    return lambda text: bool(found.fullmatch(text))
+    return Rule(lambda text: bool(found.fullmatch(text)), (("pattern", f"^(?:{pattern})$"),))
 
 
-def length(least: int, most: int) -> Callable[[list[Any]], bool]:
-    return lambda found: least <= len(found) <= most
+def length(least: int, most: int) -> Rule:
+    return Rule(lambda found: least <= len(found) <= most, (("minItems", least), ("maxItems", most)))
 
 
 def is_text(text: str) -> bool:

@@ -6,7 +6,8 @@ refused allocation has led to. No clause can say that an allocation was refused,
 - `Memory` is a value only where a want of memory was just matched (in an arm whose pattern is `Err(AllocError)`,
   `FAULT::Memory` or `Err(FAULT::Memory)`), or is converted (in `impl From<AllocError> for FAULT`).
 - Neither gets another name, and std's `AllocFailed`, which anybody could make, isn't named at all.
-- What `with_capacity` is asked for is a length, a count or a name, and not the greatest number that there is.
+- What `with_capacity`, `reserve` and `vec!` are asked for is a length, a count or a name, or a sum of these: no number
+  that is written there, and no constant that is made of the greatest number that there is.
 
 So a want of memory that is answered came out of a call of the toolchain's library, but for the EXCEPTIONS.
 """
@@ -34,7 +35,12 @@ IN_PLACE = re.compile(rf"{IMPORT}|[,<] AllocError >|\( \w+ : AllocError \)|(?<=[
 # The begin of an arm to which a want of memory leads, and nothing else.
 MATCHED = re.compile(r"(?<=[{},] )(?:Err \( AllocError \)|\w+ :: Memory|Err \( \w+ :: Memory \)) => ")
 DECLARED = re.compile(r"(?:impl From < AllocError > for|enum) \w+ (?={)")
-ASKED = re.compile(r"\( \w+ , (?:(?:\w+ \. )*(?:[a-z_]+|len \( \)|count \( \)) (?:as usize )?|[A-Z_]+ )(?:, \w+ )?\)")
+LENGTH = r"(?:(?:\w+ \. )*(?:[a-z_]+|len \( \)|count \( \)) (?:as usize )?|[A-Z_]+ )"
+ASKED = (("with_capacity\\w* ", re.compile(rf"\( \w+ , {LENGTH}(?:, \w+ )?\)")),
+         ("(?:try_)?reserve\\w* ", re.compile(rf"\( {LENGTH}(?:\+ {LENGTH})*\)")),
+         ("vec ! ", re.compile(rf"\[ (?:in \w+ ; [^;]*; {LENGTH}(?:\+ {LENGTH})*|in \w+ (?:; [^;]*)?)\]")))
+"""What asks for memory, and how much it may ask for."""
+GREATEST = re.compile(r"const (\w+) : \w+ = [^;]*\bMAX\b[^;]*;")
 
 
 def spelled(text: str) -> str:
@@ -80,8 +86,11 @@ def wants_made_up(text: str, excepted: Sequence[tuple[str, str]] = ()) -> list[s
     made = [found.start() for found in re.finditer(r"\b(?:AllocError|AllocFailed)\b", code)
             if found.start() not in in_place or not imported]
     made += [found.start() for found in re.finditer(r"\bMemory\b", code) if found.start() not in lawful]
-    made += [found.start() for found in re.finditer(r"\bwith_capacity\w* (?=\()", code)
-             if not ASKED.fullmatch(code[found.end():end_of(code, found.end())])]
+    for word, asked in ASKED:
+        for found in re.finditer(rf"\b{word}(?=[(\[])", code):
+            text = code[found.end():end_of(code, found.end())]
+            if not asked.fullmatch(text) or set(GREATEST.findall(code)) & set(text.split()):
+                made.append(found.start())
     return [code[max(0, place - 40):place + 40] for place in sorted(made)]
 
 
@@ -116,6 +125,12 @@ MAKING_UP = [
     "match (copied(alloc, exchanges), Err(AllocError)) { (_, other) => return other };",
     "return Err(AllocError::from(AllocFailed { value: 0 }).into());",
     "let list = Vec::<u8>::with_capacity(alloc, usize::MAX)?;",
+    "let list = Vec::<u8>::with_capacity(alloc, 9_000_000_000_000)?;",
+    "const MOST: usize = usize::MAX; let list = Vec::<u8>::with_capacity(alloc, MOST)?;",
+    "list.reserve(usize::MAX)?;",
+    "list.try_reserve_exact(1 << 60)?;",
+    "let list = vec![in alloc; 0_u8; usize::MAX]?;",
+    "let list = vec![in alloc; 0_u8; exchanges.len() * 1_000_000_000_000]?;",
     "use crate::fault::FindFault::Memory; return Err(Memory);",
     "use std::alloc::AllocError as Refused; return Err(Refused);",
     "impl From<u8> for FindFault { fn from(_number: u8) -> FindFault { FindFault::Memory } }",
