@@ -350,10 +350,11 @@ def reading_of(given: argparse.Namespace) -> Proposal:
 
 def run_draft(given: argparse.Namespace, program: Program) -> int:
     from .correction import correction_text
-    from .draft import Wanted, claim_text, draft
+    from .draft import Wanted, claim_text, draft, of_leaps
+    from .leap import read_list
     from .placing import write_named
     found = correction_of(given)
-    proposed = found.drift_ppb if found else given.oscillator_ppb
+    proposed, leaps = found.drift_ppb if found else given.oscillator_ppb, read_list(None)
     drift_ppb = proposed if given.drift_ppb is None else given.drift_ppb
 
     def work(*_: object) -> Result:
@@ -362,6 +363,8 @@ def run_draft(given: argparse.Namespace, program: Program) -> int:
         claim, remarks = draft(program, given.captures, wanted)
         if claim and found:
             remarks += found.sentences() + found.cautions(claim.first, claim.last)
+        if claim:
+            remarks += of_leaps(claim, leaps)
         return Result(lines=remarks, text=claim_text(claim) if claim else "")
     drafted = answer(work)
     for remark in drafted.lines:

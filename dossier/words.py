@@ -153,7 +153,8 @@ def why_nothing_fits(entry: Entry, found: Reason) -> str:
     if found.why == "apart":
         own = "itself" if len(found.apart) == 1 else "themselves"
         steps = "".join(f" {alone(step)}" for step in found.steps)
-        return f"{apart} in each of {conflicts}, with {own} or with most others.{steps}"
+        all_ = "the one conflict" if number == 1 else f"each of {conflicts}"
+        return f"{apart} in {all_}, with {own} or with most others.{steps}"
     if found.stretches:
         when = f"the clock was stepped {listed([between(*outward(step.after, step.by)) for step in found.steps])}"
         said = capital(f"{when}: there {seen_by(entry, found)}.")

@@ -182,5 +182,26 @@ def test_step_at_midnight(place):
           verified=((dossier("verify", day)[0], dossier("verify", whole)[0]), (0, 1)))
 
 
+def test_steps_of_servers(place):
+    """What only one server shows is no step of the clock; and of two that differ each is named."""
+    begin = 1_000_000_000 - 1_000_000_000 % 86_400 + 43_200
+    for name, steps, said in (
+            ("one", {3: 600}, "192.0.2.3 is in the one conflict, with itself or with most others. 192.0.2.3 contradicts "
+             "itself between 2001-09-09 12:09:00 and 12:10:00."),
+            ("two", {1: 600, 2: 1200}, "there are 2 conflicts. 192.0.2.1 contradicts itself between 2001-09-09 12:09:00 "
+             "and 12:10:00. 192.0.2.2 contradicts itself between 2001-09-09 12:19:00 and 12:20:00. These times don't "
+             "agree.")):
+        servers = (1, 2, 3) if name == "one" else (1, 2)
+        words = [f"{server}:{low}..{low + 9}@{begin + second}" for second in range(0, 1800, 60) for server in servers
+                 for low in [50 * MS if second >= steps.get(server, 9999) else 0]]
+        folder = folder_of(place, name, capture_of(place / f"{name}.pcap", *words), **{
+            "client": "192.0.2.10", "servers": [f"192.0.2.{server}" for server in servers], "false_max": 0,
+            "bound_ns": 20_000_000, "from": "2001-09-09T12:00:00Z", "to": "2001-09-09T12:29:00Z", "drift_ppb": 200,
+            "reading_ns": 0})
+        status, row = dossier("audit", folder)[0], table(folder)[0]
+        check(f"a step of {name}", status=(status, 1), verdict=(row["verdict"], "nothing fits"),
+              said=(row["reason"][-len(said):], said))
+
+
 NIGHT_TESTS = [test_steps_of_nights, test_gaps_of_nights, test_others_of_nights, test_twice_in_one,
-               test_step_at_midnight]
+               test_step_at_midnight, test_steps_of_servers]
