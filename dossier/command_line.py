@@ -28,7 +28,7 @@ INTERRUPTED = 130
 ABOUT = """Puts many audits by ntpaudit together: folders with a claim and captures, and one page for a person to read.
 
   ntpaudit-dossier record --interface eth0 web-1                              record (Ctrl-C when it is enough)
-  ntpaudit-dossier draft --chrony /etc/chrony/chrony.conf web-1/*.pcap > web-1/claim.json
+  ntpaudit-dossier draft --bound-ns 50000000 --chrony /etc/chrony/chrony.conf web-1/*.pcap > web-1/claim.json
                                                                               a claim to start from: read it, fix it
   ntpaudit-dossier audit web-1                                                the audit
   ntpaudit-dossier page web-1 > dossier.html                                  the page
