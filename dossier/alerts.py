@@ -95,7 +95,7 @@ def torn(found: Alert) -> str:
 
 
 def twice(found: Alert) -> str:
-    more = f", and so have {count(found.count - 1, 'other file')}" if found.count > 1 else ""
+    more = f", and so {'has' if found.count == 2 else 'have'} {count(found.count - 1, 'other file')}" if found.count > 1 else ""
     is_out = "it is left out" if found.count == 1 else "they are left out"
     return (f"{plain(found.file)} has packets once more that {plain(found.beside)} has{more}: {is_out}, since of a "
             "packet that is there twice nothing follows.")

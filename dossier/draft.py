@@ -23,6 +23,7 @@ from .steps import Search
 from .text import count, listed, plain
 from .text import reference as letters
 from .traffic import Traffic, number_of, read_traffic
+from .twice import are_twice
 from .typed import said
 from .units import DAY, SECOND, between, civil, ns_ms, ns_up_ms, outward
 
@@ -119,6 +120,8 @@ class Draft:
         recording = read_recording(self.program, CLAIM, self.capture)
         if recording.first_request is None:
             self.remark(f"None of {client}'s servers gave a sample: {counted(recording.counts)}.")
+            if are_twice(recording.counts):
+                self.remark("Each packet is there twice, as in a copy beside its original, or of two interfaces.")
             return None
         claim = self.named(claim, recording, {server: seen.references[client, server] for server in servers})
         first, last = span_of(recording.first_request, recording.times[-1], wanted.whole_days)

@@ -188,7 +188,7 @@ def around(found: Reason) -> str:
     """How far the clock was off before a step and after it."""
     own = [(stretch, stretch.hull) for stretch in found.stretches if not isinstance(stretch.hull, str)]
     parts = [f"{range_ms(*hull)} {from_to(stretch.from_, stretch.to)}" for stretch, hull in own]
-    return f" The error lay within {listed(parts)}, {IF_TRUE}." if parts else ""
+    return f" Its error (below 0 it was behind) lay within {listed(parts)}, {IF_TRUE}." if parts else ""
 
 
 def in_short(entry: Entry) -> str:
@@ -210,12 +210,14 @@ def in_short(entry: Entry) -> str:
         return f"{listed(found.apart)} apart"
     if found.why == "twice":
         return f"each packet is there twice in {found.file}"
+    if found.why == "silent":
+        mode = next((warning.servers for warning in entry.warnings if warning.kind == "interleaved"), None)
+        return f"{listed(mode)} in interleaved mode" if mode else why_no_evidence(entry, found).rstrip(".")
     return SHORT.get(found.why, "")
 
 
 SHORT = {"drift": "too little drift granted", "many": "more servers in conflict than granted",
-         "unbounded": "too few servers have a sample", "silent": "too few servers have a sample",
-         "beside": "no packet within the span"}
+         "unbounded": "too few servers have a sample", "beside": "no packet within the span"}
 
 
 def to_do(entry: Entry) -> str:
@@ -272,9 +274,11 @@ def after_steps(found: Reason) -> str:
 
 
 def warned(entry: Entry) -> list[str]:
-    """The warnings, but those that are the reason why it isn't a yes."""
-    is_yes_less = entry.verdict == UNSUPPORTED
-    return [warning_words(warning) for warning in entry.warnings if not (is_yes_less and warning.kind in AGAINST)]
+    """The warnings, but those that the reason tells."""
+    against = AGAINST if entry.verdict == UNSUPPORTED else ()
+    apart = set(entry.reason.apart) if entry.reason else set()
+    return [warning_words(warning) for warning in entry.warnings if warning.kind not in against
+            and not (warning.kind == "apart" and set(warning.servers) <= apart)]
 
 
 def fit(entry: Entry) -> str:
