@@ -297,7 +297,8 @@ def signed_cell(row: Row, is_looked_at: bool) -> object:
 
 def why_of(row: Row, is_brief: bool) -> list[Html]:
     """Why it isn't a yes, what to do, and the warnings; of a yes that has a page of its own how many these are."""
+    warned = [words for words in row.warnings if words not in row.reason]
     said = joined(filter(None, [with_code(row.reason), with_code(row.to_do)]), " ")
     if is_brief and row.verdict == YES and row.warnings:
         return [html(count(len(row.warnings), "warning"))]
-    return ([said] if said else []) + [joined([element("b", "Warning:"), with_code(words)], " ") for words in row.warnings]
+    return ([said] if said else []) + [joined([element("b", "Warning:"), with_code(words)], " ") for words in warned]

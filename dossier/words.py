@@ -13,7 +13,7 @@ from .claim import Claim
 from .entry import AGAINST, NO_EVIDENCE, NOTHING_FITS, REFUTED, UNSUPPORTED, YES, Entry, Reason, Refutation, Step
 from .folder import CLAIM, REFUTATION
 from .judgement import is_beyond
-from .text import capital, count, is_or_are, listed
+from .text import capital, count, is_or_are, listed, plain
 from .units import (SECOND, TICKS, between, bound_ticks, civil, from_to, high_ms, low_ms, ns_ms, ns_up_ms, outward,
                     range_ms, shown_time)
 
@@ -90,7 +90,7 @@ def why_no_evidence(entry: Entry, found: Reason) -> str:
         ends += [f"the first after it from {shown_time(after)}"] if after else []
         return f"No packet was recorded within the span: {', '.join(ends)}, and times are UTC."
     if found.why == "twice":
-        return (f"Each packet is there twice in {found.file}, so no reply is of use: it may be the answer to either of "
+        return (f"Each packet is there twice in {plain(found.file)}, so no reply is of use: it may be the answer to either of "
                 "two requests.")
     if not counts.get("records"):
         return "Nothing was recorded: there is no record at all."
@@ -209,7 +209,7 @@ def in_short(entry: Entry) -> str:
     if found.why == "apart":
         return f"{listed(found.apart)} apart"
     if found.why == "twice":
-        return f"each packet is there twice in {found.file}"
+        return f"each packet is there twice in {plain(found.file)}"
     if found.why == "silent":
         mode = next((warning.servers for warning in entry.warnings if warning.kind == "interleaved"), None)
         return f"{listed(mode)} in interleaved mode" if mode else why_no_evidence(entry, found).rstrip(".")
@@ -235,7 +235,12 @@ def to_do(entry: Entry) -> str:
         if does_help else ""
     if found.stretches:
         return after_steps(found)
-    return least + TO_DO[found.why].format(file=shlex.quote(found.file))
+    return least + TO_DO[found.why].format(file=shlex.quote(operand(found.file)))
+
+
+def operand(name: str) -> str:
+    """A file's name as the operand of a command."""
+    return f"./{name}" if name.startswith("-") else name
 
 
 TIGHTER = "For a tighter one ask nearer servers, more of them, or more often; or grant less drift, if that is true."
