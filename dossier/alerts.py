@@ -95,7 +95,7 @@ def torn(found: Alert) -> str:
 
 
 def twice(found: Alert) -> str:
-    more = f", and so have {count(found.count - 1, 'other file')}" if found.count > 1 else ""
+    more = f", and so {'has' if found.count == 2 else 'have'} {count(found.count - 1, 'other file')}" if found.count > 1 else ""
     is_out = "it is left out" if found.count == 1 else "they are left out"
     return (f"{plain(found.file)} has packets once more that {plain(found.beside)} has{more}: {is_out}, since of a "
             "packet that is there twice nothing follows.")
@@ -154,8 +154,10 @@ TO_DO = {
     "reading": "Grant as much as was measured, and audit again.",
     "step": "Claim the time before the step and the time after it by themselves.",
     "leap-second": "Claim another span.",
-    "leap-ends": "Name a list that is good for the span (`--leap-seconds`), or bring the system's up to date.",
-    "no-list": "Name a list of leap seconds (`--leap-seconds`), or put the system's in place (tzdata).",
+    "leap-ends": "Bring the system's list up to date (`apt-get install tzdata`, after `apt-get update`), or fetch it from "
+                 "https://data.iana.org/time-zones/data/leap-seconds.list and name it (`--leap-seconds`).",
+    "no-list": "Put the system's list of leap seconds in place (`apt-get install tzdata`), or name one "
+               "(`--leap-seconds`).",
 }
 """What to do about each warning that takes a yes away."""
 

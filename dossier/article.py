@@ -16,6 +16,7 @@ from .markup import Html, element, joined, lines, minus, with_code
 from .premises import premises
 from .ranges import ranges_of
 from .signature import GOOD, NONE, UNSEEN, Signature, in_words
+from .style import name_in_style
 from .support import support
 from .result import Row
 from .text import capital, count
@@ -43,7 +44,7 @@ COUNTS = {
 
 
 def badge(verdict: str) -> Html:
-    return element("span", f"{SYMBOLS[verdict]} {verdict}", class_=f"verdict {verdict.replace(' ', '-')}")
+    return element("span", f"{SYMBOLS[verdict]} {verdict}", class_=f"verdict {name_in_style(verdict)}")
 
 
 def article(path: str, folder: Folder, record: Record, entry: Entry, signature: Signature,

@@ -28,7 +28,7 @@ INTERRUPTED = 130
 ABOUT = """Puts many audits by ntpaudit together: folders with a claim and captures, and one page for a person to read.
 
   ntpaudit-dossier record --interface eth0 web-1                              record (Ctrl-C when it is enough)
-  ntpaudit-dossier draft --chrony /etc/chrony/chrony.conf web-1/*.pcap > web-1/claim.json
+  ntpaudit-dossier draft --bound-ns 50000000 --chrony /etc/chrony/chrony.conf web-1/*.pcap > web-1/claim.json
                                                                               a claim to start from: read it, fix it
   ntpaudit-dossier audit web-1                                                the audit
   ntpaudit-dossier page web-1 > dossier.html                                  the page
@@ -350,10 +350,11 @@ def reading_of(given: argparse.Namespace) -> Proposal:
 
 def run_draft(given: argparse.Namespace, program: Program) -> int:
     from .correction import correction_text
-    from .draft import Wanted, claim_text, draft
+    from .draft import Wanted, claim_text, draft, of_leaps
+    from .leap import read_list
     from .placing import write_named
     found = correction_of(given)
-    proposed = found.drift_ppb if found else given.oscillator_ppb
+    proposed, leaps = found.drift_ppb if found else given.oscillator_ppb, read_list(None)
     drift_ppb = proposed if given.drift_ppb is None else given.drift_ppb
 
     def work(*_: object) -> Result:
@@ -362,6 +363,8 @@ def run_draft(given: argparse.Namespace, program: Program) -> int:
         claim, remarks = draft(program, given.captures, wanted)
         if claim and found:
             remarks += found.sentences() + found.cautions(claim.first, claim.last)
+        if claim:
+            remarks += of_leaps(claim, leaps)
         return Result(lines=remarks, text=claim_text(claim) if claim else "")
     drafted = answer(work)
     for remark in drafted.lines:

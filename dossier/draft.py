@@ -7,14 +7,15 @@ import os
 from collections import defaultdict
 from dataclasses import dataclass, replace
 
-from .alerts import warning_words
+from .alerts import TO_DO, warning_words
 from .allowance import Allowance, Proposal, slip
 from .answers import read_hulls, read_settled
 from .captures import audited, begins
 from .claim import Claim, Part
-from .entry import NOTHING_FITS, Alert
+from .entry import NOTHING_FITS, Alert, LeapList
 from .fault import USAGE, fault
 from .folder import CLAIM
+from .leap import alerts_of, look_up
 from .placing import copy_named, keep
 from .program import Program
 from .recording import Recording, read_recording
@@ -22,6 +23,7 @@ from .steps import Search
 from .text import count, listed, plain
 from .text import reference as letters
 from .traffic import Traffic, number_of, read_traffic
+from .twice import are_twice
 from .typed import said
 from .units import DAY, SECOND, between, civil, ns_ms, ns_up_ms, outward
 
@@ -118,6 +120,8 @@ class Draft:
         recording = read_recording(self.program, CLAIM, self.capture)
         if recording.first_request is None:
             self.remark(f"None of {client}'s servers gave a sample: {counted(recording.counts)}.")
+            if are_twice(recording.counts):
+                self.remark("Each packet is there twice, as in a copy beside its original, or of two interfaces.")
             return None
         claim = self.named(claim, recording, {server: seen.references[client, server] for server in servers})
         first, last = span_of(recording.first_request, recording.times[-1], wanted.whole_days)
@@ -236,6 +240,12 @@ def draft(program: Program, captures: list[str], wanted: Wanted) -> tuple[Claim 
         drafting.remark(f"{len(copies)} captures were joined in order of time.")
     claim = drafting.claim(wanted)
     return claim, drafting.remarks
+
+
+def of_leaps(claim: Claim, leaps: LeapList) -> list[str]:
+    """What the list of leap seconds would take a yes away for, and what to do."""
+    found = alerts_of(look_up(leaps, claim.first, claim.last), leaps)
+    return [f"{warning_words(alert)} {TO_DO[alert.kind]}" for alert in found]
 
 
 def claim_text(claim: Claim) -> str:

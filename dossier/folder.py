@@ -235,9 +235,10 @@ def data_named(path: str, most: int = JSON) -> bytes:
 
 
 def piped_or_named(path: str, most: int) -> bytes:
-    """The bytes of a file that the command line names, or of a pipe: the shell makes one of `<(chronyd -p)`."""
+    """The bytes of a file that the command line names, or of a pipe that was handed over: the shell makes one of
+    `<(chronyd -p)`. Any other may have no end."""
     try:
-        if not stat.S_ISFIFO(os.stat(path, dir_fd=HOME).st_mode):
+        if os.path.dirname(path) != "/dev/fd" or not stat.S_ISFIFO(os.stat(path).st_mode):
             return data_named(path, most)
         with held(path, HOME, os.O_RDONLY | os.O_CLOEXEC) as opened:
             blocks, size = list[bytes](), 0

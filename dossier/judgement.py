@@ -83,6 +83,10 @@ def judge(part: Part, recording: Recording, beside: Beside, texts: Texts, step: 
     if 0 < claim.drift_ppb <= OSCILLATOR and not beside.backing.read:
         warned.append(Alert("oscillator", claim.drift_ppb))
     reason = reason_of(claim, settled, Seen(servers, envelope, recording, gaps, texts, beside.capture))
+    if reason and reason.stretches and reason.apart:
+        known = {server for alert in warned if alert.kind == "apart" for server in alert.servers}
+        warned = [alert for alert in warned if alert.kind != "apart"]
+        warned.append(Alert("apart", servers=[one for one in claim.servers if one in known | set(reason.apart)]))
     if reason and reason.why in ("gap", "beside"):
         warned = [alert for alert in warned if alert.kind not in TOLD]
     return entry_by(beside.leaps, Entry(

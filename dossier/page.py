@@ -25,7 +25,7 @@ from .remedies import remedy
 from .result import Result, Row, Section
 from .running import run_all
 from .signature import GOOD, NONE, STRANGER, UNFIT, UNSEEN, Signature, Signers
-from .style import PAGE
+from .style import PAGE, name_in_style, only
 from .table import as_csv, badness_of, as_json, row_of, row_without_verdict
 from .text import capital, count, plain
 from .units import now, ns_ms, ns_up_ms
@@ -216,7 +216,8 @@ def page(found: list[Shown], title: str, folders: int, is_looked_at: bool, above
         element("p", made_by(found, folders), class_="soft"), tally(rows), ""]))
     links = [one.file or f"#{one.name}" for one in found]
     articles = (one.article for one in found if one.section.head)
-    main = element("main", lines(["", table(rows, links, is_looked_at), *articles, ""]))
+    marks = (element("span", id=only(verdict)) for verdict in verdicts_of(rows))
+    main = element("main", lines(["", *marks, table(rows, links, is_looked_at), *articles, ""]))
     body = element("body", lines(["", header, main, ""]))
     return f"<!DOCTYPE html>\n{element('html', lines(['', head, body, '']), lang='en')}\n"
 
@@ -230,9 +231,18 @@ def made_by(found: list[Shown], folders: int) -> str:
 
 
 def tally(rows: list[Row]) -> Html:
-    counts = Counter(row.verdict for row in rows)
-    return element("ul", *(element("li", badge(verdict), f" {counts[verdict]:,} {meaning}")
-                           for verdict, meaning in MEANINGS.items() if counts[verdict]), class_="tally")
+    """How many lines of each verdict there are; of several each leads to its own lines alone, and the last to all."""
+    counts, found = Counter(row.verdict for row in rows), verdicts_of(rows)
+    badges = {verdict: element("a", badge(verdict), href=f"#{only(verdict)}") for verdict in found[1:] and found}
+    parts = [element("li", badges.get(verdict, badge(verdict)), f" {counts[verdict]:,} {MEANINGS[verdict]}")
+             for verdict in found]
+    return element("ul", *parts, *([element("li", element("a", "all lines", href="#"))] if badges else []),
+                   class_="tally")
+
+
+def verdicts_of(rows: list[Row]) -> list[str]:
+    seen = {row.verdict for row in rows}
+    return [verdict for verdict in MEANINGS if verdict in seen]
 
 
 COLUMNS = {"Machine": "machine", "Day": "", "Verdict": "", "Client": "", "From": "time", "To": "time",
@@ -253,7 +263,7 @@ def table(rows: list[Row], links: list[str], is_looked_at: bool) -> Html:
                                for column in shown))
         why = joined(why_of(row, not link.startswith("#")), element("br"))
         under = element("tr", element("td", why, colspan=len(shown)), class_="why") if why else ""
-        groups.append(element("tbody", said, under))
+        groups.append(element("tbody", said, under, class_=f"of-{name_in_style(row.verdict)}"))
     return element("table", lines(["", head, *groups, ""]), class_="audits")
 
 
@@ -288,7 +298,8 @@ def signed_cell(row: Row, is_looked_at: bool) -> object:
 
 def why_of(row: Row, is_brief: bool) -> list[Html]:
     """Why it isn't a yes, what to do, and the warnings; of a yes that has a page of its own how many these are."""
+    warned = [words for words in row.warnings if words not in row.reason]
     said = joined(filter(None, [with_code(row.reason), with_code(row.to_do)]), " ")
     if is_brief and row.verdict == YES and row.warnings:
         return [html(count(len(row.warnings), "warning"))]
-    return ([said] if said else []) + [joined([element("b", "Warning:"), with_code(words)], " ") for words in row.warnings]
+    return ([said] if said else []) + [joined([element("b", "Warning:"), with_code(words)], " ") for words in warned]

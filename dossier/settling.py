@@ -83,7 +83,6 @@ class Settling:
         if not cut_to(WITHIN):
             return None
         whole, self.capture, self.sums[WITHIN] = self.capture, WITHIN, sum_of_file(WITHIN)
-        left = dict(self.left)
         try:
             if read_settled(self.call("settle", self.claim, WITHIN)).answer in (YES, REFUTED, OPEN):
                 for name in (files.CLAIM_OF_DRIFT, files.REPORT):
@@ -91,17 +90,13 @@ class Settling:
                 return self.decide()
         finally:
             self.capture = whole
-        self.left = left
         return None
 
     def explained(self, texts: Texts, found: Found) -> Texts:
         """What the program says of each server by itself, where nothing fits, and of what lies between steps."""
-        alone = replace(self.part.claim, groups=[], false_max=0)
-        keep(ALONE, alone.text)
-        stretches = []
-        if found.of_clock:
-            stretches = stretches_of(self.program, self.part, self.capture, found.of_clock, self.step)
-            keep(ALONE, alone.text)
+        stretches = stretches_of(self.program, self.part, self.capture, found.of_clock, self.step) \
+            if found.of_clock else []
+        keep(ALONE, replace(self.part.claim, groups=[], false_max=0).text)
         return texts._replace(apiece=self.call("settle", ALONE, self.capture), found=found, stretches=stretches)
 
     def keep(self, name: str, data: bytes) -> bytes:

@@ -13,6 +13,18 @@ DARK = """--paper:#16181a;--ink:#ececec;--soft:#a9a9a9;--rule:#3d4043;--panel:#2
 --bad:#ff8a80;--good:#5fd3b3;
 --c0:#3d9be0;--c1:#ff7f32;--c2:#00c48f;--c3:#e59cc5;--c4:#8fd0f7;--c5:#f5b52e;--c6:#fff;--c7:#f0e442"""
 
+VERDICTS = "yes", "unsupported", "refuted", "nothing fits", "no evidence", "open", "not verified", "refused"
+
+
+def name_in_style(verdict: str) -> str:
+    return verdict.replace(" ", "-")
+
+
+def only(verdict: str) -> str:
+    """The name of the place to which a link leads that leaves only the lines of a verdict: no script does that."""
+    return f"only-{name_in_style(verdict)}"
+
+
 PICTURE = Html(f""":root{{{LIGHT}}}
 @media(prefers-color-scheme:dark){{:root{{{DARK}}}}}
 @media print{{:root{{{LIGHT}}}}}
@@ -63,6 +75,7 @@ th{font-weight:600;color:var(--soft)}
 .audits td{border:0}
 .audits th,.audits td{white-space:nowrap;overflow-wrap:normal}
 .audits td.machine,.audits .why td{white-space:normal;overflow-wrap:anywhere}
+.audits td.time{white-space:normal}
 .audits tbody{border-bottom:1px solid var(--rule)}
 .why td{padding:0 0 10px 18px}
 .verdict{display:inline-block;padding:0 9px;border:2px solid;border-radius:5px;font-weight:700;white-space:nowrap}
@@ -92,7 +105,8 @@ pre{background:var(--panel);padding:10px 14px;font-size:13px;white-space:pre-wra
 .sign{min-width:11em}
 .granted{width:26%}
 .signer{min-width:11em}
-@media(max-width:700px){
+""" + "".join(f"#{only(verdict)}:target~.audits tbody:not(.of-{name_in_style(verdict)}){{display:none}}\n"
+                for verdict in VERDICTS) + """@media(max-width:700px){
 body{padding:16px 14px 40px}
 h1{font-size:24px}
 thead{display:none}
@@ -115,7 +129,6 @@ h3{break-after:avoid}
 thead{display:table-header-group}
 table{font-size:9pt}
 th,td{padding-right:7px}
-.audits td.time{white-space:normal}
 .sign{height:2.6em}
 tbody tr,.audits tbody{break-inside:avoid}
 *{print-color-adjust:exact;-webkit-print-color-adjust:exact}

@@ -7,12 +7,13 @@ import json
 import re
 from dataclasses import asdict
 
+from .alerts import warning_words
 from .entry import NO_EVIDENCE, NOT_VERIFIED, NOTHING_FITS, OPEN, REFUSED, REFUTED, UNSUPPORTED, YES, Entry
 from .result import Row
 from .signature import Signature
 from .text import plain
 from .units import civil
-from .words import reason, to_do, warned
+from .words import reason, to_do
 
 
 WORST_FIRST = (REFUTED, NOTHING_FITS, UNSUPPORTED, NO_EVIDENCE, OPEN, REFUSED, NOT_VERIFIED, YES)
@@ -38,7 +39,7 @@ def row_of(folder: str, entry: Entry, signature: Signature) -> Row:
     claim, worst = entry.claim, entry.worst
     row = signed_row(folder, "" if entry.part == "." else entry.part, signature)
     row.verdict, row.reason, row.to_do = entry.verdict, reason(entry), to_do(entry)
-    row.warnings = warned(entry)
+    row.warnings = [warning_words(warning) for warning in entry.warnings]
     row.client, row.begin, row.end, row.bound_ns = claim.client, claim.from_, claim.to, claim.bound_ns
     row.least_bound_ns, row.worst_begin, row.worst_end = entry.least_ns, civil(worst.from_), civil(worst.to)
     row.samples, row.servers, row.groups = entry.counts["samples"], len(claim.servers), len(claim.grouped)

@@ -13,7 +13,7 @@ from .claim import Claim
 from .entry import AGAINST, NO_EVIDENCE, NOTHING_FITS, REFUTED, UNSUPPORTED, YES, Entry, Reason, Refutation, Step
 from .folder import CLAIM, REFUTATION
 from .judgement import is_beyond
-from .text import capital, count, is_or_are, listed
+from .text import capital, count, is_or_are, listed, plain
 from .units import (SECOND, TICKS, between, bound_ticks, civil, from_to, high_ms, low_ms, ns_ms, ns_up_ms, outward,
                     range_ms, shown_time)
 
@@ -90,7 +90,7 @@ def why_no_evidence(entry: Entry, found: Reason) -> str:
         ends += [f"the first after it from {shown_time(after)}"] if after else []
         return f"No packet was recorded within the span: {', '.join(ends)}, and times are UTC."
     if found.why == "twice":
-        return (f"Each packet is there twice in {found.file}, so no reply is of use: it may be the answer to either of "
+        return (f"Each packet is there twice in {plain(found.file)}, so no reply is of use: it may be the answer to either of "
                 "two requests.")
     if not counts.get("records"):
         return "Nothing was recorded: there is no record at all."
@@ -153,7 +153,8 @@ def why_nothing_fits(entry: Entry, found: Reason) -> str:
     if found.why == "apart":
         own = "itself" if len(found.apart) == 1 else "themselves"
         steps = "".join(f" {alone(step)}" for step in found.steps)
-        return f"{apart} in each of {conflicts}, with {own} or with most others.{steps}"
+        all_ = "the one conflict" if number == 1 else f"each of {conflicts}"
+        return f"{apart} in {all_}, with {own} or with most others.{steps}"
     if found.stretches:
         when = f"the clock was stepped {listed([between(*outward(step.after, step.by)) for step in found.steps])}"
         said = capital(f"{when}: there {seen_by(entry, found)}.")
@@ -187,7 +188,7 @@ def around(found: Reason) -> str:
     """How far the clock was off before a step and after it."""
     own = [(stretch, stretch.hull) for stretch in found.stretches if not isinstance(stretch.hull, str)]
     parts = [f"{range_ms(*hull)} {from_to(stretch.from_, stretch.to)}" for stretch, hull in own]
-    return f" The error lay within {listed(parts)}, {IF_TRUE}." if parts else ""
+    return f" Its error (below 0 it was behind) lay within {listed(parts)}, {IF_TRUE}." if parts else ""
 
 
 def in_short(entry: Entry) -> str:
@@ -208,13 +209,15 @@ def in_short(entry: Entry) -> str:
     if found.why == "apart":
         return f"{listed(found.apart)} apart"
     if found.why == "twice":
-        return f"each packet is there twice in {found.file}"
+        return f"each packet is there twice in {plain(found.file)}"
+    if found.why == "silent":
+        mode = next((warning.servers for warning in entry.warnings if warning.kind == "interleaved"), None)
+        return f"{listed(mode)} in interleaved mode" if mode else why_no_evidence(entry, found).rstrip(".")
     return SHORT.get(found.why, "")
 
 
 SHORT = {"drift": "too little drift granted", "many": "more servers in conflict than granted",
-         "unbounded": "too few servers have a sample", "silent": "too few servers have a sample",
-         "beside": "no packet within the span"}
+         "unbounded": "too few servers have a sample", "beside": "no packet within the span"}
 
 
 def to_do(entry: Entry) -> str:
@@ -232,7 +235,12 @@ def to_do(entry: Entry) -> str:
         if does_help else ""
     if found.stretches:
         return after_steps(found)
-    return least + TO_DO[found.why].format(file=shlex.quote(found.file))
+    return least + TO_DO[found.why].format(file=shlex.quote(operand(found.file)))
+
+
+def operand(name: str) -> str:
+    """A file's name as the operand of a command."""
+    return f"./{name}" if name.startswith("-") else name
 
 
 TIGHTER = "For a tighter one ask nearer servers, more of them, or more often; or grant less drift, if that is true."
@@ -271,9 +279,11 @@ def after_steps(found: Reason) -> str:
 
 
 def warned(entry: Entry) -> list[str]:
-    """The warnings, but those that are the reason why it isn't a yes."""
-    is_yes_less = entry.verdict == UNSUPPORTED
-    return [warning_words(warning) for warning in entry.warnings if not (is_yes_less and warning.kind in AGAINST)]
+    """The warnings, but those that the reason tells."""
+    against = AGAINST if entry.verdict == UNSUPPORTED else ()
+    apart = set(entry.reason.apart) if entry.reason else set()
+    return [warning_words(warning) for warning in entry.warnings if warning.kind not in against
+            and not (warning.kind == "apart" and set(warning.servers) <= apart)]
 
 
 def fit(entry: Entry) -> str:

@@ -10,9 +10,10 @@ import shutil
 from calendar import timegm
 from time import strptime
 
-from audits import capture_of, check, check_page, dossier, folder_of, table
+from audits import ENVIRONMENT, SCRIPT, capture_of, check, check_page, dossier, folder_of, table
 from captures import MS
-from tally import ROOT, run
+from leaps import leap_list
+from tally import DATA, ROOT, run
 
 NIGHT, DAY = ROOT / "tests" / "night", "2026-11-27"
 STEP, SLIGHT = "23:05:31.5", "23:10:31.5"
@@ -182,5 +183,59 @@ def test_step_at_midnight(place):
           verified=((dossier("verify", day)[0], dossier("verify", whole)[0]), (0, 1)))
 
 
-NIGHT_TESTS = [test_steps_of_nights, test_gaps_of_nights, test_others_of_nights, test_twice_in_one,
-               test_step_at_midnight]
+def test_steps_of_servers(place):
+    """What only one server shows is no step of the clock; and of two that differ each is named."""
+    begin = 1_000_000_000 - 1_000_000_000 % 86_400 + 43_200
+    for name, steps, said in (
+            ("one", {3: 600}, "192.0.2.3 is in the one conflict, with itself or with most others. 192.0.2.3 contradicts "
+             "itself between 2001-09-09 12:09:00 and 12:10:00."),
+            ("two", {1: 600, 2: 1200}, "there are 2 conflicts. 192.0.2.1 contradicts itself between 2001-09-09 12:09:00 "
+             "and 12:10:00. 192.0.2.2 contradicts itself between 2001-09-09 12:19:00 and 12:20:00. These times don't "
+             "agree.")):
+        servers = (1, 2, 3) if name == "one" else (1, 2)
+        words = [f"{server}:{low}..{low + 9}@{begin + second}" for second in range(0, 1800, 60) for server in servers
+                 for low in [50 * MS if second >= steps.get(server, 9999) else 0]]
+        folder = folder_of(place, name, capture_of(place / f"{name}.pcap", *words), **{
+            "client": "192.0.2.10", "servers": [f"192.0.2.{server}" for server in servers], "false_max": 0,
+            "bound_ns": 20_000_000, "from": "2001-09-09T12:00:00Z", "to": "2001-09-09T12:29:00Z", "drift_ppb": 200,
+            "reading_ns": 0})
+        status, row = dossier("audit", folder)[0], table(folder)[0]
+        check(f"a step of {name}", status=(status, 1), verdict=(row["verdict"], "nothing fits"),
+              said=(row["reason"][-len(said):], said))
+
+
+def test_drafts_of_nights(place):
+    """A draft says why nothing fits it, that packets are there twice, that the list of leap seconds has ended, and what
+    was meant by other operands; a configuration may come by a pipe."""
+    folder = night(place, "one", ["stepped.pcap"], "23:04:35", "23:06:28")
+    status, _, err = dossier("draft", folder / "stepped.pcap")
+    said = err.decode()
+    after, by = between(said)
+    check("a draft that nothing fits", status=(status, 0), bound=("least bound" in said, False),
+          said=("Nothing fits this draft, so no claim by it is shown: the clock was stepped between" in said, True),
+          around=(after <= second_of(STEP) <= by, True), ticks=("`" in said, False))
+    status, out, err = dossier("draft", NIGHT / "stepped.pcap", NIGHT / "bridge.pcap")
+    check("a draft of packets twice", run=((status, out), (1, b"")), said=(b"Each packet is there twice" in err, True))
+    words = 'exec "$0" draft --chrony <(cat "$1") "$2"'
+    piped = run(["bash", "-c", words, SCRIPT, ROOT / "tests/client/chrony.conf", NIGHT / "after.pcap"], env=ENVIRONMENT)
+    named = dossier("draft", "--chrony", ROOT / "tests/client/chrony.conf", NIGHT / "after.pcap")
+    check("a configuration by a pipe", status=(piped[0], 0), same=(piped[1], named[1]),
+          drift=(json.loads(piped[1])["drift_ppb"], 600_000))
+    status, _, err = dossier("draft", folder / "claim.json", folder / "stepped.pcap")
+    check("a draft of a claim", run=((status, err), (5, b"ntpaudit-dossier: claim.json is JSON, such as a claim: draft "
+                                                     b"takes captures alone, and prints a claim\n")))
+    status, out, _ = dossier("audit", folder / "stepped.pcap")
+    check("an audit of a capture", status=(status, 4), said=(b"a file is there. Name the folder in which it is" in out,
+                                                             True))
+    old = {**ENVIRONMENT, "NTPAUDIT_LEAP_SECONDS": str(leap_list(place / "ended", 1_782_777_600))}
+    said = dossier("draft", NIGHT / "after.pcap", env=old)[2].decode()
+    check("a draft with an old list", said=("The list of leap seconds was good until 2026-06-30 only" in said
+                                            and "apt-get install tzdata" in said, True))
+    vlan = folder_of(place, "vlan", DATA / "vlan-ns.pcap", DATA / "vlan-ns.claim.json")
+    for words, verdict in (((), b"unsupported"), (("--leap-seconds", DATA / "leap-seconds.list"), b"yes")):
+        check(f"an audit with an old list {bool(words)}", line=(dossier("audit", *words, vlan, env=old)[1].split()[0],
+                                                               verdict))
+
+
+NIGHT_TESTS = [test_drafts_of_nights, test_steps_of_nights, test_gaps_of_nights, test_others_of_nights, test_twice_in_one,
+               test_step_at_midnight, test_steps_of_servers]

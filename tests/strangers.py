@@ -257,7 +257,8 @@ def test_socket_and_rights(place):
               left=(sorted(os.listdir(real)), ["claim.json", "f.pcap"]))
     check("a file for a folder",
           run=(dossier("audit", real / "f.pcap")[:2],
-               (4, f"refused       {real}/f.pcap: ntpaudit-dossier: no such folder\n".encode())))
+               (4, f"refused       {real}/f.pcap: ntpaudit-dossier: no such folder: a file is there. Name the "
+                   "folder in which it is, with its claim.json\n".encode())))
     folder = folder_of(place, "s")
     (folder / "f.pcap").unlink()
     with socket.socket(socket.AF_UNIX) as made:
@@ -485,7 +486,7 @@ def test_programs(place):
         status, _, _ = dossier("audit", "--again", named, cwd=cwd, env=path)
         dossier("verify", named, cwd=cwd, env=path)
         check(f"programs of the folder, called in {cwd.name}", owned=((place / "owned").exists(), False),
-              status=(status, 1))
+              status=(status, 0))
     slow = place / "slow"
     slow.write_text(f'#!/bin/sh\n[ "$1" = --version ] && exec "{PROGRAM}" "$1"\nsleep 314 & echo $! >> '
                     f'"{place}/sleeping"\nwait\n')
@@ -752,7 +753,7 @@ def test_no_evidence(place):
     text = dossier("page", folder)[1].decode()
     words = "".join(check_page("a page of no evidence", text).words)
     check("no evidence", status=(status, 1),
-          line=(out.decode(), f"no evidence   {folder}: no bound is carried, claimed 5 ms\n"),
+          line=(out.decode(), f"no evidence   {folder}: 203.0.113.9 asks nobody in this capture: 192.0.2.10 does\n"),
           row=((row["verdict"], row["least_bound_ns"]), ("no evidence", None)),
           report=((folder / "report.txt").read_text().startswith("no evidence groups 0 of "), True),
           refutation=((folder / "refutation.json").exists() or "refutation" in entry, False),

@@ -303,6 +303,13 @@ def test_many_together(place):
     check("what stands apart reaches machines",
           json=("192.0.2.4 stands apart: its range never meets the hull." in rows[6]["warnings"], True),
           csv=("192.0.2.4 stands apart" in lines[6]["warnings"], True))
+    seen = list(dict.fromkeys(row["verdict"].replace(" ", "-") for row in rows))
+    check("the lines of one verdict alone", places=(sorted(re.findall(r'id="only-([a-z-]+)"', text)), sorted(seen)),
+          links=(sorted(re.findall(r'href="#only-([a-z-]+)"', text)), sorted(seen)),
+          lines=(re.findall(r'<tbody class="of-([a-z-]+)"', text),
+                 [row["verdict"].replace(" ", "-") for row in rows]),
+          hidden=([kind for kind in seen if f"#only-{kind}:target~.audits tbody:not(.of-{kind}){{display:none}}"
+                   not in text], []))
     day = folder_of(place, "days", DATA / "clients-us.pcap", DATA / "clients-us.claim.json",
                     **{"from": "2026-11-22T07:03:36Z", "to": "2026-11-24T00:00:00Z"})
     dossier("audit", "--days", day)
