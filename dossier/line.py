@@ -6,9 +6,9 @@ from .text import plain
 from .units import ns_ms, ns_up_ms
 
 
-def refusal_of(folder: str, line: str) -> str:
+def refusal_of(folder: str, line: str, verdict: str = REFUSED) -> str:
     """One line for a terminal, of a folder without a verdict."""
-    return f"{REFUSED:14}{plain(folder)}: {plain(line)}"
+    return f"{verdict:14}{plain(folder)}: {plain(line)}"
 
 
 def line_of(folder: str, entry: Entry) -> str:
