@@ -7,11 +7,12 @@ from collections.abc import Iterable, Iterator
 from . import folder as files
 from .answers import Envelope, read_envelope
 from .backing import backing
-from .entry import (NO_EVIDENCE, NOT_VERIFIED, NOTHING_FITS, OPEN, REFUSED, REFUTED, UNSUPPORTED, YES, Entry, Reason,
-                    Record)
+from .entry import (DISPUTED, NO_EVIDENCE, NOT_VERIFIED, NOTHING_FITS, OPEN, REFUSED, REFUTED, UNSUPPORTED, YES, Entry,
+                    Reason, Record)
 from .evidence import evidence
 from .figure import legend, picture, stroke
 from .folder import ENVELOPE, REPORT, Folder
+from .known import Judgement
 from .markup import Html, element, joined, lines, minus, with_code
 from .premises import premises
 from .ranges import ranges_of
@@ -24,7 +25,7 @@ from .units import SECOND, range_ms
 from .words import fit, sentence, span, to_do, warned
 
 SYMBOLS = {YES: "\u2713", UNSUPPORTED: "\u2260", REFUTED: "\u2717", NOTHING_FITS: "\u2205", NO_EVIDENCE: "\u2026",
-           OPEN: "?", NOT_VERIFIED: "\u2014", REFUSED: "!"}
+           OPEN: "?", NOT_VERIFIED: "\u2014", REFUSED: "!", DISPUTED: "\u2021"}
 MOST_CONFLICTS = 20
 
 COUNTS = {
@@ -48,11 +49,13 @@ def badge(verdict: str) -> Html:
 
 
 def article(path: str, folder: Folder, record: Record, entry: Entry, signature: Signature,
-            name: str) -> tuple[Html, Html]:
+            judged: Judgement | None, name: str) -> tuple[Html, Html]:
     """The head of an article, and the rest of it."""
     day = "" if entry.part == "." else f", {entry.part}"
-    head = [element("h2", f"{path}{day} ", badge(entry.verdict)), element("p", with_code(sentence(entry)), class_="lead")]
-    return lines([*head, *signed(signature)]), lines([*body(name, folder, record, entry), *sums(record, entry)])
+    head = [element("h2", f"{path}{day} ", badge(entry.verdict)),
+            element("p", with_code(sentence(entry)), class_="lead")]
+    head += [*signed(signature), *judged_twice(judged, entry)]
+    return lines(head), lines([*body(name, folder, record, entry), *sums(record, entry)])
 
 
 def short_article(path: str, row: Row, line: str, signature: Signature) -> Html:
@@ -75,13 +78,20 @@ def signed(found: Signature) -> Iterator[Html]:
         yield element("ul", element("li", words), class_="warnings")
 
 
+def judged_twice(judged: Judgement | None, entry: Entry) -> Iterator[Html]:
+    """That the second program says the same, if it said so here."""
+    if judged and entry.answer != OPEN:
+        yield element("p", f"Judged by two programs: at {judged.at} the second, with the SHA-256 {judged.second[:16]} "
+                      f"and on, said the same ({see('Ten minutes with two programs')}).", class_="signed")
+
+
 def body(name: str, folder: Folder, record: Record, entry: Entry) -> Iterator[Html]:
     for words in (to_do(entry), fit(entry)):
         if words:
             yield element("p", with_code(words))
     if found := warned(entry):
         yield element("ul", *(element("li", with_code(words)) for words in found), class_="warnings")
-    envelope = read_envelope(folder.data(ENVELOPE if entry.part == "." else f"{entry.part}/{ENVELOPE}"))
+    envelope = read_envelope(folder.data(entry.within(ENVELOPE)))
     if entry.verdict == NOTHING_FITS and entry.reason:
         yield conflicts(entry.reason)
     yield figure(name, entry, envelope)

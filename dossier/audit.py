@@ -7,8 +7,8 @@ from dataclasses import dataclass
 from functools import partial
 
 from . import folder as files
-from .entry import REFUSED, LeapList, Options, Record, read_record, record_text
-from .fault import USAGE, Fault, fault, summed
+from .entry import DISPUTED, REFUSED, LeapList, Options, Record, read_record, record_text
+from .fault import NOT_SHOWN, USAGE, Fault, fault, summed
 from .folder import LEFT, Folder, sum_of
 from .known import Known
 from .leap import record_by
@@ -66,7 +66,7 @@ def audit(wanted: Wanted, path: str, _: int) -> Result:
         is_ones_own(folder.place)
         old = known_record(folder, wanted.known)
         if old and not wanted.again and is_same(folder, old, wanted):
-            return result_of(path, old, " (unchanged)")
+            return result_of(path, old, wanted.known, " (unchanged)")
     with Folder(path) as folder:
         is_signed = folder.has(files.SIGNATURE)
         if is_signed and not wanted.again:
@@ -81,11 +81,14 @@ def audit(wanted: Wanted, path: str, _: int) -> Result:
         with wanted.known.alone(folder):
             place(folder, {**made, files.AUDIT: [text]}, stale - record.outputs.keys())
     wanted.known.add(sum_of(text), record)
-    return result_of(path, record, "", [f"{'':14}{plain(path)}: its signature was removed"] if is_signed else [])
+    return result_of(path, record, wanted.known, "", [f"{'':14}{plain(path)}: its signature was removed"] if is_signed else [])
 
 
-def result_of(path: str, record: Record, more: str, others: Iterable[str] = ()) -> Result:
-    """A folder's lines, verdicts and metrics."""
+def result_of(path: str, record: Record, known: Known, more: str, others: Iterable[str] = ()) -> Result:
+    """A folder's lines, verdicts and metrics. What the second program disputes has no verdict."""
+    if words := known.dispute(record):
+        return Result(NOT_SHOWN, [refusal_of(path, words, DISPUTED), *others], [DISPUTED],
+                      list(of_verdict(path, DISPUTED)))
     lines = [refusal_of(path, record.refusal.line)] if record.refusal else []
     lines += [line_of(path, entry) + more for entry in record.entries]
     return Result(record.status, [*lines, *others], record.verdicts, list(of_record(path, record)))

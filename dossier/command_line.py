@@ -99,6 +99,8 @@ def parser() -> Parser:
                              help="who may sign, as ssh-keygen's file of allowed signers has it: signatures are "
                                   "checked")
         command.add_argument("--leap-seconds", metavar="FILE", help=LEAPS)
+    verify.add_argument("--second", action="store_true",
+                        help="have the second program, ntpaudit-recheck, judge each answer too")
     for command in (audit, page):
         command.add_argument("--metrics", metavar="FILE",
                              help="write what came of it to FILE too, for Prometheus, whole or not at all")
@@ -310,11 +312,12 @@ def run_on_folders(given: argparse.Namespace, folders: list[str]) -> int:
         wanted = Audit(Options(given.step, given.days), given.again, leaps, known, program)
         return audit_all(folders, wanted, given.jobs or len(os.sched_getaffinity(0)), given.limit, given.metrics)
     from .verify import Verifier, verify_all
-    verifier = Verifier(program, known, leaps)
     if given.command == "page":
         from .page import write_page
-        return write_page(folders, given, known, leaps, verifier)
+        return write_page(folders, given, known, leaps, Verifier(program, known, leaps))
+    from .second import find_second
     from .signature import Signers
+    verifier = Verifier(program, known, leaps, find_second() if given.second else None)
     return verify_all(folders, verifier, Signers(given.signers), given.limit)
 
 

@@ -24,8 +24,8 @@ NOTHING_FITS: Final = "nothing fits"
 NO_EVIDENCE: Final = "no evidence"
 OPEN: Final = "open"
 ANSWERED = (YES, UNSUPPORTED, REFUTED, NOTHING_FITS, NO_EVIDENCE, OPEN)
-REFUSED, NOT_VERIFIED = "refused", "not verified"
-"""There is no verdict; and there is one that nobody made or verified here."""
+REFUSED, NOT_VERIFIED, DISPUTED = "refused", "not verified", "disputed"
+"""There is no verdict; there is one that nobody made or verified here; and one that the second program disputes."""
 
 Hull = tuple[Ticks, Ticks] | Literal["unbounded", "empty"]
 """Two ends in ticks, or a word."""
@@ -208,6 +208,10 @@ class Entry:
     def __post_init__(self) -> None:
         if (self.reason is None) != (self.verdict == YES) or "samples" not in self.counts:
             raise Mangled(f"entry {self.part}")
+
+    def within(self, name: str) -> str:
+        """A file of this audit, by its name seen from the record's folder."""
+        return name if self.part == "." else f"{self.part}/{name}"
 
     @property
     def answer(self) -> Answer:

@@ -7,9 +7,9 @@ from .units import ns_ms, ns_up_ms
 from .words import in_short
 
 
-def refusal_of(folder: str, line: str) -> str:
+def refusal_of(folder: str, line: str, verdict: str = REFUSED) -> str:
     """One line for a terminal, of a folder without a verdict."""
-    return f"{REFUSED:14}{plain(folder)}: {plain(line).replace('`', '')}"
+    return f"{verdict:14}{plain(folder)}: {plain(line).replace('`', '')}"
 
 
 def line_of(folder: str, entry: Entry) -> str:

@@ -143,6 +143,11 @@ class Making:
             found.why = self.taken.named(found.why)
             raise
 
+    def capture_of(self, entry: Entry) -> str:
+        """The private file by which an entry was settled."""
+        own, whole = entry.within(JOINED), self.taken.capture
+        return own if own in entry.outputs else self.taken.copies.get(whole, whole)
+
     def of(self, entries: list[Entry], refusal: Refusal | None = None) -> Record:
         return Record(VERSION, self.program.made, self.options, self.taken.sums, self.taken.capture, self.made,
                       round(time.monotonic() - self.begun, 3), "", entries, refusal, None if refusal else self.leaps,

@@ -4,7 +4,7 @@ from __future__ import annotations
 import sys
 from collections.abc import Iterable, Iterator
 
-from .entry import ANSWERED, NOT_VERIFIED, REFUSED, Entry, Record
+from .entry import ANSWERED, DISPUTED, NOT_VERIFIED, REFUSED, Entry, Record
 from .fault import Fault
 from .placing import write_named
 from .text import plain
@@ -26,7 +26,7 @@ HELP = {
     "audit_duration_seconds": "How long the audit took.",
     "last_audit_timestamp_seconds": "When the audit was made.",
 }
-VERDICTS = (*ANSWERED, REFUSED, NOT_VERIFIED)
+VERDICTS = (*ANSWERED, REFUSED, NOT_VERIFIED, DISPUTED)
 
 
 def labels_of(**labels: str) -> str:

@@ -11,8 +11,8 @@ from typing import NamedTuple
 
 from .article import article, badge, short_article
 from .audit import change_of
-from .entry import (FEW, NO_EVIDENCE, NOT_VERIFIED, NOTHING_FITS, OPEN, REFUSED, REFUTED, UNSUPPORTED, YES, LeapList,
-                    Refusal)
+from .entry import (DISPUTED, FEW, NO_EVIDENCE, NOT_VERIFIED, NOTHING_FITS, OPEN, REFUSED, REFUTED, UNSUPPORTED, YES,
+                    LeapList, Refusal)
 from .fault import REFUSED as INPUT_REFUSED, Fault, fault
 from .folder import Folder, sum_of
 from .known import Known
@@ -41,12 +41,14 @@ MEANINGS = {
     OPEN: "neither shown nor refuted",
     NOT_VERIFIED: "an audit.json that was neither made nor verified here: it may say what it likes",
     REFUSED: "no verdict: the audit couldn't be made",
+    DISPUTED: "the second program says something else, so neither is believed",
 }
 POLICY = "default-src 'none'; style-src 'unsafe-inline'"
 """Nothing is fetched and nothing is run, whatever stands in the page."""
 INDEX = "index.html"
 UNKNOWN = "It was neither made nor verified here, so nothing that its audit.json says is shown"
 VERIFY = "`ntpaudit-dossier verify` the folder, or call `page --verify`."
+DIFFER = "Believe neither program, keep the folder, and report it. `verify --second` judges it again."
 
 
 class Shown(NamedTuple):
@@ -100,11 +102,13 @@ class Looking(NamedTuple):
             return short(path, row_without_verdict(path, NOT_VERIFIED, f"{why}.", VERIFY, signature), "", signature)
         if record.refusal:
             return refused(path, record.refusal, signature, list(of_record(path, record)))
+        if words := self.known.dispute(record):
+            return short(path, row_without_verdict(path, DISPUTED, f"{words}.", DIFFER, signature), "", signature)
         record, found = record_by(self.leaps, record), []
         for part, entry in enumerate(record.entries):
             name, said = name_of(number, part), ("", "")
             if self.has_articles:
-                said = article(path, folder, record, entry, signature, name)
+                said = article(path, folder, record, entry, signature, self.known.judgement(record), name)
             found.append(Section(row_of(path, entry, signature), *said, record.program, sorted(record.captures)))
         return Result(sections=found, metrics=list(of_record(path, record)), verdicts=record.verdicts)
 
@@ -123,7 +127,7 @@ def refused(path: str, found: Fault | Refusal, signature: Signature, metrics: Se
 def short(path: str, row: Row, line: str, signature: Signature, metrics: Sequence[Sample] = ()) -> Result:
     """A folder without a verdict. It has an audit, unless there is no other reason why nothing is shown."""
     section = Section(row, short_article(path, row, line, signature))
-    is_audit = row.verdict == NOT_VERIFIED or bool(metrics)
+    is_audit = row.verdict in (NOT_VERIFIED, DISPUTED) or bool(metrics)
     return Result(sections=[section], metrics=[*metrics, *of_verdict(path, row.verdict)],
                   verdicts=[row.verdict] if is_audit else [])
 

@@ -4,7 +4,7 @@ from __future__ import annotations
 import sys
 import time
 
-from .entry import ANSWERED, REFUSED
+from .entry import ANSWERED, DISPUTED, REFUSED
 from .result import Result
 
 WIDTH = 30
@@ -15,7 +15,7 @@ class Progress:
 
     def __init__(self, total: int):
         self.total, self.finished, self.begun = total, 0, time.monotonic()
-        self.tally = dict.fromkeys([*ANSWERED, REFUSED], 0)
+        self.tally = dict.fromkeys([*ANSWERED, REFUSED, DISPUTED], 0)
         self.is_shown = sys.stderr.isatty() and total > 1
 
     def add(self, done: Result) -> None:

@@ -9,7 +9,7 @@ from typing import IO
 
 from . import folder as files
 from .audit import change_of
-from .entry import read_record, record_text
+from .entry import DISPUTED, read_record, record_text
 from .fault import DEVICE, NOT_SHOWN, USAGE, Fault, fault, summed
 from .folder import Folder, own_data, sum_of
 from .known import Known
@@ -58,6 +58,8 @@ def to_be_signed(known: Known, path: str, _: int) -> Result:
         if not known.shown(sum_of(data), record):
             raise fault("neither made nor verified here, so it isn't signed: `ntpaudit-dossier verify` comes first",
                         USAGE)
+        if words := known.dispute(record):
+            return Result(NOT_SHOWN, [f"{DISPUTED}: {words}"])
         if changed := change_of(folder, record):
             return Result(NOT_SHOWN, [changed])
         return Result(text=record_text(replace(record, signed=now())).decode())

@@ -87,6 +87,7 @@ th{font-weight:600;color:var(--soft)}
 .no-evidence{color:var(--bad);border-style:groove}
 .not-verified{color:var(--ink);background:var(--panel);border-style:dotted}
 .refused{color:var(--soft);border-style:dotted}
+.disputed{color:var(--paper);background:var(--bad);border-style:double}
 h2 .verdict{font-size:16px;vertical-align:3px;margin-left:6px}
 .tally{display:flex;flex-wrap:wrap;gap:8px 18px;list-style:none;padding:0;margin:14px 0}
 .warnings{border-left:5px solid var(--bad);background:var(--panel);margin:14px 0;padding:8px 16px 8px 30px}

@@ -8,7 +8,7 @@ import re
 from dataclasses import asdict
 
 from .alerts import warning_words
-from .entry import NO_EVIDENCE, NOT_VERIFIED, NOTHING_FITS, OPEN, REFUSED, REFUTED, UNSUPPORTED, YES, Entry
+from .entry import DISPUTED, NO_EVIDENCE, NOT_VERIFIED, NOTHING_FITS, OPEN, REFUSED, REFUTED, UNSUPPORTED, YES, Entry
 from .result import Row
 from .signature import Signature
 from .text import plain
@@ -16,7 +16,7 @@ from .units import civil
 from .words import reason, to_do
 
 
-WORST_FIRST = (REFUTED, NOTHING_FITS, UNSUPPORTED, NO_EVIDENCE, OPEN, REFUSED, NOT_VERIFIED, YES)
+WORST_FIRST = (DISPUTED, REFUTED, NOTHING_FITS, UNSUPPORTED, NO_EVIDENCE, OPEN, REFUSED, NOT_VERIFIED, YES)
 
 
 def badness_of(row: Row) -> tuple[int, int]:

@@ -8,7 +8,7 @@ from typing import NamedTuple
 
 from . import VERSION, folder as files
 from .audit import change_of
-from .entry import UNSUPPORTED, LeapList, Record
+from .entry import DISPUTED, OPEN, UNSUPPORTED, LeapList, Record
 from .fault import DEVICE, NOT_SHOWN, Fault, fault, summed
 from .folder import Folder, own, sum_of
 from .known import Known
@@ -18,13 +18,17 @@ from .older import differs as differs_from_older, form_of, read_any
 from .program import Program
 from .result import Result
 from .running import run_all
+from .second import Second
 from .signature import GOOD, NONE, UNSEEN, Signers, in_words
 from .text import plain
 from .typed import first_difference, said
+from .units import now
 from .words import TWICE, reason
 
-SHOWN = 80
-"""Characters of a value that are shown of a difference."""
+SHOWN, MOST_OF_A_DISPUTE = 80, 1000
+"""Characters of a value that are shown of a difference, and of what is disputed."""
+TWICE_JUDGED = "judged by two programs"
+OPEN_ONCE = f"what is {OPEN} was judged by one program: it states nothing that the second could judge"
 
 
 OLDER = "form {} of audit.json: verdicts, figures and files are the same; what it warns of isn't compared"
@@ -41,38 +45,48 @@ class Verified(NamedTuple):
 
 
 class Verifier:
-    """Verifies folders, and records those that are."""
+    """Verifies folders, and records those that are. The second program judges their answers too, if there is one."""
 
-    def __init__(self, program: Program, known: Known, leaps: LeapList):
-        self.program, self.known, self.leaps = program, known, leaps
+    def __init__(self, program: Program, known: Known, leaps: LeapList, second: Second | None = None):
+        self.program, self.known, self.leaps, self.second = program, known, leaps, second
 
     def verify(self, folder: Folder) -> Verified:
-        """What the inputs of a folder come to, and how that differs from what stands in it."""
+        """What the inputs of a folder come to, by one's own list of leap seconds, and how that differs from what stands
+        in it. An audit that was refused is tried again: it is refused for the same reason, or that is a difference."""
         data = audit_json(folder)
         record, form = read_any(data), form_of(data)
-        found, made = self.difference(folder, record, form < VERSION)
-        notes = self.notes(record, made)
-        if made and not found and form == VERSION:
-            self.known.add(sum_of(data), made)
-        elif made and not found:
-            notes.append(OLDER.format(form))
-        return Verified(found, notes, made)
-
-    def notes(self, record: Record, made: Record | None) -> list[str]:
-        other = record.program.sha256 != self.program.made.sha256
-        against = {reason(entry) for entry in made.entries if entry.verdict == UNSUPPORTED} if made else ()
-        return [*(["by another build of the program than the audit's"] if other else []), *sorted(against)]
-
-    def difference(self, folder: Folder, record: Record, is_older: bool) -> tuple[str, Record | None]:
-        """The first difference, nothing if there is none; and what was made of the inputs, by one's own list of leap
-        seconds. An audit that was refused is tried again: it is refused for the same reason, or there is one."""
-        found = "" if record.refusal else change_of(folder, record)
-        if found:
-            return found, None
+        if found := "" if record.refusal else change_of(folder, record):
+            return Verified(found, [], None)
         is_other = record.program.sha256 != self.program.made.sha256
         making = Making(folder, self.program, record.options, self.leaps, record.kept)
-        made = making.record(earlier_of(folder, record) if is_other else no_earlier)
-        return self.compared(folder, record, made, is_other, is_older), replace(made, signed=record.signed)
+        made = replace(making.record(earlier_of(folder, record) if is_other else no_earlier), signed=record.signed)
+        found = self.compared(folder, record, made, is_other, form < VERSION)
+        notes = ["by another build of the program than the audit's"] if is_other else []
+        notes += sorted({reason(entry) for entry in made.entries if entry.verdict == UNSUPPORTED})
+        if not found:
+            if form == VERSION:
+                self.known.add(sum_of(data), made)
+            else:
+                notes.append(OLDER.format(form))
+            notes += self.judged_twice(making, made)
+        return Verified(found, notes, made)
+
+    def judged_twice(self, making: Making, made: Record) -> list[str]:
+        """Has the second program judge each answer, and records what it says. What came of it, in words."""
+        if not self.second or made.refusal:
+            return []
+        closed, disputes, faults = [entry for entry in made.entries if entry.answer != OPEN], list[str](), list[Fault]()
+        for entry in closed:
+            try:
+                disputes += self.second.disputes(entry, making.capture_of(entry))
+            except Fault as found:
+                faults.append(found)
+        if faults and not disputes:
+            raise faults[0]
+        if closed:
+            self.known.judge(made, self.second.sha256, now(), "; ".join(disputes)[:MOST_OF_A_DISPUTE])
+        said = [TWICE_JUDGED] if closed and not disputes else []
+        return said + [OPEN_ONCE] * (len(closed) < len(made.entries))
 
     def compared(self, folder: Folder, record: Record, made: Record, is_other: bool, is_older: bool) -> str:
         """What stands in a folder that isn't so by the record that was made now. Another list of leap seconds may say
@@ -175,6 +189,8 @@ def verify(verifier: Verifier, signers: Signers, path: str, _: int) -> Result:
     except Fault as found:
         return Result(found.status, [*findings, found.line, *(f"({note})" for note in notes)])
     findings += [difference] if difference else []
+    if made and (words := verifier.known.dispute(made)):
+        findings.insert(0, f"{DISPUTED}: {words}")
     verdicts = Counter(made.verdicts if made else ())
     words = ", ".join(f"{number} {verdict}" if len(made.entries) > 1 else verdict
                       for verdict, number in verdicts.items()) if made else ""

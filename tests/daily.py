@@ -70,7 +70,7 @@ def test_metrics(place):
                 if name == "verdict" and label in labels and value == "1"]
         own = {name: value for (name, *labels), value in found.items() if labels == [label]}
         check(f"the verdict of {folder.name} as metrics", ones=(ones, [row["verdict"]]),
-              all=(sum(name == "verdict" and label in labels for name, *labels in found), 8))
+              all=(sum(name == "verdict" and label in labels for name, *labels in found), 9))
         if row["bound_ns"] is None:
             check(f"no figures of {folder.name} as metrics", figures=([name for name in own if "bound" in name], []))
             continue
