@@ -64,7 +64,7 @@ class Parser(argparse.ArgumentParser):
             option = self._option_string_actions.get(name)
             if option is None:
                 self.error(f"no option {name}: options are written out, and their values stand apart or behind a =")
-            if others:
+            if others and self.operands:
                 self.error(f"{name} has to stand before {self.operands}")
             if option.dest in seen and not isinstance(option, argparse._AppendAction):
                 self.error(f"{name} stands there twice")
@@ -74,7 +74,7 @@ class Parser(argparse.ArgumentParser):
 
     @property
     def operands(self) -> str:
-        return next((str(action.metavar) for action in self._actions if not action.option_strings), "all else")
+        return next((str(action.metavar) for action in self._actions if not action.option_strings), "")
 
 
 def parser() -> Parser:
@@ -118,6 +118,7 @@ def parser() -> Parser:
                      help="where the days' folders are, with the claim of any day, and evidence")
     day.add_argument("--date", metavar="DATE",
                      help="the day (UTC), such as 2026-11-22; each whole day before today if it is left out")
+    add_now(commands.add_parser("now", help="say of the last minutes of a recording whether the clock is right"))
     add_record(commands.add_parser("record", help="record an interface by tcpdump, with evidence of its stamps"))
     own_filter = commands.add_parser("filter", help="print a recorder's filter, which names the servers of a claim")
     own_filter.add_argument("claim", metavar="CLAIM", help="a JSON file; if it isn't there, all servers are recorded")
@@ -187,6 +188,18 @@ def add_measure(measure: argparse.ArgumentParser) -> None:
     measure.add_argument("--load", action="store_true", help="keep all processors busy meanwhile")
     measure.add_argument("-o", "--output", metavar="FILE",
                          help="write it as JSON to FILE too, for evidence.json to name")
+
+
+def add_now(now_: argparse.ArgumentParser) -> None:
+    now_.add_argument("--from", required=True, dest="source", metavar="DIR", help="where recorders write")
+    now_.add_argument("--claim", required=True, metavar="FILE", help="the claim of any day: its span doesn't matter")
+    now_.add_argument("--minutes", type=in_range(1, 1440), default=10, metavar="N", help="how many; 10 if left out")
+    now_.add_argument("--metrics", metavar="FILE", help="write what came of it to FILE too, for Prometheus")
+    now_.add_argument("--follow", nargs="?", type=in_range(1, 3600), const=10, metavar="SECONDS",
+                      help="again and again, each 10 seconds if no number is given; on a terminal with a band of the "
+                           "last hour")
+    now_.add_argument("--no-color", action="store_true", help="no colours on a terminal")
+    now_.add_argument("--leap-seconds", metavar="FILE", help=LEAPS)
 
 
 def add_record(record: argparse.ArgumentParser) -> None:
@@ -274,6 +287,8 @@ def run(given: argparse.Namespace) -> int:
         print(filter_of(given.claim))
         return 0
     program = find_program()
+    if given.command == "now":
+        return run_now(given, program)
     if given.version:
         print(f"ntpaudit-dossier, form {VERSION} of audit.json\n{program.made.version}, SHA-256 {program.made.sha256}")
         return 0
@@ -285,6 +300,15 @@ def run(given: argparse.Namespace) -> int:
     from .figure import picture_of
     sys.stdout.write(answer(lambda *_: Result(text=picture_of(program, given.claim, given.capture, given.step))).text)
     return 0
+
+
+def run_now(given: argparse.Namespace, program: Program) -> int:
+    from .leap import read_list
+    from .now import Wanted, follow, show_now
+    wanted = Wanted(given.source, given.claim, given.minutes, read_list(given.leap_seconds), program)
+    if given.follow:
+        return follow(wanted, given.metrics, given.follow, not given.no_color)
+    return show_now(wanted, given.metrics)
 
 
 def run_on_folders(given: argparse.Namespace, folders: list[str]) -> int:

@@ -16,6 +16,7 @@ from .claim import GREATEST_DRIFT, OSCILLATOR, Claim, Part
 from .entry import (FEW, NO_EVIDENCE, NOTHING_FITS, OPEN, REFUTED, YES, Alert, Answer, Entry, Hull, LeapList, Piece,
                     Reason, Server)
 from .leap import entry_by, look_up, stretch
+from .moment import is_off
 from .ranges import ranges_of
 from .recording import Recording
 from .traffic import Traffic, number_of
@@ -101,11 +102,6 @@ def piece_of(envelope: Envelope, k: int) -> Piece:
 
 def is_beyond(hull: Hull, bound: int) -> bool:
     return not isinstance(hull, str) and (hull[0] < -bound or hull[1] > bound)
-
-
-def is_off(hull: Hull, bound: int) -> bool:
-    """Whether a hull lies beyond the bound as a whole."""
-    return not isinstance(hull, str) and (hull[0] > bound or hull[1] < -bound)
 
 
 def reason_of(claim: Claim, servers: list[Server], settled: Settled, envelope: Envelope, texts: Texts,

@@ -25,6 +25,15 @@ HELP = {
     "leap_list_end_timestamp_seconds": "Until when the list of leap seconds is good.",
     "audit_duration_seconds": "How long the audit took.",
     "last_audit_timestamp_seconds": "When the audit was made.",
+    "now_verdict": "1 for the verdict of a recorder's last minutes, 0 for each other.",
+    "now_clock_off": "1 if the error lies beyond the bound at the end of them, if what the claim grants is true.",
+    "now_claimed_bound_seconds": "The bound that is claimed.",
+    "now_hull_low_seconds": "The least that the clock's error can be at their end.",
+    "now_hull_high_seconds": "The most that the clock's error can be at their end.",
+    "now_least_bound_seconds": "The least bound that a certificate of the last minutes carries, if there is one.",
+    "now_groups_heard": "Groups of servers that have a sample.",
+    "now_groups": "Groups of servers in the claim.",
+    "now_last_record_timestamp_seconds": "When the recorder's last record was made.",
 }
 VERDICTS = (*ANSWERED, REFUSED, NOT_VERIFIED)
 
@@ -82,7 +91,8 @@ def metrics_text(samples: Iterable[Sample]) -> str:
 def lines_of(name: str, values: dict[str, int]) -> Iterator[str]:
     yield f"# HELP ntpaudit_{name} {HELP[name]}\n# TYPE ntpaudit_{name} gauge\n"
     for labels, value in values.items():
-        number = f"{value // SECOND}.{value % SECOND:09}" if name.endswith("_seconds") else f"{value}"
+        seconds, rest = divmod(abs(value), SECOND)
+        number = f"{'-' if value < 0 else ''}{seconds}.{rest:09}" if name.endswith("_seconds") else f"{value}"
         yield f"ntpaudit_{name}{{{labels}}} {number}\n"
 
 
