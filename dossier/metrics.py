@@ -1,6 +1,8 @@
 """What audits come to as metrics, in Prometheus' text format, for the textfile collector of node_exporter."""
 from __future__ import annotations
 
+import os
+import re
 import sys
 from collections.abc import Iterable, Iterator
 
@@ -35,6 +37,7 @@ HELP = {
     "now_groups": "Groups of servers in the claim.",
     "now_last_record_timestamp_seconds": "When the recorder's last record was made.",
 }
+DATE = re.compile(r"\d{4}-\d\d-\d\d")
 VERDICTS = (*ANSWERED, REFUSED, NOT_VERIFIED)
 
 
@@ -47,15 +50,21 @@ def escaped(value: str) -> str:
     return plain(value).replace("\\", "\\\\").replace('"', '\\"')
 
 
+def labels_of_folder(folder: str, day: str = "", **others: str) -> str:
+    """A folder, and the machine of which it is a day, if it is one."""
+    above, name = os.path.split(folder)
+    return labels_of(machine=above if DATE.fullmatch(name) else folder, folder=folder, day=day, **others)
+
+
 def of_verdict(folder: str, verdict: str, day: str = "") -> Iterator[Sample]:
     """One metric for each verdict, of which one is 1."""
     for other in VERDICTS:
-        yield "verdict", labels_of(folder=folder, day=day, verdict=other), int(other == verdict)
+        yield "verdict", labels_of_folder(folder, day, verdict=other), int(other == verdict)
 
 
 def of_entry(folder: str, entry: Entry) -> Iterator[Sample]:
     day = "" if entry.part == "." else entry.part
-    labels = labels_of(folder=folder, day=day)
+    labels = labels_of_folder(folder, day)
     yield from of_verdict(folder, entry.verdict, day)
     yield "clock_off", labels, int(entry.reason is not None and entry.reason.why == "off")
     yield "claimed_bound_seconds", labels, entry.claim.bound_ns
@@ -69,7 +78,7 @@ def of_entry(folder: str, entry: Entry) -> Iterator[Sample]:
 
 def of_record(folder: str, record: Record) -> Iterator[Sample]:
     """All of a folder's audit, which has to be known here."""
-    labels = labels_of(folder=folder)
+    labels = labels_of_folder(folder)
     for entry in record.entries:
         yield from of_entry(folder, entry)
     if record.refusal:

@@ -1,7 +1,7 @@
 """The last minutes of what recorders are writing: is the clock within its bound now?
 
-It is asked as an audit asks it, of a span that ends with the last record. What was recorded as long before speaks about
-it too. Nothing is left but metrics.
+It is asked as an audit asks it, of a span that begins no earlier than the records and ends with the last. What was
+recorded as long before speaks about it too. Nothing is left but metrics.
 """
 from __future__ import annotations
 
@@ -17,6 +17,7 @@ from .answers import read_envelope, read_settled
 from .band import Band
 from .captures import audited
 from .claim import Claim
+from .classic import Classic
 from .day import begun_files, note
 from .entry import NO_EVIDENCE, OF_LEAPS, UNSUPPORTED, YES, LeapList
 from .fault import Fault
@@ -126,15 +127,16 @@ def moment_of(wanted: Wanted, claim: Claim, folder: Folder, recorder: str, names
     last = next(filter(None, (file.last for file in files)), 0)
     if last < time.time() - span:
         return silent(wanted, claim, recorder, last)
-    begin = last - span
-    capture = audited(dict(copies(files, begin - span)))
+    capture = audited(dict(copies(files, last - 2 * span)))
+    first = min(Classic(capture.path, capture.extent).extent.stamps) >> 32
+    begin = max(last - span, first)
     own = replace(claim, from_=civil(begin), to=civil(last))
     keep(CLAIM, own.text)
     settled = read_settled(wanted.program.run("settle", CLAIM, capture.path).text)
     words = ("envelope", CLAIM, capture.path, "--servers", "--least", "--step",
              str(1 + span // MOST_PIECES))
     envelope = read_envelope(wanted.program.run(*words).text)
-    leaps = look_up(wanted.leaps, begin - span, last)
+    leaps = look_up(wanted.leaps, first, last)
     against = next((OF_LEAPS[alert.kind] for alert in alerts_of(leaps, wanted.leaps)), "")
     heard = sum(any(own.servers[k] in envelope.servers for k in group) for group in own.grouped)
     verdict = UNSUPPORTED if settled.answer == YES and against else settled.answer
