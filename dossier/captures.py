@@ -49,8 +49,7 @@ def audited(copies: dict[str, str]) -> Audited:
     extent: Extent | None = own
     whole = {name: Classic(path, known) for name, (path, _, known) in opened.items() if size_of(path)} if others else {}
     if whole:
-        join(whole, JOINED)
-        extent = None
+        extent = join(whole, JOINED)
     elif path != copies[name] or place is not None:
         move(path, JOINED)
     else:
