@@ -90,6 +90,7 @@ def parser() -> Parser:
     keep = commands.add_parser("keep", help="keep audits for years: pack captures, and take away what was made of them")
     for command in (audit, page, verify, sign, keep):
         command.add_argument("folders", nargs="+", metavar="FOLDER", help=FOLDER)
+    add_year(commands.add_parser("year", help="make a calendar of a year of machines, with statements to be signed"))
     add_audit(audit)
     add_page(page)
     sign.add_argument("--key", required=True, metavar="FILE",
@@ -106,7 +107,7 @@ def parser() -> Parser:
                       help="take away folders whose span ended so many years ago; none if it is left out")
     keep.add_argument("--force", action="store_true",
                       help="take away as many folders as there are, whatever the clock did meanwhile")
-    for command in (audit, page, verify, sign, keep):
+    for command in (audit, page, verify, sign, keep, commands.choices["year"]):
         command.add_argument("--state", metavar="DIR",
                              help="where it is recorded which audits were made or verified here; else below "
                                   "$XDG_STATE_HOME, or ~/.local/state")
@@ -188,6 +189,20 @@ def add_measure(measure: argparse.ArgumentParser) -> None:
     measure.add_argument("--load", action="store_true", help="keep all processors busy meanwhile")
     measure.add_argument("-o", "--output", metavar="FILE",
                          help="write it as JSON to FILE too, for evidence.json to name")
+
+
+def add_year(year: argparse.ArgumentParser) -> None:
+    year.add_argument("folders", nargs="+", metavar="DAYS", help="folders of days, or those of machines with such in them")
+    year.add_argument("--year", type=in_range(1971, 9999), metavar="N", help="this year if it is left out")
+    form = year.add_mutually_exclusive_group()
+    form.add_argument("--split", metavar="DIR", help="write a page of all into DIR (index.html), beside it a page for "
+                                                     "each machine, and what `sign` and `verify` take (year.json)")
+    form.add_argument("-o", "--output", metavar="FILE",
+                      help="write the page to FILE, whole or not at all; standard output if it is left out")
+    year.add_argument("--title", metavar="TEXT", help="the page's heading")
+    year.add_argument("--jobs", type=in_range(1, 4096), metavar="N",
+                      help="machines side by side; as many as processors if it is left out")
+    year.add_argument("--leap-seconds", metavar="FILE", help=LEAPS)
 
 
 def add_now(now_: argparse.ArgumentParser) -> None:
@@ -276,6 +291,8 @@ def say(line: str) -> None:
 def run(given: argparse.Namespace) -> int:
     if given.command in ("audit", "page", "verify", "sign", "keep"):
         return run_on_folders(given, [tidy(folder) for folder in given.folders])
+    if given.command == "year":
+        return run_year(given, [tidy(folder) for folder in given.folders])
     if given.command == "day":
         from .day import make_days
         return make_days(given.source, given.target, given.date, SECONDS)
@@ -309,6 +326,16 @@ def run_now(given: argparse.Namespace, program: Program) -> int:
     if given.follow:
         return follow(wanted, given.metrics, given.follow, not given.no_color)
     return show_now(wanted, given.metrics)
+
+
+def run_year(given: argparse.Namespace, folders: list[str]) -> int:
+    from .days import Wanted
+    from .leap import read_list
+    from .years import Pages, write_year
+    number = given.year or int(now()[:4])
+    wanted = Wanted(number, Known(state_of(given.state), writes=False), read_list(given.leap_seconds))
+    pages = Pages(given.title or f"Clocks in {number}", given.output, given.split)
+    return write_year(folders, wanted, pages, given.limit, given.jobs or len(os.sched_getaffinity(0)))
 
 
 def run_on_folders(given: argparse.Namespace, folders: list[str]) -> int:

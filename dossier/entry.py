@@ -26,6 +26,7 @@ OPEN: Final = "open"
 ANSWERED = (YES, UNSUPPORTED, REFUTED, NOTHING_FITS, NO_EVIDENCE, OPEN)
 REFUSED, NOT_VERIFIED = "refused", "not verified"
 """There is no verdict; and there is one that nobody made or verified here."""
+WORST_FIRST = (REFUTED, NOTHING_FITS, UNSUPPORTED, NO_EVIDENCE, OPEN, REFUSED, NOT_VERIFIED, YES)
 
 Hull = tuple[Ticks, Ticks] | Literal["unbounded", "empty"]
 """Two ends in ticks, or a word."""

@@ -26,6 +26,7 @@ CLAIM_OF_0 = "bound-0.claim.json"
 CLAIM_OF_DRIFT = "more-drift.claim.json"
 AUDIT = "audit.json"
 SIGNATURE = f"{AUDIT}.sig"
+YEAR = "year.json"
 JOINED = "joined.pcap"
 LEFT = frozenset({CERTIFICATE, REPORT, ENVELOPE, REFUTATION, CLAIM_OF_0, CLAIM_OF_DRIFT, JOINED})
 """What an audit leaves of each claim."""

@@ -4,12 +4,10 @@ from __future__ import annotations
 from collections.abc import Iterator
 from dataclasses import dataclass, field
 
-from .entry import ANSWERED, NO_EVIDENCE, NOTHING_FITS, OPEN, REFUTED, UNSUPPORTED, YES, Hull, Piece
+from .entry import ANSWERED, NOTHING_FITS, WORST_FIRST, Hull, Piece
 from .metrics import Sample, labels_of
 from .text import count, plain
 from .units import SECOND, TICKS, bound_ticks, ceil_div, civil, high_ms, low_ms, ns_up_ms
-
-WORST_FIRST = (NOTHING_FITS, REFUTED, NO_EVIDENCE, OPEN, UNSUPPORTED, YES)
 
 
 @dataclass(frozen=True)

@@ -6,6 +6,7 @@ from dataclasses import dataclass, field
 from .entry import Made, Refusal
 from .moment import Moment
 from .typed import Count
+from .year import Year
 
 
 @dataclass
@@ -51,8 +52,8 @@ class Section:
 
 @dataclass(frozen=True)
 class Result:
-    """A status, lines for a terminal, verdicts, metrics, sections of a page, sums of captures; what last minutes say; when
-    the newest recording ends; a text, such as one that is to be signed; and if nothing came of it, why."""
+    """A status, lines for a terminal, verdicts, metrics, sections of a page, sums of captures; what last minutes say, and a
+    year; when the newest recording ends; a text, such as one that is to be signed; and if nothing came of it, why."""
 
     status: Count = 0
     lines: list[str] = field(default_factory=list)
@@ -61,6 +62,7 @@ class Result:
     sections: list[Section] = field(default_factory=list)
     captures: list[str] = field(default_factory=list)
     moments: list[Moment] = field(default_factory=list)
+    year: Year | None = None
     last: int = 0
     text: str = ""
     refusal: Refusal | None = None
