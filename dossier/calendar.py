@@ -1,9 +1,8 @@
-"""The page of a year: machines with their days as a calendar, the sums, what isn't shown, and a statement to be signed."""
+"""The page of a year: machines with their days as a calendar, the sums, what isn't shown, and statements to sign."""
 from __future__ import annotations
 
 import os
 from collections.abc import Iterator
-from urllib.parse import quote
 
 from .article import badge
 from .entry import NO_EVIDENCE, NOT_VERIFIED, NOTHING_FITS, OPEN, REFUSED, REFUTED, UNSUPPORTED, YES
@@ -21,7 +20,8 @@ SHADES = 4
 """Of a yes, by how much of the bound it needs."""
 HIGH, LOW = 14, 6
 """Heights in the small calendar: of a day that isn't shown, and of one that is missing."""
-CALENDAR = Html(PAGE + """.month{display:grid;grid-template-columns:2.6em repeat(31,minmax(0,1fr));gap:2px;margin:2px 0;font-size:13px}
+CALENDAR = Html(PAGE + """.month{display:grid;grid-template-columns:2.6em repeat(31,minmax(0,1fr));gap:2px}
+.month{margin:2px 0;font-size:13px}
 .month>*{text-align:center;line-height:22px;text-decoration:none}
 .month>:first-child{text-align:left;color:var(--soft)}
 .d{border-radius:3px;border:1px solid transparent;font-weight:700}
@@ -112,13 +112,19 @@ def article(year: Year, number: int, base: str) -> Html:
     return element("article", lines([
         "", element("h2", year.machine), *months(year, base),
         element("h3", "Statement"), element("p", statement(year), class_="statement"),
-        element("div", element("span", "Name"), element("span", "Date"), element("span", "Signature"), class_="signing"),
+        element("div", *(element("span", words) for words in ("Name", "Date", "Signature")), class_="signing"),
         *not_shown(year, base), ""]), id=f"m{number}")
 
 
 def link_to(year: Year, day: Told, base: str) -> str:
     path = os.path.relpath(os.path.join(year.machine, day.folder), base or ".")
-    return f"{quote(path)}/" if day.folder else ""
+    return f"{quoted(path)}/" if day.folder else ""
+
+
+def quoted(path: str) -> str:
+    """A path as a link has it."""
+    return "".join(chr(byte) if byte < 128 and (chr(byte).isalnum() or chr(byte) in "/._-") else f"%{byte:02X}"
+                   for byte in path.encode("utf-8", "surrogateescape"))
 
 
 def months(year: Year, base: str) -> Iterator[Html]:

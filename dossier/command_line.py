@@ -6,6 +6,7 @@ import io
 import os
 import signal
 import sys
+import time
 from collections.abc import Callable
 from typing import TYPE_CHECKING, NoReturn
 
@@ -192,7 +193,7 @@ def add_measure(measure: argparse.ArgumentParser) -> None:
 
 
 def add_year(year: argparse.ArgumentParser) -> None:
-    year.add_argument("folders", nargs="+", metavar="DAYS", help="folders of days, or those of machines with such in them")
+    year.add_argument("folders", nargs="+", metavar="DAYS", help="folders of days, or of machines with such in them")
     year.add_argument("--year", type=in_range(1971, 9999), metavar="N", help="this year if it is left out")
     form = year.add_mutually_exclusive_group()
     form.add_argument("--split", metavar="DIR", help="write a page of all into DIR (index.html), beside it a page for "
@@ -333,7 +334,8 @@ def run_year(given: argparse.Namespace, folders: list[str]) -> int:
     from .leap import read_list
     from .years import Pages, write_year
     number = given.year or int(now()[:4])
-    wanted = Wanted(number, Known(state_of(given.state), writes=False), read_list(given.leap_seconds))
+    wanted = Wanted(number, Known(state_of(given.state), writes=False), read_list(given.leap_seconds),
+                    int(time.time()))
     pages = Pages(given.title or f"Clocks in {number}", given.output, given.split)
     return write_year(folders, wanted, pages, given.limit, given.jobs or len(os.sched_getaffinity(0)))
 
@@ -344,7 +346,8 @@ def run_on_folders(given: argparse.Namespace, folders: list[str]) -> int:
     known = Known(state_of(given.state), writes=given.command != "page" or given.verify)
     if given.command == "sign":
         from .signing import sign_all
-        return sign_all(folders, given.key, known, given.limit)
+        from .leap import read_list
+        return sign_all(folders, given.key, known, given.limit, read_list(None))
     if given.command == "keep":
         from .keeping import keep_all
         return keep_all(folders, given.years, given.force, known, given.limit)

@@ -1,12 +1,11 @@
 """The days of a year of one machine: which folders they are in, and what is known here of each.
 
-Each day's audit.json is looked at, and no capture. A day is what its claim's span says, whatever its folder is called. It
-counts once, and only if it is of the claim that most of the machine's days have.
+Each day's audit.json is looked at, and no capture. A day is what its claim's span says, whatever its folder is called.
+It counts once, and only if it is of the claim that most of the machine's days have.
 """
 from __future__ import annotations
 
 import os
-import time
 from collections import Counter
 from collections.abc import Iterator
 from dataclasses import replace
@@ -26,6 +25,7 @@ from .year import MISSING, MOST_DAYS, Told, Year
 
 WITHOUT = "no day"
 """What is in a folder of a day is none."""
+OTHER = "another claim or client than most days have"
 
 
 class Found(NamedTuple):
@@ -37,9 +37,12 @@ class Found(NamedTuple):
 
 
 class Wanted(NamedTuple):
+    """Which year, what is known here, and up to which Unix second days have ended."""
+
     year: int
     known: Known
     leaps: LeapList
+    at: int
 
 
 def is_day(name: str) -> bool:
@@ -67,22 +70,24 @@ def year_of(wanted: Wanted, machine: str, names: list[str]) -> Year:
     claims = {same(one.claim): one.claim for one in found if one.claim}
     common = max(claims, key=Counter(same(one.claim) for one in found if one.claim).__getitem__, default=b"")
     begin, end = (seconds_of(f"{wanted.year + k}-01-01T00:00:00Z") for k in (0, 1))
-    end = min(end, int(time.time()) // DAY * DAY)
-    kept, others = dict[str, Told](), [f"{name} is named twice" for name in twice]
+    today = wanted.at // DAY * DAY
+    kept, beside, others = dict[str, Told](), dict[str, Told](), [f"{name} is named twice" for name in twice]
     for one in sorted(found, key=badness):
         told, first = one.told, seconds_of(f"{one.told.date}T00:00:00Z")
-        if not begin <= first < end:
-            others += [f"{told.folder}: {told.date} hasn't ended yet"] if first >= int(time.time()) // DAY * DAY else []
+        if not begin <= first < min(end, today):
+            others += [f"{told.folder}: {told.date} hasn't ended yet"] if first >= today else []
         elif told.verdict == WITHOUT or (one.claim and same(one.claim) != common):
-            others.append(f"{told.folder}: {told.cause or 'another claim or client than most days have'}")
+            why = told.cause if told.verdict == WITHOUT else OTHER
+            others.append(f"{told.folder}: {why}")
+            beside.setdefault(told.date, Told(told.date, MISSING, told.folder, why))
         elif told.date in kept:
             others.append(f"{told.folder}: {told.date} stands twice, and counts as in {kept[told.date].folder}")
         else:
             kept[told.date] = told
-    dates = [day_of(second) for second in range(begin, end, DAY)]
+    dates = [day_of(second) for second in range(begin, min(end, today), DAY)]
     made = {one.made: None for one in found if one.made and one.told.date in kept}
-    return Year(plain(machine), [kept.get(date) or Told(date, MISSING) for date in dates], claims.get(common), sorted(others),
-                list(made))
+    told_of_all = [kept.get(date) or beside.get(date) or Told(date, MISSING) for date in dates]
+    return Year(plain(machine), told_of_all, claims.get(common), sorted(others), list(made))
 
 
 def badness(one: Found) -> int:

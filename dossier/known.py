@@ -35,6 +35,10 @@ class Known:
             raise fault(f"{why}: --state names another folder", DEVICE) from None
         self.lines = self.by_sum(self.journal.text)
 
+    def renew(self) -> None:
+        """Takes in what other processes of this call have added."""
+        self.lines = self.by_sum(self.journal.again())
+
     def alone(self, folder: Folder) -> AbstractContextManager[None]:
         """Waits until no other call that has this record writes in a folder."""
         return self.journal.alone(LOCKS, folder)

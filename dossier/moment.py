@@ -63,7 +63,8 @@ def fields_of(moment: Moment) -> list[str]:
     if hull is None:
         was = f"nothing was recorded since {civil(moment.last)}" if moment.last else "nothing was recorded"
         return [moment.recorder, *said, was]
-    said.append(f"{range_of(hull)} of {exact_ms(moment.bound_ns)} ms")
+    if hull != "empty":
+        said.append(f"{range_of(hull)} of {exact_ms(moment.bound_ns)} ms")
     if moment.least_ns is not None and moment.verdict != NOTHING_FITS:
         said.append(f"least {ns_up_ms(moment.least_ns)} ms")
     said.append(f"{moment.heard} of {count(moment.groups, 'group')}")

@@ -52,7 +52,7 @@ class Section:
 
 @dataclass(frozen=True)
 class Result:
-    """A status, lines for a terminal, verdicts, metrics, sections of a page, sums of captures; what last minutes say, and a
+    """A status, lines for a terminal, verdicts, metrics, sections of a page, sums of captures; what last minutes say; a
     year; when the newest recording ends; a text, such as one that is to be signed; and if nothing came of it, why."""
 
     status: Count = 0

@@ -1,8 +1,8 @@
 """The last minutes of a capture that is still being written, without what comes before them.
 
 A record begins where the one before it ends, so what stands in the middle of a capture can't be read by itself: the
-bytes of a packet may look like records. But the longest record is known. Of all places in a stretch as long as that, one
-is where a record begins; each is followed from one head to the next, and where all that can be followed have come
+bytes of a packet may look like records. But the longest record is known. Of all places in a stretch as long as that,
+one is where a record begins; each is followed from one head to the next, and where all that can be followed have come
 together, a record begins whatever stands in the packets.
 """
 from __future__ import annotations
@@ -95,5 +95,5 @@ class Growing:
             first = next(((time, at) for time, at in self.heads.walk(data, begin) if time >= second), None)
             if is_all or first is None or first[1] > begin:
                 break
-        at = begin if first is None and is_all else len(data) if first is None else first[1]
+        at = len(data) if first is None else first[1]
         return self.header + data[at:], not is_all or at > begin

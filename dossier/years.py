@@ -4,49 +4,27 @@ from __future__ import annotations
 import os
 import sys
 from collections.abc import Iterator
-from dataclasses import dataclass, field, replace
-from typing import Annotated, NamedTuple
+from dataclasses import replace
+from typing import NamedTuple
 
 from . import calendar
 from .days import Wanted, machines_of, year_of
 from .entry import YES
 from .fault import fault
-from .folder import AUDIT, YEAR, sum_of
+from .folder import YEAR, sum_of
 from .markup import element
 from .placing import write_named
 from .recorder import text_of
 from .result import Result
 from .running import run_all
+from .statements import Stated, Statements, sums_of
 from .text import plain
-from .typed import Count, Name, Sum, Text, Time, is_time, length, or_nothing, said
-from .units import now
+from .typed import said
+from .units import civil
 from .year import Told, Year, statement
 
 INDEX = "index.html"
 SUMS = ".sums"
-"""Of a machine a file with the sums of its days' audits, as `sha256sum` has it."""
-
-
-@dataclass(frozen=True)
-class Stated:
-    """What is said of a machine, and the file with the sums on which it rests."""
-
-    machine: Text
-    statement: Text
-    shown: Count
-    days: Count
-    file: Name
-    sha256: Sum
-
-
-@dataclass(frozen=True)
-class Statements:
-    """What year.json holds: the year of all machines, which somebody can sign."""
-
-    year: Annotated[int, lambda year: 1971 <= year <= 9999]
-    made: Time
-    signed: Annotated[str, or_nothing(is_time)]
-    machines: Annotated[list[Stated], length(1, 100_000)] = field(default_factory=list)
 
 
 class Pages(NamedTuple):
@@ -69,7 +47,8 @@ def write_year(folders: list[str], wanted: Wanted, pages: Pages, seconds: int, j
     for number, (machine, result) in enumerate(looked_at(names, wanted, seconds, jobs), 1):
         if result.refusal or result.year is None:
             worst = max(worst, result.status)
-            print(plain(f"{machine}: {result.refusal.line if result.refusal else 'nothing came of it'}"), file=sys.stderr)
+            why = result.refusal.line if result.refusal else "nothing came of it"
+            print(plain(f"{machine}: {why}"), file=sys.stderr)
             continue
         year, file = result.year, f"{number:05}.html"
         one = calendar.article(year, number, pages.base)
@@ -87,7 +66,7 @@ def write_year(folders: list[str], wanted: Wanted, pages: Pages, seconds: int, j
     if not pages.split:
         return max(worst, put(pages.output, text))
     write(pages.split, INDEX, text)
-    data = text_of(said(Statements(wanted.year, now(), "", stated)))
+    data = text_of(said(Statements(wanted.year, civil(wanted.at), "", stated)))
     write_named(os.path.join(pages.split, YEAR), data, True)
     return worst
 
@@ -104,12 +83,6 @@ def kept(split: str, file: str, year: Year) -> Stated:
     data = sums_of(split, year)
     write_named(os.path.join(split, file), data, True)
     return Stated(year.machine, statement(year), year.counts[YES], len(year.days), file, sum_of(data))
-
-
-def sums_of(split: str, year: Year) -> bytes:
-    place = os.path.relpath(year.machine, split)
-    rows = (f"{day.sha256}  {place}/{day.folder}/{AUDIT}\n" for day in year.days if day.sha256)
-    return "".join(rows).encode("utf-8", "surrogateescape")
 
 
 def write(split: str, name: str, text: str) -> None:

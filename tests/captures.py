@@ -17,7 +17,7 @@ from tally import DATA, ROOT, run
 HEADER = 24
 
 
-def records_of(whole):
+def records_of(whole: bytes) -> list[bytes]:
     """The records of a little-endian capture, each with its head."""
     found, at = [], HEADER
     while at < len(whole):

@@ -14,6 +14,8 @@ import shutil
 import sys
 import time
 from calendar import timegm
+from pathlib import Path
+from typing import Any
 
 from audits import ENVIRONMENT, PROGRAM, SCRIPT, capture_of, check, check_page, dossier, folder_of, skipped, table
 from captures import records_of
@@ -25,7 +27,7 @@ MONITORING = ROOT / "monitoring"
 LINE = re.compile(r'(ntpaudit_[a-z_]+)\{((?:[a-z]+="(?:[^"\\\n]|\\[\\"n])*",?)*)\} (\S+)')
 
 
-def metrics_of(path):
+def metrics_of(path: Path) -> dict[tuple[Any, ...], str]:
     """The lines of a file of metrics: each name with its labels, and the value as it stands there."""
     lines = [line for line in path.read_text("utf-8").splitlines() if not line.startswith("#")]
     found = [LINE.fullmatch(line) for line in lines]
@@ -178,7 +180,8 @@ def timed_alerts():
     leaps = [series_of("leap_list_end_timestamp_seconds", f"{40 * 86_400}x50", **node)]
     gone = [series_of("verdict", "1x400", **first, folder="fleet/a/2026-11-26", verdict="yes"),
             series_of("verdict", "1x120", **second, folder="fleet/b/2026-11-26", verdict="yes")]
-    missing = [of_alerts("ClockMetricsMissing", "ticket", "9h"), of_alerts("ClockMetricsMissing", "ticket", "26h", second)]
+    missing = [of_alerts("ClockMetricsMissing", "ticket", "9h"),
+               of_alerts("ClockMetricsMissing", "ticket", "26h", second)]
     hours = [of_alerts("ClockAuditMissing", "ticket", "36h"), of_alerts("ClockAuditMissing", "ticket", "38h", second)]
     days = [of_alerts("LeapSecondListEnds", "ticket", "9d"), of_alerts("LeapSecondListEnds", "ticket", "11d", node)]
     near_one = [of_alerts("ClockNearItsBound", "ticket", "1h", yes)]
