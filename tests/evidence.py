@@ -20,7 +20,7 @@ from tally import ROOT, run
 # ---- signatures
 
 
-def key_of(place, name):
+def key_of(place: Path, name: str) -> tuple[Path, str]:
     """A key, and the line that lets its owner sign."""
     run(["ssh-keygen", "-q", "-t", "ed25519", "-N", "", "-C", "", "-f", place / name])
     return place / name, f"{name}@example.org {(place / f'{name}.pub').read_text()}"
