@@ -4,16 +4,15 @@ from __future__ import annotations
 import os
 from collections.abc import Iterator
 
-from .article import badge
-from .entry import NO_EVIDENCE, NOT_VERIFIED, NOTHING_FITS, OPEN, REFUSED, REFUTED, UNSUPPORTED, YES
+from .article import SYMBOLS, badge
+from .entry import NOT_VERIFIED, REFUSED, YES
 from .markup import Html, element, joined, lines
 from .page import POLICY
 from .style import PAGE
 from .units import ns_ms, ns_up_ms, now
 from .year import MISSING, Told, Year, statement
 
-SIGNS = {YES: "\u2713", UNSUPPORTED: "!", REFUTED: "\u2717", NOTHING_FITS: "\u2260", NO_EVIDENCE: "\u2205", OPEN: "?",
-         REFUSED: "\u2014", NOT_VERIFIED: "\u2026", MISSING: "\u00b7"}
+SIGNS = {**SYMBOLS, MISSING: "\u00b7"}
 """A sign of each verdict, for whoever sees no colours."""
 MONTHS = ("Jan", "Feb", "Mar", "Apr", "May", "Jun", "Jul", "Aug", "Sep", "Oct", "Nov", "Dec")
 SHADES = 4
@@ -37,7 +36,7 @@ a.d:hover,a.d:focus{outline:2px solid var(--ink)}
 svg .y{fill:var(--good);opacity:.55}
 svg .n{fill:var(--bad)}
 svg .u{fill:var(--soft)}
-.small-cell{width:45%}
+.small-cell{width:36%}
 .statement{border:1px solid var(--rule);padding:10px 16px}
 .signing{display:flex;gap:24px;margin:22px 0 4px;color:var(--soft);font-size:14px}
 .signing span{flex:1;border-top:1px solid var(--ink);padding-top:4px}
@@ -63,8 +62,8 @@ def head(title: str, parts: list[object]) -> str:
 
 def index(years: list[tuple[Year, str]], title: str) -> list[object]:
     """The table of machines, each with where its year is."""
-    columns = {"Machine": "machine", "Shown": "number", "Not shown": "", "Longest gap": "", "Worst bound": "",
-               "The year": "small-cell"}
+    columns = {"Machine": "machine", "Shown": "narrow", "Not shown": "", "Longest gap": "narrow",
+               "Worst bound": "narrow", "The year": "small-cell"}
     top = element("thead", element("tr", *(element("th", column, class_=kind) for column, kind in columns.items())))
     rows = (element("tr", *(element("td", cell, data_label=column, class_=kind)
                             for (column, kind), cell in zip(columns.items(), cells_of(year, link))))
@@ -148,15 +147,20 @@ def cell(year: Year, day: Told, base: str) -> Html:
 
 def not_shown(year: Year, base: str) -> list[Html]:
     """Every day that isn't shown, with its cause and room for what was done; and what wasn't counted."""
-    rows = [element("tr", *(element("td", cell, data_label=column) for column, cell in zip(NOT_SHOWN, (
-        element("a", day.date, href=link_to(year, day, base)) if day.folder else day.date, 
-        badge(day.verdict) if day.verdict != MISSING else MISSING,
-        day.cause or "no folder of this day"))), element("td", data_label=NOT_SHOWN[-1], class_="done"))
-        for day in year.days if day.verdict != YES]
-    top = element("thead", element("tr", *(element("th", column) for column in NOT_SHOWN)))
+    rows = [element("tr", *(element("td", inside, data_label=column, class_=kind)
+                            for (column, kind), inside in zip(NOT_SHOWN.items(), told(year, day, base))))
+            for day in year.days if day.verdict != YES]
+    top = element("thead", element("tr", *(element("th", column, class_=kind) for column, kind in NOT_SHOWN.items())))
     found = [element("h3", "Days that aren't shown"), element("table", top, element("tbody", *rows))] if rows else []
     others = element("ul", *(element("li", words) for words in year.others))
     return [*found, *([element("h3", "Not counted"), others] if year.others else [])]
 
 
-NOT_SHOWN = ("Day", "Verdict", "Cause", "What was done")
+def told(year: Year, day: Told, base: str) -> list[object]:
+    date = element("a", day.date, href=link_to(year, day, base)) if day.folder else day.date
+    verdict = badge(day.verdict) if day.verdict != MISSING else MISSING
+    return [date, verdict, day.cause or "no folder of this day", ""]
+
+
+NOT_SHOWN = {"Day": "narrow", "Verdict": "narrow", "Cause": "", "What was done": "done"}
+"""The columns of the table, each with its class."""

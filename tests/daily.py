@@ -244,12 +244,13 @@ def test_dashboard(place):
     """The dashboard reads metrics that there are, in words that Prometheus takes."""
     from dossier.metrics import HELP
     board = json.loads((MONITORING / "ntpaudit.dashboard.json").read_text())
-    asked = [target["expr"].replace("$folder", ".*") for panel in board["panels"] for target in panel["targets"]]
-    rules = (MONITORING / "ntpaudit.rules.yml").read_text()
+    asked = [target["expr"].replace("$folder", ".*").replace("$instance", ".*")
+             for panel in board["panels"] for target in panel["targets"]]
+    rules = "".join(path.read_text() for path in MONITORING.glob("*.yml"))
     named = set(re.findall(r"ntpaudit_(\w+)", " ".join(asked + re.findall(r"expr: (.*)", rules))))
-    check("the metrics of dashboard and alerts", unknown=(named - set(HELP), set()), panels=(len(board["panels"]), 8),
-          places=(len({(panel["gridPos"]["x"], panel["gridPos"]["y"]) for panel in board["panels"]}), 8),
-          numbers=(len({panel["id"] for panel in board["panels"]}), 8))
+    check("the metrics of dashboard and alerts", unknown=(named - set(HELP), set()), panels=(len(board["panels"]), 9),
+          places=(len({(panel["gridPos"]["x"], panel["gridPos"]["y"]) for panel in board["panels"]}), 9),
+          numbers=(len({panel["id"] for panel in board["panels"]}), 9))
     groups = [{"name": "asked", "rules": [{"record": f"asked:{number}", "expr": expr}
                                           for number, expr in enumerate(asked)]}]
     (place / "asked.yml").write_text(json.dumps({"groups": groups}))
@@ -635,7 +636,9 @@ def test_daily(place):
     for command in commands:
         status, _, err = run(shlex.split(command), env=environment, cwd=days)
         check(f"the daily command {command[:60]}", run=((status, err), (0, b"")))
-    check_page("the page of the daily unit", (state / "pages" / "index.html").read_text(), ["00001.html"])
+    check_page("the page of the daily unit", (state / "pages" / "index.html").read_text(),
+               ["2001/index.html", "00001.html"])
+    check_page("the year of the daily unit", (state / "pages" / "2001" / "index.html").read_text(), ["00001.html"])
     ones = [dict(labels) for (name, *labels), value in metrics_of(state / "ntpaudit.prom").items()
             if name == "verdict" and value == "1"]
     check("the metrics of the daily unit", ones=(ones, [{"folder": "2001-09-09", "verdict": "yes"}]))

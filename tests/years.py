@@ -1,7 +1,7 @@
 """Tests of the year: `ntpaudit-dossier year`, and what is signed and verified of it.
 
-tests/dossier calls them, each in a folder of its own. A machine has some days of September 2001, of which each figure is
-known by hand.
+tests/dossier calls them, each in a folder of its own. A machine has some days of September 2001, of which each figure
+is known by hand.
 """
 import json
 import re
