@@ -63,17 +63,14 @@ def fields_of(moment: Moment) -> list[str]:
     if hull is None:
         was = f"nothing was recorded since {civil(moment.last)}" if moment.last else "nothing was recorded"
         return [moment.recorder, *said, was]
-    if hull != "empty":
-        said.append(f"{range_of(hull)} of {exact_ms(moment.bound_ns)} ms")
+    if not isinstance(hull, str):
+        ends = f"{signed(low_ms(hull[0]))} .. {signed(high_ms(hull[1]))} ms"
+        said.append(f"{ends} of {exact_ms(moment.bound_ns)} ms")
     if moment.least_ns is not None and moment.verdict != NOTHING_FITS:
         said.append(f"least {ns_up_ms(moment.least_ns)} ms")
     said.append(f"{moment.heard} of {count(moment.groups, 'group')}")
     said += ["the clock is off"] if moment.is_off else []
     return [moment.recorder, *said, *([moment.leap] if moment.leap else [])]
-
-
-def range_of(hull: Hull) -> str:
-    return hull if isinstance(hull, str) else f"{signed(low_ms(hull[0]))} .. {signed(high_ms(hull[1]))} ms"
 
 
 def signed(words: str) -> str:

@@ -17,7 +17,7 @@ from .answers import read_envelope, read_settled
 from .band import Band
 from .captures import audited
 from .claim import Claim
-from .classic import Classic
+from .classic import HEADER, Classic
 from .day import begun_files, note
 from .entry import NO_EVIDENCE, OF_LEAPS, UNSUPPORTED, YES, LeapList
 from .fault import Fault
@@ -123,11 +123,10 @@ def silent(wanted: Wanted, claim: Claim, recorder: str, last: int) -> Moment:
 def moment_of(wanted: Wanted, claim: Claim, folder: Folder, recorder: str, names: list[str]) -> Moment:
     """Of a recorder, by the names of its files, the newest first."""
     span = MINUTE * wanted.minutes
-    files = [Growing(folder, name) for name in names]
-    last = next(filter(None, (file.last for file in files)), 0)
+    last = next(filter(None, (file.last for file in growing(folder, names))), 0)
     if last < time.time() - span:
         return silent(wanted, claim, recorder, last)
-    capture = audited(dict(copies(files, last - 2 * span)))
+    capture = audited(dict(copies(growing(folder, names), last - 2 * span)))
     first = min(Classic(capture.path, capture.extent).extent.stamps) >> 32
     begin = max(last - span, first)
     own = replace(claim, from_=civil(begin), to=civil(last))
@@ -145,7 +144,12 @@ def moment_of(wanted: Wanted, claim: Claim, folder: Folder, recorder: str, names
                   [piece_of(envelope, k) for k in range(len(envelope.hulls))])
 
 
-def copies(files: list[Growing], second: int) -> Iterator[tuple[str, str]]:
+def growing(folder: Folder, names: list[str]) -> Iterator[Growing]:
+    """The files, but those that were only just begun."""
+    return (Growing(folder, name) for name in names if folder.size(name) >= HEADER)
+
+
+def copies(files: Iterator[Growing], second: int) -> Iterator[tuple[str, str]]:
     """Private copies of the last records of files, of the newest first, down to a file that begins earlier."""
     for number, file in enumerate(files):
         data, begins_earlier = file.since(second)

@@ -90,6 +90,8 @@ def test_now_of_files(place: Path) -> None:
     recorded(rotated, begin, (begin, cut, RIGHT))
     second = recorded(rotated, cut, (cut, last + 1, RIGHT))
     second.write_bytes(second.read_bytes()[:-7])
+    (rotated / name_of(last + 2, "eth0")).touch()
+    (rotated / f"{name_of(begin - 7200, 'eth0')}.gz").write_bytes(b"packed")
     status, lines, err = now(rotated, "--minutes", "5")
     torn = [line for line in lines if civil(last - 300) in line]
     check("files that rotate, torn", run=((status, err), (0, "")), span=(len(torn), 1), lines=(len(lines), 1))
