@@ -60,8 +60,7 @@ def joined(opened: dict[str, Opened], copies: dict[str, str]) -> Audited:
     whole = {name: Classic(each.path, each.extent) for name, each in opened.items() if size_of(each.path)} \
         if others else {}
     if whole:
-        join(whole, JOINED)
-        extent = None
+        extent = join(whole, JOINED)
     elif one.path != copies[name] or one.torn is not None or len(opened) < len(copies):
         move(one.path, JOINED)
     else:

@@ -9,7 +9,7 @@ from array import array
 from bisect import bisect_left, bisect_right
 from collections.abc import Iterable, Iterator
 from heapq import merge
-from itertools import chain
+from itertools import chain, pairwise, takewhile
 from operator import itemgetter
 from struct import Struct
 from typing import NamedTuple
@@ -26,6 +26,8 @@ HEADER, HEAD = 24, 16
 """Bytes of a capture's header, and of a record's."""
 MOST_RECORDS, MOST_CAPTURED = 4_000_000, 262_144
 """Records of a capture, and bytes of each, that the program takes."""
+MOST_ALIKE = 4096
+"""Records of one length that are read at once."""
 MOST_RUNS = 1 << 19
 """Of records that follow one another in time there are some for each day, however long a capture is."""
 NEW_HEADER, NEW_HEAD = Struct("<IHHIIII"), Struct("<IIII")
@@ -71,21 +73,29 @@ class Classic:
             yield seconds * unit + part, at, end
             at = end
 
+    def blocks(self) -> Iterator[bytes]:
+        """Its records, many at once."""
+        yield from (self.data[at : at + BLOCK] for at in range(HEADER, self.size, BLOCK))
+
     @property
     def extent(self) -> Extent:
         self.found = self.found or self.look()
         return self.found
 
     def look(self) -> Extent:
-        """Goes from record to record."""
-        head, at, stamps, are_times = Struct(f"{self.order}III").unpack_from, HEADER, array("Q"), True
+        """Goes from record to record, and over those of one length that follow one another at once."""
+        head, at, stamps, alike = Struct(f"{self.order}8xI").unpack_from, HEADER, array("Q"), 1
         while self.is_one and at + HEAD <= self.size and len(stamps) < MOST_RECORDS:
-            seconds, part, captured = head(self.data, at)
+            captured, = head(self.data, at)
             if captured > MOST_CAPTURED or captured > self.size - at - HEAD:
                 break
-            stamps.append(seconds << 32 | part)
-            are_times = are_times and part < self.unit
-            at += HEAD + captured
+            length, before = HEAD + captured, len(stamps)
+            number = min(alike, (self.size - at) // length, MOST_RECORDS - before)
+            rows = Struct(f"{self.order}III{length - 12}x").iter_unpack(self.data[at : at + number * length])
+            stamps.extend(seconds << 32 | part for seconds, part, _ in takewhile(lambda row: row[2] == captured, rows))
+            at += (len(stamps) - before) * length
+            alike = min(MOST_ALIKE, 2 * alike) if len(stamps) - before == number else 1
+        are_times = all(stamp & 0xFFFF_FFFF < self.unit for stamp in stamps)
         return Extent(at, stamps if are_times else array("Q"))
 
     def nanoseconds(self, stamps: Iterable[int]) -> list[int]:
@@ -125,9 +135,9 @@ def write(path: str, blocks: Iterable[bytes]) -> None:
         copy.take(b"".join(held))
 
 
-def join(captures: dict[str, Classic], path: str) -> None:
-    """Joins captures, by their names, in order of time. Of records of one time those of the first capture come
-    first."""
+def join(captures: dict[str, Classic], path: str) -> Extent | None:
+    """Joins captures, by their names, in order of time. Of records of one time those of the first capture come first.
+    The extent of what is written, if it is known."""
     first = next(iter(captures.values()))
     for name, capture in captures.items():
         if not capture.is_one:
@@ -135,6 +145,9 @@ def join(captures: dict[str, Classic], path: str) -> None:
         if capture.kind != first.kind:
             raise fault(f"{name} has other frames than {next(iter(captures))}, so it can't be joined with it")
     unit = min(capture.unit for capture in captures.values())
+    if (row := in_a_row(list(captures.values()))) is not None:
+        write(path, chain([new_header(unit, first.kind)], *map(Classic.blocks, row)))
+        return Extent(HEADER + sum(capture.size - HEADER for capture in row), merged(row))
 
     def records(number: int, name: str, capture: Classic) -> Iterator[tuple[int, int, bytes]]:
         of, end = SECOND // capture.unit, HEADER
@@ -144,6 +157,27 @@ def join(captures: dict[str, Classic], path: str) -> None:
             raise fault(f"{name} is damaged from byte {end} on, so it can't be joined with the others")
     rows = merge(*(records(number, *each) for number, each in enumerate(captures.items())), key=itemgetter(0, 1))
     write(path, chain([new_header(unit, first.kind)], map(itemgetter(2), rows)))
+    return None
+
+
+def in_a_row(captures: list[Classic]) -> list[Classic] | None:
+    """Captures one after the other in time, if they are such: all of one form and whole, each earlier than the next."""
+    if len({(capture.order, capture.unit) for capture in captures}) > 1 or captures[0].order != "<":
+        return None
+    if any(capture.extent.end != capture.size or (capture.size > HEADER and not capture.extent.stamps)
+           for capture in captures):
+        return None
+    row = sorted((capture for capture in captures if capture.extent.stamps), key=lambda one: min(one.extent.stamps))
+    if any(max(one.extent.stamps) >= min(next_.extent.stamps) for one, next_ in pairwise(row)):
+        return None
+    return row if sum(len(capture.extent.stamps) for capture in row) < MOST_RECORDS else None
+
+
+def merged(row: list[Classic]) -> array[int]:
+    stamps = array("Q")
+    for capture in row:
+        stamps.extend(capture.extent.stamps)
+    return stamps
 
 
 def runs_of(capture: Classic, spans: list[tuple[int, int]]) -> list[Runs]:

@@ -6,6 +6,7 @@ import io
 import os
 import signal
 import sys
+import time
 from collections.abc import Callable
 from typing import TYPE_CHECKING, NoReturn
 
@@ -64,7 +65,7 @@ class Parser(argparse.ArgumentParser):
             option = self._option_string_actions.get(name)
             if option is None:
                 self.error(f"no option {name}: options are written out, and their values stand apart or behind a =")
-            if others:
+            if others and self.operands:
                 self.error(f"{name} has to stand before {self.operands}")
             if option.dest in seen and not isinstance(option, argparse._AppendAction):
                 self.error(f"{name} stands there twice")
@@ -74,7 +75,7 @@ class Parser(argparse.ArgumentParser):
 
     @property
     def operands(self) -> str:
-        return next((str(action.metavar) for action in self._actions if not action.option_strings), "all else")
+        return next((str(action.metavar) for action in self._actions if not action.option_strings), "")
 
 
 def parser() -> Parser:
@@ -90,6 +91,7 @@ def parser() -> Parser:
     keep = commands.add_parser("keep", help="keep audits for years: pack captures, and take away what was made of them")
     for command in (audit, page, verify, sign, keep):
         command.add_argument("folders", nargs="+", metavar="FOLDER", help=FOLDER)
+    add_year(commands.add_parser("year", help="make a calendar of a year of machines, with statements to be signed"))
     add_audit(audit)
     add_page(page)
     sign.add_argument("--key", required=True, metavar="FILE",
@@ -108,7 +110,7 @@ def parser() -> Parser:
                       help="take away folders whose span ended so many years ago; none if it is left out")
     keep.add_argument("--force", action="store_true",
                       help="take away as many folders as there are, whatever the clock did meanwhile")
-    for command in (audit, page, verify, sign, keep):
+    for command in (audit, page, verify, sign, keep, commands.choices["year"]):
         command.add_argument("--state", metavar="DIR",
                              help="where it is recorded which audits were made or verified here; else below "
                                   "$XDG_STATE_HOME, or ~/.local/state")
@@ -120,6 +122,7 @@ def parser() -> Parser:
                      help="where the days' folders are, with the claim of any day, and evidence")
     day.add_argument("--date", metavar="DATE",
                      help="the day (UTC), such as 2026-11-22; each whole day before today if it is left out")
+    add_now(commands.add_parser("now", help="say of the last minutes of a recording whether the clock is right"))
     add_record(commands.add_parser("record", help="record an interface by tcpdump, with evidence of its stamps"))
     own_filter = commands.add_parser("filter", help="print a recorder's filter, which names the servers of a claim")
     own_filter.add_argument("claim", metavar="CLAIM", help="a JSON file; if it isn't there, all servers are recorded")
@@ -189,6 +192,32 @@ def add_measure(measure: argparse.ArgumentParser) -> None:
     measure.add_argument("--load", action="store_true", help="keep all processors busy meanwhile")
     measure.add_argument("-o", "--output", metavar="FILE",
                          help="write it as JSON to FILE too, for evidence.json to name")
+
+
+def add_year(year: argparse.ArgumentParser) -> None:
+    year.add_argument("folders", nargs="+", metavar="DAYS", help="folders of days, or of machines with such in them")
+    year.add_argument("--year", type=in_range(1971, 9999), metavar="N", help="this year if it is left out")
+    form = year.add_mutually_exclusive_group()
+    form.add_argument("--split", metavar="DIR", help="write a page of all into DIR (index.html), beside it a page for "
+                                                     "each machine, and what `sign` and `verify` take (year.json)")
+    form.add_argument("-o", "--output", metavar="FILE",
+                      help="write the page to FILE, whole or not at all; standard output if it is left out")
+    year.add_argument("--title", metavar="TEXT", help="the page's heading")
+    year.add_argument("--jobs", type=in_range(1, 4096), metavar="N",
+                      help="machines side by side; as many as processors if it is left out")
+    year.add_argument("--leap-seconds", metavar="FILE", help=LEAPS)
+
+
+def add_now(now_: argparse.ArgumentParser) -> None:
+    now_.add_argument("--from", required=True, dest="source", metavar="DIR", help="where recorders write")
+    now_.add_argument("--claim", required=True, metavar="FILE", help="the claim of any day: its span doesn't matter")
+    now_.add_argument("--minutes", type=in_range(1, 1440), default=10, metavar="N", help="how many; 10 if left out")
+    now_.add_argument("--metrics", metavar="FILE", help="write what came of it to FILE too, for Prometheus")
+    now_.add_argument("--follow", nargs="?", type=in_range(1, 3600), const=10, metavar="SECONDS",
+                      help="again and again, each 10 seconds if no number is given; on a terminal with a band of the "
+                           "last hour")
+    now_.add_argument("--no-color", action="store_true", help="no colours on a terminal")
+    now_.add_argument("--leap-seconds", metavar="FILE", help=LEAPS)
 
 
 def add_record(record: argparse.ArgumentParser) -> None:
@@ -266,6 +295,8 @@ def say(line: str) -> None:
 def run(given: argparse.Namespace) -> int:
     if given.command in ("audit", "page", "verify", "sign", "keep"):
         return run_on_folders(given, [tidy(folder) for folder in given.folders])
+    if given.command == "year":
+        return run_year(given, [tidy(folder) for folder in given.folders])
     if given.command == "day":
         from .day import make_days
         return make_days(given.source, given.target, given.date, SECONDS)
@@ -277,6 +308,8 @@ def run(given: argparse.Namespace) -> int:
         print(filter_of(given.claim))
         return 0
     program = find_program()
+    if given.command == "now":
+        return run_now(given, program)
     if given.version:
         print(f"ntpaudit-dossier, form {VERSION} of audit.json\n{program.made.version}, SHA-256 {program.made.sha256}")
         return 0
@@ -290,13 +323,34 @@ def run(given: argparse.Namespace) -> int:
     return 0
 
 
+def run_now(given: argparse.Namespace, program: Program) -> int:
+    from .leap import read_list
+    from .now import Wanted, follow, show_now
+    wanted = Wanted(given.source, given.claim, given.minutes, read_list(given.leap_seconds), program)
+    if given.follow:
+        return follow(wanted, given.metrics, given.follow, not given.no_color)
+    return show_now(wanted, given.metrics)
+
+
+def run_year(given: argparse.Namespace, folders: list[str]) -> int:
+    from .days import Wanted
+    from .leap import read_list
+    from .years import Pages, write_year
+    number = given.year or int(now()[:4])
+    wanted = Wanted(number, Known(state_of(given.state), writes=False), read_list(given.leap_seconds),
+                    int(time.time()))
+    pages = Pages(given.title or f"Clocks in {number}", given.output, given.split)
+    return write_year(folders, wanted, pages, given.limit, given.jobs or len(os.sched_getaffinity(0)))
+
+
 def run_on_folders(given: argparse.Namespace, folders: list[str]) -> int:
     if given.command == "page" and given.split and given.output:
         raise fault("--split takes no --output: it writes into a folder", USAGE)
     known = Known(state_of(given.state), writes=given.command != "page" or given.verify)
     if given.command == "sign":
         from .signing import sign_all
-        return sign_all(folders, given.key, known, given.limit)
+        from .leap import read_list
+        return sign_all(folders, given.key, known, given.limit, read_list(None))
     if given.command == "keep":
         from .keeping import keep_all
         return keep_all(folders, given.years, given.force, known, given.limit)

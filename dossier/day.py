@@ -9,7 +9,7 @@ import os
 import re
 import sys
 import time
-from collections.abc import Iterable
+from collections.abc import Iterable, Iterator
 from dataclasses import replace
 from typing import NamedTuple
 
@@ -42,13 +42,20 @@ class Recorded(NamedTuple):
     grows: bool
 
 
-def recordings(folder: Folder) -> list[Recorded]:
-    recorders: dict[str, list[tuple[int, str]]] = {}
+def begun_files(folder: Folder) -> Iterator[tuple[str, str, int, str]]:
+    """Of each file that a recorder began what stands before the time in its name and behind it, the time, and the
+    name."""
     for name in filter(is_capture, folder.names()):
         match = BEGUN.fullmatch(name)
         begun = f"{match[2]}:{match[3]}:{match[4]}Z" if match else ""
         if match and is_time(begun):
-            recorders.setdefault(match[1] + match[5], []).append((seconds_of(begun), name))
+            yield match[1], match[5], seconds_of(begun), name
+
+
+def recordings(folder: Folder) -> list[Recorded]:
+    recorders: dict[str, list[tuple[int, str]]] = {}
+    for before, behind, begun, name in begun_files(folder):
+        recorders.setdefault(before + behind, []).append((begun, name))
     found = []
     for files in (sorted(files) for files in recorders.values()):
         for (begin, name), (after, _) in zip(files, [*files[1:], (FOREVER, "")]):

@@ -26,6 +26,7 @@ OPEN: Final = "open"
 ANSWERED = (YES, UNSUPPORTED, REFUTED, NOTHING_FITS, NO_EVIDENCE, OPEN)
 REFUSED, NOT_VERIFIED, DISPUTED = "refused", "not verified", "disputed"
 """There is no verdict; there is one that nobody made or verified here; and one that the second program disputes."""
+WORST_FIRST = (DISPUTED, REFUTED, NOTHING_FITS, UNSUPPORTED, NO_EVIDENCE, OPEN, REFUSED, NOT_VERIFIED, YES)
 
 Hull = tuple[Ticks, Ticks] | Literal["unbounded", "empty"]
 """Two ends in ticks, or a word."""

@@ -26,6 +26,7 @@ CLAIM_OF_0 = "bound-0.claim.json"
 CLAIM_OF_DRIFT = "more-drift.claim.json"
 AUDIT = "audit.json"
 SIGNATURE = f"{AUDIT}.sig"
+YEAR = "year.json"
 JOINED = "joined.pcap"
 LEFT = frozenset({CERTIFICATE, REPORT, ENVELOPE, REFUTATION, CLAIM_OF_0, CLAIM_OF_DRIFT, JOINED})
 """What an audit leaves of each claim."""
@@ -198,6 +199,20 @@ class Folder:
     def written(self, name: str) -> int:
         """When something was written last, in Unix seconds."""
         return int(os.stat(name, dir_fd=self.place, follow_symlinks=False).st_mtime)
+
+    def part(self, name: str, begin: int, end: int) -> bytes:
+        """The bytes of a file between two places, as far as it has them: it may be growing."""
+        try:
+            with parent_of(self.place, name) as (parent, file):
+                has_kind(name, os.stat(file, dir_fd=parent, follow_symlinks=False), limit_of(name))
+                with held(file, parent, OF_A_FILE | os.O_NOFOLLOW) as opened:
+                    has_kind(name, os.fstat(opened), limit_of(name))
+                    return os.pread(opened, end - begin, begin)
+        except OSError as error:
+            raise unreadable(name, error) from None
+
+    def size(self, name: str) -> int:
+        return os.stat(name, dir_fd=self.place, follow_symlinks=False).st_size
 
     def data(self, name: str) -> bytes:
         """The bytes of a file."""

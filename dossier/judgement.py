@@ -16,6 +16,7 @@ from .claim import GREATEST_DRIFT, OSCILLATOR, Claim, Part
 from .entry import (FEW, NO_EVIDENCE, NOTHING_FITS, OPEN, REFUTED, YES, Alert, Answer, Entry, Gap, Hull, LeapList,
                     Piece, Reason, Server, Stretch)
 from .leap import entry_by, look_up, stretch
+from .moment import side_of
 from .ranges import apart_of, are_in, outermost
 from .recording import Recording
 from .steps import Found
@@ -117,13 +118,6 @@ def piece_of(envelope: Envelope, k: int) -> Piece:
 
 def is_beyond(hull: Hull, bound: int) -> bool:
     return not isinstance(hull, str) and (hull[0] < -bound or hull[1] > bound)
-
-
-def side_of(hull: Hull, bound: int) -> int:
-    """On which side of the bound a hull lies as a whole: 1 where the clock is ahead, -1 where it is behind, else 0."""
-    if isinstance(hull, str):
-        return 0
-    return (hull[0] > bound) - (hull[1] < -bound)
 
 
 class Seen(NamedTuple):

@@ -49,6 +49,10 @@ class Known:
         self.lines = self.by_sum(self.journal.text)
         self.judgements = self.by_sum(self.judged.text)
 
+    def renew(self) -> None:
+        """Takes in what other processes of this call have added."""
+        self.lines = self.by_sum(self.journal.again())
+
     def alone(self, folder: Folder) -> AbstractContextManager[None]:
         """Waits until no other call that has this record writes in a folder."""
         return self.journal.alone(LOCKS, folder)
@@ -61,16 +65,15 @@ class Known:
     def note_call(self, now: int) -> None:
         self.append(self.journal, f"kept {now}")
 
-    def by_sum(self, text: str) -> dict[str, list[str]]:
+    def by_sum(self, text: str) -> dict[str, str]:
         """The lines that are whole."""
-        rows = (line.split(" ", 4) for line in text.split("\n"))
-        return {row[0]: row for row in rows if len(row) == 5}
+        return {line.partition(" ")[0]: line for line in text.split("\n") if line.count(" ") >= 4}
 
     def shown(self, sum_: str, record: Record) -> Record | None:
         """A record as it was made or verified here, if it was."""
         if sum_ not in self.lines:
             return None
-        _, program, made, seconds, version = self.lines[sum_]
+        _, program, made, seconds, version = self.lines[sum_].split(" ", 4)
         return replace(record, program=Made(version, program), made=made, seconds=float(seconds))
 
     def add(self, sum_: str, found: Record) -> None:

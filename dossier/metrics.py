@@ -1,6 +1,8 @@
 """What audits come to as metrics, in Prometheus' text format, for the textfile collector of node_exporter."""
 from __future__ import annotations
 
+import os
+import re
 import sys
 from collections.abc import Iterable, Iterator
 
@@ -25,7 +27,17 @@ HELP = {
     "leap_list_end_timestamp_seconds": "Until when the list of leap seconds is good.",
     "audit_duration_seconds": "How long the audit took.",
     "last_audit_timestamp_seconds": "When the audit was made.",
+    "now_verdict": "1 for the verdict of a recorder's last minutes, 0 for each other.",
+    "now_clock_off": "1 if the error lies beyond the bound at the end of them, if what the claim grants is true.",
+    "now_claimed_bound_seconds": "The bound that is claimed.",
+    "now_hull_low_seconds": "The least that the clock's error can be at their end.",
+    "now_hull_high_seconds": "The most that the clock's error can be at their end.",
+    "now_least_bound_seconds": "The least bound that a certificate of the last minutes carries, if there is one.",
+    "now_groups_heard": "Groups of servers that have a sample.",
+    "now_groups": "Groups of servers in the claim.",
+    "now_last_record_timestamp_seconds": "When the recorder's last record was made.",
 }
+DATE = re.compile(r"\d{4}-\d\d-\d\d")
 VERDICTS = (*ANSWERED, REFUSED, NOT_VERIFIED, DISPUTED)
 
 
@@ -38,15 +50,21 @@ def escaped(value: str) -> str:
     return plain(value).replace("\\", "\\\\").replace('"', '\\"')
 
 
+def labels_of_folder(folder: str, day: str = "", **others: str) -> str:
+    """A folder, and the machine of which it is a day, if it is one."""
+    above, name = os.path.split(folder)
+    return labels_of(machine=above if DATE.fullmatch(name) else folder, folder=folder, day=day, **others)
+
+
 def of_verdict(folder: str, verdict: str, day: str = "") -> Iterator[Sample]:
     """One metric for each verdict, of which one is 1."""
     for other in VERDICTS:
-        yield "verdict", labels_of(folder=folder, day=day, verdict=other), int(other == verdict)
+        yield "verdict", labels_of_folder(folder, day, verdict=other), int(other == verdict)
 
 
 def of_entry(folder: str, entry: Entry) -> Iterator[Sample]:
     day = "" if entry.part == "." else entry.part
-    labels = labels_of(folder=folder, day=day)
+    labels = labels_of_folder(folder, day)
     yield from of_verdict(folder, entry.verdict, day)
     yield "clock_off", labels, int(entry.reason is not None and entry.reason.why == "off")
     yield "claimed_bound_seconds", labels, entry.claim.bound_ns
@@ -60,7 +78,7 @@ def of_entry(folder: str, entry: Entry) -> Iterator[Sample]:
 
 def of_record(folder: str, record: Record) -> Iterator[Sample]:
     """All of a folder's audit, which has to be known here."""
-    labels = labels_of(folder=folder)
+    labels = labels_of_folder(folder)
     for entry in record.entries:
         yield from of_entry(folder, entry)
     if record.refusal:
@@ -82,7 +100,8 @@ def metrics_text(samples: Iterable[Sample]) -> str:
 def lines_of(name: str, values: dict[str, int]) -> Iterator[str]:
     yield f"# HELP ntpaudit_{name} {HELP[name]}\n# TYPE ntpaudit_{name} gauge\n"
     for labels, value in values.items():
-        number = f"{value // SECOND}.{value % SECOND:09}" if name.endswith("_seconds") else f"{value}"
+        seconds, rest = divmod(abs(value), SECOND)
+        number = f"{'-' if value < 0 else ''}{seconds}.{rest:09}" if name.endswith("_seconds") else f"{value}"
         yield f"ntpaudit_{name}{{{labels}}} {number}\n"
 
 

@@ -4,8 +4,10 @@ from __future__ import annotations
 import argparse
 import os
 import sys
+import time
 from collections import Counter
 from collections.abc import Iterator, Sequence
+from contextlib import suppress
 from dataclasses import replace
 from typing import NamedTuple
 
@@ -168,7 +170,8 @@ def write_page(folders: list[str], given: argparse.Namespace, known: Known, leap
             rows = [one.row for one in found if one.file == f"{number + 1:05}.html"]
             list(written([Shown(replace(section, row=row), name_of(number, part), f"{number + 1:05}.html")
                           for part, (section, row) in enumerate(zip(result.sections, rows))], given))
-    data = text_of(worst_first(found), given, len(folders)).encode("utf-8", "backslashreplace")
+    years = years_of(folders, given, known, leaps) if given.split else []
+    data = text_of(worst_first(found), given, len(folders), years).encode("utf-8", "backslashreplace")
     if given.split or given.output:
         write_named(os.path.join(given.split, INDEX) if given.split else given.output, data, bool(given.split))
     else:
@@ -179,6 +182,23 @@ def write_page(folders: list[str], given: argparse.Namespace, known: Known, leap
     return max(worst, status)
 
 
+def years_of(folders: list[str], given: argparse.Namespace, known: Known, leaps: LeapList) -> list[str]:
+    """Writes a calendar of each year below the page, if the folders are days: of all days that stand beside them. Which
+    years these are."""
+    from .days import Wanted, is_day, machines_of
+    from .years import Pages, write_year
+    if not all(is_day(os.path.basename(folder)) for folder in folders):
+        return []
+    found = []
+    for year in sorted({os.path.basename(folder)[:4] for folder in folders}):
+        pages = Pages(f"{given.title}, {year}", None, os.path.join(given.split, year))
+        wanted = Wanted(int(year), known, leaps, int(time.time()))
+        with suppress(Fault):  # (of a machine that can't be looked at the page has the line)
+            write_year(list(machines_of(folders)), wanted, pages, given.limit, 1)
+            found.append(year)
+    return found
+
+
 def written(own: list[Shown], given: argparse.Namespace) -> Iterator[Shown]:
     """Writes the sections of a folder as a page of their own, and leaves their lines."""
     text = page([one._replace(file="") for one in own], given.title, 1, given.signers is not None, INDEX)
@@ -186,13 +206,13 @@ def written(own: list[Shown], given: argparse.Namespace) -> Iterator[Shown]:
     return (one._replace(section=replace(one.section, head="", rest="")) for one in own)
 
 
-def text_of(found: list[Shown], given: argparse.Namespace, folders: int) -> str:
-    """What is asked for, of sections: the table as JSON or CSV, or a page."""
+def text_of(found: list[Shown], given: argparse.Namespace, folders: int, years: Sequence[str]) -> str:
+    """What is asked for, of sections: the table as JSON or CSV, or a page that leads to these years."""
     if given.json:
         return as_json([one.row for one in found])
     if given.csv:
         return as_csv([one.row for one in found])
-    return page(found, given.title, folders, given.signers is not None)
+    return page(found, given.title, folders, given.signers is not None, years=years)
 
 
 def worst_first(found: list[Shown]) -> list[Shown]:
@@ -203,8 +223,9 @@ def worst_first(found: list[Shown]) -> list[Shown]:
     return sorted(found, key=lambda one: badness[one.row.machine])
 
 
-def page(found: list[Shown], title: str, folders: int, is_looked_at: bool, above: str = "") -> str:
-    """A page of sections, which leads back to the one above it, if there is one."""
+def page(found: list[Shown], title: str, folders: int, is_looked_at: bool, above: str = "",
+         years: Sequence[str] = ()) -> str:
+    """A page of sections, which leads back to the one above it, if there is one, and to years."""
     rows = [one.row for one in found]
     head = element("head", lines([
         "",
@@ -217,6 +238,7 @@ def page(found: list[Shown], title: str, folders: int, is_looked_at: bool, above
         ""]))
     header = element("header", lines([
         "", element("h1", title), *([element("p", element("a", "All folders", href=above))] if above else []),
+        *(element("p", element("a", f"The year {year}", href=f"{year}/{INDEX}")) for year in years),
         element("p", made_by(found, folders), class_="soft"), tally(rows), ""]))
     links = [one.file or f"#{one.name}" for one in found]
     articles = (one.article for one in found if one.section.head)

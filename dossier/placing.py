@@ -230,6 +230,11 @@ class Journal:
         except FileNotFoundError:
             pass
 
+    def again(self) -> str:
+        """All lines, as they stand there now."""
+        with own(f"/proc/self/fd/{self.file}") as opened:
+            return opened.read().decode("utf-8", "replace")
+
     def append(self, line: str) -> None:
         """Adds a line, whole or not at all."""
         fcntl.flock(self.file, fcntl.LOCK_EX)

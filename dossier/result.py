@@ -4,7 +4,9 @@ from __future__ import annotations
 from dataclasses import dataclass, field
 
 from .entry import Made, Refusal
+from .moment import Moment
 from .typed import Count
+from .year import Year
 
 
 @dataclass
@@ -50,8 +52,8 @@ class Section:
 
 @dataclass(frozen=True)
 class Result:
-    """A status, lines for a terminal, verdicts, metrics, sections of a page, sums of captures; when the newest
-    recording ends; a text, such as one that is to be signed; and if nothing came of it, why."""
+    """A status, lines for a terminal, verdicts, metrics, sections of a page, sums of captures; what last minutes say; a
+    year; when the newest recording ends; a text, such as one that is to be signed; and if nothing came of it, why."""
 
     status: Count = 0
     lines: list[str] = field(default_factory=list)
@@ -59,6 +61,8 @@ class Result:
     metrics: list[tuple[str, str, int]] = field(default_factory=list)
     sections: list[Section] = field(default_factory=list)
     captures: list[str] = field(default_factory=list)
+    moments: list[Moment] = field(default_factory=list)
+    year: Year | None = None
     last: int = 0
     text: str = ""
     refusal: Refusal | None = None

@@ -5,14 +5,16 @@ It is one of ssh-keygen, beside audit.json. Who may sign stands in a file of all
 from __future__ import annotations
 
 import re
+from contextlib import suppress
 from datetime import datetime
 from typing import NamedTuple
 
 from .fault import Fault
-from .folder import AUDIT, SIGNATURE, Folder, data_named
+from .folder import AUDIT, SIGNATURE, YEAR, Folder, data_named
 from .older import read_any
 from .placing import keep
 from .running import find_tool, run
+from .statements import read_statements
 from .typed import is_time
 
 NAMESPACE = "ntpaudit-dossier"
@@ -52,9 +54,10 @@ class Signers:
     def signature_of(self, folder: Folder) -> Signature:
         """The signature of a folder, over the very bytes of audit.json that are read of it. It is looked at if there
         are signers; whether a key may sign is asked of the time at which audit.json says that it was made."""
-        if not folder.has(SIGNATURE):
+        signed = signed_in(folder)
+        if not folder.has(f"{signed}.sig"):
             return Signature(NONE)
-        signature, data = folder.data(SIGNATURE), folder.data(AUDIT) if folder.has(AUDIT) else b""
+        signature, data = folder.data(f"{signed}.sig"), folder.data(signed) if folder.has(signed) else b""
         at = time_of(data)
         if self.given is None:
             return Signature(UNSEEN, at)
@@ -83,12 +86,18 @@ class Signers:
         return status, said.decode("utf-8", "replace"), error.decode("utf-8", "replace")
 
 
+def signed_in(folder: Folder) -> str:
+    """What is signed of a folder: its audit.json, or a year's statements."""
+    return YEAR if folder.has(YEAR) and not folder.has(AUDIT) else AUDIT
+
+
 def time_of(data: bytes) -> str:
-    """When a record was signed, as it says; nothing if it is no record."""
-    try:
+    """When a record was signed, as it says, or a year; nothing if it is neither."""
+    with suppress(Fault):
         return str(read_any(data).signed)
-    except Fault:
-        return ""
+    with suppress(Fault):
+        return str(read_statements(data).signed)
+    return ""
 
 
 def local(time: str) -> str:

@@ -9,15 +9,18 @@ from typing import IO
 
 from . import folder as files
 from .audit import change_of
-from .entry import DISPUTED, read_record, record_text
+from .entry import DISPUTED, LeapList, read_record, record_text
 from .fault import DEVICE, NOT_SHOWN, USAGE, Fault, fault, summed
-from .folder import Folder, own_data, sum_of
+from .folder import YEAR, Folder, own_data, sum_of
 from .known import Known
 from .placing import is_ones_own, keep, place
+from .recorder import text_of
 from .result import Result
 from .running import DEVNULL, ENVIRONMENT, PIPE, begun, find_tool, private_folder, run_all, run_one
-from .signature import NAMESPACE, NO_KEYGEN
+from .signature import NAMESPACE, NO_KEYGEN, signed_in
+from .statements import difference, read_statements
 from .text import plain
+from .typed import said
 from .units import now
 from .verify import audit_json
 
@@ -27,11 +30,11 @@ OF_A_PERSON = ("HOME", "TERM", "DISPLAY", "WAYLAND_DISPLAY", "XDG_RUNTIME_DIR", 
 PROGRESS = (b"Signing file ", b"Write signature to ")
 
 
-def sign_all(folders: list[str], key: str, known: Known, seconds: int) -> int:
+def sign_all(folders: list[str], key: str, known: Known, seconds: int, leaps: LeapList) -> int:
     """Signs each folder, and prints a line for each. The status is the worst. The key is asked for between two looks at
     a folder, by the process that has the terminal."""
     worst, key = 0, os.path.abspath(key)
-    for path, found in run_all(folders, partial(to_be_signed, known), seconds):
+    for path, found in run_all(folders, partial(to_be_signed, known, leaps), seconds):
         if found.text:
             try:
                 signature = signature_by(key, found.text.encode())
@@ -44,11 +47,15 @@ def sign_all(folders: list[str], key: str, known: Known, seconds: int) -> int:
     return worst
 
 
-def to_be_signed(known: Known, path: str, _: int) -> Result:
+def to_be_signed(known: Known, leaps: LeapList, path: str, _: int) -> Result:
     """A folder's audit.json with the time in it, which is to be signed, if it was made or verified here. If a file
-    isn't what it says, that is said."""
+    isn't what it says, that is said. A year's statements likewise, if they follow from days that are known here."""
     with Folder(path) as folder:
         is_ones_own(folder.place)
+        if signed_in(folder) == YEAR:
+            if wrong := difference(folder, known, leaps):
+                return Result(NOT_SHOWN, [wrong])
+            return Result(text=text_of(said(replace(read_statements(folder.data(YEAR)), signed=now()))).decode())
         data = audit_json(folder)
         record = read_record(data)
         if folder.has(files.SIGNATURE):
@@ -69,6 +76,11 @@ def sign(known: Known, signed: bytes, signature: bytes, path: str, _: int) -> Re
     """Puts what was signed in its place, with the signature, if the folder's audit.json is still the same but for the
     time."""
     with Folder(path) as folder, known.alone(folder):
+        if signed_in(folder) == YEAR:
+            if replace(read_statements(folder.data(YEAR)), signed="") != replace(read_statements(signed), signed=""):
+                raise fault(f"{YEAR} has changed meanwhile")
+            place(folder, {YEAR: [signed], f"{YEAR}.sig": [signature]})
+            return Result(lines=["signed"])
         data, record = audit_json(folder), read_record(signed)
         seen = known.shown(sum_of(data), record)
         if folder.has(files.SIGNATURE) or not seen or replace(read_record(data), signed=record.signed) != record:

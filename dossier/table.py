@@ -8,15 +8,12 @@ import re
 from dataclasses import asdict
 
 from .alerts import warning_words
-from .entry import DISPUTED, NO_EVIDENCE, NOT_VERIFIED, NOTHING_FITS, OPEN, REFUSED, REFUTED, UNSUPPORTED, YES, Entry
+from .entry import WORST_FIRST, Entry
 from .result import Row
 from .signature import Signature
 from .text import plain
 from .units import civil
 from .words import reason, to_do
-
-
-WORST_FIRST = (DISPUTED, REFUTED, NOTHING_FITS, UNSUPPORTED, NO_EVIDENCE, OPEN, REFUSED, NOT_VERIFIED, YES)
 
 
 def badness_of(row: Row) -> tuple[int, int]:

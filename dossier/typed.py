@@ -119,7 +119,9 @@ def mangled(name: str, why: str) -> Fault:
 
 def typed(kind: Any, value: Any, place: str) -> Any:
     """A value of a kind, or Mangled."""
-    origin, inner = get_origin(kind), get_args(kind)
+    if type(value) is kind:
+        return value
+    origin, inner, is_record = shape_of(kind)
     if origin is Annotated:
         found = typed(inner[0], value, place)
         if not inner[1](found):
@@ -136,11 +138,17 @@ def typed(kind: Any, value: Any, place: str) -> Any:
     if origin is dict and isinstance(value, dict):
         pairs = ((key, item, f"{place} {key}") for key, item in value.items())
         return {typed(inner[0], key, where): typed(inner[1], item, where) for key, item, where in pairs}
-    if is_dataclass(kind) and isinstance(value, dict):
+    if is_record and isinstance(value, dict):
         return record_of(kind, value, place)
-    if kind is float and type(value) is int or type(value) is kind:
+    if kind is float and type(value) is int:
         return value
     raise Mangled(place)
+
+
+@cache
+def shape_of(kind: Any) -> tuple[Any, tuple[Any, ...], bool]:
+    """What a kind is made of, and whether it is a record."""
+    return get_origin(kind), get_args(kind), is_dataclass(kind)
 
 
 def one_of(kinds: tuple[Any, ...], value: Any, place: str) -> Any:

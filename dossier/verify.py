@@ -3,7 +3,6 @@ from __future__ import annotations
 
 from collections import Counter
 from dataclasses import replace
-from functools import partial
 from typing import NamedTuple
 
 from . import VERSION, folder as files
@@ -17,9 +16,11 @@ from .making import Earlier, Making, no_earlier
 from .older import differs as differs_from_older, form_of, read_any
 from .program import Program
 from .result import Result
-from .running import run_all
+from .running import run_all, run_one
 from .second import Second
-from .signature import GOOD, NONE, UNSEEN, Signers, in_words
+from .signature import GOOD, NONE, UNSEEN, Signers, in_words, signed_in
+from .statements import days_of
+from .statements import difference as year_difference
 from .text import plain
 from .typed import first_difference, said
 from .units import now
@@ -165,13 +166,26 @@ def verify_all(folders: list[str], verifier: Verifier, signers: Signers, seconds
     """Prints `verified` and the verdict, or the first difference, a line for each folder, and notes. The status is 0 if
     all is verified and shown, and 1 if something isn't; or a fault's."""
     worst, seen = 0, dict[str, str]()
-    for path, found in run_all(folders, partial(verify, verifier, signers), seconds):
+    below = {folder: days_below(folder, seconds) for folder in folders}
+    named, every = set(folders), [each for folder in folders for each in (*below[folder], folder)]
+
+    def work(path: str, number: int) -> Result:  # (a year's signature is one for its days)
+        return verify(verifier, signers if path in named else Signers(None), path, number)
+    for path, found in run_all(every, work, seconds):
         copies = [seen[sum_] for sum_ in found.captures if seen.setdefault(sum_, path) != path]
         lines = [found.refusal.line] if found.refusal else found.lines
         for line in [*lines, *(f"({TWICE} {copy})" for copy in copies)]:
             print(f"{plain(path)}: {plain(line)}", flush=True)
         worst = summed(worst, found.status)
     return worst
+
+
+def days_below(path: str, seconds: int) -> list[str]:
+    """The folders of the days on which a year's statements rest, if there are such in a folder."""
+    def work(path: str, _: int) -> Result:
+        with Folder(path) as folder:
+            return Result(lines=days_of(folder) if signed_in(folder) == files.YEAR else [])
+    return run_one(path, work, seconds).lines
 
 
 def verify(verifier: Verifier, signers: Signers, path: str, _: int) -> Result:
@@ -185,6 +199,11 @@ def verify(verifier: Verifier, signers: Signers, path: str, _: int) -> Result:
                 notes.append(in_words(signature))
             elif signature.state != NONE or signers.given is not None:
                 findings.append(in_words(signature))
+            if signed_in(folder) == files.YEAR:
+                verifier.known.renew()
+                findings += filter(None, [year_difference(folder, verifier.known, verifier.leaps)])
+                lines = [*(findings or ["verified: its statements follow from its days"]), *(f"({n})" for n in notes)]
+                return Result(NOT_SHOWN if findings else 0, lines)
             difference, others, made = verifier.verify(folder)
     except Fault as found:
         return Result(found.status, [*findings, found.line, *(f"({note})" for note in notes)])

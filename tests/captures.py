@@ -17,7 +17,7 @@ from tally import DATA, ROOT, run
 HEADER = 24
 
 
-def records_of(whole):
+def records_of(whole: bytes) -> list[bytes]:
     """The records of a little-endian capture, each with its head."""
     found, at = [], HEADER
     while at < len(whole):
@@ -135,7 +135,7 @@ def test_joins(place):
     """Records of several files come in order of time, as a merge by hand has them: of those of one time the first
     file's, whether the files follow one another or not, and in the order of each file where its times fall."""
     from dossier.classic import Classic, join
-    rnd, seen = random.Random(11), {True: 0, False: 0}
+    rnd, seen, known = random.Random(11), {True: 0, False: 0}, {True: 0, False: 0}
     for trial in range(400):
         times = [rnd.randrange(40) for _ in range(rnd.randrange(12))]
         times = sorted(times) if rnd.random() < 0.8 else times
@@ -157,10 +157,12 @@ def test_joins(place):
                 data += struct.pack(f"{order}IIII", time, 7 * each // 10, 2, 60) + bytes((number, position))
             (place / f"{number}").write_bytes(data)
             captures[f"{number}"] = Classic(str(place / f"{number}"))
-        join(captures, str(place / "joined"))
-        found = (place / "joined").read_bytes()
-        seen[found[24:] == b"".join(wanted) and records_of(found) == wanted] += 1
-    check("joins", seen=(seen, {True: 400, False: 0}))
+        extent = join(captures, str(place / "joined"))
+        found, is_known = (place / "joined").read_bytes(), extent is not None
+        known[is_known] += 1
+        is_right = extent in (None, Classic(str(place / "joined")).extent)
+        seen[is_right and found[24:] == b"".join(wanted) and records_of(found) == wanted] += 1
+    check("joins", seen=(seen, {True: 400, False: 0}), known=(min(known.values()) > 10, True))
 
 
 def test_units(place):

@@ -14,6 +14,8 @@ import shutil
 import sys
 import time
 from calendar import timegm
+from pathlib import Path
+from typing import Any
 
 from audits import ENVIRONMENT, PROGRAM, SCRIPT, capture_of, check, check_page, dossier, folder_of, skipped, table
 from captures import records_of
@@ -25,7 +27,7 @@ MONITORING = ROOT / "monitoring"
 LINE = re.compile(r'(ntpaudit_[a-z_]+)\{((?:[a-z]+="(?:[^"\\\n]|\\[\\"n])*",?)*)\} (\S+)')
 
 
-def metrics_of(path):
+def metrics_of(path: Path) -> dict[tuple[Any, ...], str]:
     """The lines of a file of metrics: each name with its labels, and the value as it stands there."""
     lines = [line for line in path.read_text("utf-8").splitlines() if not line.startswith("#")]
     found = [LINE.fullmatch(line) for line in lines]
@@ -68,7 +70,7 @@ def test_metrics(place):
         label = ("folder", str(folder).replace("\\", "\\\\").replace('"', '\\"'))
         ones = [dict(labels)["verdict"] for (name, *labels), value in found.items()
                 if name == "verdict" and label in labels and value == "1"]
-        own = {name: value for (name, *labels), value in found.items() if labels == [label]}
+        own = {name: value for (name, *labels), value in found.items() if labels == [label, ("machine", label[1])]}
         check(f"the verdict of {folder.name} as metrics", ones=(ones, [row["verdict"]]),
               all=(sum(name == "verdict" and label in labels for name, *labels in found), 9))
         if row["bound_ns"] is None:
@@ -145,23 +147,79 @@ def test_alerts(place):
               for line in (place / "m.prom").read_text().splitlines() if not line.startswith("#")]
     text = rules.read_text()
     severity = dict(zip(re.findall(r"alert: (\w+)", text), re.findall(r"severity: (\w+)", text)))
-    timed = ("ClockAuditMissing", "ClockNearItsBound", "LeapSecondListEnds")
+    timed = ("ClockAuditMissing", "ClockNearItsBound", "LeapSecondListEnds", "ClockMetricsMissing")
+    summaries = re.findall(r"summary: (.*)", text + (MONITORING / "ntpaudit-now.rules.yml").read_text())
+    check("the summaries of alerts", without=([words for words in summaries if "$labels.instance" not in words], []))
     wanted = [of_alerts(name, severity[name], "5m", *(labels_of(series, folder, name) for folder in folders
                                                       if name in ALERTS[folder.name]))
               for name in severity if name not in timed]
-    node = {"job": "node", "instance": "web-1"}
-    own = [{"series": f'ntpaudit_{name}{{job="node",instance="web-1"}}', "values": f"{value}x50"} for name, value in
-           (("last_audit_timestamp_seconds", 3600), ("leap_list_end_timestamp_seconds", 40 * 86_400),
-            ("least_bound_seconds", 0.0048), ("claimed_bound_seconds", 0.005))]
-    hours = [of_alerts("ClockAuditMissing", "ticket", "36h"), of_alerts("ClockAuditMissing", "ticket", "38h", node),
-             of_alerts("ClockNearItsBound", "ticket", "1h", node)]
-    days = [of_alerts("LeapSecondListEnds", "ticket", "9d"),
-            of_alerts("LeapSecondListEnds", "ticket", "11d", {"job": "node"})]
-    tests = [{"interval": interval, "input_series": given, "promql_expr_test": asked}
-             for interval, given, asked in (("1m", series, wanted), ("1h", own, hours), ("1d", own, days))]
+    tests = [{"interval": "1m", "input_series": series, "promql_expr_test": wanted}, *timed_alerts()]
     test = {"rule_files": [str(rules)], "evaluation_interval": "1m", "tests": tests}
     (place / "test.yml").write_text(json.dumps(test))
     by_promtool("alerts of folders", "test", "rules", place / "test.yml")
+
+
+def series_of(name, values, **labels):
+    return {"series": f"ntpaudit_{name}{{{','.join(f'{key}={json.dumps(value)}' for key, value in labels.items())}}}",
+            "values": values}
+
+
+def timed_alerts():
+    """Tests of the alerts that look at times, and at several metrics: of two machines one falls silent, and one of
+    three that are near their bounds is a yes."""
+    node = {"job": "node", "instance": "web-1"}
+    first, second = ({**node, "machine": machine} for machine in ("fleet/a", "fleet/b"))
+    audits = [series_of("last_audit_timestamp_seconds", "3600+3600x50", **first),
+              series_of("last_audit_timestamp_seconds", "3600x50", **second)]
+    yes, beyond, blind = ({**node, "folder": folder} for folder in ("yes", "beyond", "blind"))
+    near = [series_of("claimed_bound_seconds", "0.005x50", **own) for own in (yes, beyond, blind)]
+    near += [series_of("least_bound_seconds", f"{least}x50", **own)
+             for own, least in ((yes, 0.0048), (beyond, 0.0058), (blind, 0.0049))]
+    near += [series_of("verdict", "1x50", **own, verdict=verdict)
+             for own, verdict in ((yes, "yes"), (beyond, "refuted"), (blind, "no evidence"))]
+    leaps = [series_of("leap_list_end_timestamp_seconds", f"{40 * 86_400}x50", **node)]
+    gone = [series_of("verdict", "1x400", **first, folder="fleet/a/2026-11-26", verdict="yes"),
+            series_of("verdict", "1x120", **second, folder="fleet/b/2026-11-26", verdict="yes")]
+    missing = [of_alerts("ClockMetricsMissing", "ticket", "9h"),
+               of_alerts("ClockMetricsMissing", "ticket", "26h", second)]
+    hours = [of_alerts("ClockAuditMissing", "ticket", "36h"), of_alerts("ClockAuditMissing", "ticket", "38h", second)]
+    days = [of_alerts("LeapSecondListEnds", "ticket", "9d"), of_alerts("LeapSecondListEnds", "ticket", "11d", node)]
+    near_one = [of_alerts("ClockNearItsBound", "ticket", "1h", yes)]
+    none = [of_alerts("ClockMetricsMissing", "ticket", "1h", {})]
+    return [{"interval": interval, "input_series": given, "promql_expr_test": asked}
+            for interval, given, asked in (("1h", audits, hours), ("1h", near, near_one), ("1d", leaps, days),
+                                           ("5m", gone, missing), ("1h", leaps, none))]
+
+
+def test_alerts_of_now(place):
+    """The alerts on the last minutes: twice running is a page, and a recorder that is silent or metrics that are gone
+    are tickets."""
+    rules = MONITORING / "ntpaudit-now.rules.yml"
+    by_promtool("the alert rules of now", "check", "rules", rules)
+    own = [{"job": "node", "instance": name, "recorder": "eth0"} for name in ("off", "step", "once", "silent", "blind")]
+    off, step, once, silent, blind = own
+
+    def verdicts(values, others="0x99", **labels):
+        return [series_of("now_verdict", values if verdict == labels["verdict"] else others,
+                          **{**labels, "verdict": verdict}) for verdict in ("nothing fits", "no evidence", "refuted")]
+    given = [series_of("now_clock_off", values, **one)
+             for one, values in zip(own, ("0 0 1x90", "0 0 0 0 0 1x90", "0 0 1 1 1 0x90", "0x99", "0x99"))]
+    given += verdicts("0 0 1x90", **off, verdict="refuted") + verdicts("0 0 1 1 1 0x90", **step, verdict="nothing fits")
+    given += verdicts("0x99", **once, verdict="refuted") + verdicts("0x9", "0x9", **silent, verdict="refuted")
+    given += verdicts("1x99", **blind, verdict="no evidence")
+    given += [series_of("now_last_record_timestamp_seconds", "0+60x99" if one is not silent else "0x99", **one)
+              for one in own]
+    asked = [of_alerts("ClockIsOff", "page", "5m"), of_alerts("ClockIsOff", "page", "7m", off, step),
+             of_alerts("RecorderSilent", "ticket", "9m"), of_alerts("RecorderSilent", "ticket", "11m", silent),
+             of_alerts("ClockUnseen", "ticket", "9m"),
+             of_alerts("ClockUnseen", "ticket", "11m", {**blind, "verdict": "no evidence"}),
+             of_alerts("ClockNowMissing", "ticket", "68m", {"job": "node", "instance": "silent"})]
+    nothing = [of_alerts("ClockNowMissing", "ticket", "10m", {})]
+    tests = [{"interval": "1m", "input_series": series, "promql_expr_test": words}
+             for series, words in ((given, asked), ([], nothing))]
+    (place / "test.yml").write_text(json.dumps({"rule_files": [str(rules)], "evaluation_interval": "1m",
+                                                "tests": tests}))
+    by_promtool("alerts of the last minutes", "test", "rules", place / "test.yml")
 
 
 def labels_of(series, folder, name):
@@ -169,8 +227,8 @@ def labels_of(series, folder, name):
     is 1."""
     kinds = {"ClockServerApart": "servers_apart", "ClockOff": "clock_off"}
     kind, value = kinds.get(name, "verdict"), "" if name in kinds else "1x"
-    own, = (line["series"] for line in series if f'ntpaudit_{kind}{{folder="{folder}"' in line["series"]
-            and line["values"].startswith(value))
+    own, = (line["series"] for line in series if line["series"].startswith(f"ntpaudit_{kind}{{")
+            and f'folder="{folder}"' in line["series"] and line["values"].startswith(value))
     return dict(re.findall(r'([a-z]+)="([^"]*)"', own))
 
 
@@ -178,7 +236,7 @@ def of_alerts(name, severity, at, *labels):
     """A test by promtool that of an alert these are there."""
     alerts = [{"alertname": name, "alertstate": "firing", "severity": severity, **own} for own in labels]
     said = [f"ALERTS{{{','.join(f'{label}={json.dumps(value)}' for label, value in own.items())}}}" for own in alerts]
-    return {"expr": f'ALERTS{{alertname="{name}"}}', "eval_time": at,
+    return {"expr": f'ALERTS{{alertname="{name}",alertstate="firing"}}', "eval_time": at,
             "exp_samples": [{"labels": own, "value": 1} for own in said]}
 
 
@@ -186,12 +244,13 @@ def test_dashboard(place):
     """The dashboard reads metrics that there are, in words that Prometheus takes."""
     from dossier.metrics import HELP
     board = json.loads((MONITORING / "ntpaudit.dashboard.json").read_text())
-    asked = [target["expr"].replace("$folder", ".*") for panel in board["panels"] for target in panel["targets"]]
-    rules = (MONITORING / "ntpaudit.rules.yml").read_text()
+    asked = [target["expr"].replace("$folder", ".*").replace("$instance", ".*")
+             for panel in board["panels"] for target in panel["targets"]]
+    rules = "".join(path.read_text() for path in MONITORING.glob("*.yml"))
     named = set(re.findall(r"ntpaudit_(\w+)", " ".join(asked + re.findall(r"expr: (.*)", rules))))
-    check("the metrics of dashboard and alerts", unknown=(named - set(HELP), set()), panels=(len(board["panels"]), 8),
-          places=(len({(panel["gridPos"]["x"], panel["gridPos"]["y"]) for panel in board["panels"]}), 8),
-          numbers=(len({panel["id"] for panel in board["panels"]}), 8))
+    check("the metrics of dashboard and alerts", unknown=(named - set(HELP), set()), panels=(len(board["panels"]), 9),
+          places=(len({(panel["gridPos"]["x"], panel["gridPos"]["y"]) for panel in board["panels"]}), 9),
+          numbers=(len({panel["id"] for panel in board["panels"]}), 9))
     groups = [{"name": "asked", "rules": [{"record": f"asked:{number}", "expr": expr}
                                           for number, expr in enumerate(asked)]}]
     (place / "asked.yml").write_text(json.dumps({"groups": groups}))
@@ -531,13 +590,13 @@ def test_systemd_units(place):
     if not shutil.which("systemd-analyze"):
         skipped("systemd's units", "systemd isn't installed")
         return
-    names = (RECORDER, "ntpaudit-daily.service", "ntpaudit-daily.timer")
+    names = (RECORDER, "ntpaudit-daily.service", "ntpaudit-now.service", "ntpaudit-daily.timer", "ntpaudit-now.timer")
     for name in names:
         text = (UNITS / name).read_text().replace("=ntpaudit-dossier ", f"={SCRIPT} ")
         (place / name.replace("@.", "@lo.")).write_text(text)
     own = [place / name.replace("@.", "@lo.") for name in names]
     check("systemd-analyze verify", run=(run(["systemd-analyze", "verify", "--man=no", *own]), (0, b"", b"")))
-    for unit in own[:2]:
+    for unit in own[:3]:
         status, out, _ = run(["systemd-analyze", "security", "--offline=yes", "--threshold=20", "--no-pager", unit])
         check(f"systemd-analyze security {unit.name}", status=(status, 0), told=(b"exposure level" in out, True))
 
@@ -582,7 +641,9 @@ def test_daily(place):
     for command in commands:
         status, _, err = run(shlex.split(command), env=environment, cwd=days)
         check(f"the daily command {command[:60]}", run=((status, err), (0, b"")))
-    check_page("the page of the daily unit", (state / "pages" / "index.html").read_text(), ["00001.html"])
+    check_page("the page of the daily unit", (state / "pages" / "index.html").read_text(),
+               ["2001/index.html", "00001.html"])
+    check_page("the year of the daily unit", (state / "pages" / "2001" / "index.html").read_text(), ["00001.html"])
     ones = [dict(labels) for (name, *labels), value in metrics_of(state / "ntpaudit.prom").items()
             if name == "verdict" and value == "1"]
     check("the metrics of the daily unit", ones=(ones, [{"folder": "2001-09-09", "verdict": "yes"}]))
@@ -591,4 +652,4 @@ def test_daily(place):
 
 DAILY_TESTS = [test_keep, test_kept_by_strangers, test_years, test_day, test_day_of_others, test_odd_day,
                test_systemd_units, test_recorder, test_daily, test_metrics, test_metrics_of_days, test_metrics_written,
-               test_alerts, test_dashboard]
+               test_alerts, test_alerts_of_now, test_dashboard]
