@@ -6,4 +6,5 @@ pub mod Queue
 pub mod PrefixMaximum
 pub mod Table
 pub mod Block
+pub mod Lead
 pub mod Passage

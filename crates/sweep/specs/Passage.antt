@@ -1,9 +1,12 @@
 -- What has to be reached over each stretch: the highest level that one of the early arrivals reaches.
-use Rattle.std.specs.Prelude.{◌≡◌, ℕ, ◌+◌, ◌<◌, ◌≤◌, List, length, Option, Some, None, slice_get}
+use Rattle.std.specs.Prelude.{◌≡◌, ℕ, ◌+◌, ◌<◌, ◌≤◌, List, length, Option, Some, None, IfSome}
+use Rattle.std.specs.Prelude.{slice_get}
 use Rattle.sweep.specs.Block.{IsReached}
 use Rattle.sweep.specs.Top.{height_for}
 use Rattle.sweep.specs.declared.block.Wanted.{Wanted}
+use Rattle.sweep.specs.declared.lead.Lead.{Lead}
 use Rattle.sweep.specs.declared.queue.Arrival.{Arrival}
+use Rattle.sweep.specs.declared.top.Top.{Top}
 use Rattle.sweep.specs.declared.unsigned_stretch.UnsignedStretch.{UnsignedStretch}
 
 -- the heights below the limit reach this level and none above it, or none if there is no level
@@ -12,11 +15,12 @@ IsLevelBelow ppb end limit height None = limit ≤ height_for ppb end 0
 IsLevelBelow ppb end limit height (Some level) = (height ≡ height_for ppb end level)
     × (height_for ppb end level < limit) × (limit ≤ height_for ppb end (level + 1))
 
--- what is wanted over the stretch, of arrivals whose heights are below this limit
-pub record HasLimit (ppb : ℕ) (stretch : UnsignedStretch) (limit : ℕ) (wanted : Wanted)
+-- what is wanted over the stretch, of arrivals with this lead
+pub record IsWantedOf (ppb : ℕ) (stretch : UnsignedStretch) (lead : Lead) (wanted : Wanted)
     : Type 0 where
   pub place : wanted.place ≡ stretch.begin + stretch.end
-  pub level : IsLevelBelow ppb stretch.end limit wanted.height wanted.level
+  pub level : IsLevelBelow ppb stretch.end lead.limit wanted.height wanted.level
+  pub only : IfSome wanted.only (λ index. (index ≡ lead.index) × (lead.second ≤ wanted.height))
 
 -- the level is the highest that is reached
 pub record IsHighestLevel (ppb : ℕ) (queue : List Arrival) (place end height level : ℕ)
@@ -38,6 +42,8 @@ pub record IsWantedOver (ppb : ℕ) (queue : List Arrival) (stretch : UnsignedSt
     (wanted : Wanted) : Type 0 where
   pub place : wanted.place ≡ stretch.begin + stretch.end
   pub level : IsHighestOf ppb queue wanted.place stretch.end wanted.height wanted.level
+  pub only : IfSome wanted.only (λ index. (other : ℕ) →
+      IsReached queue wanted.place wanted.height other → other ≡ index)
 
 pub record AreWantedOver (ppb : ℕ) (queue : List Arrival) (stretches : List UnsignedStretch)
     (wanted : List Wanted) : Type 0 where
@@ -45,3 +51,17 @@ pub record AreWantedOver (ppb : ℕ) (queue : List Arrival) (stretches : List Un
   pub each : (k : ℕ) (stretch : UnsignedStretch) (one : Wanted) →
       slice_get stretches k ≡ Some stretch → slice_get wanted k ≡ Some one →
       IsWantedOver ppb queue stretch one
+
+-- the top is that of the one index that reaches the height, or none if there is no level
+abbrev pub IsClear : Option ℕ → Option ℕ → Option Top → Type 0
+IsClear None only top = top ≡ None
+IsClear (Some level) only top =
+    (index : ℕ) × (only ≡ Some index) × (top ≡ Some (record { level = level; index = index }))
+
+abbrev pub IsClearTop : Wanted → Option Top → Type 0
+IsClearTop wanted = IsClear wanted.level wanted.only
+
+pub record AreClearTops (wanted : List Wanted) (tops : List (Option Top)) : Type 0 where
+  pub as_many : length tops ≡ length wanted
+  pub each : (k : ℕ) (one : Wanted) (top : Option Top) → slice_get wanted k ≡ Some one →
+      slice_get tops k ≡ Some top → IsClearTop one top

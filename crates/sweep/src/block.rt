@@ -9,9 +9,6 @@ ghost use Rattle.sweep.specs.declared.queue.Arrival.{Arrival as TheArrival};
 use crate::queue::Arrival;
 use std::alloc::{AllocError, Global};
 
-/// A block that holds every index.
-pub const WIDEST: u32 = 1 << 20;
-
 /// What has to be reached over a stretch.
 #[derive(Clone, Copy)]
 pub struct Wanted {
@@ -21,17 +18,13 @@ pub struct Wanted {
     pub level: Option<u128>,
     /// The height for it.
     pub height: u128,
+    /// The one index that reaches it, if it's seen at once that no other does.
+    pub only: Option<u32>,
 }
 
 /// Raises the limits of the blocks by the arrivals from number `next` on that come up to a place,
 /// and says how many have come by then.
-pub fn take_in(
-    limits: &mut [u128],
-    queue: &[Arrival],
-    next: usize,
-    place: u128,
-    width: u32,
-) -> usize
+fn take_in(limits: &mut [u128], queue: &[Arrival], next: usize, place: u128, width: u32) -> usize
     requires some { 0 < width }
     requires in_order { AreInOrder queue.now }
     requires small { AreSmall queue.now }

@@ -42,6 +42,7 @@ mod block;
 mod choice;
 mod duration;
 mod extreme;
+mod lead;
 mod passage;
 mod pieces;
 mod places;

@@ -12,7 +12,7 @@ loop-k-preserved c =
     let wanted = c.args.wanted.now in
     let width = c.args.width in
     let k = c.loop-k.k in
-    let none : Wanted = record { place = 0; level = None; height = 0 } in
+    let none : Wanted = record { place = 0; level = None; height = 0; only = None } in
     let one : Wanted = get_or wanted k none in
     let here : slice_get wanted k ≡ Some one = slice_get-get_or wanted k none c.loop-k-test.true in
     let wide : ℕ = get_or c.args.wide.now k 0 in

@@ -7,7 +7,7 @@ use Rattle.sweep.specs.declared.block.Wanted.{Wanted}
 use Rattle.sweep.specs.declared.extreme.Extreme.{Extreme}
 use Rattle.sweep.specs.declared.queue.Arrival.{Arrival}
 use Rattle.sweep.proofs.List.{there}
-use Rattle.sweep.proofs.PassageLevels.{PlacesRise-wanted, TopsSoFar, TopsSoFar-more, top_here}
+use Rattle.sweep.proofs.PassageLevels.{AreEarlyTops-clear, PlacesRise-wanted, TopsSoFar, TopsSoFar-more, top_here}
 use Rattle.sweep.proofs.passage.early_tops.Goals as goal
 
 indices_within : (ppb : ℕ) (extremes : List Extreme) (queue lent : List Arrival) → IsQueueOf ppb extremes queue →
@@ -16,24 +16,23 @@ indices_within ppb extremes queue lent is same =
     subst (AreWithin (length extremes)) (sym same)
     (λ i a at. let of = is.each i a at in slice_get_within extremes a.index of.extreme of.stands)
 
-pub wanted_over-requires-clause-within : goal.wanted_over-requires-clause-within
-wanted_over-requires-clause-within c = λ i a at.
-    let within = indices_within c.args.drift_ppb c.args.extremes.now c.in_ok-queue.queue.items _ c.in_ok-queue.ensures
-    c.as_slice.ensures.value i a at in
-    let few = c.requires.few in
-    omega arith
-
 pub first_indices-requires-clause-within : goal.first_indices-requires-clause-within
 first_indices-requires-clause-within c =
     indices_within c.args.drift_ppb c.args.extremes.now c.in_ok-queue.queue.items _ c.in_ok-queue.ensures
-    c.as_slice-2.ensures.value
+    c.as_slice-3.ensures.value
 
 pub first_indices-requires-clause-rise : goal.first_indices-requires-clause-rise
 first_indices-requires-clause-rise c =
-    PlacesRise-wanted c.args.drift_ppb c.as_slice.result.now c.args.stretches.now c.as_slice-3.result.now
+    PlacesRise-wanted c.args.drift_ppb c.as_slice.result.now c.args.stretches.now c.as_slice-4.result.now
     c.requires.in_order
-    (subst (AreWantedOver c.args.drift_ppb c.as_slice.result.now c.args.stretches.now) (sym c.as_slice-3.ensures.value)
+    (subst (AreWantedOver c.args.drift_ppb c.as_slice.result.now c.args.stretches.now) (sym c.as_slice-4.ensures.value)
     c.in_ok-wanted.ensures)
+
+pub returns-in-Some : goal.returns-in-Some
+returns-in-Some c =
+    AreEarlyTops-clear c.args.drift_ppb c.args.extremes.now c.in_ok-queue.queue.items _ c.args.stretches.now
+    c.in_ok-wanted.wanted.items _ c.in-Some.tops.items c.in_ok-queue.ensures c.as_slice.ensures.value
+    c.in_ok-wanted.ensures c.as_slice-2.ensures.value (rw c.in-Some.is at c.in_ok-clear.ensures)
 
 pub loop-k-preserved : goal.loop-k-preserved
 loop-k-preserved c =
@@ -49,8 +48,8 @@ loop-k-preserved c =
     let are : AreWantedOver ppb queue stretches wanted =
     subst (λ (q : List Arrival). AreWantedOver ppb q stretches wanted) c.as_slice.ensures.value c.in_ok-wanted.ensures in
     let blocks : AreFirstBlocks queue wanted 1 indices =
-    subst (λ (w : List Wanted). AreFirstBlocks queue w 1 indices) c.as_slice-3.ensures.value
-    (subst (λ (q : List Arrival). AreFirstBlocks q c.as_slice-3.result.now 1 indices) c.as_slice-2.ensures.value
+    subst (λ (w : List Wanted). AreFirstBlocks queue w 1 indices) c.as_slice-4.ensures.value
+    (subst (λ (q : List Arrival). AreFirstBlocks q c.as_slice-4.result.now 1 indices) c.as_slice-3.ensures.value
     c.in_ok-indices.ensures) in
     let within : k < length wanted =
     (let below = c.loop-k-test.true in

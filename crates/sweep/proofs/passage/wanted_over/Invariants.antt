@@ -1,7 +1,6 @@
 use Rattle.std.proofs.Common.{◌≡◌, ◌+◌, ℕ, ◌<◌, ◌≤◌, length, Some}
 use Rattle.std.specs.List.{slice_get}
-use Rattle.sweep.specs.Block.{AreLimitsOf}
-use Rattle.sweep.specs.declared.block.TheConstants.{WIDEST}
+use Rattle.sweep.specs.Lead.{IsLead}
 use Rattle.sweep.specs.declared.queue.Arrival.{Arrival}
 use Rattle.sweep.specs.declared.unsigned_stretch.UnsignedStretch.{UnsignedStretch}
 use Rattle.sweep.proofs.PassageLevels.{WantedSoFar}
@@ -10,9 +9,8 @@ use Rattle.sweep.proofs.passage.wanted_over.Given as goal
 abbrev pub invariant-loop-k : goal.invariant-loop-k
 invariant-loop-k l = record {
   so_far : WantedSoFar l.fn.drift_ppb l.queue l.stretches l.k l.wanted.items;
-  long : length l.limits.items ≡ 1;
   within : l.next ≤ length l.queue;
-  are : AreLimitsOf l.queue l.next WIDEST l.limits.items;
+  leads : IsLead l.queue l.next l.lead;
   upto : (i : ℕ) (a : Arrival) (j : ℕ) (stretch : UnsignedStretch) → i < l.next → slice_get l.queue i ≡ Some a →
       l.k ≤ j → slice_get l.stretches j ≡ Some stretch → a.at ≤ stretch.begin + stretch.end;
 }
