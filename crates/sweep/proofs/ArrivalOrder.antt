@@ -1,56 +1,19 @@
 -- The arrivals of extremes, in order.
-use Rattle.std.proofs.Common.{◌≡◌, ℕ, zero, suc, ◌+◌, ◌-◌, ◌*◌, ◌<◌, ◌≤◌, Bool, true, false, nat_eq}
+use Rattle.std.proofs.Common.{◌≡◌, ℕ, ◌+◌, ◌-◌, ◌*◌, ◌<◌, ◌≤◌, ◌^◌, Bool, true, false}
 use Rattle.std.proofs.Common.{List, [], ◌∷◌, ◌++◌, length, Some, refl}
 use Rattle.std.proofs.Common.{arith, subst, get_or, ⊎_elim, sym, ◌∙◌, ap}
-use Rattle.std.specs.List.{slice_get, Contains, IsDistinct, AllByRecursion}
+use Rattle.std.specs.List.{slice_get, Contains}
 use Rattle.std.specs.List.Sorted.{IsPermutation, IsNonDecreasingBy}
-use Rattle.std.proofs.lemmas.Bool.Decides.{nat_tests}
 use Rattle.std.proofs.lemmas.List.{length-append, length-map}
 use Rattle.std.proofs.lemmas.List.Sorted.{Contains-permutation, IsPermutation-sym}
-use Rattle.std.proofs.lemmas.Map.Keys.{IsDistinct-IsPermutation, IsDistinct-head, IsDistinct-tail, IsDistinct-cons}
-use Rattle.std.proofs.lemmas.Option.{slice_get-get_or, slice_get_within, same_Some, get_or_from_slice_get}
+use Rattle.std.proofs.lemmas.Option.{slice_get-get_or, slice_get_within, get_or_from_slice_get}
 use Rattle.std.proofs.Math.Nat.{mul-le-mul_right}
 use Rattle.sample_interval.specs.Widening.{IsRate, billion}
 use Rattle.sweep.specs.Extreme.{IsLawfulExtreme, mirrored_extreme, seen, seen_one}
-use Rattle.sweep.specs.Queue.{IsArrivalOf, IsArrivalAt, AreArrivalsOf, ArriveOnce, IsQueueOf, index_at}
+use Rattle.sweep.specs.Queue.{IsArrivalOf, IsArrivalAt, AreArrivalsOf, IsQueueOf, index_at}
 use Rattle.sweep.specs.declared.extreme.Extreme.{Extreme}
 use Rattle.sweep.specs.declared.queue.Arrival.{Arrival}
 use Rattle.sweep.proofs.List.{pushed_cases, map_at, there}
-
-abbrev same_index : Arrival → Arrival → Bool
-same_index a b = nat_eq a.index b.index
-
-flips : (a b : Arrival) → same_index a b ≡ same_index b a
-flips a b = grind (arith, nat_tests)
-
-all_by_recursion : {X : Type 0} (P : X → Type 0) (xs : List X) → ((i : ℕ) (x : X) → slice_get xs i ≡ Some x → P x) →
-    AllByRecursion P xs
-all_by_recursion P [] each = tt
-all_by_recursion P (x ∷ xs) each = (each zero x refl, all_by_recursion P xs (λ i y is. each (suc i) y is))
-
-by_recursion_at : {X : Type 0} (P : X → Type 0) (xs : List X) → AllByRecursion P xs → (i : ℕ) (x : X) →
-    slice_get xs i ≡ Some x → P x
-by_recursion_at P [] all i x is = absurd cc
-by_recursion_at P (y ∷ xs) all zero x is = subst P (same_Some y x is) all.0
-by_recursion_at P (y ∷ xs) all (suc i) x is = by_recursion_at P xs all.1 i x is
-
-none_distinct : IsDistinct same_index []
-unfolding IsDistinct
-none_distinct = tt
-
--- arrivals of which no two are of one index are distinct
-differing_distinct : (arrivals : List Arrival) →
-    ((i j : ℕ) (a b : Arrival) → i < j → slice_get arrivals i ≡ Some a → slice_get arrivals j ≡ Some b →
-    ¬ (a.index ≡ b.index)) → IsDistinct same_index arrivals
-differing_distinct [] differ = none_distinct
-differing_distinct (x ∷ arrivals) differ =
-    IsDistinct-cons same_index x arrivals
-    (all_by_recursion (λ a. same_index x a ≡ false) arrivals
-    (λ i a is. not_eq x.index a.index (differ zero (suc i) x a (omega arith) refl is)))
-    (differing_distinct arrivals (λ i j a b less at_i at_j. differ (suc i) (suc j) a b (omega arith) at_i at_j))
-  where
-    not_eq : (j k : ℕ) → ¬ (j ≡ k) → nat_eq j k ≡ false
-    not_eq j k differ = grind (arith, nat_tests)
 
 -- each extreme has its turn
 index_at_within : (backwards : Bool) (count turn : ℕ) → turn < count → index_at backwards count turn < count
@@ -61,25 +24,6 @@ index_at_twice : (backwards : Bool) (count turn : ℕ) → turn < count →
     index_at backwards count (index_at backwards count turn) ≡ turn
 index_at_twice false count turn less = refl
 index_at_twice true count turn less = omega arith
-
-index_at_once : (backwards : Bool) (count i j : ℕ) → i < j → j < count →
-    ¬ (index_at backwards count i ≡ index_at backwards count j)
-index_at_once false count i j less within same = absurd (omega arith)
-index_at_once true count i j less within same = absurd (omega arith)
-
-distinct_differ : (queue : List Arrival) → IsDistinct same_index queue → (i j : ℕ) (a b : Arrival) → i < j →
-    slice_get queue i ≡ Some a → slice_get queue j ≡ Some b → same_index a b ≡ false
-distinct_differ [] distinct i j a b less at_i at_j = absurd cc
-distinct_differ (x ∷ queue) distinct zero zero a b less at_i at_j = absurd (omega arith)
-distinct_differ (x ∷ queue) distinct zero (suc j) a b less at_i at_j =
-    subst (λ (y : Arrival). same_index y b ≡ false) (same_Some x a at_i)
-    (by_recursion_at (λ y. same_index x y ≡ false) queue (IsDistinct-head same_index x queue distinct) j b at_j)
-distinct_differ (x ∷ queue) distinct (suc i) zero a b less at_i at_j = absurd (omega arith)
-distinct_differ (x ∷ queue) distinct (suc i) (suc j) a b less at_i at_j =
-    distinct_differ queue (IsDistinct-tail same_index x queue distinct) i j a b (omega arith) at_i at_j
-
-not_same : (j k : ℕ) → nat_eq j k ≡ false → j ≡ k → ⊥
-not_same j k test same = grind (arith, nat_tests)
 
 -- between reads of two kinds
 contains_at : {X : Type 0} (xs : List X) (i : ℕ) (x : X) → slice_get xs i ≡ Some x → Contains xs x
@@ -112,24 +56,8 @@ module _ (ppb : ℕ) (backwards : Bool) (extremes : List Extreme) (arrivals queu
       (Contains-permutation arrivals queue a moved (contains_at arrivals turn a stands.1)) in
       (stood.0, a, stood.1, (are.each turn a stands.1).0 ∙ index_at_twice backwards count index within)
 
-  apart : (i j : ℕ) (a b : Arrival) → i < j → slice_get arrivals i ≡ Some a → slice_get arrivals j ≡ Some b →
-      ¬ (a.index ≡ b.index)
-  apart i j a b less at_i at_j same =
-      index_at_once backwards (length extremes) i j less
-      (let within = slice_get_within arrivals j b at_j in omega (arith, are.as_many))
-      (sym (are.each i a at_i).0 ∙ same ∙ (are.each j b at_j).0)
-
-  once : ArriveOnce queue
-  once = record {
-    once = λ i j a b less at_i at_j same.
-        not_same a.index b.index
-        (distinct_differ queue
-        (IsDistinct-IsPermutation same_index flips arrivals queue moved
-        (differing_distinct arrivals apart))
-        i j a b less at_i at_j)
-        same;
-    small = λ i a is. let there = back i a is in (are.each there.0 a there.1).2;
-  }
+  small : (i : ℕ) (a : Arrival) → slice_get queue i ≡ Some a → a.height < 2 ^ 110
+  small i a is = let there = back i a is in (are.each there.0 a there.1).2
 
   in_order : (i j : ℕ) (a b : Arrival) → i ≤ j → slice_get queue i ≡ Some a → slice_get queue j ≡ Some b → a.at ≤ b.at
   in_order i j a b le at_i at_j =
@@ -140,7 +68,7 @@ module _ (ppb : ℕ) (backwards : Bool) (extremes : List Extreme) (arrivals queu
       subst (λ (x : Arrival). a.at ≤ x.at) last (subst (λ (x : Arrival). x.at ≤ (get_or queue j a).at) first rise)
 
   pub IsQueueOf-sorted : IsQueueOf ppb extremes queue
-  IsQueueOf-sorted = record { each = each; all = all; once = once; in_order = in_order }
+  IsQueueOf-sorted = record { each = each; all = all; small = small; in_order = in_order }
 
 -- ---- the arrivals one by one
 pub record ArrivalsSoFar (ppb : ℕ) (backwards : Bool) (extremes : List Extreme) (n : ℕ) (arrivals : List Arrival)

@@ -3,19 +3,17 @@ use Rattle.std.proofs.Common.{◌≡◌, ℕ, ◌+◌, ◌-◌, ◌<◌, List, [
 use Rattle.std.proofs.Common.{IsSome, refl, arith}
 use Rattle.std.proofs.Common.{subst, ⊎_elim, sym, ◌∙◌, ap, map, get_or}
 use Rattle.std.specs.List.{slice_get, All}
-use Rattle.std.proofs.lemmas.List.{length-append, map-append}
+use Rattle.std.proofs.lemmas.List.{length-append}
 use Rattle.std.proofs.lemmas.Option.{same_Some, slice_get-get_or, slice_get_read, slice_get_within}
-use Rattle.std.proofs.lemmas.Option.{get_or_from_slice_get}
 use Rattle.sample_interval.specs.Widening.{IsRate, IsWidening, widening, billion}
-use Rattle.sweep.specs.Extreme.{IsLawfulExtreme, mirrored_extreme, number_at}
-use Rattle.sweep.specs.Rise.{IsHighest, ReachesEitherWay}
+use Rattle.sweep.specs.Extreme.{IsLawfulExtreme, mirrored_extreme}
 use Rattle.sweep.specs.UnsignedStretch.{IsLawfulStretch, mirrored_stretch}
 use Rattle.sweep.specs.Top.{IsTop, IsTopOf, IsAtLeast, IsEarlyAtLeast, AreEarlyTops, AreLateTops, higher_of}
 use Rattle.sweep.specs.Top.{IsTopNumber}
 use Rattle.sweep.specs.declared.extreme.Extreme.{Extreme}
 use Rattle.sweep.specs.declared.unsigned_stretch.UnsignedStretch.{UnsignedStretch}
 use Rattle.sweep.specs.declared.top.Top.{Top}
-use Rattle.sweep.proofs.List.{pushed_cases, all_at, map_at}
+use Rattle.sweep.proofs.List.{pushed_cases, all_at}
 use Rattle.sweep.proofs.Reach.{reaches_either, either_reaches, some_reaches}
 use Rattle.sweep.proofs.TopOrder.{Either, same_top, top-higher_of}
 
@@ -113,42 +111,3 @@ module _ (widens : (ppb distance : ℕ) → ppb < billion → IsWidening ppb dis
     number_more extreme stands numbers so_far =
         NumbersSoFar-more ppb extremes stretches k numbers so_far some_stretch extreme.number here
         (record { top = top; is_top = top_is; extreme = extreme; stands = stands; number = refl })
-
--- ---- the same of the highest by the leaders, for the indices so far
-number_there : (extremes : List Extreme) (index : ℕ) (extreme : Extreme) → slice_get extremes index ≡ Some extreme →
-    extreme.number ≡ number_at extremes index
-number_there extremes index extreme stands =
-    let number = λ (extreme : Extreme). extreme.number in
-    sym (get_or_from_slice_get (map number extremes) index extreme.number 0
-    (map_at number extremes index extreme stands))
-
-module _ (widens : (ppb distance : ℕ) → ppb < billion → IsWidening ppb distance (widening ppb distance)) (ppb : ℕ)
-    (slow : IsRate ppb) (extremes : List Extreme) (lawful : All IsLawfulExtreme extremes)
-    (stretches : List UnsignedStretch) (lawful_stretches : All IsLawfulStretch stretches) (k : ℕ)
-    (within : k < length stretches) (stretch : UnsignedStretch) (here : slice_get stretches k ≡ Some stretch)
-    (index : ℕ)
-    (highest : IsHighest ppb extremes stretch index) where
-  highest_top : IsTop (IsAtLeast ppb extremes stretch) (record { level = highest.level; index = index })
-  highest_top =
-      let lawful_here = all_at IsLawfulStretch stretches k stretch lawful_stretches here in
-      same_top (ReachesEitherWay ppb extremes stretch) (IsAtLeast ppb extremes stretch)
-      (Some (record { level = highest.level; index = index }))
-      (either_reaches widens ppb slow extremes stretch lawful lawful_here)
-      (reaches_either widens ppb slow extremes stretch lawful lawful_here) highest.top
-
-  pub highest_within : index < length extremes
-  highest_within = slice_get_within extremes index highest_top.reached.extreme highest_top.reached.stands
-
-  pub highest_more : (indices : List ℕ) → NumbersSoFar ppb extremes stretches k (map (number_at extremes) indices) →
-      NumbersSoFar ppb extremes stretches (k + 1) (map (number_at extremes) (indices ++ index ∷ []))
-  highest_more indices so_far =
-      subst (NumbersSoFar ppb extremes stretches (k + 1)) (sym (map-append (number_at extremes) indices (index ∷ [])))
-      (NumbersSoFar-more ppb extremes stretches k (map (number_at extremes) indices) so_far stretch
-      (number_at extremes index) here
-      (record {
-        top = record { level = highest.level; index = index };
-        is_top = highest_top;
-        extreme = highest_top.reached.extreme;
-        stands = highest_top.reached.stands;
-        number = number_there extremes index highest_top.reached.extreme highest_top.reached.stands;
-      }))

@@ -4,8 +4,8 @@ mod Piece
 mod StretchList
 mod ArrivalOrder
 mod TopOrder
-mod Ranking
-mod PassageSteps
+mod BlockLimits
+mod PassageLevels
 mod Mirror
 mod Reach
 mod HighestExtreme
@@ -13,5 +13,3 @@ mod Merit
 mod MaximumList
 mod Level
 mod TableList
-mod LeaderList
-mod RiseOrder

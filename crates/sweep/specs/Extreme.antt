@@ -3,7 +3,7 @@
 -- A high end has its sign turned: the least high end becomes the greatest, and to move it up by the
 -- widening becomes to move it down.
 use Rattle.std.specs.Prelude.{◌≡◌, ℕ, ◌+◌, ◌-◌, ◌^◌, ◌<◌, ◌≤◌, ℤ, pos, ◌+ℤ◌, neg_ℤ}
-use Rattle.std.specs.Prelude.{Bool, true, false, List, Some, slice_get, slice_index, length, map}
+use Rattle.std.specs.Prelude.{Bool, true, false, List, Some, slice_get, length, map}
 use Rattle.sample_interval.specs.declared.kinds.Sample.{Sample}
 use Rattle.intersection.specs.declared.ends.Side.{Side}
 use Rattle.intersection.specs.declared.ends.Side.TheVariants.{Low, High}
@@ -53,10 +53,6 @@ pub record AreExtremesOf (side : Side) (samples : List Sample) (server : ℕ)
       × (extreme.number ≡ number)
   pub rising : (i j : ℕ) (a b : Extreme) → i < j → slice_get extremes i ≡ Some a →
       slice_get extremes j ≡ Some b → a.number < b.number
-
--- the number of the extreme at this index, or 0 past the end
-abbrev pub number_at : List Extreme → ℕ → ℕ
-number_at extremes = slice_index (map (λ extreme. extreme.number) extremes)
 
 -- the same with time running backwards
 abbrev pub mirrored_extreme : Extreme → Extreme

@@ -5,5 +5,6 @@ pub mod Top
 pub mod Queue
 pub mod PrefixMaximum
 pub mod Table
-pub mod Leader
-pub mod Rise
+pub mod Block
+pub mod Lead
+pub mod Passage

@@ -7,12 +7,11 @@
 --
 -- A level is a whole number. If an index reaches a level, it reaches each lower one. An extreme
 -- reaches a level over a stretch if its end, moved down for the stretch, is at least the level.
-use Rattle.std.specs.Prelude.{◌≡◌, ℕ, ◌+◌, ◌-◌, ◌*◌, ◌≤◌, max, ℤ, pos, List}
+use Rattle.std.specs.Prelude.{◌≡◌, ℕ, ◌+◌, ◌-◌, ◌*◌, ◌≤◌, max, List}
 use Rattle.std.specs.Prelude.{Option, Some, None, slice_get}
 use Rattle.std.specs.Prelude.{Bool, nat_lt, ◌==◌, ◌&&◌, ◌||◌, if◌then◌else◌, length, map}
 use Rattle.sweep.specs.Extreme.{mirrored_extreme}
 use Rattle.sweep.specs.UnsignedStretch.{mirrored_stretch}
-use Rattle.ranking.specs.Ranking.{HasAtLeast}
 use Rattle.sample_interval.specs.Widening.{widening, billion}
 use Rattle.sweep.specs.declared.extreme.Extreme.{Extreme}
 use Rattle.sweep.specs.declared.unsigned_stretch.UnsignedStretch.{UnsignedStretch}
@@ -105,7 +104,3 @@ pub record AreTopNumbers (ppb : ℕ) (extremes : List Extreme) (stretches : List
   pub each : (k : ℕ) (stretch : UnsignedStretch) (number : ℕ) →
       slice_get stretches k ≡ Some stretch →
       slice_get numbers k ≡ Some number → IsTopNumber ppb extremes stretch number
-
--- a ranking of heights has one that is enough for the level
-abbrev pub HasHeight : ℕ → List (Option ℤ) → ℕ → ℕ → ℕ → Type 0
-HasHeight ppb held end index level = HasAtLeast held (pos (height_for ppb end level)) index

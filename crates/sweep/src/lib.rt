@@ -7,15 +7,14 @@
 //! the piece. If the middle of the window isn't after the middle of the piece, that distance runs
 //! from the window's begin to the piece's end, and so the moved end is decided by one number of the
 //! sample and one of the piece. From piece to piece more samples become early in this sense, and
-//! none ceases to be. So a pass over the samples, in the order in which they become early, says
-//! which is the highest at each time, and a second one does the same with time running backwards,
-//! for the samples that are late. The better of the two is the best of all.
+//! none ceases to be. So passes over the samples, in the order in which they become early, say
+//! which is the highest at each time, and others do the same with time running backwards, for the
+//! samples that are late. The better of the two is the best of all.
 //!
-//! Of several samples that agree the first is wanted, and rounding makes more of them agree. So a
-//! pass also keeps how high any sample before the highest is. Mostly that is lower by a tick or
-//! more, and then the highest is the first. If over some piece it isn't, each sample is put into a
-//! ranking when it becomes early, and over each piece the ranking is asked for the first that is
-//! high enough.
+//! Of several samples that agree the first is wanted, and rounding makes more of them agree. So the
+//! highest level over each piece is found first, and then the first index that reaches it, digit by
+//! digit: the indices are cut into blocks, each with the height below which one of its samples
+//! lies, and in each of five passes one of 16 blocks is chosen over each piece.
 //!
 //! Where the pieces aren't known beforehand, [`tables_of`] lays the samples of each server out
 //! once, by a sort, and [`parts_near`] says by a search what the best of them say over any one
@@ -39,16 +38,16 @@
 
 #![tactic(auto)]
 
+mod block;
 mod choice;
 mod duration;
 mod extreme;
-mod leader;
+mod lead;
 mod passage;
 mod pieces;
 mod places;
 mod prefix_maximum;
 mod queue;
-mod rise;
 mod table;
 mod tick;
 mod top;

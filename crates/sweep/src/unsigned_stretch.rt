@@ -38,17 +38,6 @@ pub fn stretches_of(
     Ok(stretches)
 }
 
-/// The same piece with time running backwards.
-pub fn mirrored_stretch(stretch: UnsignedStretch) -> UnsignedStretch
-    requires { IsLawfulStretch stretch }
-    ensures { result ≡ mirrored_stretch stretch }
-{
-    UnsignedStretch {
-        begin: mirrored_tick(stretch.end),
-        end: mirrored_tick(stretch.begin),
-    }
-}
-
 /// The same pieces with time running backwards: the last comes first.
 pub fn mirrored_stretches(
     alloc: Global,

@@ -1,8 +1,0 @@
-pub mod Children
-pub mod Descent
-pub mod Empty
-pub mod Entries
-pub mod TakenIn
-pub mod Root
-pub mod Spans
-pub mod Steps

@@ -1,3 +1,0 @@
-pub mod Ranking
-pub mod Tree
-pub mod Leader
