@@ -28,6 +28,16 @@ pub(crate) fn says(wrong: &'static str, remedy: &'static str) -> Sentence
     Sentence { wrong, remedy }
 }
 
+/// That of want of memory for an input.
+fn no_memory() -> Sentence
+    ensures { IsSentence result }
+{
+    says(
+        "needs more memory than the system gives",
+        remedy::SEE_LIMITS,
+    )
+}
+
 /// That of each fault of a capture.
 fn capture_sentence(fault: &CaptureFault) -> Sentence
     ensures { IsSentence result }
@@ -68,10 +78,7 @@ fn capture_sentence(fault: &CaptureFault) -> Sentence
             "cut it: editcap -F pcap -c 4000000 @ new.pcap (-F nsecpcap for nanoseconds)",
         ),
         CaptureFault::Read => says("can't be read", remedy::SEE_WHO_MAY_READ),
-        CaptureFault::Memory => says(
-            "needs more memory than the system gives",
-            remedy::SEE_LIMITS,
-        ),
+        CaptureFault::Memory => no_memory(),
         CaptureFault::Failed => says("had a fault before", "read it again from its beginning"),
     }
 }
@@ -96,10 +103,7 @@ fn claim_sentence(fault: &ClaimFault) -> Sentence
             "has an address twice among its servers, or the client among them",
             "name each server once, and the client never",
         ),
-        ClaimFault::Memory => says(
-            "needs more memory than the system gives",
-            remedy::SEE_LIMITS,
-        ),
+        ClaimFault::Memory => no_memory(),
         ClaimFault::Groups => says(
             "has groups that don't hold each server exactly once",
             "number the servers from 0, and put each into one group",
@@ -119,12 +123,7 @@ fn certificate_sentence(fault: &CertificateFault) -> Sentence
             says("has over 32 entries in that piece", remedy::MAKE_ANEW)
         }
         CertificateFault::TooManyPieces => says("has over 100000 pieces", remedy::MAKE_ANEW),
-        CertificateFault::Memory => {
-            says(
-                "needs more memory than the system gives",
-                remedy::SEE_LIMITS,
-            )
-        }
+        CertificateFault::Memory => no_memory(),
     }
 }
 
@@ -135,12 +134,7 @@ fn refutation_sentence(fault: &RefutationFault) -> Sentence
     match fault {
         RefutationFault::Json => says("isn't JSON", remedy::MAKE_ANEW),
         RefutationFault::Shape => says("isn't a refutation", remedy::ORDER_OF_FILES),
-        RefutationFault::Memory => {
-            says(
-                "needs more memory than the system gives",
-                remedy::SEE_LIMITS,
-            )
-        }
+        RefutationFault::Memory => no_memory(),
     }
 }
 
