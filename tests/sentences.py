@@ -20,6 +20,10 @@ OTHERS = {"Exchanges": "exchanges over 1000000", "Pieces": "pieces over 100000",
 MARKS = {"@": "FILE", "#": "PLACE", "~": "CLAIM CAPTURE", "&": "CLAIM CAPTURE SECOND", "%": "SUMS"}
 """The marks of a remedy, and what stands for them where no name is known."""
 
+WORD = r"(?:'[^']*'|[^-' ]\S*)"
+FILLED = {"@": WORD, "#": r"\d+", "~": f"{WORD} {WORD}", "&": f"{WORD} {WORD}(?: {WORD})?", "%": WORD}
+"""The same where names are known: words of a shell, none of them an option."""
+
 TEXT = r'"((?:[^"\\]|\\.)*)"'
 
 
@@ -77,11 +81,14 @@ def texts() -> list[str]:
     return sorted({text for text in [*found, *shared().values()] if text})
 
 
-def filled(remedy: str, **names: str) -> str:
-    """A remedy with names in place of its marks, or words that stand for names."""
-    given = {"@": names.get("file"), "#": names.get("place"), "~": names.get("evidence"), "&": names.get("inputs"),
-             "%": names.get("sums")}
-    return re.sub("[@#~&%]", lambda mark: given[mark[0]] or MARKS[mark[0]], remedy)
+def filled(remedy: str) -> str:
+    """A remedy with words in place of its marks that stand for names."""
+    return re.sub("[@#~&%]", lambda mark: MARKS[mark[0]], remedy)
+
+
+def pattern_of(text: str) -> str:
+    """What a text is where names are known."""
+    return "".join(FILLED.get(sign, re.escape(sign)) for sign in text)
 
 
 def of_lines() -> dict[str, Row]:
