@@ -8,15 +8,7 @@ use Rattle.std.specs.Fmt.{decimal, digits, digits_onto, digit_glyph}
 use Rattle.std.specs.List.{flat_map}
 use Rattle.std.specs.Str.{IsAscii, NonePass}
 use Rattle.std.proofs.lemmas.Str.{NoCharPasses-append, NoCharPasses-nil, encodes-IsAscii}
-use Rattle.fault_words.specs.Quote.{IsQuiet, is_obeyed, shown_char}
-
--- a blank, or a sign of ASCII that is printed
-abbrev is_visible : ℕ → Bool
-is_visible c = nat_le 32 c && nat_lt c 127
-
-abbrev pub are_visible : List ℕ → Bool
-are_visible [] = true
-are_visible (c ∷ cs) = is_visible c && are_visible cs
+use Rattle.fault_words.specs.Quote.{IsQuiet, are_visible, is_obeyed, is_visible, shown_char}
 
 visible_is_unobeyed : (c : ℕ) → T (is_visible c) → is_obeyed c ≡ false
 visible_is_unobeyed c visible = grind (arith, nat_tests)
@@ -87,7 +79,7 @@ as_is_quiet true c is =
     (quiet_append (digits 16 false c) (codes "}") (digits_are_quiet 16 (omega arith) (omega arith) c) (visible_is_quiet (codes "}") tt))
 as_is_quiet false c is = (c ∷ [], append-nil (encode_utf8 c), (is, tt))
 
-shown_char_is_quiet : (c : ℕ) → IsQuiet (shown_char c)
+pub shown_char_is_quiet : (c : ℕ) → IsQuiet (shown_char c)
 shown_char_is_quiet c = as_is_quiet (is_obeyed c) c refl
 
 pub shown_is_quiet : (cs : List ℕ) → IsQuiet (flat_map shown_char cs)

@@ -1,18 +1,15 @@
 -- The words about a fault: two lines that begin with two blanks.
-use Rattle.std.specs.Prelude.{◌≡◌, ◌⊎◌, List, ℕ, ◌++◌, codes, Bool, true, false, nat_eq, if◌then◌else◌}
-use Rattle.std.specs.Prelude.{Option, Some, string_bytes}
+use Rattle.std.specs.Prelude.{◌≡◌, List, ℕ, [], ◌++◌, codes, Bool, false, T, nat_eq, if◌then◌else◌}
+use Rattle.std.specs.Prelude.{string_bytes}
 use Rattle.claim_file.specs.declared.fault.ClaimFault.{ClaimFault}
 use Rattle.claim_file.specs.declared.fault.ClaimFault.TheVariants as claims
-use Rattle.report.specs.declared.fault.Input.{Input}
-use Rattle.report.specs.declared.fault.Input.TheVariants as inputs
 use Rattle.report.specs.declared.fault.RunFault.{RunFault}
 use Rattle.report.specs.declared.fault.RunFault.TheVariants as faults
-use Rattle.fault_words.specs.ClaimField.{field_name, field_range, field_remedy}
-use Rattle.fault_words.specs.Sentence.{SentenceData, says, sentence_of}
+use Rattle.fault_words.specs.ClaimField.{field_name}
+use Rattle.fault_words.specs.Sentence.{IsQuietKnown, KnownData, are_words, filled}
 use Rattle.fault_words.specs.declared.found.Found.{Found}
 use Rattle.fault_words.specs.declared.kind.Kind.{Kind}
-use Rattle.fault_words.specs.Kind.{kind_remedy}
-use Rattle.fault_words.specs.Quote.{IsQuiet, front}
+use Rattle.fault_words.specs.Quote.{IsQuiet, IsQuoted}
 use Rattle.fault_words.specs.Subject.{NamesData, input_of, subject}
 
 -- what was seen of a fault when its input was looked at again: the field of a claim, or 0, whether
@@ -53,39 +50,37 @@ abbrev pub field_of : RunFault → ℕ → ℕ
 field_of (faults.Claim fault) seen = claim_field_of fault seen
 field_of _ seen = 0
 
--- the sentence of a field
-abbrev pub field_sentence : ℕ → Bool → SentenceData
-field_sentence field is_missing = says
-    (codes "\"" ++ field_name field ++ codes "\" " ++
-    (if is_missing then codes "is missing" else field_range field))
-    (field_remedy field)
+-- a field is named, if there is one
+abbrev pub field_words : ℕ → List ℕ
+field_words field =
+    if nat_eq field 0 then [] else codes "\"" ++ field_name field ++ codes "\" "
 
--- whether a fault is of a capture
-abbrev pub is_of_capture : Option Input → Bool
-is_of_capture (Some inputs.Capture) = true
-is_of_capture _ = false
-
--- the sentence of a fault of a file of that kind
-abbrev pub file_sentence : RunFault → Kind → SentenceData
-file_sentence fault kind = says (sentence_of fault).wrong
-    (kind_remedy kind (is_of_capture (input_of fault)) (sentence_of fault).remedy)
-
--- the sentence of a fault: that of the field, if it is of one
-abbrev pub fault_sentence : RunFault → FoundData → SentenceData
-fault_sentence fault found =
-    if nat_eq (field_of fault found.field) 0 then file_sentence fault found.kind
-    else field_sentence (field_of fault found.field) found.is_missing
-
--- a sentence behind its subject, what was seen, and the line of what to do
-abbrev pub ending : SentenceData → List ℕ → List ℕ
-ending sentence seen =
-    sentence.wrong ++ seen ++ codes "\n  " ++ sentence.remedy ++ codes "\n"
+-- the words that begin so: a sentence, what was seen behind what is wrong, and what to do, in which
+-- the marks are filled
+pub record AreWords (begin seen text : List ℕ) : Type 0 where
+  pub wrong : List ℕ
+  pub remedy : List ℕ
+  pub known : KnownData
+  pub lines : text ≡ codes "  " ++ begin ++ wrong ++ seen ++ codes "\n  " ++ filled known remedy
+      ++ codes "\n"
+  pub wrong_said : T (are_words wrong)
+  pub remedy_said : T (are_words remedy)
+  pub quiet : IsQuietKnown known
 
 -- the words about a fault of inputs with these names
-abbrev pub explanation : NamesData → RunFault → FoundData → List ℕ
-explanation names fault found =
-    codes "  " ++ subject names (input_of fault) ++
-    ending (fault_sentence fault found) found.seen
+abbrev pub IsExplanation : NamesData → RunFault → FoundData → List ℕ → Type 0
+IsExplanation names fault found text =
+    AreWords (subject names (input_of fault) ++ field_words (field_of fault found.field))
+    found.seen text
+
+-- those about a file of this name that can't be written
+abbrev pub IsOutputExplanation : List ℕ → List ℕ → List ℕ → Type 0
+IsOutputExplanation name seen text = AreWords (name ++ codes ": ") seen text
+
+-- those about a TIME that is none: its first 40 characters, and two dots if there are more
+abbrev pub IsTimeExplanation : List ℕ → List ℕ → Type 0
+IsTimeExplanation time text = (quoted : List ℕ) × IsQuoted time quoted
+    × AreWords (codes "TIME ") (codes "; it is \"" ++ quoted ++ codes "\"") text
 
 -- names of which a terminal obeys no character
 pub record AreQuiet (names : NamesData) : Type 0 where
@@ -98,13 +93,3 @@ pub record AreQuiet (names : NamesData) : Type 0 where
 abbrev pub AreTwoLines : List ℕ → Type 0
 AreTwoLines text = (first second : List ℕ)
     × (text ≡ first ++ codes "\n" ++ second ++ codes "\n") × IsQuiet first × IsQuiet second
-
--- the words about a TIME that is none, as it is quoted
-abbrev pub time_words : List ℕ → List ℕ
-time_words time = codes "  TIME has to be a time of UTC; it is \"" ++ time ++ codes "\"\n  "
-    ++ field_remedy 4 ++ codes "\n"
-
--- the same of any TIME: its first 40 characters, and two dots if there are more
-abbrev pub AreTimeWords : List ℕ → List ℕ → Type 0
-AreTimeWords time text =
-    (text ≡ time_words (front time)) ⊎ (text ≡ time_words (front time ++ codes ".."))

@@ -1,6 +1,6 @@
 -- How what stands in a file or on the command line is shown: what a terminal obeys as numbers.
-use Rattle.std.specs.Prelude.{◌≡◌, ◌⊎◌, ℕ, List, false, ◌++◌, codes, chars, encode_utf8, take}
-use Rattle.std.specs.Prelude.{Bool, ◌||◌, if◌then◌else◌}
+use Rattle.std.specs.Prelude.{◌≡◌, ◌⊎◌, ℕ, List, [], ◌∷◌, false, true, ◌++◌, codes, chars}
+use Rattle.std.specs.Prelude.{encode_utf8, take, Bool, ◌&&◌, ◌||◌, if◌then◌else◌, nat_le, nat_lt}
 use Rattle.std.specs.Char.{is_control}
 use Rattle.std.specs.Int.{is_in_range}
 use Rattle.std.specs.Fmt.{digits}
@@ -20,6 +20,15 @@ is_obeyed c = is_control c || turns c
 -- a text of which a terminal obeys no character
 abbrev pub IsQuiet : List ℕ → Type 0
 IsQuiet text = NoCharPasses is_obeyed text
+
+-- a blank, or a sign of ASCII that is printed
+abbrev pub is_visible : ℕ → Bool
+is_visible c = nat_le 32 c && nat_lt c 127
+
+-- the same of each character of a text
+abbrev pub are_visible : List ℕ → Bool
+are_visible [] = true
+are_visible (c ∷ cs) = is_visible c && are_visible cs
 
 -- a character: itself, or its number in hexadecimal digits
 abbrev pub shown_char : ℕ → List ℕ

@@ -1,16 +1,16 @@
 //! The words about a fault.
 
-ghost use Rattle.std.specs.Prelude.{◌≡◌, ◌++◌, IfOk, OnOk, string_bytes};
+ghost use Rattle.std.specs.Prelude.{◌≡◌, ◌++◌, IfOk, OnOk, codes, string_bytes};
 ghost use Rattle.fault_words.specs.Explanation as spec;
-ghost use Rattle.fault_words.specs.Explanation.{found_data};
-ghost use Rattle.fault_words.specs.Sentence.{sentence_data};
+ghost use Rattle.fault_words.specs.Explanation.{AreWords, found_data};
+ghost use Rattle.fault_words.specs.Sentence.{IsQuietKnown, IsSentence, known_data};
 ghost use Rattle.fault_words.specs.Subject.{names_data, subject};
 
-use crate::claim_field::{field_name, field_range, field_remedy};
+use crate::claim_field::{field_name, field_sentence};
 use crate::found::Found;
-use crate::kind::Kind;
 use crate::quote::quoted;
-use crate::sentence::{Sentence, sentence_of};
+use crate::remedy::{Known, WRITE_A_TIME, filled};
+use crate::sentence::{Sentence, says, sentence_of};
 use crate::subject::{Names, input_of};
 use claim_file::ClaimFault;
 use report::{Input, RunFault};
@@ -27,20 +27,20 @@ fn field_of(fault: &RunFault, seen: u8) -> u8
     }
 }
 
-/// Whether a fault is of a capture.
-fn is_of_capture(input: Option<Input>) -> bool
-    ensures { result ≡ spec.is_of_capture input }
+/// The sentence of a fault, of this field of the claim if that isn't 0, of which this was seen.
+fn sentence_seen(fault: &RunFault, field: u8, found: &Found) -> Sentence
+    ensures { IsSentence result }
 {
-    matches!(input, Some(Input::Capture))
-}
-
-/// The sentence of a fault of a file of this kind.
-fn file_sentence(fault: &RunFault, kind: Kind) -> Sentence
-    ensures { sentence_data result ≡ spec.file_sentence fault.now kind }
-{
-    let Sentence { wrong, remedy } = sentence_of(fault);
-    let remedy = kind.remedy(is_of_capture(input_of(fault)), remedy);
-    Sentence { wrong, remedy }
+    if field == 0 {
+        let Sentence { wrong, remedy } = sentence_of(fault);
+        let is_capture = matches!(input_of(fault), Some(Input::Capture));
+        return says(wrong, found.kind.remedy(is_capture, remedy));
+    }
+    let Sentence { wrong, remedy } = field_sentence(field);
+    if found.is_missing {
+        return says("is missing", remedy);
+    }
+    says(wrong, remedy)
 }
 
 /// Adds the name of an input, if there is one.
@@ -55,42 +55,53 @@ fn add_subject(text: &mut String, names: &Names<'_>, input: Option<Input>) -> Re
     Ok(())
 }
 
-/// Adds what is wrong with a field of the claim.
-fn add_field(text: &mut String, field: u8, is_missing: bool) -> Result<(), AllocError>
-    ensures { OnOk result (string_bytes text.new ≡ string_bytes text.old
-        ++ (spec.field_sentence field is_missing).wrong) }
+/// Adds the name of a field of the claim, if it is one.
+fn add_field(text: &mut String, field: u8) -> Result<(), AllocError>
+    ensures { OnOk result (string_bytes text.new ≡ string_bytes text.old ++ spec.field_words field) }
 {
-    text.push_str("\"")?;
-    text.push_str(field_name(field))?;
-    text.push_str("\" ")?;
-    text.push_str(if is_missing {
-        "is missing"
-    } else {
-        field_range(field)
-    })
+    if field != 0 {
+        text.push_str("\"")?;
+        text.push_str(field_name(field))?;
+        text.push_str("\" ")?;
+    }
+    Ok(())
 }
 
-/// Adds the sentence of a fault about a subject, what was seen, and what to do.
-fn add_sentence(text: &mut String, fault: &RunFault, found: &Found) -> Result<(), AllocError>
-    ensures { OnOk result (string_bytes text.new ≡ string_bytes text.old
-        ++ spec.ending (spec.fault_sentence fault.now (found_data found.now))
-        (found_data found.now).seen) }
+/// Two lines of these parts.
+fn lines_of(
+    alloc: Global,
+    begin: &str,
+    wrong: &str,
+    seen: &str,
+    remedy: &str,
+) -> Result<String, AllocError>
+    ensures { IfOk result (λ text. string_bytes text ≡ codes "  " ++ begin.now ++ wrong.now
+        ++ seen.now ++ codes "\n  " ++ remedy.now ++ codes "\n") }
 {
-    let field = field_of(fault, found.field);
-    let sentence = file_sentence(fault, found.kind);
-    if field == 0 {
-        text.push_str(sentence.wrong)?;
-    } else {
-        add_field(text, field, found.is_missing)?;
-    }
-    text.push_str(found.seen.as_str())?;
+    let mut text = String::from_str(alloc, "  ")?;
+    text.push_str(begin)?;
+    text.push_str(wrong)?;
+    text.push_str(seen)?;
     text.push_str("\n  ")?;
-    text.push_str(if field == 0 {
-        sentence.remedy
-    } else {
-        field_remedy(field)
-    })?;
-    text.push_str("\n")
+    text.push_str(remedy)?;
+    text.push_str("\n")?;
+    Ok(text)
+}
+
+/// The words that begin so, with what was seen.
+pub(crate) fn words_of(
+    alloc: Global,
+    begin: &str,
+    sentence: Sentence,
+    seen: &str,
+    known: &Known,
+) -> Result<String, AllocError>
+    requires sentence { IsSentence sentence }
+    requires known { IsQuietKnown (known_data known.now) }
+    ensures { IfOk result (λ text. AreWords begin.now seen.now (string_bytes text)) }
+{
+    let remedy = filled(alloc, sentence.remedy, known)?;
+    lines_of(alloc, begin, sentence.wrong, seen, remedy.as_str())
 }
 
 /// The words about a fault: a line that says what is wrong with which file, by the names that the
@@ -102,31 +113,25 @@ pub fn explain(
     fault: &RunFault,
     found: &Found,
 ) -> Result<String, AllocError>
-    ensures says { IfOk result (λ text. string_bytes text
-        ≡ spec.explanation (names_data names.now) fault.now (found_data found.now)) }
+    ensures says { IfOk result (λ text. spec.IsExplanation
+        (names_data names.now) fault.now (found_data found.now) (string_bytes text)) }
 {
-    let mut text = String::from_str(alloc, "  ")?;
-    add_subject(&mut text, names, input_of(fault))?;
-    add_sentence(&mut text, fault, found)?;
-    Ok(text)
+    let field = field_of(fault, found.field);
+    let mut begin = String::new(alloc);
+    add_subject(&mut begin, names, input_of(fault))?;
+    add_field(&mut begin, field)?;
+    let known = Known::of_fault(alloc, names, fault, found.kind.is_pipe())?;
+    let sentence = sentence_seen(fault, field, found);
+    words_of(alloc, begin.as_str(), sentence, found.seen.as_str(), &known)
 }
 
 /// The words about a TIME that is none: two lines, of which the first has its first 40 characters.
 pub fn explain_time(alloc: Global, time: &str) -> Result<String, AllocError>
-    ensures says { IfOk result (λ text. spec.AreTimeWords time.now (string_bytes text)) }
+    ensures says { IfOk result (λ text. spec.IsTimeExplanation time.now (string_bytes text)) }
 {
     let time = quoted(alloc, time)?;
-    time_words(alloc, time.as_str())
-}
-
-/// The same, of a TIME as it is quoted.
-fn time_words(alloc: Global, time: &str) -> Result<String, AllocError>
-    ensures { IfOk result (λ text. string_bytes text ≡ spec.time_words time.now) }
-{
-    let mut text = String::from_str(alloc, "  TIME has to be a time of UTC; it is \"")?;
-    text.push_str(time)?;
-    text.push_str("\"\n  ")?;
-    text.push_str(field_remedy(4))?;
-    text.push_str("\n")?;
-    Ok(text)
+    let seen = format!(in alloc; "; it is \"{}\"", time.as_str())?;
+    let known = Known::of_file(alloc, "")?;
+    let sentence = says("has to be a time of UTC", WRITE_A_TIME);
+    words_of(alloc, "TIME ", sentence, seen.as_str(), &known)
 }

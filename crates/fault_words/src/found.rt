@@ -2,7 +2,6 @@
 
 ghost use Rattle.std.specs.Prelude.{◌≡◌, [], IfOk, string_bytes};
 ghost use Rattle.fault_words.specs.Explanation.{IsToldQuietly, found_data, nothing_found};
-ghost use Rattle.fault_words.specs.Kind.{kind_word};
 
 use crate::kind::Kind;
 use std::alloc::{AllocError, Global};
@@ -44,7 +43,7 @@ impl Found {
     /// The file is of this kind.
     pub fn of_kind(alloc: Global, kind: Kind) -> Result<Found, AllocError>
         ensures kind { IfOk result (λ found.
-            found_data found ≡ nothing_found kind (kind_word kind)) }
+            found_data found ≡ nothing_found kind (string_bytes found.seen)) }
         ensures quiet { IfOk result IsToldQuietly }
     {
         let seen = String::from_str(alloc, kind.word())?;

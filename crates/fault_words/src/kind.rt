@@ -1,7 +1,10 @@
 //! What a file is by its first bytes, and what is done about it.
 
-ghost use Rattle.std.specs.Prelude.{◌≡◌};
-ghost use Rattle.fault_words.specs.Kind as spec;
+ghost use Rattle.std.specs.Prelude.{T};
+ghost use Rattle.fault_words.specs.Quote.{IsQuiet};
+ghost use Rattle.fault_words.specs.Sentence.{are_words};
+
+use crate::remedy::ORDER_OF_FILES;
 
 /// What a file is instead of what it has to be.
 #[derive(Clone, Copy, Debug)]
@@ -34,12 +37,19 @@ pub enum Kind {
     Folder,
     /// A file that isn't there.
     Absent,
+    /// A pipe, which was read and can't be read again.
+    Pipe,
+    /// A text behind a byte order mark.
+    Marked,
+    /// A text in UTF-16.
+    Utf16,
 }
 
 impl Kind {
     /// What is said of a file of this kind, and nothing if it can't be told.
+    #[tactic(auto, using(crate::proofs::Quiet::visible_is_quiet))]
     pub fn word(self) -> &'static str
-        ensures { result.now ≡ spec.kind_word self }
+        ensures { IsQuiet result.now }
     {
         match self {
             Kind::Unknown | Kind::Absent => "",
@@ -55,29 +65,40 @@ impl Kind {
             Kind::Certificate => "; it is a certificate",
             Kind::Refutation => "; it is a refutation",
             Kind::Folder => "; it is a folder",
+            Kind::Pipe => "; it is a pipe, and can't be looked at again",
+            Kind::Marked => "; it begins with a byte order mark",
+            Kind::Utf16 => "; it is UTF-16, and has to be UTF-8",
         }
+    }
+
+    /// Whether it is a pipe.
+    pub(crate) fn is_pipe(self) -> bool {
+        matches!(self, Kind::Pipe)
     }
 
     /// What is done about a file of this kind, where a capture is needed or a JSON file, and else
     /// `other`.
     pub(crate) fn remedy(self, is_capture: bool, other: &'static str) -> &'static str
-        ensures { result.now ≡ spec.kind_remedy self is_capture other.now }
+        requires { T (are_words other.now) }
+        ensures { T (are_words result.now) }
     {
         match self {
-            Kind::Unknown | Kind::Empty | Kind::Claim => other,
+            Kind::Unknown | Kind::Empty | Kind::Claim | Kind::Pipe => other,
             Kind::Pcap if is_capture => other,
-            Kind::Gzip => "unpack it: gunzip < IN > OUT",
-            Kind::Zstd => "unpack it: unzstd < IN > OUT",
-            Kind::Xz => "unpack it: unxz < IN > OUT",
-            Kind::Certificate => "a certificate is judged by ntpaudit check",
-            Kind::Refutation => "a refutation is judged by ntpaudit refute",
-            Kind::Folder => "name a file in it",
+            Kind::Gzip => "unpack it: gunzip < @ > unpacked",
+            Kind::Zstd => "unpack it: unzstd < @ > unpacked",
+            Kind::Xz => "unpack it: unxz < @ > unpacked",
+            Kind::Certificate => "a certificate is judged by check: ntpaudit check ~ @",
+            Kind::Refutation => "a refutation is judged by refute: ntpaudit refute ~ @",
+            Kind::Folder => "name a file in it: ls @",
             Kind::Absent => "see how its path is spelt, and in which folder you are: pwd",
-            Kind::Pcapng if is_capture => "rewrite it: editcap -F nsecpcap IN OUT",
-            Kind::ModifiedPcap if is_capture => "rewrite it: editcap -F pcap IN OUT",
-            Kind::Pcap | Kind::Pcapng | Kind::ModifiedPcap | Kind::Object => {
-                "give the claim first, then the capture, then a certificate or refutation"
+            Kind::Marked => "take the mark away: tail -c +4 @ > new.json",
+            Kind::Utf16 => "rewrite it: iconv -f UTF-16 -t UTF-8 @ > new.json",
+            Kind::Pcapng if is_capture => {
+                "rewrite it: editcap -F pcap @ new.pcap (-F nsecpcap if capinfos says nanoseconds)"
             }
+            Kind::ModifiedPcap if is_capture => "rewrite it: editcap -F pcap @ new.pcap",
+            Kind::Pcap | Kind::Pcapng | Kind::ModifiedPcap | Kind::Object => ORDER_OF_FILES,
         }
     }
 }
@@ -101,6 +122,8 @@ pub(crate) fn kind_of(bytes: &[u8]) -> Kind {
         [0x1f, 0x8b, ..] => Kind::Gzip,
         [0x28, 0xb5, 0x2f, 0xfd] => Kind::Zstd,
         [0xfd, 0x37, 0x7a, 0x58] => Kind::Xz,
+        [0xef, 0xbb, 0xbf, ..] => Kind::Marked,
+        [0xff, 0xfe, ..] | [0xfe, 0xff, ..] => Kind::Utf16,
         _ => Kind::Unknown,
     }
 }

@@ -1,9 +1,11 @@
 //! What hinders a file from being written.
 
-ghost use Rattle.std.specs.Prelude.{◌≡◌, IfOk, string_bytes};
-ghost use Rattle.fault_words.specs.Obstacle as spec;
-ghost use Rattle.fault_words.specs.Sentence.{sentence_data};
+ghost use Rattle.std.specs.Prelude.{◌++◌, IfOk, codes, string_bytes};
+ghost use Rattle.fault_words.specs.Explanation as spec;
+ghost use Rattle.fault_words.specs.Sentence.{IsSentence};
 
+use crate::explanation::words_of;
+use crate::remedy::Known;
 use crate::sentence::{Sentence, says};
 use std::alloc::{AllocError, Global};
 
@@ -26,23 +28,29 @@ pub enum Obstacle {
     Full,
 }
 
-/// What is said of a file that can't be written. FILE stands for its path.
+/// What is said of a file that can't be written.
 pub fn obstacle_sentence(obstacle: Obstacle) -> Sentence
-    ensures { sentence_data result ≡ spec.obstacle_sentence obstacle }
+    ensures has_words { IsSentence result }
 {
     match obstacle {
         Obstacle::Folder => says("is a folder", "name a file in it"),
-        Obstacle::Link => says("is a symbolic link", "name the file that it leads to"),
+        Obstacle::Link => says(
+            "is a symbolic link",
+            "name the file that it leads to: readlink -f @",
+        ),
         Obstacle::Special => says(
             "is no regular file",
             "without -o the answer goes to standard output",
         ),
         Obstacle::Input => says("is read by this command too", "name another file"),
         Obstacle::Draft => says(
-            "FILE.part stands beside it: another call writes it, or one was killed",
-            "see that none runs, and remove FILE.part",
+            "its draft stands beside it: another call writes it, or one was killed",
+            "see that none runs, and remove the draft: rm @.part",
         ),
-        Obstacle::Refused => says("can't be written", "see who may write there: ls -ld"),
+        Obstacle::Refused => says(
+            "can't be written",
+            "see who may write there: ls -ld \"$(dirname @)\"",
+        ),
         Obstacle::Full => says(
             "can't be written: the disk is full, or a limit is reached",
             "make room, and call again",
@@ -60,16 +68,11 @@ pub fn explain_output(
     seen: &str,
 ) -> Result<String, AllocError>
     ensures says { IfOk result (λ text.
-        string_bytes text ≡ spec.output_words name.now obstacle seen.now) }
+        spec.IsOutputExplanation name.now seen.now (string_bytes text)) }
 {
+    let known = Known::of_file(alloc, name)?;
+    let mut begin = String::from_str(alloc, name)?;
+    begin.push_str(": ")?;
     let sentence = obstacle_sentence(obstacle);
-    let mut text = String::from_str(alloc, "  ")?;
-    text.push_str(name)?;
-    text.push_str(": ")?;
-    text.push_str(sentence.wrong)?;
-    text.push_str(seen)?;
-    text.push_str("\n  ")?;
-    text.push_str(sentence.remedy)?;
-    text.push_str("\n")?;
-    Ok(text)
+    words_of(alloc, begin.as_str(), sentence, seen, &known)
 }

@@ -20,7 +20,7 @@ fn turns(c: char) -> bool
 }
 
 /// Adds a character, or its number if it is a control character or turns others.
-fn add_shown(text: &mut String, alloc: Global, c: char) -> Result<(), AllocError>
+pub(crate) fn add_shown(text: &mut String, alloc: Global, c: char) -> Result<(), AllocError>
     ensures { OnOk result (string_bytes text.new ≡ string_bytes text.old ++ spec.shown_char c) }
 {
     if c.is_control() || turns(c) {

@@ -1,34 +1,46 @@
-//! The sentence of each fault.
+//! The sentence of each fault: a table.
 
-ghost use Rattle.std.specs.Prelude.{◌≡◌};
-ghost use Rattle.fault_words.specs.Sentence as spec;
-ghost use Rattle.fault_words.specs.Sentence.{sentence_data};
+ghost use Rattle.std.specs.Prelude.{T};
+ghost use Rattle.fault_words.specs.Sentence.{IsSentence, are_words};
 
+use crate::claim_field::field_sentence;
+use crate::remedy;
 use certificate::{CertificateFault, RefutationFault};
 use claim_file::ClaimFault;
 use pcap_reader::CaptureFault;
 use report::{RunFault, SumsFault};
 
-/// What is said of a fault. IN and OUT stand for files, and PLACE for the number at the end of the
-/// fault's own line.
+/// What is said of a fault.
 #[derive(Clone, Copy, Debug)]
 pub struct Sentence {
     /// What is wrong, behind the name of the input whose fault it is.
     pub wrong: &'static str,
-    /// What to do.
+    /// What to do, in which `remedy::filled` puts the names that are known in place of its marks.
     pub remedy: &'static str,
 }
 
 /// A sentence of these words.
 pub(crate) fn says(wrong: &'static str, remedy: &'static str) -> Sentence
-    ensures { sentence_data result ≡ spec.says wrong.now remedy.now }
+    requires wrong { T (are_words wrong.now) }
+    requires remedy { T (are_words remedy.now) }
+    ensures { IsSentence result }
 {
     Sentence { wrong, remedy }
 }
 
+/// That of want of memory for an input.
+fn no_memory() -> Sentence
+    ensures { IsSentence result }
+{
+    says(
+        "needs more memory than the system gives",
+        remedy::SEE_LIMITS,
+    )
+}
+
 /// That of each fault of a capture.
 fn capture_sentence(fault: &CaptureFault) -> Sentence
-    ensures { sentence_data result ≡ spec.capture_sentence fault.now }
+    ensures { IsSentence result }
 {
     match fault {
         CaptureFault::TornHeader => says(
@@ -37,11 +49,11 @@ fn capture_sentence(fault: &CaptureFault) -> Sentence
         ),
         CaptureFault::Magic => says(
             "isn't a classic pcap file",
-            "unpack it, or rewrite it: editcap -F pcap IN OUT (-F nsecpcap for nanoseconds)",
+            "unpack it, or rewrite it: editcap -F pcap @ new.pcap (-F nsecpcap for nanoseconds)",
         ),
         CaptureFault::Version => says(
             "isn't of version 2.4 of the pcap format",
-            "record again, or rewrite it: editcap -F pcap IN OUT (-F nsecpcap for nanoseconds)",
+            "record again, or rewrite it: editcap -F pcap @ new.pcap (-F nsecpcap for nanoseconds)",
         ),
         CaptureFault::Link => says(
             "holds other frames than Ethernet's",
@@ -49,47 +61,40 @@ fn capture_sentence(fault: &CaptureFault) -> Sentence
         ),
         CaptureFault::TornRecord(_) => says(
             "ends inside the record at that byte",
-            "record again and stop it by Ctrl-C, or keep what is before: head -c PLACE IN > OUT",
+            "record again and stop it by Ctrl-C, or keep what is before: head -c # @ > new.pcap",
         ),
         CaptureFault::TooLong(_) => says(
             "has over 262144 bytes in the record at that byte",
-            "join files by mergecap, not by cat; record without -s; or fetch the file again",
+            "record without -s, fetch the file again, or join by mergecap in place of cat: \
+             mergecap -F pcap -w new.pcap FIRST SECOND (-F nsecpcap for nanoseconds)",
         ),
         CaptureFault::BadFraction(_) => says(
             "has a second or more after the point in the time of the record at that byte",
-            "join files by mergecap, not by cat; or fetch the file again",
+            "fetch the file again, or join by mergecap in place of cat: \
+             mergecap -F pcap -w new.pcap FIRST SECOND (-F nsecpcap for nanoseconds)",
         ),
         CaptureFault::TooMany => says(
             "has over 4000000 records",
-            "cut it: editcap -F pcap -c 4000000 IN OUT (-F nsecpcap for nanoseconds)",
+            "cut it: editcap -F pcap -c 4000000 @ new.pcap (-F nsecpcap for nanoseconds)",
         ),
-        CaptureFault::Read => says("can't be read", "see what it is and who may read it: ls -l"),
-        CaptureFault::Memory => says(
-            "needs more memory than the system gives",
-            "see what limits it: ulimit -v, or a container's limit",
-        ),
+        CaptureFault::Read => says("can't be read", remedy::SEE_WHO_MAY_READ),
+        CaptureFault::Memory => no_memory(),
         CaptureFault::Failed => says("had a fault before", "read it again from its beginning"),
     }
 }
 
-/// That of each fault of a claim but those of one of its fields.
+/// That of each fault of a claim; of one of its fields what is known of the field is said instead.
 fn claim_sentence(fault: &ClaimFault) -> Sentence
-    ensures { sentence_data result ≡ spec.claim_sentence fault.now }
+    ensures { IsSentence result }
 {
     match fault {
-        ClaimFault::Json => says("isn't JSON", "mend it there: python3 -m json.tool IN"),
-        ClaimFault::Field(_) => says(
-            "has a name that no claim has, or is no object",
-            "the names are client servers false_max from to bound_ns drift_ppb reading_ns groups",
-        ),
+        ClaimFault::Json => says("isn't JSON", "mend it there: python3 -m json.tool @"),
+        ClaimFault::Field(code) => field_sentence(*code),
         ClaimFault::Address => says(
             "has an address that isn't an IPv4 address",
-            "write an address as \"192.0.2.1\": no host name, no IPv6, no leading zeros",
+            remedy::WRITE_AN_ADDRESS,
         ),
-        ClaimFault::Time => says(
-            "has a time that isn't one",
-            "write a time as \"2026-11-22T06:46:09Z\", in UTC",
-        ),
+        ClaimFault::Time => says("has a time that isn't one", remedy::WRITE_A_TIME),
         ClaimFault::Range => says(
             "has a number out of its range, or \"from\" after \"to\"",
             "man ntpaudit has the ranges",
@@ -98,10 +103,7 @@ fn claim_sentence(fault: &ClaimFault) -> Sentence
             "has an address twice among its servers, or the client among them",
             "name each server once, and the client never",
         ),
-        ClaimFault::Memory => says(
-            "needs more memory than the system gives",
-            "see what limits it: ulimit -v, or a container's limit",
-        ),
+        ClaimFault::Memory => no_memory(),
         ClaimFault::Groups => says(
             "has groups that don't hold each server exactly once",
             "number the servers from 0, and put each into one group",
@@ -111,64 +113,39 @@ fn claim_sentence(fault: &ClaimFault) -> Sentence
 
 /// That of each fault of a certificate.
 fn certificate_sentence(fault: &CertificateFault) -> Sentence
-    ensures { sentence_data result ≡ spec.certificate_sentence fault.now }
+    ensures { IsSentence result }
 {
     match fault {
-        CertificateFault::Json => says(
-            "isn't JSON",
-            "have it made anew by `ntpaudit settle` or `ntpaudit find`",
-        ),
-        CertificateFault::Top => says(
-            "isn't a certificate",
-            "give the files in this order: CLAIM CAPTURE CERTIFICATE",
-        ),
-        CertificateFault::Shape(_) => says(
-            "has another form in that piece",
-            "have it made anew by `ntpaudit settle` or `ntpaudit find`",
-        ),
-        CertificateFault::TooManyEntries(_) => says(
-            "has over 32 entries in that piece",
-            "have it made anew by `ntpaudit settle` or `ntpaudit find`",
-        ),
-        CertificateFault::TooManyPieces => says(
-            "has over 100000 pieces",
-            "have it made anew by `ntpaudit settle` or `ntpaudit find`, with a larger --step",
-        ),
-        CertificateFault::Memory => says(
-            "needs more memory than the system gives",
-            "see what limits it: ulimit -v, or a container's limit",
-        ),
+        CertificateFault::Json => says("isn't JSON", remedy::MAKE_ANEW),
+        CertificateFault::Top => says("isn't a certificate", remedy::ORDER_OF_FILES),
+        CertificateFault::Shape(_) => says("has another form in that piece", remedy::MAKE_ANEW),
+        CertificateFault::TooManyEntries(_) => {
+            says("has over 32 entries in that piece", remedy::MAKE_ANEW)
+        }
+        CertificateFault::TooManyPieces => says("has over 100000 pieces", remedy::MAKE_ANEW),
+        CertificateFault::Memory => no_memory(),
     }
 }
 
 /// That of each fault of a refutation.
 fn refutation_sentence(fault: &RefutationFault) -> Sentence
-    ensures { sentence_data result ≡ spec.refutation_sentence fault.now }
+    ensures { IsSentence result }
 {
     match fault {
-        RefutationFault::Json => says(
-            "isn't JSON",
-            "have it made anew by `ntpaudit settle` or `ntpaudit find`",
-        ),
-        RefutationFault::Shape => says(
-            "isn't a refutation",
-            "give the files in this order: CLAIM CAPTURE REFUTATION",
-        ),
-        RefutationFault::Memory => says(
-            "needs more memory than the system gives",
-            "see what limits it: ulimit -v, or a container's limit",
-        ),
+        RefutationFault::Json => says("isn't JSON", remedy::MAKE_ANEW),
+        RefutationFault::Shape => says("isn't a refutation", remedy::ORDER_OF_FILES),
+        RefutationFault::Memory => no_memory(),
     }
 }
 
 /// That of each fault of sums.
 fn sums_sentence(fault: &SumsFault) -> Sentence
-    ensures { sentence_data result ≡ spec.sums_sentence fault.now }
+    ensures { IsSentence result }
 {
     match fault {
         SumsFault::Form(_) => says(
             "has that line, which sha256sum doesn't write, or which contradicts one before it",
-            "write it anew: sha256sum CLAIM CAPTURE FILE > SUMS",
+            "take the line out, or write it anew of files that you trust: sha256sum & > new.sums",
         ),
         SumsFault::Missing(_) => says(
             "has no line of this very name in the file of sums",
@@ -176,14 +153,14 @@ fn sums_sentence(fault: &SumsFault) -> Sentence
         ),
         SumsFault::Differ(_) => says(
             "has another SHA-256 than the file of sums gives it",
-            "fetch it again; sha256sum -c SUMS says which files differ",
+            "fetch it again; sha256sum -c % says which files differ; take no new sum of it",
         ),
     }
 }
 
 /// The sentence of a fault.
 pub fn sentence_of(fault: &RunFault) -> Sentence
-    ensures { sentence_data result ≡ spec.sentence_of fault.now }
+    ensures has_words { IsSentence result }
 {
     match fault {
         RunFault::Capture(fault) => capture_sentence(fault),
@@ -193,24 +170,20 @@ pub fn sentence_of(fault: &RunFault) -> Sentence
         RunFault::Sums(fault) => sums_sentence(fault),
         RunFault::Exchanges => says(
             "has over 1000000 exchanges of the claim's client",
-            "cut it by editcap -i SECONDS, and claim each part's span by itself",
+            "cut it by the hour, and claim each part's span by itself: \
+             editcap -F pcap -i 3600 @ new.pcap (-F nsecpcap for nanoseconds)",
         ),
         RunFault::Pieces => says(
             "needs over 100000 pieces",
-            "take a larger --step, claim a wider bound, or claim parts of the span",
+            "claim parts of the span; or for find and envelope take a larger --step, for settle \
+             a wider bound",
         ),
-        RunFault::TooBig(_) => says(
-            "is larger than such a file may be",
-            "give the files in the order of ntpaudit COMMAND --help",
-        ),
-        RunFault::Device(_) => says("can't be read", "see what it is and who may read it: ls -l"),
+        RunFault::TooBig(_) => says("is larger than such a file may be", remedy::ORDER_OF_FILES),
+        RunFault::Device(_) => says("can't be read", remedy::SEE_WHO_MAY_READ),
         RunFault::Write(_) => says(
             "the output can't be written: the disk is full, or its reader went away",
             "make room, and call again; behind head nothing is wrong",
         ),
-        RunFault::Memory => says(
-            "the system gives no more memory",
-            "see what limits it: ulimit -v, or a container's limit",
-        ),
+        RunFault::Memory => says("the system gives no more memory", remedy::SEE_LIMITS),
     }
 }

@@ -21,7 +21,8 @@ use program::Invocation;
 use std::alloc::{AllocError, Global};
 
 const HELP: &str = "\
-Answers go to standard output, and faults to standard error, one line each.
+Answers go to standard output, and faults to standard error, one line each. A command that is
+called again with --human says more of a fault.
 
 Status:   0 done, or yes; 1 no; 2 an input is refused; 3 out of memory; 4 a file can't be opened,
           or a device failed; 5 the command line is refused

@@ -6,8 +6,8 @@
 use crate::warning::warnings;
 use byte_stream::{Feed, ReadFeed, WriteSink};
 use fault_words::{
-    Found, Kind, Names, explain, explain_output, explain_time, input_of, look, look_at_records,
-    shown,
+    Found, Kind, Names, STANDARD_INPUT, explain, explain_output, explain_time, input_of, look,
+    look_at_records, shown,
 };
 use pcap_reader::CaptureFault;
 use program::{Asked, Hindrance, STDIN};
@@ -16,6 +16,7 @@ use std::alloc::{AllocError, Global};
 use std::fs;
 use std::fs::{File, Files};
 use std::io::{Error, ErrorKind, IsTerminal};
+use std::os::unix::fs::FileTypeExt;
 
 /// How many bytes of a file are looked at, if there are no more.
 const MOST_SEEN: u64 = 1_048_576;
@@ -116,7 +117,7 @@ pub(crate) fn path_of(operand: &str) -> &str {
 /// A file's name as it is shown.
 pub(crate) fn shown_name(alloc: Global, name: &str) -> Result<String, AllocError> {
     if name == STDIN {
-        return String::from_str(alloc, "standard input");
+        return String::from_str(alloc, STANDARD_INPUT);
     }
     shown(alloc, name)
 }
@@ -178,11 +179,19 @@ pub(crate) fn open_regular(rt: &HostRuntime, path: &str) -> Option<File> {
     }
 }
 
+/// What is seen of a file that isn't looked at again: that it's a pipe, if it is one.
+fn unseen(rt: &HostRuntime, path: &str) -> Result<Found, AllocError> {
+    match rt.metadata(path) {
+        Ok(metadata) if metadata.file_type().is_fifo() => Found::of_kind(rt.alloc(), Kind::Pipe),
+        _ => Ok(Found::nothing(rt.alloc())),
+    }
+}
+
 /// How many records stand before the fault of a record.
 fn count_records(rt: &HostRuntime, path: &str, fault: &CaptureFault) -> Result<Found, AllocError> {
     match open_regular(rt, path) {
         Some(file) => look_at_records(rt.alloc(), ReadFeed::new(file), fault),
-        None => Ok(Found::nothing(rt.alloc())),
+        None => unseen(rt, path),
     }
 }
 
@@ -195,7 +204,7 @@ fn look_at_bytes(
 ) -> Result<Found, AllocError> {
     let alloc = rt.alloc();
     let Some(file) = open_regular(rt, path) else {
-        return Ok(Found::nothing(alloc));
+        return unseen(rt, path);
     };
     match read_input(alloc, &mut ReadFeed::new(file), input, MOST_SEEN) {
         Ok(bytes) => look(alloc, fault, bytes.as_slice(), true),

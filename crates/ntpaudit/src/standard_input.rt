@@ -31,7 +31,7 @@ pub(crate) fn read_once(alloc: Global, invocation: Invocation) -> Result<Invocat
         _ => return Ok(invocation),
     };
     if is_twice(paths, second) {
-        let text = "error: standard input, -, can be one input alone\n";
+        let text = "error: standard input, -, can be one input alone: give each other by its file\n";
         return Invocation::refusal(alloc, text);
     }
     if names_no_file(paths) {

@@ -1,0 +1,8 @@
+use Rattle.std.proofs.Common.{codes, refl, subst, sym}
+use Rattle.fault_words.specs.Quote.{IsQuiet}
+use Rattle.fault_words.proofs.Quiet.{quiet_append, said}
+use Rattle.fault_words.proofs.remedy.both.Goals as goal
+
+pub returns : goal.returns
+returns c first second =
+    subst IsQuiet (sym c.in_ok-format.ensures.ok) (quiet_append _ _ first (said _ (codes " ") _ refl tt second))

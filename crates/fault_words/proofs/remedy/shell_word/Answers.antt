@@ -1,0 +1,9 @@
+use Rattle.std.proofs.Common.{codes, subst, sym}
+use Rattle.fault_words.specs.Quote.{IsQuiet}
+use Rattle.fault_words.proofs.Quiet.{said_between}
+use Rattle.fault_words.proofs.remedy.shell_word.Goals as goal
+
+pub returns : goal.returns
+returns c =
+    said_between _ (codes "'") _ (codes "'") c.in_ok-format.ensures.ok tt
+    (subst IsQuiet (sym c.as_str.ensures.value) c.in_ok-word.ensures.quiet) tt
