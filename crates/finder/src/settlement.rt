@@ -1,4 +1,11 @@
 //! What settles a claim.
+//!
+//! The search goes so. If no cover is small enough, no course fits, and all conflicts are listed.
+//! Otherwise the samples of each server are laid out in a table once (crate sweep), which says by a
+//! search what they say over any stretch. By these the longest pieces are taken one after another
+//! (reach.rt): if they reach the span's end, the claim is shown. If not, a refutation with drift is
+//! tried for each minimal cover, where the pieces stop and at the tick that needs most with the
+//! cover left out (neediest.rt), and one without drift last. The claim is open if none stands.
 
 ghost use Rattle.std.specs.Prelude.{◌≡◌, ◌≤◌, length, map, All, IfOk};
 ghost use Rattle.claim_file.specs.Claim.{IsLawful, data_of as claim_data};

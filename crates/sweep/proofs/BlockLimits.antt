@@ -44,7 +44,8 @@ module _ (queue : List Arrival) (n width : ℕ) (limits : List ℕ) (are : AreLi
       (λ le.
       let same : n ≡ turn = omega arith in
       let one : a ≡ x = same_Some a x (sym here ∙ ap (slice_get queue) same ∙ stands) in
-      let high : a.height < get_or (set limits block limit) block 0 = omega (arith, get_or-set_same limits block limit 0 within) in
+      let high : a.height < get_or (set limits block limit) block 0 =
+      omega (arith, get_or-set_same limits block limit 0 within) in
       subst (λ (y : Arrival). y.height < get_or (set limits block limit) (y.index / width) 0) one
       (subst (λ (k : ℕ). a.height < get_or (set limits block limit) k 0) (sym in_block) high))
       (cases_lt turn n)
@@ -89,10 +90,12 @@ module _ (queue : List Arrival) (n width : ℕ) (limits : List ℕ) (are : AreLi
       (λ same.
       subst (λ (k : ℕ). (get_or (set limits block limit) k 0 ≡ 0)
       ⊎ IsLimitOf queue (n + 1) width k (get_or (set limits block limit) k 0)) same
-      (subst (λ (x : ℕ). (x ≡ 0) ⊎ IsLimitOf queue (n + 1) width block x) (sym (get_or-set_same limits block limit 0 within))
+      (subst (λ (x : ℕ). (x ≡ 0) ⊎ IsLimitOf queue (n + 1) width block x)
+      (sym (get_or-set_same limits block limit 0 within))
       raised))
       (λ other.
-      subst (λ (x : ℕ). (x ≡ 0) ⊎ IsLimitOf queue (n + 1) width b x) (sym (get_or-set_other limits block b limit 0 (λ same. other (sym same))))
+      subst (λ (x : ℕ). (x ≡ 0) ⊎ IsLimitOf queue (n + 1) width b x)
+      (sym (get_or-set_other limits block b limit 0 (λ same. other (sym same))))
       (kept b))
       (cases_eq block b)
 

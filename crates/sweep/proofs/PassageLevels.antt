@@ -346,7 +346,8 @@ pub AreEarlyTops-clear : (ppb : ℕ) (extremes : List Extreme) (queue lent : Lis
     (stretches : List UnsignedStretch) (wanted passed : List Wanted) (tops : List (Option Top)) →
     IsQueueOf ppb extremes queue → lent ≡ queue → AreWantedOver ppb lent stretches wanted → passed ≡ wanted →
     AreClearTops passed tops → AreEarlyTops ppb extremes stretches tops
-AreEarlyTops-clear ppb extremes queue lent stretches wanted passed tops is_queue of_queue are_lent of_wanted clear_passed =
+AreEarlyTops-clear ppb extremes queue lent stretches wanted passed tops is_queue of_queue are_lent of_wanted
+    clear_passed =
     record {
       as_many = clear.as_many ∙ are.as_many;
       each = λ k stretch top at at_top.

@@ -1,4 +1,4 @@
--- What has to be reached over each stretch: the highest level that one of the early arrivals reaches.
+-- What has to be reached over each stretch: the highest level that an early arrival reaches.
 use Rattle.std.specs.Prelude.{◌≡◌, ℕ, ◌+◌, ◌<◌, ◌≤◌, List, length, Option, Some, None, IfSome}
 use Rattle.std.specs.Prelude.{slice_get}
 use Rattle.sweep.specs.Block.{IsReached}

@@ -48,7 +48,8 @@ pub fn early_tops(
 /// The top of this level, if there is one.
 fn top_at(level: Option<u128>, index: u32) -> Option<Top>
     ensures none { level ≡ None → result ≡ None }
-    ensures some { (is : ℕ) → level ≡ Some is → result ≡ Some (record { level = is; index = index }) }
+    ensures some { (is : ℕ) → level ≡ Some is →
+        result ≡ Some (record { level = is; index = index }) }
 {
     let level = level?;
     Some(Top { level, index })

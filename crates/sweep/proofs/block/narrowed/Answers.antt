@@ -27,7 +27,8 @@ loop-k-preserved c =
     let found : (b : ℕ) → 16 * wide ≤ b → b < 16 * wide + 16 → one.height < get_or new b 0 →
     (block ≤ b) × (one.height < get_or new block 0) =
     subst (λ (xs : List ℕ). (b : ℕ) → 16 * wide ≤ b → b < 16 * wide + 16 → one.height < get_or xs b 0 →
-    (block ≤ b) × (one.height < get_or xs block 0)) (c.as_slice.ensures.value ∙ back) c.first_block-block.ensures.first in
+    (block ≤ b) × (one.height < get_or xs block 0)) (c.as_slice.ensures.value ∙ back)
+    c.first_block-block.ensures.first in
     record {
       so_far =
           subst (BlocksSoFar queue wanted width (k + 1)) (sym c.in_ok-push.ensures.items)

@@ -30,7 +30,8 @@ loop-next-preserved c =
           let come = c.if-queue-next.true in
           subst (λ (y : Arrival). y.at ≤ c.args.place) one come)
           (cases_lt i next);
-      are = AreLimitsOf-more queue next c.args.width limits c.loop-next.invariant.are a here (a.index / c.args.width) refl
+      are = AreLimitsOf-more queue next c.args.width limits c.loop-next.invariant.are a here (a.index / c.args.width)
+          refl
           (omega arith) c.max.result c.max.ensures;
     }
 

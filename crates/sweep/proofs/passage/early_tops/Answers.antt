@@ -46,7 +46,8 @@ loop-k-preserved c =
     let one : Wanted = c.index.result.now in
     let index : ℕ = c.index-in-loop-k.result.now in
     let are : AreWantedOver ppb queue stretches wanted =
-    subst (λ (q : List Arrival). AreWantedOver ppb q stretches wanted) c.as_slice.ensures.value c.in_ok-wanted.ensures in
+    subst (λ (q : List Arrival). AreWantedOver ppb q stretches wanted) c.as_slice.ensures.value
+    c.in_ok-wanted.ensures in
     let blocks : AreFirstBlocks queue wanted 1 indices =
     subst (λ (w : List Wanted). AreFirstBlocks queue w 1 indices) c.as_slice-4.ensures.value
     (subst (λ (q : List Arrival). AreFirstBlocks q c.as_slice-4.result.now 1 indices) c.as_slice-3.ensures.value
@@ -57,7 +58,8 @@ loop-k-preserved c =
     let long = c.in_ok-wanted.wanted.ok.0 in
     omega arith) in
     let at_one = slice_get_read wanted (length wanted) k one refl within c.index.ensures in
-    let at_index = slice_get_read indices (length wanted) k index (sym blocks.as_many) within c.index-in-loop-k.ensures in
+    let at_index =
+    slice_get_read indices (length wanted) k index (sym blocks.as_many) within c.index-in-loop-k.ensures in
     let stretch = there stretches k (let as_many = are.as_many in omega arith) in
     let top = c.top_at.result in
     subst (TopsSoFar ppb extremes stretches (k + 1)) (sym c.in_ok-push.ensures.items)
