@@ -67,7 +67,7 @@ def kinds() -> dict[str, tuple[str, list[str]]]:
     """Of each kind of file its words, and what is done about it."""
     text = source("kind")
     words = {name: [plain(word)] for name, word in re.findall(rf"Kind::(\w+) => {TEXT}", text) if word.startswith("; ")}
-    for name, remedy in re.findall(rf"Kind::(\w+)(?: if is_capture)? =>\s*\{{?\s*{TEXT}", text):
+    for name, remedy in re.findall(rf"Kind::(\w+)(?: if !?is_capture)? =>\s*\{{?\s*{TEXT}", text):
         if not remedy.startswith("; "):
             words.setdefault(name, [""]).append(plain(remedy))
     return {name: (first, rest) for name, (first, *rest) in words.items()}

@@ -67,7 +67,7 @@ impl Kind {
             Kind::Folder => "; it is a folder",
             Kind::Pipe => "; it is a pipe, and can't be looked at again",
             Kind::Marked => "; it begins with a byte order mark",
-            Kind::Utf16 => "; it is UTF-16, and has to be UTF-8",
+            Kind::Utf16 => "; it is UTF-16",
         }
     }
 
@@ -92,13 +92,15 @@ impl Kind {
             Kind::Refutation => "a refutation is judged by refute: ntpaudit refute ~ @",
             Kind::Folder => "name a file in it: ls @",
             Kind::Absent => "see how its path is spelt, and in which folder you are: pwd",
-            Kind::Marked => "take the mark away: tail -c +4 @ > new.json",
-            Kind::Utf16 => "rewrite it: iconv -f UTF-16 -t UTF-8 @ > new.json",
+            Kind::Marked if !is_capture => "take the mark away: tail -c +4 @ > new.json",
+            Kind::Utf16 if !is_capture =>
+                "rewrite it as UTF-8: iconv -f UTF-16 -t UTF-8 @ > new.json",
             Kind::Pcapng if is_capture => {
                 "rewrite it: editcap -F pcap @ new.pcap (-F nsecpcap if capinfos says nanoseconds)"
             }
             Kind::ModifiedPcap if is_capture => "rewrite it: editcap -F pcap @ new.pcap",
-            Kind::Pcap | Kind::Pcapng | Kind::ModifiedPcap | Kind::Object => ORDER_OF_FILES,
+            Kind::Pcap | Kind::Pcapng | Kind::ModifiedPcap => ORDER_OF_FILES,
+            Kind::Object | Kind::Marked | Kind::Utf16 => ORDER_OF_FILES,
         }
     }
 }
