@@ -208,7 +208,7 @@ def test_dead_mounts(place: Path) -> None:
     mounted.mkdir()
     for kind in ("read", "open", "readdir", "getattr"):
         script = ('exec 3< <("$0" "$1" "$2" "$3" 2>&1); read -r said <&3; [ "$said" = mounted ] || exit 99; '
-                  'place=$2; shift 3; "$@"; status=$?; umount -f "$place"; exit $status')
+                  'place=$2; shift 3; "$@" | cat; status=${PIPESTATUS[0]}; umount -f "$place"; exit $status')
         words = ["audit", "--again", "--limit", "6", mounted / "good", good]
         ran = run(["unshare", "-m", "--propagation", "private", "bash", "-c", script, ROOT / "tests/tools/hanging",
                    place / "real", mounted, kind, SCRIPT, *words], env=ENVIRONMENT)
