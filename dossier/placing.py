@@ -144,11 +144,11 @@ class New:
                 os.unlink(self.name, dir_fd=self.place)
 
 
-def is_ones_own(place: int) -> None:
+def is_ones_own(place: int, to_do: str = "call it as that user (runuser)") -> None:
     """Refuses to write into another user's folder as root: whoever owns it can have it lead anywhere."""
     user = os.fstat(place).st_uid
     if not os.geteuid() and user:
-        raise fault(f"the folder is user {user}'s, where root writes nothing: call it as that user (runuser)", DEVICE)
+        raise fault(f"the folder is user {user}'s, where root writes nothing: {to_do}", DEVICE)
 
 
 def place(folder: Folder, made: dict[str, Iterable[bytes]], old: Iterable[str] = ()) -> None:
@@ -193,11 +193,14 @@ def make_in(parent: int, name: str) -> None:
         os.mkdir(name, dir_fd=parent)
 
 
-def make_folder(path: str) -> None:
-    """Makes a folder that the command line names, if it isn't there."""
+def make_folder(path: str, to_do: str) -> None:
+    """Makes a folder that the command line names, if it isn't there. What to do where root may not is said."""
+    def make(parent: int, name: str) -> None:
+        is_ones_own(parent, to_do)
+        make_in(parent, name)
     try:
-        with folder_at(path, make_in) as made:
-            is_ones_own(made)
+        with folder_at(path, make) as made:
+            is_ones_own(made, to_do)
     except OSError as error:
         raise unwritable(path, error) from None
 

@@ -28,6 +28,7 @@ HOUR, MEGABYTES = "3600", "1000"
 TRIES = 9
 """How often evidence is written, where another recorder may write in between."""
 ENDING = ".recorder.json"
+OF_ROOT = "name one of root's own, such as /srv/web-1, since tcpdump needs root"
 
 
 @dataclass(frozen=True)
@@ -69,7 +70,7 @@ def record(wanted: Wanted) -> NoReturn:
     if not INTERFACE.fullmatch(wanted.interface):
         raise fault("--interface takes the name of one, such as eth0", USAGE)
     tool = find_tool("tcpdump", "tcpdump isn't installed, which records")
-    make_folder(wanted.folder)
+    make_folder(wanted.folder, OF_ROOT)
     try:
         keep(wanted.folder, recorder(tool, wanted.interface))
     except Fault as found:  # (what is recorded counts without it too)

@@ -164,11 +164,15 @@ class Process:
 
 
 def limit(parent: int, bounds: Bounds) -> None:
-    """Gives this process its own group, and its limits. It ends when the one that began it has ended."""
+    """Gives this process its own group, and its limits. It ends when the one that began it has ended, and has none of
+    its outputs: what reads these would wait for one that can't be ended."""
     def look(*_: object) -> None:
         if os.getppid() != parent:
             os.killpg(0, signal.SIGKILL)
     os.setpgid(0, 0)
+    with own(os.devnull) as nothing:
+        for output in filter(None, (sys.__stdout__, sys.__stderr__)):
+            os.dup2(nothing.fileno(), output.fileno())
     signal.signal(signal.SIGINT, signal.SIG_IGN)
     signal.signal(signal.SIGTERM, signal.SIG_DFL)
     signal.signal(signal.SIGALRM, look)

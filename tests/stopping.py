@@ -8,13 +8,13 @@ import shutil
 import time
 from pathlib import Path
 
-from audits import ENVIRONMENT, PROGRAM, capture_of, check, dossier, folder_of
+from audits import ENVIRONMENT, PROGRAM, SCRIPT, capture_of, check, dossier, folder_of, skipped
 from captures import records_of
 from daily import kept_in, recorded
 from evidence import FIRST, MINUTE
 from leaps import leap_list
 from strangers import elsewhere, forge, limited
-from tally import DATA, ROOT, Ran, sum_of
+from tally import DATA, ROOT, Ran, run, sum_of
 
 GOOD = "yes           {}: least bound 0.619 ms, claimed 5 ms"
 
@@ -202,5 +202,23 @@ def test_flood(place: Path) -> None:
           none=(dossier("filter", place / "none")[:2], (0, b"(udp port 123) or (vlan and udp port 123)\n")))
 
 
-STOPPING_TESTS = [test_crashes, test_bad_recordings]
+def test_dead_mounts(place: Path) -> None:
+    """Folders on a mount that never answers: each is refused when its time is over, and the good one is as without."""
+    mounted, good = place / "mounted", folder_of(place / "real", "good")
+    mounted.mkdir()
+    for kind in ("read", "open", "readdir", "getattr"):
+        script = ('exec 3< <("$0" "$1" "$2" "$3" 2>&1); read -r said <&3; [ "$said" = mounted ] || exit 99; '
+                  'place=$2; shift 3; "$@" | cat; status=${PIPESTATUS[0]}; umount -f "$place"; exit $status')
+        words = ["audit", "--again", "--limit", "6", mounted / "good", good]
+        ran = run(["unshare", "-m", "--propagation", "private", "bash", "-c", script, ROOT / "tests/tools/hanging",
+                   place / "real", mounted, kind, SCRIPT, *words], env=ENVIRONMENT)
+        if ran[0] in (1, 99, 127) and b"yes" not in ran[1]:
+            skipped("folders on a mount that never answers", "nothing can be mounted by FUSE here")
+            return
+        check(f"a mount that never answers a {kind}", status=(ran[0], 2))
+        ended_well(f"a mount that never answers: {kind}", ran, good,
+                   f"refused       {mounted}/good: ntpaudit-dossier: not done within 6 s (--limit)\n")
+
+
+STOPPING_TESTS = [test_crashes, test_bad_recordings, test_dead_mounts]
 STOPPING_ALONE = [test_budget, test_flood]
