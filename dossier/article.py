@@ -51,7 +51,8 @@ def article(path: str, folder: Folder, record: Record, entry: Entry, signature: 
             name: str) -> tuple[Html, Html]:
     """The head of an article, and the rest of it."""
     day = "" if entry.part == "." else f", {entry.part}"
-    head = [element("h2", f"{path}{day} ", badge(entry.verdict)), element("p", with_code(sentence(entry)), class_="lead")]
+    lead = element("p", with_code(sentence(entry)), class_="lead")
+    head = [element("h2", f"{path}{day} ", badge(entry.verdict)), lead]
     return lines([*head, *signed(signature)]), lines([*body(name, folder, record, entry), *sums(record, entry)])
 
 
@@ -143,7 +144,8 @@ def servers(entry: Entry, envelope: Envelope) -> Html:
         if server.address in drawn:
             seen = drawn[server.address]
             swatch, outer = stroke(list(drawn).index(server.address)), minus(range_ms(seen.low, seen.high))
-            remarks += [joined([element("b", "stands apart"), ": it never meets the hull"])] if server.address in apart else []
+            if server.address in apart:
+                remarks.append(joined([element("b", "stands apart"), ": it never meets the hull"]))
             remarks += [f"contradicts itself in {count(seen.crossed, 'piece')}"] if seen.crossed else []
         address = element("span", joined([swatch, server.address], " " if swatch else ""))
         remark = element("span", joined(remarks, "; "), class_="free") if remarks else ""

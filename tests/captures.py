@@ -231,8 +231,8 @@ def test_step(place):
                              **{"from": begin, "to": end})
             status, (row,) = dossier("audit", half)[0], table(half)
             check(f"a claim beside a step {name}", status=(status, 0), verdict=(row["verdict"], "yes"),
-                  said=(row["warnings"][0], f"The clock was stepped between 2001-09-09 12:10:00 and {by}, outside of the "
-                        "span: what was recorded beside the span is left out."),
+                  said=(row["warnings"][0], f"The clock was stepped between 2001-09-09 12:10:00 and {by}, outside of "
+                        "the span: what was recorded beside the span is left out."),
                   verified=(dossier("verify", half)[0], 0))
 
 
