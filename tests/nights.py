@@ -121,8 +121,8 @@ def test_gaps_of_nights(place):
     night(place, "no packet", GAP[0], "23:02:30", "23:03:30")
     line, row = asked(place, "no packet")
     check("a span in a gap", verdict=(row["verdict"], "no evidence"), line=(line, "no packet within the span"),
-          said=(row["reason"], "No packet was recorded within the span: the last before it is from 2026-11-27 23:01:37, "
-                "the first after it from 2026-11-27 23:04:17, and times are UTC."))
+          said=(row["reason"], "No packet was recorded within the span: the last before it is from 2026-11-27 "
+                "23:01:37, the first after it from 2026-11-27 23:04:17, and times are UTC."))
 
 
 def test_others_of_nights(place):
@@ -191,8 +191,8 @@ def test_steps_of_servers(place):
             ("one", {3: 600}, "192.0.2.3 is in the one conflict, with itself or with most others. 192.0.2.3 "
              "contradicts itself between 2001-09-09 12:09:00 and 12:10:00."),
             ("two", {1: 600, 2: 1200}, "there are 2 conflicts. 192.0.2.1 contradicts itself between 2001-09-09 "
-             "12:09:00 and 12:10:00. 192.0.2.2 contradicts itself between 2001-09-09 12:19:00 and 12:20:00. These times "
-             "don't agree.")):
+             "12:09:00 and 12:10:00. 192.0.2.2 contradicts itself between 2001-09-09 12:19:00 and 12:20:00. These "
+             "times don't agree.")):
         servers = (1, 2, 3) if name == "one" else (1, 2)
         words = [f"{server}:{low}..{low + 9}@{begin + second}" for second in range(0, 1800, 60) for server in servers
                  for low in [50 * MS if second >= steps.get(server, 9999) else 0]]
