@@ -341,7 +341,7 @@ def short_record(second):
 def commands_of(words):
     """The commands in a remedy that make another capture of one, with its name for IN, and another for OUT."""
     named = re.sub(r"\bOUT\b", "g.pcap", re.sub(r"\bIN\b", "f.pcap", words))
-    return re.findall(r"(?:: |`)([^:`\"]*f\.pcap[^:`\"]* g\.pcap)", named)
+    return re.findall(r"(?:: |`)([^:`\"]*f\.pcap[^:`\"]* (?:\.\./)?g\.pcap)", named)
 
 
 def test_remedies_work(place):
@@ -362,6 +362,8 @@ def test_remedies_work(place):
         ran = {run(["sh", "-c", command.replace("PLACE", at)], cwd=folder)[0] for command in commands}
         for spent in [folder / "f.pcap", *sorted(folder.glob("g_*"))[1:]]:
             spent.unlink()
+        if days:
+            shutil.move(place / "g.pcap", folder)
         status, said, _ = dossier("audit", *(["--days"] if days else []), folder)
         check(f"the remedy of a capture: {name}", commands=(bool(commands), True), ran=(ran, {0}),
               audited=(status, int(days)), verdict=(said.split()[0].decode(), "refuted" if days else "yes"))

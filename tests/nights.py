@@ -238,5 +238,20 @@ def test_drafts_of_nights(place):
                                                                verdict))
 
 
-NIGHT_TESTS = [test_drafts_of_nights, test_steps_of_nights, test_gaps_of_nights, test_others_of_nights,
-               test_twice_in_one, test_step_at_midnight, test_steps_of_servers]
+def test_own_remedies(place):
+    """The commands that the dossier names for a folder without a claim, or without an audit."""
+    path = {**ENVIRONMENT, "PATH": f"{ROOT}:{ENVIRONMENT['PATH']}"}
+    bare = night(place, "it's bare", ["after.pcap"], "23:04:18", "23:05:23")
+    (bare / "claim.json").unlink()
+    dossier("audit", bare)
+    for name, cwd, verdict in (("without a claim", bare, "not audited"), ("without an audit", place, "yes")):
+        row, = json.loads(dossier("page", "--json", bare)[1])
+        command = re.search("`([^`]*)`", row["to_do"])[1]
+        (bare / "audit.json").unlink(missing_ok=True)
+        check(f"the command of a folder {name}", ran=(run(["sh", "-c", command], cwd=cwd, env=path)[0], 0))
+        row, = json.loads(dossier("page", "--json", bare)[1])
+        check(f"a folder that was {name}", verdict=(verdict in (row["verdict"], row["reason"][18:29]), True))
+
+
+NIGHT_TESTS = [test_own_remedies, test_drafts_of_nights, test_steps_of_nights, test_gaps_of_nights,
+               test_others_of_nights, test_twice_in_one, test_step_at_midnight, test_steps_of_servers]
