@@ -95,7 +95,8 @@ def torn(found: Alert) -> str:
 
 
 def twice(found: Alert) -> str:
-    more = f", and so {'has' if found.count == 2 else 'have'} {count(found.count - 1, 'other file')}" if found.count > 1 else ""
+    others = f"{'has' if found.count == 2 else 'have'} {count(found.count - 1, 'other file')}"
+    more = f", and so {others}" if found.count > 1 else ""
     is_out = "it is left out" if found.count == 1 else "they are left out"
     return (f"{plain(found.file)} has packets once more that {plain(found.beside)} has{more}: {is_out}, since of a "
             "packet that is there twice nothing follows.")
@@ -154,8 +155,8 @@ TO_DO = {
     "reading": "Grant as much as was measured, and audit again.",
     "step": "Claim the time before the step and the time after it by themselves.",
     "leap-second": "Claim another span.",
-    "leap-ends": "Bring the system's list up to date (`apt-get install tzdata`, after `apt-get update`), or fetch it from "
-                 "https://data.iana.org/time-zones/data/leap-seconds.list and name it (`--leap-seconds`).",
+    "leap-ends": "Bring the system's list up to date (`apt-get install tzdata`, after `apt-get update`), or fetch it "
+                 "from https://data.iana.org/time-zones/data/leap-seconds.list and name it (`--leap-seconds`).",
     "no-list": "Put the system's list of leap seconds in place (`apt-get install tzdata`), or name one "
                "(`--leap-seconds`).",
 }

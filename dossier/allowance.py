@@ -10,7 +10,7 @@ from .recorder import Recorder
 
 SLIP = 1000
 """Below this, and above 0, a number was most likely meant in microseconds."""
-TABLE = "docs/GUIDE.md, `What to claim`"
+TABLE = 'docs/GUIDE.md, "What to claim"'
 
 
 class Allowance(NamedTuple):

@@ -153,7 +153,8 @@ def servers(entry: Entry, envelope: Envelope) -> Html:
         if server.address in drawn:
             seen = drawn[server.address]
             swatch, outer = stroke(list(drawn).index(server.address)), minus(range_ms(seen.low, seen.high))
-            remarks += [joined([element("b", "stands apart"), ": it never meets the hull"])] if server.address in apart else []
+            if server.address in apart:
+                remarks.append(joined([element("b", "stands apart"), ": it never meets the hull"]))
             remarks += [f"contradicts itself in {count(seen.crossed, 'piece')}"] if seen.crossed else []
         address = element("span", joined([swatch, server.address], " " if swatch else ""))
         remark = element("span", joined(remarks, "; "), class_="free") if remarks else ""

@@ -120,7 +120,7 @@ def name_of(number: int, part: int) -> str:
 
 
 def refused(path: str, found: Fault | Refusal, signature: Signature, metrics: Sequence[Sample] = ()) -> Result:
-    why, what = (f"{found.why}.", capital(found.what)) if found.why else remedy(found.line)
+    why, what = (f"{found.why}.", capital(found.what)) if found.why else remedy(found.line, path)
     row = row_without_verdict(path, REFUSED, f"{found.line}. {why}", what, signature)
     is_for_input = found.status == INPUT_REFUSED and not metrics
     return replace(short(path, row, found.line, signature, metrics), status=INPUT_REFUSED if is_for_input else 0)

@@ -2,6 +2,7 @@
 from __future__ import annotations
 
 import re
+import shlex
 from dataclasses import dataclass
 
 
@@ -24,7 +25,7 @@ REMEDIES = [
     Remedy(r"can't be read", "A file can't be opened or read.",
            "`ls -l` and `cat FILE > /dev/null` say more. tcpdump may have left it to another user."),
     Remedy(r"no claim\.json", "The folder has no claim.",
-           "`ntpaudit-dossier draft CAPTURE > claim.json` writes one to start from."),
+           "`ntpaudit-dossier draft *.pcap > claim.json`, in the folder, writes one to start from."),
     Remedy(r"no capture", "The folder has no file *.pcap.", "Put the recording there."),
     Remedy(r"no such folder|folder can't be read", "The folder can't be read.",
            "See whether its name is right, and who may read it."),
@@ -37,7 +38,8 @@ REMEDIES = [
     Remedy(r"packets without a time|coarser than micro|no decimal parts", "The times of the capture are of no use.",
            "Record by tcpdump."),
     Remedy(r"damaged", "The capture is damaged.", "Fetch the file again, in binary mode."),
-    Remedy(r"back and forth", "The capture isn't in order of time.", "`reordercap f.pcap g.pcap` sorts it."),
+    Remedy(r"back and forth", "The capture isn't in order of time.",
+           "`reordercap f.pcap ../g.pcap` sorts it: put that in its place."),
     Remedy(r"can't be written", "The files of the audit can't be written.", "Make room, or see who may write there."),
     Remedy(r"process of this folder", "The process that audited this folder was ended from outside.",
            "Call again: what is done isn't done again."),
@@ -59,9 +61,9 @@ REMEDIES = [
 ]
 
 
-def remedy(line: str) -> tuple[str, str]:
-    """Why there was this fault, and what to do."""
+def remedy(line: str, folder: str = "FOLDER") -> tuple[str, str]:
+    """Why there was this fault of a folder, and what to do."""
     for known in REMEDIES:
         if re.search(rf"ntpaudit(-dossier)?: .*?({known.pattern})", line):
-            return known.why, known.what
+            return known.why, known.what.replace("FOLDER", shlex.quote(folder))
     return "", "See docs/REFUSALS.md."

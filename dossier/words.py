@@ -90,8 +90,8 @@ def why_no_evidence(entry: Entry, found: Reason) -> str:
         ends += [f"the first after it from {shown_time(after)}"] if after else []
         return f"No packet was recorded within the span: {', '.join(ends)}, and times are UTC."
     if found.why == "twice":
-        return (f"Each packet is there twice in {plain(found.file)}, so no reply is of use: it may be the answer to either of "
-                "two requests.")
+        return (f"Each packet is there twice in {plain(found.file)}, so no reply is of use: it may be the answer to "
+                "either of two requests.")
     if not counts.get("records"):
         return "Nothing was recorded: there is no record at all."
     if not counts.get("requests"):

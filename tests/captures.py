@@ -232,8 +232,8 @@ def test_step(place):
                              **{"from": begin, "to": end})
             status, (row,) = dossier("audit", half)[0], table(half)
             check(f"a claim beside a step {name}", status=(status, 0), verdict=(row["verdict"], "yes"),
-                  said=(row["warnings"][0], f"The clock was stepped between 2001-09-09 12:10:00 and {by}, outside of the "
-                        "span: what was recorded beside the span is left out."),
+                  said=(row["warnings"][0], f"The clock was stepped between 2001-09-09 12:10:00 and {by}, outside of "
+                        "the span: what was recorded beside the span is left out."),
                   verified=(dossier("verify", half)[0], 0))
 
 
@@ -332,6 +332,7 @@ def test_remedies_work(place):
     command = re.findall("`(reordercap .*?)`", remedy(dossier("audit", "--days", folder)[1].decode())[1])
     ran = [run(["sh", "-c", each], cwd=folder)[0] for each in command]
     (folder / "f.pcap").unlink()
+    shutil.move(place / "g.pcap", folder)
     status, said, _ = dossier("audit", "--days", folder)
     check(name, ran=(ran, [0]), audited=(status, 1), verdict=(said.split()[0].decode(), "refuted"))
 

@@ -552,7 +552,7 @@ def test_allowance(place):
         status, claim, err = drafted(capture)
         check(f"a draft by {name}", status=(status, 0), reading=(claim.get("reading_ns"), reading),
               said=(("\nreading_ns is 0: tcpdump 4.99 recorded eth0" in err, "\nreading_ns is 100000: since" in err,
-                     err.count("reading_ns is"), "GUIDE.md, `What to claim`" in err),
+                     err.count("reading_ns is"), 'GUIDE.md, "What to claim"' in err),
                     (not reading, bool(reading), 1, True)))
     good, none = cases["a recorder"][0], cases["no evidence"][0]
     later = [capture_of(cases[name][0].parent / BEGUN.replace("T07", "T08"), f"1:-1000..1000@{unix('13:02:55')}")

@@ -106,11 +106,12 @@ def test_gaps_of_nights(place):
                                  ("gap, twice", FOUR, ["after.pcap.gz", "before.pcap.gz"])):
         night(place, name, [*GAP[0], *files], *GAP[1:], servers=servers)
         line, row = asked(place, name)
-        check(f"the verdict of {name}", verdict=(row["verdict"], "refuted"), line=("; no server heard from" in line, True))
+        check(f"the verdict of {name}", verdict=(row["verdict"], "refuted"),
+              line=("; no server heard from" in line, True))
         for where, words in (("line", line), ("reason", row["reason"])):
             begin, end = between(words)
-            check(f"the {where} of {name}", around=(begin <= second_of("23:01:45") and end >= second_of("23:04:15"), True),
-                  width=(abs(end - begin - 150) <= TWO_POLLS, True))
+            is_around = begin <= second_of("23:01:45") and end >= second_of("23:04:15")
+            check(f"the {where} of {name}", around=(is_around, True), width=(abs(end - begin - 150) <= TWO_POLLS, True))
         low, high = map(float, re.search(r"within (\S+) to (\S+) ms", row["reason"]).groups())
         check(f"beside the gap: {name}", within=(-5 < low < 0 < high < 5, True),
               apart=([words for words in row["warnings"] if "apart" in words],
@@ -120,8 +121,8 @@ def test_gaps_of_nights(place):
     night(place, "no packet", GAP[0], "23:02:30", "23:03:30")
     line, row = asked(place, "no packet")
     check("a span in a gap", verdict=(row["verdict"], "no evidence"), line=(line, "no packet within the span"),
-          said=(row["reason"], "No packet was recorded within the span: the last before it is from 2026-11-27 23:01:37, "
-                "the first after it from 2026-11-27 23:04:17, and times are UTC."))
+          said=(row["reason"], "No packet was recorded within the span: the last before it is from 2026-11-27 "
+                "23:01:37, the first after it from 2026-11-27 23:04:17, and times are UTC."))
 
 
 def test_others_of_nights(place):
@@ -145,8 +146,8 @@ def test_others_of_nights(place):
     night(place, "twice", ["after.pcap", "after.pcap.gz"], *after[1:])
     line, row = asked(place, "twice")
     check("a packed copy", verdict=(row["verdict"], "yes"),
-          warned=(row["warnings"][0], "after.pcap.gz has packets once more that after.pcap has: it is left out, since of "
-                  "a packet that is there twice nothing follows."))
+          warned=(row["warnings"][0], "after.pcap.gz has packets once more that after.pcap has: it is left out, since "
+                  "of a packet that is there twice nothing follows."))
 
 
 def test_twice_in_one(place):
@@ -187,11 +188,11 @@ def test_steps_of_servers(place):
     """What only one server shows is no step of the clock; and of two that differ each is named."""
     begin = 1_000_000_000 - 1_000_000_000 % 86_400 + 43_200
     for name, steps, said in (
-            ("one", {3: 600}, "192.0.2.3 is in the one conflict, with itself or with most others. 192.0.2.3 contradicts "
-             "itself between 2001-09-09 12:09:00 and 12:10:00."),
-            ("two", {1: 600, 2: 1200}, "there are 2 conflicts. 192.0.2.1 contradicts itself between 2001-09-09 12:09:00 "
-             "and 12:10:00. 192.0.2.2 contradicts itself between 2001-09-09 12:19:00 and 12:20:00. These times don't "
-             "agree.")):
+            ("one", {3: 600}, "192.0.2.3 is in the one conflict, with itself or with most others. 192.0.2.3 "
+             "contradicts itself between 2001-09-09 12:09:00 and 12:10:00."),
+            ("two", {1: 600, 2: 1200}, "there are 2 conflicts. 192.0.2.1 contradicts itself between 2001-09-09 "
+             "12:09:00 and 12:10:00. 192.0.2.2 contradicts itself between 2001-09-09 12:19:00 and 12:20:00. These "
+             "times don't agree.")):
         servers = (1, 2, 3) if name == "one" else (1, 2)
         words = [f"{server}:{low}..{low + 9}@{begin + second}" for second in range(0, 1800, 60) for server in servers
                  for low in [50 * MS if second >= steps.get(server, 9999) else 0]]
@@ -237,5 +238,20 @@ def test_drafts_of_nights(place):
                                                                verdict))
 
 
-NIGHT_TESTS = [test_drafts_of_nights, test_steps_of_nights, test_gaps_of_nights, test_others_of_nights, test_twice_in_one,
-               test_step_at_midnight, test_steps_of_servers]
+def test_own_remedies(place):
+    """The commands that the dossier names for a folder without a claim, or without an audit."""
+    path = {**ENVIRONMENT, "PATH": f"{ROOT}:{ENVIRONMENT['PATH']}"}
+    bare = night(place, "it's bare", ["after.pcap"], "23:04:18", "23:05:23")
+    (bare / "claim.json").unlink()
+    dossier("audit", bare)
+    for name, cwd, verdict in (("without a claim", bare, "not audited"), ("without an audit", place, "yes")):
+        row, = json.loads(dossier("page", "--json", bare)[1])
+        command = re.search("`([^`]*)`", row["to_do"])[1]
+        (bare / "audit.json").unlink(missing_ok=True)
+        check(f"the command of a folder {name}", ran=(run(["sh", "-c", command], cwd=cwd, env=path)[0], 0))
+        row, = json.loads(dossier("page", "--json", bare)[1])
+        check(f"a folder that was {name}", verdict=(verdict in (row["verdict"], row["reason"][18:29]), True))
+
+
+NIGHT_TESTS = [test_own_remedies, test_drafts_of_nights, test_steps_of_nights, test_gaps_of_nights,
+               test_others_of_nights, test_twice_in_one, test_step_at_midnight, test_steps_of_servers]

@@ -251,7 +251,8 @@ def silent_folders(place):
             good_folder(place, "few", servers=["192.0.2.1", "203.0.113.2"]):
                 "1 of 2 groups of servers has a sample, and 1 may be wrong",
             good_folder(place, "hour", **{"from": "2001-09-09T02:46:45Z", "to": "2001-09-09T02:47:20Z"}):
-                "No packet was recorded within the span: the last before it is from 2001-09-09 01:47:20, and times are UTC.",
+                "No packet was recorded within the span: the last before it is from 2001-09-09 01:47:20, and times are "
+                "UTC.",
             good_folder(place, "earlier", **{"from": "2001-09-09T00:46:45Z", "to": "2001-09-09T00:47:20Z"}):
                 "No packet was recorded within the span"}
 
