@@ -6,10 +6,10 @@ from collections.abc import Iterator
 
 from .article import SYMBOLS, badge
 from .entry import NOT_VERIFIED, REFUSED, YES
-from .markup import Html, element, joined, lines
+from .markup import Html, element, lines
 from .page import POLICY
 from .style import PAGE
-from .units import ns_ms, ns_up_ms, now
+from .units import ns_up_ms, now
 from .year import MISSING, Told, Year, statement
 
 SIGNS = {**SYMBOLS, MISSING: "\u00b7"}

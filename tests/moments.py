@@ -3,6 +3,7 @@
 tests/dossier calls them, each in a folder of its own. The captures have times of today, since now is the machine's.
 """
 import json
+import re
 import signal
 import struct
 import subprocess
@@ -154,7 +155,8 @@ def test_band(place: Path) -> None:
             band.add([moment])
             width = min(max(60, columns - 1), 160)
             head, rows = band.head(moment, width), band.band(moment, width)
-            check(f"the band of {columns} columns", wide=([row for row in rows if len(row) > width], []),
+            words = [re.sub(r"\x1b\[\d+m", "", row) for row in head]
+            check(f"the band of {columns} columns", wide=([row for row in words + rows if len(row) > width], []),
                   colours=(any("\x1b" in row for row in head), has_colour),
                   right=("#" in rows[4] and rows[4].count("!") < 2, True),
                   off=("!" in rows[0] and "#" not in rows[0], True),
