@@ -26,6 +26,8 @@ WITHOUT_EVIDENCE = {"clients-us.few.claim.json", "vlan-ns.silent.claim.json"}
 """Claims of which their capture says nothing, so that there are no figures."""
 CLAIMS = [claim for claim in files_in(DATA, "*.claim.json") if claim.name not in WITHOUT_EVIDENCE]
 TICKS_PER_MS = 2**32 / 1000
+KEEP = [("keep",)] if shutil.which("zstd") else []
+"""The command `keep`, where it can be called: tests/daily.py says it where it can't."""
 VOID = {"meta", "link", "br"}
 LOCK = threading.Lock()
 

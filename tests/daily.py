@@ -557,11 +557,11 @@ def test_years(place):
     old, lately, kept, changed, more = (good_folder(place, name) if name != "lately" else folder_of(place, name)
                                         for name in ("old", "lately", "kept", "changed", "more"))
     dossier("audit", old, lately, kept, changed, more)
-    if shutil.which("zstd"):
-        dossier("keep", kept)
-        check("years that aren't over", run=(dossier("keep", "--years", "90", kept)[0], 0), there=(kept.exists(), True))
-    else:
-        skipped("years that aren't over", "zstd isn't installed")
+    if not shutil.which("zstd"):
+        skipped("years", "zstd isn't installed")
+        return
+    dossier("keep", kept)
+    check("years that aren't over", run=(dossier("keep", "--years", "90", kept)[0], 0), there=(kept.exists(), True))
     (changed / "report.txt").write_text("mine")
     for name in ("notes.txt", "claim.json.zst"):
         (more / name).write_text("mine")

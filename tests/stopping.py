@@ -8,7 +8,7 @@ import shutil
 import time
 from pathlib import Path
 
-from audits import ENVIRONMENT, PROGRAM, SCRIPT, capture_of, check, dossier, folder_of, skipped
+from audits import ENVIRONMENT, KEEP, PROGRAM, SCRIPT, capture_of, check, dossier, folder_of, skipped
 from captures import records_of
 from daily import kept_in, recorded
 from evidence import FIRST, MINUTE
@@ -59,7 +59,7 @@ def test_crashes(place: Path) -> None:
         ended_well(f"crashes: {command}", dossier(command, *folders, good), good)
     ascii_only = {**ENVIRONMENT, "LC_ALL": "C", "PYTHONUTF8": "0", "PYTHONCOERCECLOCALE": "0",
                   "PYTHONIOENCODING": "ascii"}
-    for words in (("audit", "--again"), ("verify",), ("page", "-o", place / "p.html"), ("keep",)):
+    for words in (("audit", "--again"), ("verify",), ("page", "-o", place / "p.html"), *KEEP):
         status, out, err = dossier(*words, place / "\u00e9", good, env=ascii_only)
         check(f"an ASCII locale: {words[0]}", status=(status, 0), error=(err, b""))
     folder = folder_of(place, "slow")
